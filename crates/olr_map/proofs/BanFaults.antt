@@ -1,7 +1,7 @@
 -- The conditions on a record of the file of bans: which one is the first, and that none holds of a ban's record.
-use Rattle.std.proofs.Common.{◌≡◌, ℕ, ◌+◌, ◌<◌, ◌≤◌, List, length, None, inl, inr, refl, sym, subst, ◌∙◌, arith}
+use Rattle.std.proofs.Common.{◌≡◌, ℕ, ◌+◌, ◌<◌, ◌≤◌, List, length, None, inl, inr, refl, ◌∙◌, arith, rules}
 use Rattle.std.specs.Prelude.{◌⊎◌, Contains}
-use Rattle.olr_records.specs.declared.file.File.TheVariants.{Nodes, Lines, Bans}
+use Rattle.olr_records.specs.declared.file.File.TheVariants.{Bans}
 use Rattle.olr_map.specs.declared.ban.Ban.{Ban}
 use Rattle.olr_map.specs.declared.fault.MapFault.{MapFault}
 use Rattle.olr_map.specs.declared.fault.MapFault.TheVariants as fault
@@ -19,8 +19,8 @@ use Rattle.olr_map.proofs.Conditions.{ban_condition_once}
 use Rattle.olr_map.proofs.OneTable.{IsLawful, keys_length}
 
 -- no column of a record that names two lines lacks a value
-none_lacks : (lines : List RoadLine) (fields : List (List ℕ)) (ban : Ban) → NamesLines lines fields ban → (column : ℕ) → IsFirstLacking (HasBanColumn fields) column → ⊥
-none_lacks lines fields ban named column lacking = lacking.lacks (record {
+none_lacks : {lines : List RoadLine} {fields : List (List ℕ)} {ban : Ban} → NamesLines lines fields ban → (column : ℕ) → IsFirstLacking (HasBanColumn fields) column → ⊥
+none_lacks named column lacking = lacking.lacks (record {
   from = λ _. (named.from.id, named.from.spelled);
   to = λ _. (named.to.id, named.to.spelled);
 })
@@ -35,8 +35,8 @@ none_lacks_read fields first second says column lacking = lacking.lacks (record 
 -- a line that a record names is known
 no_unknown : (lines : List RoadLine) (fields : List (List ℕ)) (ban : Ban) → NamesLines lines fields ban → IsUnknownLine lines fields 0 ⊎ IsUnknownLine lines fields 1 → ⊥
 no_unknown lines fields ban named either = elim either [
-  | inl from ↦ named_known lines fields 0 ban.from named.from from
-  | inr to ↦ named_known lines fields 1 ban.to named.to to
+  | inl from ↦ named_known 0 named.from from
+  | inr to ↦ named_known 1 named.to to
 ]
 
 -- what rules out the conditions before one
@@ -48,42 +48,22 @@ record Passes (lines : List RoadLine) (before : List ℕ) (fields : List (List �
   new : 5 ≤ order → IsRepeatedBan lines before fields → ⊥
   known : 6 ≤ order → IsUnknownLine lines fields 0 ⊎ IsUnknownLine lines fields 1 → ⊥
 
-passes : (lines : List RoadLine) (before : List ℕ) (fields : List (List ℕ)) (order : ℕ) → Passes lines before fields order
+passes : {lines : List RoadLine} {before : List ℕ} {fields : List (List ℕ)} (order : ℕ) → Passes lines before fields order
     → (earlier : MapFault) → order_of earlier < order → BanCondition lines before fields earlier → ⊥
-passes lines before fields order p (fault.TooMany Bans) below holds = omega (arith, holds, p.room (omega (arith, below)))
-passes lines before fields order p (fault.TooMany Nodes) below holds = holds
-passes lines before fields order p (fault.TooMany Lines) below holds = holds
-passes lines before fields order p (fault.Shape Bans n) below holds = holds.1 (p.two (omega (arith, below)))
-passes lines before fields order p (fault.Shape Nodes n) below holds = holds
-passes lines before fields order p (fault.Shape Lines n) below holds = holds
-passes lines before fields order p (fault.Field Bans n column) below holds = p.full (omega (arith, below)) column holds.1
-passes lines before fields order p (fault.Field Nodes n column) below holds = holds
-passes lines before fields order p (fault.Field Lines n column) below holds = holds
-passes lines before fields order p (fault.Duplicate Bans n) below holds = p.new (omega (arith, below)) holds.1
-passes lines before fields order p (fault.Duplicate Nodes n) below holds = holds
-passes lines before fields order p (fault.Duplicate Lines n) below holds = holds
-passes lines before fields order p (fault.UnknownLine n) below holds = p.known (omega (arith, below)) holds.1
-passes lines before fields order p (fault.NotAdjacent n) below holds = omega (arith, below, p.most)
-passes lines before fields order p (fault.UnknownNode n) below holds = holds
-passes lines before fields order p (fault.ZeroLength n) below holds = holds
-passes lines before fields order p (fault.Degenerate n) below holds = holds
-passes lines before fields order p (fault.Header file) below holds = holds
-passes lines before fields order p (fault.ReadFailed file) below holds = holds
-passes lines before fields order p fault.NoMemory below holds = holds
+passes order p (fault.TooMany Bans) below holds = omega (arith, p.room (omega (arith, below)))
+passes order p (fault.Shape Bans n) below holds = holds.1 (p.two (omega arith))
+passes order p (fault.Field Bans n column) below holds = p.full (omega arith) column holds.1
+passes order p (fault.Duplicate Bans n) below holds = p.new (omega arith) holds.1
+passes order p (fault.UnknownLine n) below holds = p.known (omega arith) holds.1
+passes order p (fault.NotAdjacent n) below holds = omega arith
+passes order p _ below holds = holds
 
 -- a record that names two lines repeats a ban
 refuses_repeat : (lines : List RoadLine) (before : List ℕ) (fields : List (List ℕ)) (count : ℕ) (ban : Ban) → length before ≡ count → count < 200000 → length fields ≡ 2
     → NamesLines lines fields ban → Contains before (ban_key ban) → Refuses (BanCondition lines before fields) (fault.Duplicate Bans (count + 1))
 refuses_repeat lines before fields count ban size room two named among = record {
-  holds = (omega (arith, size), (ban, named, among));
-  first = passes lines before fields 4 (record {
-    most = omega arith;
-    room = λ _. omega (arith, size, room);
-    two = λ _. two;
-    full = λ _. none_lacks lines fields ban named;
-    new = λ e. absurd (omega (arith, e));
-    known = λ e. absurd (omega (arith, e));
-  });
+  holds = (omega arith, (ban, named, among));
+  first = passes 4 (search rules);
 }
 
 -- ---- the record at which the reader stopped
@@ -92,53 +72,30 @@ refuses_error : (lines : List RoadLine) (before : List ℕ) (bad : List (List �
     → Refuses (BanCondition lines before bad) (fault_of why Bans (length before + 1))
 refuses_error lines before bad error.Shape room is = record {
   holds = (omega arith, is);
-  first = passes lines before bad 2 (record {
-    most = omega arith;
-    room = λ _. room;
-    two = λ e. absurd (omega (arith, e));
-    full = λ e. absurd (omega (arith, e));
-    new = λ e. absurd (omega (arith, e));
-    known = λ e. absurd (omega (arith, e));
-  });
+  first = passes 2 (search rules);
 }
 refuses_error lines before bad (error.Column column) room is = record {
   holds = (omega arith, is.1);
-  first = passes lines before bad 3 (record {
-    most = omega arith;
-    room = λ _. room;
-    two = λ _. is.0;
-    full = λ e. absurd (omega (arith, e));
-    new = λ e. absurd (omega (arith, e));
-    known = λ e. absurd (omega (arith, e));
-  });
+  first = passes 3 (search rules);
 }
 
 refuses_unknown : (lines : List RoadLine) (before : List ℕ) (bad : List (List ℕ)) (first second : ℕ) → length before < 200000 → SpellsIds bad first second
     → IsUnknownLine lines bad 0 ⊎ IsUnknownLine lines bad 1 → Refuses (BanCondition lines before bad) (fault.UnknownLine (length before + 1))
 refuses_unknown lines before bad first second room says either = record {
   holds = (omega arith, either);
-  first = passes lines before bad 5 (record {
-    most = omega arith;
-    room = λ _. room;
-    two = λ _. says.two;
-    full = λ _. none_lacks_read bad first second says;
-    new = λ _ repeat. no_unknown lines bad repeat.0 repeat.1 either;
-    known = λ e. absurd (omega (arith, e));
-  });
+  first =
+      let new : IsRepeatedBan lines before bad → ⊥ = λ repeat. no_unknown _ _ _ repeat.1 either in
+      passes 5 (search (rules, none_lacks_read _ _ _ says));
 }
 
 refuses_apart : (lines : List RoadLine) → AllDiffer (line_ids lines) → (before : List ℕ) (bad : List (List ℕ)) (ban : Ban) → length before < 200000 → length bad ≡ 2
     → NamesLines lines bad ban → (IsAdjacent lines ban → ⊥) → (Contains before (ban_key ban) → ⊥) → Refuses (BanCondition lines before bad) (fault.NotAdjacent (length before + 1))
 refuses_apart lines differ before bad ban room two named not_adjacent new = record {
   holds = (omega arith, ban, named, not_adjacent);
-  first = passes lines before bad 6 (record {
-    most = omega arith;
-    room = λ _. room;
-    two = λ _. two;
-    full = λ _. none_lacks lines bad ban named;
-    new = λ _ repeat. new (subst (λ (b : Ban). Contains before (ban_key b)) (named_once lines differ bad repeat.0 ban repeat.1 named) repeat.2);
-    known = λ _. no_unknown lines bad ban named;
-  });
+  first =
+      let again : IsRepeatedBan lines before bad → ⊥ =
+      λ repeat. new (rw (← named_once differ _ _ repeat.1 named) repeat.2) in
+      passes 6 (search (rules, none_lacks named, no_unknown));
 }
 
 -- after as many bans as there may be
@@ -146,81 +103,61 @@ stops_past : (lines : List RoadLine) (bans : List Ban) (bad : List (List ℕ)) �
 stops_past lines bans bad full = record {
   repeats = λ among. absurd among;
   new = λ _. record {
-    holds = omega (arith, keys_length (bans_table lines) bans, full);
-    first = passes lines (ban_keys bans) bad 1 (record {
-      most = omega arith;
-      room = λ e. absurd (omega (arith, e));
-      two = λ e. absurd (omega (arith, e));
-      full = λ e. absurd (omega (arith, e));
-      new = λ e. absurd (omega (arith, e));
-      known = λ e. absurd (omega (arith, e));
-    });
+    holds = omega (arith, keys_length (bans_table lines) bans);
+    first = passes 1 (search rules);
   };
 }
 
 -- a record that is no ban
-stops_here : (lines : List RoadLine) → AllDiffer (line_ids lines) → (bans : List Ban) (bad : List (List ℕ)) (stop : Stop) → length bans < 200000
+stops_here : (lines : List RoadLine) → AllDiffer (line_ids lines) → (bans : List Ban) (bad : List (List ℕ)) {stop : Stop} → length bans < 200000
     → StopsBan lines bad (length (ban_keys bans) + 1) stop → StopsAfter (bans_table lines) bans bad stop
-stops_here lines differ bans bad stop room (wrong_row why is e) =
+stops_here lines differ bans bad room (wrong_row why is e) =
     let count = keys_length (bans_table lines) bans in
-    subst (λ (s : Stop). StopsAfter (bans_table lines) bans bad s) (sym e) (record {
+    rw e (record {
       repeats = λ among. absurd among;
-      new = λ _. refuses_error lines (ban_keys bans) bad why (omega (arith, count, room)) is;
+      new = λ _. refuses_error lines (ban_keys bans) bad why (omega arith) is;
     })
-stops_here lines differ bans bad stop room (unknown first second says either e) =
+stops_here lines differ bans bad room (unknown first second says either e) =
     let count = keys_length (bans_table lines) bans in
-    subst (λ (s : Stop). StopsAfter (bans_table lines) bans bad s) (sym e) (record {
+    rw e (record {
       repeats = λ among. absurd among;
-      new = λ _. refuses_unknown lines (ban_keys bans) bad first second (omega (arith, count, room)) says either;
+      new = λ _. refuses_unknown lines (ban_keys bans) bad first second (omega arith) says either;
     })
-stops_here lines differ bans bad stop room (apart ban two named not_adjacent e) =
+stops_here lines differ bans bad room (apart ban two named not_adjacent e) =
     let count = keys_length (bans_table lines) bans in
-    subst (λ (s : Stop). StopsAfter (bans_table lines) bans bad s) (sym e) (record {
+    rw e (record {
       repeats = λ among. refuses_repeat lines (ban_keys bans) bad (length bans) ban count room two named among;
-      new = λ new. refuses_apart lines differ (ban_keys bans) bad ban (omega (arith, count, room)) two named not_adjacent new;
+      new = λ new. refuses_apart lines differ (ban_keys bans) bad ban (omega arith) two named not_adjacent new;
     })
 
-pub stops_at : (lines : List RoadLine) → AllDiffer (line_ids lines) → (bans : List Ban) (bad : List (List ℕ)) (stop : Stop) (before : ℕ) → length bans ≡ before → before < 200000
+pub stops_at : (lines : List RoadLine) → AllDiffer (line_ids lines) → {bans : List Ban} {bad : List (List ℕ)} {stop : Stop} {before : ℕ} → length bans ≡ before → before < 200000
     → StopsBan lines bad (before + 1) stop → StopsAfter (bans_table lines) bans bad stop
-stops_at lines differ bans bad stop before size room is =
-    stops_here lines differ bans bad stop (omega (arith, size, room))
-    (subst (λ (n : ℕ). StopsBan lines bad (n + 1) stop) (sym (keys_length (bans_table lines) bans ∙ size)) is)
+stops_at lines differ size room is =
+    stops_here _ differ _ _ (omega arith)
+    (rw (keys_length (bans_table lines) _ ∙ size) is)
 
 -- ---- a record that spells a ban
 
 -- no condition holds of it, where it is new and there is room
 sound : (lines : List RoadLine) → AllDiffer (line_ids lines) → (before : List ℕ) (fields : List (List ℕ)) (ban : Ban) → IsBan lines fields ban → length before < 200000
     → (Contains before (ban_key ban) → ⊥) → (why : MapFault) → BanCondition lines before fields why → ⊥
-sound lines differ before fields ban is room new (fault.TooMany Bans) holds = omega (arith, room, holds)
-sound lines differ before fields ban is room new (fault.TooMany Nodes) holds = holds
-sound lines differ before fields ban is room new (fault.TooMany Lines) holds = holds
+sound lines differ before fields ban is room new (fault.TooMany Bans) holds = omega arith
 sound lines differ before fields ban is room new (fault.Shape Bans n) holds = holds.1 is.two
-sound lines differ before fields ban is room new (fault.Shape Nodes n) holds = holds
-sound lines differ before fields ban is room new (fault.Shape Lines n) holds = holds
-sound lines differ before fields ban is room new (fault.Field Bans n column) holds = none_lacks lines fields ban is.named column holds.1
-sound lines differ before fields ban is room new (fault.Field Nodes n column) holds = holds
-sound lines differ before fields ban is room new (fault.Field Lines n column) holds = holds
+sound lines differ before fields ban is room new (fault.Field Bans n column) holds = none_lacks is.named _ holds.1
 sound lines differ before fields ban is room new (fault.Duplicate Bans n) holds =
-    new (subst (λ (b : Ban). Contains before (ban_key b)) (named_once lines differ fields holds.1.0 ban holds.1.1 is.named) holds.1.2)
-sound lines differ before fields ban is room new (fault.Duplicate Nodes n) holds = holds
-sound lines differ before fields ban is room new (fault.Duplicate Lines n) holds = holds
-sound lines differ before fields ban is room new (fault.UnknownLine n) holds = no_unknown lines fields ban is.named holds.1
+    new (rw (← (named_once differ _ _ holds.1.1 is.named)) holds.1.2)
+sound lines differ before fields ban is room new (fault.UnknownLine n) holds = no_unknown _ _ _ is.named holds.1
 sound lines differ before fields ban is room new (fault.NotAdjacent n) holds =
-    holds.3 (subst (λ (b : Ban). IsAdjacent lines b) (named_once lines differ fields ban holds.1 is.named holds.2) is.adjacent)
-sound lines differ before fields ban is room new (fault.UnknownNode n) holds = holds
-sound lines differ before fields ban is room new (fault.ZeroLength n) holds = holds
-sound lines differ before fields ban is room new (fault.Degenerate n) holds = holds
-sound lines differ before fields ban is room new (fault.Header file) holds = holds
-sound lines differ before fields ban is room new (fault.ReadFailed file) holds = holds
-sound lines differ before fields ban is room new fault.NoMemory holds = holds
+    holds.3 (rw (← (named_once differ _ _ is.named holds.2)) is.adjacent)
+sound lines differ before fields ban is room new _ holds = holds
 
 pub bans_lawful : (lines : List RoadLine) → AllDiffer (line_ids lines) → IsLawful (bans_table lines)
-bans_lawful lines differ = record { row_once = ban_once lines differ; sound = sound lines differ; condition_once = ban_condition_once lines }
+bans_lawful lines differ = record { row_once = ban_once _ differ; sound = sound _ differ; condition_once = ban_condition_once _ }
 
 -- it is a duplicate, where it isn't new
 pub bans_settled : (lines : List RoadLine) → IsSettled (bans_table lines)
 bans_settled lines = record {
-  repeats = λ before fields ban is room among. refuses_repeat lines before fields (length before) ban refl room is.two is.named among;
-  past = stops_past lines;
+  repeats = λ before fields ban is room among. refuses_repeat _ _ _ _ _ refl room is.two is.named among;
+  past = stops_past _;
   no_device = λ before fields file holds. holds;
 }

@@ -1,5 +1,5 @@
 -- Sound maps of one canonical text are one: the text decides its rows and their fields, and these decide the map.
-use Rattle.std.proofs.Common.{◌≡◌, ℕ, ◌^◌, ◌<◌, ◌≤◌, List, [], ◌∷◌, ◌++◌, append_assoc, map, length, drop, refl, sym, ap, ◌∙◌, subst, arith}
+use Rattle.std.proofs.Common.{◌≡◌, ℕ, ◌^◌, ◌<◌, ◌≤◌, List, [], ◌∷◌, ◌++◌, append_assoc, map, length, drop, refl, sym, ap, ◌∙◌, subst, arith, rules}
 use Rattle.std.specs.Prelude.{All, codes, decimal}
 use Rattle.std.specs.List.{concat}
 use Rattle.std.proofs.lemmas.List.{append-nil, append_cancel_left, length-map}
@@ -22,24 +22,26 @@ AreFields (field ∷ fields) = AllLack 44 (field ∷ fields) × AllLack 10 (fiel
 row_once : (xs ys : List (List ℕ)) → AreFields xs → AreFields ys → joined (codes ",") xs ≡ joined (codes ",") ys → xs ≡ ys
 row_once [] ys are other same = absurd are
 row_once (x ∷ xs) [] are other same = absurd other
-row_once (x ∷ xs) (y ∷ ys) are other same = joined_once 44 x xs y ys are.0 other.0 same
+row_once (x ∷ xs) (y ∷ ys) are other same = joined_once _ x _ y _ are.0 other.0 same
 
 rows_lack : (rows : List (List (List ℕ))) → All AreFields rows → AllLack 10 (map (joined (codes ",")) rows)
-rows_lack rows all = each_lacks 10 AreFields (joined (codes ",")) row_lacks rows all
+rows_lack rows all = each_lacks _ _ _ row_lacks _ all
   where
     row_lacks : (fields : List (List ℕ)) → AreFields fields → Lacks 10 (joined (codes ",") fields)
     row_lacks [] are = absurd are
-    row_lacks (x ∷ xs) are = joined_lacks 10 44 (x ∷ xs) (λ e. omega (arith, e)) are.1
+    row_lacks (x ∷ xs) are = joined_lacks 10 44 (x ∷ xs) (λ e. omega arith) are.1
 
 rows_ended : (rows : List (List (List ℕ))) → concat (map row_text rows) ≡ ended 10 (map (joined (codes ",")) rows)
 rows_ended [] = refl
-rows_ended (row ∷ rows) = append_assoc (joined (codes ",") row) (10 ∷ []) (concat (map row_text rows))
-    ∙ ap (λ (l : List ℕ). joined (codes ",") row ++ 10 ∷ l) (rows_ended rows)
+rows_ended (row ∷ rows) = cc (
+  append_assoc (joined (codes ",") row) (10 ∷ []) (concat (map row_text rows)),
+  rows_ended rows,
+)
 
 rows_by_text : (xs ys : List (List (List ℕ))) → All AreFields xs → All AreFields ys → concat (map row_text xs) ≡ concat (map row_text ys) → xs ≡ ys
 rows_by_text xs ys all other same =
-    let texts = ended_once 10 (map (joined (codes ",")) xs) (map (joined (codes ",")) ys) (rows_lack xs all) (rows_lack ys other) (sym (rows_ended xs) ∙ same ∙ rows_ended ys) in
-    map_once AreFields (joined (codes ",")) row_once xs ys all other texts
+    let texts = ended_once _ _ _ (rows_lack _ all) (rows_lack _ other) (cc (rows_ended _)) in
+    map_once _ _ row_once _ _ all other texts
 
 -- ---- from the fields to the parts
 
@@ -50,14 +52,13 @@ record SameParts {X : Type 0} (xs ys more others : List X) : Type 0 where
 
 split_at_length : {X : Type 0} (xs ys more others : List X) → length xs ≡ length ys → xs ++ more ≡ ys ++ others → SameParts xs ys more others
 split_at_length [] [] more others size same = record { rows = refl; rest = same }
-split_at_length [] (y ∷ ys) more others size same = absurd (omega (arith, size))
-split_at_length (x ∷ xs) [] more others size same = absurd (omega (arith, size))
 split_at_length (x ∷ xs) (y ∷ ys) more others size same =
     let behind : xs ++ more ≡ ys ++ others = cc in
     let first : x ≡ y = cc in
-    let deeper = split_at_length xs ys more others (omega (arith, size)) behind in
+    let deeper = split_at_length xs ys more others (omega arith) behind in
     let rows = deeper.rows in
     record { rows = cc; rest = deeper.rest }
+split_at_length _ _ more others size same = absurd (omega arith)
 
 -- the number of a heading
 count_once : (name : List ℕ) (m n : ℕ) → m < 2 ^ 64 → n < 2 ^ 64 → heading name m ≡ heading name n → m ≡ n
@@ -65,95 +66,99 @@ count_once name m n small other same =
     let text : name ++ (32 ∷ decimal m ++ []) ≡ name ++ (32 ∷ decimal n ++ []) = cc in
     let behind = append_cancel_left name (32 ∷ decimal m ++ []) (32 ∷ decimal n ++ []) text in
     let number : decimal m ++ [] ≡ decimal n ++ [] = cc in
-    decimal_injective m n small other (sym (append-nil (decimal m)) ∙ number ∙ append-nil (decimal n))
+    decimal_injective m n small other (cc (append-nil (decimal m), append-nil (decimal n)))
 
 part_once : (name : List ℕ) (xs ys more others : List (List (List ℕ))) → length xs < 2 ^ 64 → length ys < 2 ^ 64 → part name xs ++ more ≡ part name ys ++ others → SameParts xs ys more others
 part_once name xs ys more others small other same =
     let first : heading name (length xs) ≡ heading name (length ys) = cc in
     let behind : xs ++ more ≡ ys ++ others = cc in
-    split_at_length xs ys more others (count_once name (length xs) (length ys) small other first) behind
+    split_at_length _ _ _ _ (count_once _ _ _ small other first) behind
 
 -- ---- the fields of a map
 
 outside_comma : 45 ≤ 44 → 57 < 44
-outside_comma low = absurd (omega (arith, low))
+outside_comma low = absurd (omega arith)
 
 outside_line_feed : 45 ≤ 10 → 57 < 10
-outside_line_feed low = absurd (omega (arith, low))
+outside_line_feed low = absurd (omega arith)
 
 heading_is : (name : List ℕ) (count : ℕ) → Lacks 44 name → Lacks 10 name → count < 2 ^ 64 → AreFields (heading name count)
 heading_is name count comma end small =
-    let comma_free = joined_lacks 44 32 (name ∷ decimal count ∷ []) (λ e. omega (arith, e)) (comma, (decimal_lacks 44 count (λ low. absurd (omega (arith, low))) small, tt)) in
-    let end_free = joined_lacks 10 32 (name ∷ decimal count ∷ []) (λ e. omega (arith, e)) (end, (decimal_lacks 10 count (λ low. absurd (omega (arith, low))) small, tt)) in
+    let comma_free = joined_lacks 44 32 (name ∷ decimal count ∷ []) (λ e. omega arith) (comma, (decimal_lacks 44 count (search rules) small, tt)) in
+    let end_free = joined_lacks 10 32 (name ∷ decimal count ∷ []) (λ e. omega arith) (end, (decimal_lacks 10 count (search rules) small, tt)) in
     ((comma_free, tt), (end_free, tt))
 
 part_is : (name : List ℕ) (rows : List (List (List ℕ))) → Lacks 44 name → Lacks 10 name → length rows < 2 ^ 64 → All AreFields rows → All AreFields (part name rows)
-part_is name rows comma end small all = All-cons AreFields (heading name (length rows)) rows (heading_is name (length rows) comma end small) all
+part_is name rows comma end small all = All-cons AreFields (heading name (length rows)) _ (heading_is _ _ comma end small) all
 
 lines_on : (nodes : List Node) (lines : List RoadLine) → AreSoundLines nodes lines → All (IsOn nodes) lines
 lines_on nodes lines sound = λ k d inside. record { sound = sound.each k d inside; joins = sound.joined k d inside }
 
 nodes_are : (nodes : List Node) → AreSoundNodes nodes → All AreFields (map node_fields nodes)
-nodes_are nodes sound = All-map AreFields node_fields nodes (All-weaker IsSoundNode (λ node. AreFields (node_fields node))
+nodes_are nodes sound = All-map AreFields _ _ (All-weaker IsSoundNode (λ node. AreFields (node_fields node))
     (λ node is. (node_lacks 44 outside_comma node is, node_lacks 10 outside_line_feed node is)) nodes sound.each)
 
 lines_are : (nodes : List Node) (lines : List RoadLine) → AreSoundNodes nodes → AreSoundLines nodes lines → All AreFields (map (line_fields nodes) lines)
 lines_are nodes lines sound_nodes sound = All-map AreFields (line_fields nodes) lines (All-weaker (IsOn nodes) (λ line. AreFields (line_fields nodes line))
     (λ line is. (
-      line_lacks 44 (λ e. omega (arith, e)) (λ e. omega (arith, e)) outside_comma nodes sound_nodes line is,
-      line_lacks 10 (λ e. omega (arith, e)) (λ e. omega (arith, e)) outside_line_feed nodes sound_nodes line is,
+      line_lacks 44 (λ e. omega arith) (λ e. omega arith) outside_comma nodes sound_nodes line is,
+      line_lacks 10 (λ e. omega arith) (λ e. omega arith) outside_line_feed nodes sound_nodes line is,
     )) lines (lines_on nodes lines sound))
 
 bans_are : (nodes : List Node) (lines : List RoadLine) (bans : List Ban) → AreSoundLines nodes lines → All (IsAdjacent lines) bans → All AreFields (map (ban_fields lines) bans)
-bans_are nodes lines bans sound each = All-map AreFields (ban_fields lines) bans (All-weaker (IsAdjacent lines) (λ ban. AreFields (ban_fields lines ban))
+bans_are nodes lines bans sound each = All-map AreFields _ _ (All-weaker (IsAdjacent lines) (λ ban. AreFields (ban_fields lines ban))
     (λ ban is. (ban_lacks 44 outside_comma nodes lines sound ban is, ban_lacks 10 outside_line_feed nodes lines sound ban is)) bans each)
 
 -- three names, none of which has a byte below the letters
 names_lack : (byte : ℕ) → byte < 97 → Lacks byte (codes "nodes") × Lacks byte (codes "lines") × Lacks byte (codes "bans")
 names_lack byte low = (
-  (λ e. omega (arith, e, low), (λ e. omega (arith, e, low), (λ e. omega (arith, e, low), (λ e. omega (arith, e, low), (λ e. omega (arith, e, low), tt))))),
-  (λ e. omega (arith, e, low), (λ e. omega (arith, e, low), (λ e. omega (arith, e, low), (λ e. omega (arith, e, low), (λ e. omega (arith, e, low), tt))))),
-  (λ e. omega (arith, e, low), (λ e. omega (arith, e, low), (λ e. omega (arith, e, low), (λ e. omega (arith, e, low), tt)))),
+  (λ e. omega arith, (λ e. omega arith, (λ e. omega arith, (λ e. omega arith, (λ e. omega arith, tt))))),
+  (λ e. omega arith, (λ e. omega arith, (λ e. omega arith, (λ e. omega arith, (λ e. omega arith, tt))))),
+  (λ e. omega arith, (λ e. omega arith, (λ e. omega arith, (λ e. omega arith, tt)))),
 )
 
 fields_are : (road : RoadMap) → IsSoundMap road → All AreFields (canonical_fields road)
 fields_are road sound =
     let comma = names_lack 44 (omega arith) in
     let end = names_lack 10 (omega arith) in
-    let nodes = part_is (codes "nodes") (map node_fields road.nodes) comma.0 end.0 (omega (arith, length-map road.nodes node_fields, sound.nodes.at_most)) (nodes_are road.nodes sound.nodes) in
-    let lines = part_is (codes "lines") (map (line_fields road.nodes) road.lines) comma.1 end.1 (omega (arith, length-map road.lines (line_fields road.nodes), sound.lines.at_most))
-    (lines_are road.nodes road.lines sound.nodes sound.lines) in
-    let bans = part_is (codes "bans") (map (ban_fields road.lines) road.bans) comma.2 end.2 (omega (arith, length-map road.bans (ban_fields road.lines), sound.bans.at_most))
-    (bans_are road.nodes road.lines road.bans sound.lines sound.bans.each) in
+    let nodes = part_is (codes "nodes") _ comma.0 end.0 (omega (arith, length-map road.nodes node_fields)) (nodes_are _ sound.nodes) in
+    let lines = part_is (codes "lines") _ comma.1 end.1 (omega (arith, length-map road.lines (line_fields road.nodes)))
+    (lines_are _ _ sound.nodes sound.lines) in
+    let bans = part_is (codes "bans") _ comma.2 end.2 (omega (arith, length-map road.bans (ban_fields road.lines)))
+    (bans_are _ _ _ sound.lines sound.bans.each) in
     let front = All-append AreFields (part (codes "nodes") (map node_fields road.nodes)) (lines_part road) nodes lines in
     All-append AreFields (part (codes "nodes") (map node_fields road.nodes) ++ lines_part road) (bans_part road) front bans
 
 -- ---- from the parts to the map
 
-lines_by_rows : (nodes others : List Node) (xs ys : List RoadLine) → AreSoundNodes nodes → AreSoundLines nodes xs → AreSoundLines others ys → nodes ≡ others
+lines_by_rows : {nodes others : List Node} {xs : List RoadLine} (ys : List RoadLine) → AreSoundNodes nodes
+    → AreSoundLines nodes xs → AreSoundLines others ys → nodes ≡ others
     → map (line_fields nodes) xs ≡ map (line_fields others) ys → xs ≡ ys
-lines_by_rows nodes others xs ys sound_nodes sound other same rows =
+lines_by_rows ys sound_nodes sound other same rows =
     let moved = subst (λ (l : List Node). AreSoundLines l ys) (sym same) other in
-    map_once (IsOn nodes) (line_fields nodes) (line_by_fields nodes sound_nodes) xs ys (lines_on nodes xs sound) (lines_on nodes ys moved)
-    (rows ∙ ap (λ (l : List Node). map (line_fields l) ys) (sym same))
+    map_once _ _ (line_by_fields _ sound_nodes) _ _ (lines_on _ _ sound) (lines_on _ _ moved)
+    (cc)
 
-bans_by_rows : (nodes : List Node) (lines others : List RoadLine) (xs ys : List Ban) → AreSoundLines nodes lines → All (IsAdjacent lines) xs → All (IsAdjacent others) ys → lines ≡ others
+bans_by_rows : {nodes : List Node} {lines others : List RoadLine} {xs ys : List Ban} → AreSoundLines nodes lines → All (IsAdjacent lines) xs → All (IsAdjacent others) ys → lines ≡ others
     → map (ban_fields lines) xs ≡ map (ban_fields others) ys → xs ≡ ys
-bans_by_rows nodes lines others xs ys sound each other same rows =
-    map_once (IsAdjacent lines) (ban_fields lines) (ban_by_fields nodes lines sound) xs ys each (subst (λ (l : List RoadLine). All (IsAdjacent l) ys) (sym same) other)
-    (rows ∙ ap (λ (l : List RoadLine). map (ban_fields l) ys) (sym same))
+bans_by_rows sound each other same rows =
+    map_once _ _ (ban_by_fields sound) _ _ each (rw same other)
+    (cc)
 
 pub map_by_text : (a b : RoadMap) → IsSoundMap a → IsSoundMap b → canonical_text a ≡ canonical_text b → a ≡ b
 map_by_text a b sound other same =
-    let rows = rows_by_text (canonical_fields a) (canonical_fields b) (fields_are a sound) (fields_are b other) same in
+    let rows = rows_by_text _ _ (fields_are a sound) (fields_are b other) same in
     let apart = λ (road : RoadMap). append_assoc (part (codes "nodes") (map node_fields road.nodes)) (lines_part road) (bans_part road) in
-    let first = part_once (codes "nodes") (map node_fields a.nodes) (map node_fields b.nodes) (lines_part a ++ bans_part a) (lines_part b ++ bans_part b)
-    (omega (arith, length-map a.nodes node_fields, sound.nodes.at_most)) (omega (arith, length-map b.nodes node_fields, other.nodes.at_most))
+    let first = part_once (codes "nodes") _ _ _ _
+    (omega (arith, length-map a.nodes node_fields)) (omega (arith, length-map b.nodes node_fields))
     (sym (apart a) ∙ rows ∙ apart b) in
-    let second = part_once (codes "lines") (map (line_fields a.nodes) a.lines) (map (line_fields b.nodes) b.lines) (bans_part a) (bans_part b)
-    (omega (arith, length-map a.lines (line_fields a.nodes), sound.lines.at_most)) (omega (arith, length-map b.lines (line_fields b.nodes), other.lines.at_most)) first.rest in
-    let nodes = map_once IsSoundNode node_fields node_by_fields a.nodes b.nodes sound.nodes.each other.nodes.each first.rows in
-    let lines = lines_by_rows a.nodes b.nodes a.lines b.lines sound.nodes sound.lines other.lines nodes second.rows in
+    let second = part_once (codes "lines") _ _ (bans_part a) (bans_part b)
+    (omega (
+      arith,
+      length-map a.lines (line_fields a.nodes),
+    )) (omega (arith, length-map b.lines (line_fields b.nodes))) first.rest in
+    let nodes = map_once _ _ node_by_fields _ _ sound.nodes.each other.nodes.each first.rows in
+    let lines = lines_by_rows _ sound.nodes sound.lines other.lines nodes second.rows in
     let ban_rows : map (ban_fields a.lines) a.bans ≡ map (ban_fields b.lines) b.bans = ap (λ (l : List (List (List ℕ))). drop 1 l) second.rest in
-    let bans = bans_by_rows a.nodes a.lines b.lines a.bans b.bans sound.lines sound.bans.each other.bans.each lines ban_rows in
+    let bans = bans_by_rows sound.lines sound.bans.each other.bans.each lines ban_rows in
     λ i. record { nodes = nodes i; lines = lines i; bans = bans i }

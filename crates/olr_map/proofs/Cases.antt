@@ -21,9 +21,9 @@ pub when_none : {X : Type 0} (A : Type 0) (B : X → Type 0) (o : Option X) → 
 when_none A B o is fact = subst (λ (p : Option _). MatchOption p A B) is fact
 
 -- of both, what follows from it
-pub option_cases : {X : Type 0} (A C : Type 0) (B D : X → Type 0) (o : Option X) → MatchOption o A B → (A → C) → ((x : X) → B x → D x) → MatchOption o C D
-option_cases A C B D None fact none some = none fact
-option_cases A C B D (Some x) fact none some = some x fact
+pub option_cases : {X : Type 0} (A C : Type 0) {B D : X → Type 0} (o : Option X) → MatchOption o A B → (A → C) → ((x : X) → B x → D x) → MatchOption o C D
+option_cases A C None fact none some = none fact
+option_cases A C (Some x) fact none some = some x fact
 
 -- what holds of a result
 pub when_ok : {X E : Type 0} (A : X → Type 0) (B : E → Type 0) (r : Result X E) (x : X) → r ≡ Ok x → MatchResult r A B → A x

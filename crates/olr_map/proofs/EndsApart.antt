@@ -1,5 +1,5 @@
 -- How far apart on an axis the nodes can be from which and to which lines lead.
-use Rattle.std.proofs.Common.{◌≡◌, ℕ, zero, suc, ◌+◌, ◌<◌, ◌≤◌, ◌⊎◌, List, length, get_or, set, Some, inl, inr, subst, ap, sym, ◌∙◌, arith, length-set, get_or-set_other}
+use Rattle.std.proofs.Common.{◌≡◌, ℕ, zero, suc, ◌+◌, ◌<◌, ◌≤◌, ◌⊎◌, List, length, get_or, set, Some, inl, inr, ap, ◌∙◌, arith, length-set, get_or-set_other}
 use Rattle.std.specs.Prelude.{slice_get, sum}
 use Rattle.std.specs.Int.{abs_diff}
 use Rattle.std.proofs.lemmas.Bool.{cases_eq}
@@ -14,7 +14,7 @@ same_line : (lines : List RoadLine) (one other : ℕ) (line found : RoadLine) �
 same_line lines one other line found same is at = cc
 
 farther : (from to start near more : ℕ) → abs_diff from start ≤ near → abs_diff from to ≤ more → abs_diff to start ≤ near + more
-farther from to start near more one other = omega (arith, one, other)
+farther from to start near more one other = omega arith
 
 module _ (road : RoadMap) (position : ℕ → ℕ) (start : ℕ) where
   abbrev IsNear : ℕ → ℕ → Type 0
@@ -31,28 +31,28 @@ module _ (road : RoadMap) (position : ℕ → ℕ) (start : ℕ) where
       (here : IsNear near line.from) where
     ends_near : IsNear (near + (line.length + get_or left rank 0)) line.to
     ends_near = elim (long rank line is) [
-      | inl apart ↦ farther (position line.from) (position line.to) start near (line.length + get_or left rank 0) here apart
-      | inr already ↦ omega (arith, already)
+      | inl apart ↦ farther _ _ _ _ _ here apart
+      | inr already ↦ omega arith
     ]
 
     used_up : AreLong (set left rank 0) (near + (line.length + get_or left rank 0))
     used_up other found at = elim (cases_eq other rank) [
       | inl same ↦
           let ends : IsNear (near + (line.length + get_or left rank 0)) line.to = ends_near in
-          inr (subst (λ (l : RoadLine). IsNear (near + (line.length + get_or left rank 0)) l.to) (same_line road.lines rank other line found same is at) ends)
+          inr (rw (← (same_line _ _ _ _ _ same is at)) ends)
       | inr differs ↦ elim (long other found at) [
-        | inl apart ↦ inl (omega (arith, apart, get_or-set_other left rank other 0 0 differs))
-        | inr already ↦ inr (omega (arith, already))
+        | inl apart ↦ inl (omega (arith, get_or-set_other left rank other 0 0 differs))
+        | inr already ↦ inr (omega arith)
       ]
     ]
 
   -- lines that join lead no farther than they are long, with all that is left: once for each line, however often it is driven
   pub climb : (count from to long near : ℕ) (left : List ℕ) → Joins road count from to long → length left ≡ length road.lines
       → AreLong left near → IsNear near from → IsNear (near + long + sum left) to
-  climb zero from to long near left joins size are here = omega (arith, here, ap position joins.0)
+  climb zero from to long near left joins size are here = omega (arith, ap position joins.0)
   climb (suc count) from to long near left (rank, line, more, is, begins, rest, adds) size are here =
-      let begin : IsNear near line.from = subst (IsNear near) (sym begins) here in
-      let inside : rank < length left = omega (arith, size, slice_get_within road.lines rank line is) in
-      let end = climb count line.to to more (near + (line.length + get_or left rank 0)) (set left rank 0) rest (length-set left rank 0 ∙ size)
+      let begin : IsNear near line.from = rw begins here in
+      let inside : rank < length left = omega (arith, slice_get_within road.lines rank line is) in
+      let end = climb count line.to to more (near + (line.length + get_or left rank 0)) (set _ _ 0) rest (length-set left rank 0 ∙ size)
       (used_up left near rank line is are begin) (ends_near left near rank line is are begin) in
-      omega (arith, end, adds, sum_by-set (λ (n : ℕ). n) left rank 0 0 inside)
+      omega (arith, sum_by-set (λ (n : ℕ). n) left rank 0 0 inside)

@@ -1,5 +1,5 @@
 -- Records that were read one after the other, and what each of them spells.
-use Rattle.std.proofs.Common.{◌≡◌, ℕ, List, [], ◌∷◌, ◌++◌, sym, ap, ◌∙◌, append_assoc}
+use Rattle.std.proofs.Common.{◌≡◌, ℕ, List, [], ◌∷◌, ◌++◌, append_assoc}
 use Rattle.std.specs.List.{AllZip}
 use Rattle.olr_map.specs.Table.{Table}
 use Rattle.olr_map.specs.Settling.{AddsRow}
@@ -11,10 +11,10 @@ pub record Collects {Row : Type 0} (table : Table Row) (all left : List (List (L
   pub split : all ≡ read ++ left
   pub each : AllZip table.IsRow read rows
 
-pub collects_more : {Row : Type 0} (table : Table Row) (all here left : List (List (List ℕ))) (fields : List (List ℕ)) (old new : List Row)
+pub collects_more : {Row : Type 0} {table : Table Row} {all here : List (List (List ℕ))} (left : List (List (List ℕ))) (fields : List (List ℕ)) {old new : List Row}
     → Collects table all here old → here ≡ fields ∷ left → AddsRow table fields old new → Collects table all left new
-collects_more table all here left fields old new collects next adds = record {
+collects_more left fields collects next adds = record {
   read = collects.read ++ fields ∷ [];
-  split = collects.split ∙ ap (λ (l : List (List (List ℕ))). collects.read ++ l) next ∙ sym (append_assoc collects.read (fields ∷ []) left);
-  each = rw adds.rows (zip_push table.IsRow collects.read old fields adds.row collects.each adds.is);
+  split = cc (append_assoc collects.read (fields ∷ []) left);
+  each = rw adds.rows (zip_push _ _ _ _ _ collects.each adds.is);
 }

@@ -1,7 +1,7 @@
 -- The conditions on a record of the file of lines: which one is the first, and that none holds of a line's record.
-use Rattle.std.proofs.Common.{◌≡◌, ℕ, ◌+◌, ◌<◌, ◌≤◌, List, length, Some, None, inl, inr, refl, sym, ap, subst, ◌∙◌, arith}
+use Rattle.std.proofs.Common.{◌≡◌, ℕ, ◌+◌, ◌<◌, ◌≤◌, List, length, Some, None, inl, inr, refl, sym, ap, ◌∙◌, arith, rules}
 use Rattle.std.specs.Prelude.{Contains}
-use Rattle.olr_records.specs.declared.file.File.TheVariants.{Nodes, Lines, Bans}
+use Rattle.olr_records.specs.declared.file.File.TheVariants.{Lines}
 use Rattle.olr_map.specs.declared.fault.MapFault.{MapFault}
 use Rattle.olr_map.specs.declared.fault.MapFault.TheVariants as fault
 use Rattle.olr_map.specs.declared.rows.RowError.{RowError}
@@ -10,7 +10,7 @@ use Rattle.olr_map.specs.declared.rows.LineRow.{LineRow}
 use Rattle.olr_metric.specs.Coordinates.{Coordinates}
 use Rattle.olr_records.specs.Fields.{IsLength}
 use Rattle.olr_index.specs.Repeats.{AllDiffer}
-use Rattle.olr_map.specs.Rows.{SpellsAt, Node, node_ids, RoadLine, line_ids, HasEqualNeighbours, IsLine, HasLineColumn}
+use Rattle.olr_map.specs.Rows.{SpellsAt, Node, node_ids, RoadLine, line_ids, IsLine, HasLineColumn}
 use Rattle.olr_map.specs.Faults.{order_of, IsFirstLacking, IsRepeated, LineCondition, Refuses}
 use Rattle.olr_map.specs.RoadMap.{lines_table}
 use Rattle.olr_map.specs.Settling.{IsSettled, StopsAfter}
@@ -21,8 +21,8 @@ use Rattle.olr_map.proofs.Conditions.{line_condition_once}
 use Rattle.olr_map.proofs.OneTable.{IsLawful, keys_length}
 
 -- no column of a line's record lacks a value
-none_lacks : (nodes : List Node) (fields : List (List ℕ)) (line : RoadLine) → IsLine nodes fields line → (column : ℕ) → IsFirstLacking (HasLineColumn fields) column → ⊥
-none_lacks nodes fields line is column lacking = lacking.lacks (record {
+none_lacks : {nodes : List Node} {fields : List (List ℕ)} {line : RoadLine} → IsLine nodes fields line → (column : ℕ) → IsFirstLacking (HasLineColumn fields) column → ⊥
+none_lacks {line} is column lacking = lacking.lacks (record {
   id = λ _. (line.id, is.id);
   from = λ _. (is.points.start.id, is.points.start.spelled);
   to = λ _. (is.points.end.id, is.points.end.spelled);
@@ -54,46 +54,26 @@ record Passes (nodes : List Node) (before : List ℕ) (fields : List (List ℕ))
   known : 6 ≤ order → KnowsEnds nodes fields
   long : 7 ≤ order → SpellsAt IsLength fields 5 0 → ⊥
 
-passes : (nodes : List Node) (before : List ℕ) (fields : List (List ℕ)) (order : ℕ) → Passes nodes before fields order
+passes : {nodes : List Node} {before : List ℕ} {fields : List (List ℕ)} (order : ℕ) → Passes nodes before fields order
     → (earlier : MapFault) → order_of earlier < order → LineCondition nodes before fields earlier → ⊥
-passes nodes before fields order p (fault.TooMany Lines) below holds = omega (arith, holds, p.room (omega (arith, below)))
-passes nodes before fields order p (fault.TooMany Nodes) below holds = holds
-passes nodes before fields order p (fault.TooMany Bans) below holds = holds
-passes nodes before fields order p (fault.Shape Lines n) below holds = holds.1 (p.seven (omega (arith, below)))
-passes nodes before fields order p (fault.Shape Nodes n) below holds = holds
-passes nodes before fields order p (fault.Shape Bans n) below holds = holds
-passes nodes before fields order p (fault.Field Lines n column) below holds = p.full (omega (arith, below)) column holds.1
-passes nodes before fields order p (fault.Field Nodes n column) below holds = holds
-passes nodes before fields order p (fault.Field Bans n column) below holds = holds
-passes nodes before fields order p (fault.Duplicate Lines n) below holds = p.new (omega (arith, below)) holds.1
-passes nodes before fields order p (fault.Duplicate Nodes n) below holds = holds
-passes nodes before fields order p (fault.Duplicate Bans n) below holds = holds
-passes nodes before fields order p (fault.UnknownNode n) below holds = elim holds.1 [
-  | inl from ↦ (p.known (omega (arith, below))).from from
-  | inr to ↦ (p.known (omega (arith, below))).to to
+passes order p (fault.TooMany Lines) below holds = omega (arith, p.room (omega (arith, below)))
+passes order p (fault.Shape Lines n) below holds = holds.1 (p.seven (omega arith))
+passes order p (fault.Field Lines n column) below holds = p.full (omega arith) column holds.1
+passes order p (fault.Duplicate Lines n) below holds = p.new (omega arith) holds.1
+passes order p (fault.UnknownNode n) below holds = elim holds.1 [
+  | inl from ↦ (p.known (omega arith)).from from
+  | inr to ↦ (p.known (omega arith)).to to
 ]
-passes nodes before fields order p (fault.ZeroLength n) below holds = p.long (omega (arith, below)) holds.1
-passes nodes before fields order p (fault.Degenerate n) below holds = omega (arith, below, p.most)
-passes nodes before fields order p (fault.UnknownLine n) below holds = holds
-passes nodes before fields order p (fault.NotAdjacent n) below holds = holds
-passes nodes before fields order p (fault.Header file) below holds = holds
-passes nodes before fields order p (fault.ReadFailed file) below holds = holds
-passes nodes before fields order p fault.NoMemory below holds = holds
+passes order p (fault.ZeroLength n) below holds = p.long (omega arith) holds.1
+passes order p (fault.Degenerate n) below holds = omega arith
+passes order p _ below holds = holds
 
 -- a record of which every field was read repeats an id
 refuses_repeat : (nodes : List Node) (before : List ℕ) (fields : List (List ℕ)) (count : ℕ) → length before ≡ count → count < 200000 → length fields ≡ 7
     → ((column : ℕ) → IsFirstLacking (HasLineColumn fields) column → ⊥) → IsRepeated before fields → Refuses (LineCondition nodes before fields) (fault.Duplicate Lines (count + 1))
 refuses_repeat nodes before fields count size room seven full repeat = record {
-  holds = (omega (arith, size), repeat);
-  first = passes nodes before fields 4 (record {
-    most = omega arith;
-    room = λ _. omega (arith, size, room);
-    seven = λ _. seven;
-    full = λ _. full;
-    new = λ e. absurd (omega (arith, e));
-    known = λ e. absurd (omega (arith, e));
-    long = λ e. absurd (omega (arith, e));
-  });
+  holds = (omega arith, repeat);
+  first = passes 4 (search rules);
 }
 
 -- ---- the record at which the reader stopped
@@ -102,27 +82,11 @@ refuses_error : (nodes : List Node) (before : List ℕ) (bad : List (List ℕ)) 
     → Refuses (LineCondition nodes before bad) (fault_of why Lines (length before + 1))
 refuses_error nodes before bad error.Shape room is = record {
   holds = (omega arith, is);
-  first = passes nodes before bad 2 (record {
-    most = omega arith;
-    room = λ _. room;
-    seven = λ e. absurd (omega (arith, e));
-    full = λ e. absurd (omega (arith, e));
-    new = λ e. absurd (omega (arith, e));
-    known = λ e. absurd (omega (arith, e));
-    long = λ e. absurd (omega (arith, e));
-  });
+  first = passes 2 (search rules);
 }
 refuses_error nodes before bad (error.Column column) room is = record {
   holds = (omega arith, is.1);
-  first = passes nodes before bad 3 (record {
-    most = omega arith;
-    room = λ _. room;
-    seven = λ _. is.0;
-    full = λ e. absurd (omega (arith, e));
-    new = λ e. absurd (omega (arith, e));
-    known = λ e. absurd (omega (arith, e));
-    long = λ e. absurd (omega (arith, e));
-  });
+  first = passes 3 (search rules);
 }
 
 -- after as many lines as there may be
@@ -131,39 +95,31 @@ stops_past : (nodes : List Node) (lines : List RoadLine) (bad : List (List ℕ))
 stops_past nodes lines bad full = record {
   repeats = λ among. absurd among;
   new = λ _. record {
-    holds = omega (arith, keys_length (lines_table nodes) lines, full);
-    first = passes nodes (line_ids lines) bad 1 (record {
-      most = omega arith;
-      room = λ e. absurd (omega (arith, e));
-      seven = λ e. absurd (omega (arith, e));
-      full = λ e. absurd (omega (arith, e));
-      new = λ e. absurd (omega (arith, e));
-      known = λ e. absurd (omega (arith, e));
-      long = λ e. absurd (omega (arith, e));
-    });
+    holds = omega (arith, keys_length (lines_table nodes) lines);
+    first = passes 1 (search rules);
   };
 }
 
 -- a record that is no row
-pub stops_at_error : (nodes : List Node) (lines : List RoadLine) (bad : List (List ℕ)) (why : RowError) (stop : MapFault) (before : ℕ) → length lines ≡ before → before < 200000
+pub stops_at_error : (nodes : List Node) (lines : List RoadLine) (bad : List (List ℕ)) (why : RowError) {stop : MapFault} {before : ℕ} → length lines ≡ before → before < 200000
     → IsLineError bad why → stop ≡ fault_of why Lines (before + 1) → StopsAfter (lines_table nodes) lines bad (record { fault = stop; key = None })
-stops_at_error nodes lines bad why stop before size room is e =
+stops_at_error nodes lines bad why size room is e =
     let count = keys_length (lines_table nodes) lines ∙ size in
-    let refuses = refuses_error nodes (line_ids lines) bad why (omega (arith, count, room)) is in
+    let refuses = refuses_error nodes (line_ids lines) bad why (omega arith) is in
     record {
       repeats = λ among. absurd among;
-      new = λ _. subst (λ (f : MapFault). Refuses (LineCondition nodes (line_ids lines) bad) f) (ap (λ (n : ℕ). fault_of why Lines (n + 1)) count ∙ sym e) refuses;
+      new = λ _. rw (← (ap (λ (n : ℕ). fault_of why Lines (n + 1)) count ∙ sym e)) refuses;
     }
 
 -- what rules out the conditions up to that of an id that an earlier record has
-read_row : (nodes : List Node) (before : List ℕ) (bad : List (List ℕ)) (row : LineRow) (shape : List Coordinates) → SpellsLine bad shape row → length before < 200000
+read_row : {nodes : List Node} {before : List ℕ} {bad : List (List ℕ)} {row : LineRow} {shape : List Coordinates} → SpellsLine bad shape row → length before < 200000
     → (Contains before row.id → ⊥) → (order : ℕ) → order ≤ 7 → (6 ≤ order → KnowsEnds nodes bad) → (7 ≤ order → SpellsAt IsLength bad 5 0 → ⊥) → Passes nodes before bad order
-read_row nodes before bad row shape says room new order most known long = record {
+read_row says room new order most known long = record {
   most = most;
   room = λ _. room;
   seven = λ _. says.numbers.seven;
-  full = λ _. none_lacks_read bad shape row says;
-  new = λ _ repeat. new (subst (λ (id : ℕ). Contains before id) (number_once 1 9007199254740992 bad 0 repeat.0 row.id repeat.1 says.numbers.id) repeat.2);
+  full = λ _. none_lacks_read _ _ _ says;
+  new = λ _ repeat. new (rw (← (number_once 1 _ _ 0 _ _ repeat.1 says.numbers.id)) repeat.2);
   known = known;
   long = long;
 }
@@ -172,25 +128,17 @@ refuses_late : (nodes : List Node) (before : List ℕ) (bad : List (List ℕ)) (
     → (Contains before row.id → ⊥) → IsLateFault nodes bad (length before + 1) stop → Refuses (LineCondition nodes before bad) stop
 refuses_late nodes before bad row shape (fault.UnknownNode n) says room new is = record {
   holds = is;
-  first = passes nodes before bad 5 (read_row nodes before bad row shape says room new 5 (omega arith) (λ e. absurd (omega (arith, e))) (λ e. absurd (omega (arith, e))));
+  first = passes 5 (read_row says room new 5 (omega arith) (search rules) (search rules));
 }
 refuses_late nodes before bad row shape (fault.ZeroLength n) says room new is = record {
   holds = (is.0, is.2);
-  first = passes nodes before bad 6 (read_row nodes before bad row shape says room new 6 (omega arith) (λ _. is.1) (λ e. absurd (omega (arith, e))));
+  first = passes 6 (read_row says room new 6 (omega arith) (λ _. is.1) (search rules));
 }
 refuses_late nodes before bad row shape (fault.Degenerate n) says room new is = record {
   holds = (is.0, is.3, is.4, is.5, is.6, is.7);
-  first = passes nodes before bad 7 (read_row nodes before bad row shape says room new 7 (omega arith) (λ _. is.1) (λ _. is.2));
+  first = passes 7 (read_row says room new 7 (omega arith) (λ _. is.1) (λ _. is.2));
 }
-refuses_late nodes before bad row shape (fault.UnknownLine n) says room new is = absurd is
-refuses_late nodes before bad row shape (fault.NotAdjacent n) says room new is = absurd is
-refuses_late nodes before bad row shape (fault.TooMany file) says room new is = absurd is
-refuses_late nodes before bad row shape (fault.Shape file n) says room new is = absurd is
-refuses_late nodes before bad row shape (fault.Field file n column) says room new is = absurd is
-refuses_late nodes before bad row shape (fault.Duplicate file n) says room new is = absurd is
-refuses_late nodes before bad row shape (fault.Header file) says room new is = absurd is
-refuses_late nodes before bad row shape (fault.ReadFailed file) says room new is = absurd is
-refuses_late nodes before bad row shape fault.NoMemory says room new is = absurd is
+refuses_late nodes before bad row shape _ says room new is = absurd is
 
 -- a record whose row was read and is no line
 pub stops_late : (nodes : List Node) (lines : List RoadLine) (bad : List (List ℕ)) (row : LineRow) (shape : List Coordinates) (stop : MapFault) (before : ℕ) → length lines ≡ before → before < 200000
@@ -198,10 +146,10 @@ pub stops_late : (nodes : List Node) (lines : List RoadLine) (bad : List (List �
 stops_late nodes lines bad row shape stop before size room says late =
     let count = keys_length (lines_table nodes) lines in
     record {
-      repeats = λ among. refuses_repeat nodes (line_ids lines) bad (length lines) count (omega (arith, size, room)) says.numbers.seven (none_lacks_read bad shape row says)
+      repeats = λ among. refuses_repeat nodes (line_ids lines) bad (length lines) count (omega arith) says.numbers.seven (none_lacks_read bad shape row says)
           (row.id, says.numbers.id, among);
-      new = λ new. refuses_late nodes (line_ids lines) bad row shape stop says (omega (arith, count, size, room)) new
-          (subst (λ (n : ℕ). IsLateFault nodes bad (n + 1) stop) (sym (count ∙ size)) late);
+      new = λ new. refuses_late nodes (line_ids lines) bad row shape stop says (omega arith) new
+          (rw (count ∙ size) late);
     }
 
 -- ---- a record that spells a line
@@ -209,43 +157,31 @@ stops_late nodes lines bad row shape stop before size room says late =
 -- no condition holds of it, where its id is new and there is room
 sound : (nodes : List Node) → AllDiffer (node_ids nodes) → (before : List ℕ) (fields : List (List ℕ)) (line : RoadLine) → IsLine nodes fields line → length before < 200000
     → (Contains before line.id → ⊥) → (why : MapFault) → LineCondition nodes before fields why → ⊥
-sound nodes differ before fields line is room new (fault.TooMany Lines) holds = omega (arith, room, holds)
-sound nodes differ before fields line is room new (fault.TooMany Nodes) holds = holds
-sound nodes differ before fields line is room new (fault.TooMany Bans) holds = holds
+sound nodes differ before fields line is room new (fault.TooMany Lines) holds = omega arith
 sound nodes differ before fields line is room new (fault.Shape Lines n) holds = holds.1 is.seven
-sound nodes differ before fields line is room new (fault.Shape Nodes n) holds = holds
-sound nodes differ before fields line is room new (fault.Shape Bans n) holds = holds
-sound nodes differ before fields line is room new (fault.Field Lines n column) holds = none_lacks nodes fields line is column holds.1
-sound nodes differ before fields line is room new (fault.Field Nodes n column) holds = holds
-sound nodes differ before fields line is room new (fault.Field Bans n column) holds = holds
+sound nodes differ before fields line is room new (fault.Field Lines n column) holds = none_lacks is _ holds.1
 sound nodes differ before fields line is room new (fault.Duplicate Lines n) holds =
-    new (subst (λ (id : ℕ). Contains before id) (number_once 1 9007199254740992 fields 0 holds.1.0 line.id holds.1.1 is.id) holds.1.2)
-sound nodes differ before fields line is room new (fault.Duplicate Nodes n) holds = holds
-sound nodes differ before fields line is room new (fault.Duplicate Bans n) holds = holds
+    new (rw (← (number_once 1 _ _ 0 _ _ holds.1.1 is.id)) holds.1.2)
 sound nodes differ before fields line is room new (fault.UnknownNode n) holds = elim holds.1 [
-  | inl from ↦ known nodes fields 1 is.points.start.id line.from is.points.first is.points.start.spelled is.points.start.node from
-  | inr to ↦ known nodes fields 2 is.points.end.id line.to is.points.last is.points.end.spelled is.points.end.node to
+  | inl from ↦ known _ _ 1 _ _ _ is.points.start.spelled is.points.start.node from
+  | inr to ↦ known _ _ 2 _ _ _ is.points.end.spelled is.points.end.node to
 ]
 sound nodes differ before fields line is room new (fault.ZeroLength n) holds =
-    let none = number_once 0 10000000 fields 5 line.length 0 is.length holds.1 in
-    omega (arith, none, is.long)
+    let none = number_once 0 _ _ 5 _ 0 is.length holds.1 in
+    omega arith
 sound nodes differ before fields line is room new (fault.Degenerate n) holds =
-    let same = points_once nodes fields holds.1 holds.2 line.from line.to holds.3 line.points differ holds.4 is.points in
-    is.apart (subst (λ (points : List Coordinates). HasEqualNeighbours points) same.points holds.5)
-sound nodes differ before fields line is room new (fault.UnknownLine n) holds = holds
-sound nodes differ before fields line is room new (fault.NotAdjacent n) holds = holds
-sound nodes differ before fields line is room new (fault.Header file) holds = holds
-sound nodes differ before fields line is room new (fault.ReadFailed file) holds = holds
-sound nodes differ before fields line is room new fault.NoMemory holds = holds
+    let same = points_once differ holds.4 is.points in
+    is.apart (rw (← same.points) holds.5)
+sound nodes differ before fields line is room new _ holds = holds
 
 pub lines_lawful : (nodes : List Node) → AllDiffer (node_ids nodes) → IsLawful (lines_table nodes)
-lines_lawful nodes differ = record { row_once = line_once nodes differ; sound = sound nodes differ; condition_once = line_condition_once nodes }
+lines_lawful nodes differ = record { row_once = line_once _ differ; sound = sound _ differ; condition_once = line_condition_once _ }
 
 -- it is a duplicate, where its id isn't new
 pub lines_settled : (nodes : List Node) → IsSettled (lines_table nodes)
 lines_settled nodes = record {
   repeats = λ before fields line is room among.
-      refuses_repeat nodes before fields (length before) refl room is.seven (none_lacks nodes fields line is) (line.id, is.id, among);
-  past = stops_past nodes;
+      refuses_repeat _ _ _ _ refl room is.seven (none_lacks is) (line.id, is.id, among);
+  past = stops_past _;
   no_device = λ before fields file holds. holds;
 }

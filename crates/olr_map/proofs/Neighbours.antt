@@ -7,17 +7,16 @@ use Rattle.olr_metric.specs.Coordinates.{Coordinates, coordinates_of}
 use Rattle.olr_map.specs.Rows.{HasEqualNeighbours}
 
 pub equal_at : (xs : List Coordinates) (k : ℕ) (d : Coordinates) → suc k < length xs → get_or xs k d ≡ get_or xs (suc k) d → HasEqualNeighbours xs
-equal_at [] k d inside same = absurd (omega (arith, inside))
-equal_at (x ∷ []) zero d inside same = absurd (omega (arith, inside))
-equal_at (x ∷ y ∷ xs) zero d inside same = record { front = []; rest = xs; place = y; equal = ap (λ (p : Coordinates). p ∷ y ∷ xs) same }
+equal_at (x ∷ y ∷ xs) zero d inside same = record { front = []; rest = xs; place = y; equal = cc }
 equal_at (x ∷ xs) (suc k) d inside same =
-    let deeper = equal_at xs k d (omega (arith, inside)) same in
+    let deeper = equal_at _ k d (omega (arith, inside)) same in
     record { front = x ∷ deeper.front; rest = deeper.rest; place = deeper.place; equal = ap (λ (l : List Coordinates). x ∷ l) deeper.equal }
+equal_at _ _ d inside same = absurd (omega arith)
 
 place_of_twins : (front rest : List Coordinates) (place d : Coordinates)
     → (suc (length front) < length (front ++ place ∷ place ∷ rest)) × (get_or (front ++ place ∷ place ∷ rest) (length front) d ≡ get_or (front ++ place ∷ place ∷ rest) (suc (length front)) d)
 place_of_twins [] rest place d = (omega arith, refl)
-place_of_twins (x ∷ front) rest place d = let deeper = place_of_twins front rest place d in (omega (arith, deeper.0), deeper.1)
+place_of_twins (x ∷ front) rest place d = let deeper = place_of_twins front rest place d in (omega arith, deeper.1)
 
 -- no neighbours below a place are equal
 abbrev pub NoneEqualBelow : List Coordinates → ℕ → Type 0
@@ -25,10 +24,10 @@ NoneEqualBelow xs end = (k : ℕ) (d : Coordinates) → suc k < end → get_or x
 
 pub none_equal : (xs : List Coordinates) (end : ℕ) → length xs ≤ end → NoneEqualBelow xs end → HasEqualNeighbours xs → ⊥
 none_equal xs end all none has =
-    let size = ap (λ (l : List Coordinates). length l) has.equal in
+    let size = ap length has.equal in
     let at = place_of_twins has.front has.rest has.place has.place in
-    none (length has.front) has.place (omega (arith, size, at.0, all))
-    (ap (λ (l : List Coordinates). get_or l (length has.front) has.place) has.equal ∙ at.1 ∙ sym (ap (λ (l : List Coordinates). get_or l (suc (length has.front)) has.place) has.equal))
+    none (length has.front) has.place (omega arith)
+    (cc)
 
 -- of the points of a line
 pub equal_among : (points : List Degrees) (next : ℕ) (a b : Degrees) → 1 ≤ next → next < length points → a ≡ get_or points (next - 1) a → b ≡ get_or points next b
@@ -36,18 +35,18 @@ pub equal_among : (points : List Degrees) (next : ℕ) (a b : Degrees) → 1 ≤
 equal_among points next a b some inside at_a at_b same =
     let size = length-map points coordinates_of in
     let before = get_or-map coordinates_of points (next - 1) a (coordinates_of a) (omega (arith, some, inside)) ∙ ap coordinates_of (sym at_a) in
-    let this = get_or-map coordinates_of points next b (coordinates_of a) inside ∙ ap coordinates_of (sym at_b) in
+    let this = get_or-map _ _ _ b _ inside ∙ ap coordinates_of (sym at_b) in
     let up : suc (next - 1) ≡ next = omega (arith, some) in
-    equal_at (map coordinates_of points) (next - 1) (coordinates_of a) (omega (arith, size, some, inside))
+    equal_at _ _ _ (omega (arith, size, some, inside))
     (before ∙ same ∙ sym this ∙ ap (λ (k : ℕ). get_or (map coordinates_of points) k (coordinates_of a)) (sym up))
 
 pub one_more_differs : (points : List Degrees) (next : ℕ) (a b : Degrees) → 1 ≤ next → next < length points → a ≡ get_or points (next - 1) a → b ≡ get_or points next b
     → (coordinates_of a ≡ coordinates_of b → ⊥) → NoneEqualBelow (map coordinates_of points) next → NoneEqualBelow (map coordinates_of points) (next + 1)
-one_more_differs points next a b some inside at_a at_b differ none k d below same = elim (eq-or-lt_of_le {n = suc k} {m = next} (omega (arith, below))) [
+one_more_differs points next a b some inside at_a at_b differ none k d below same = elim (eq-or-lt_of_le {n = suc k} {m = next} (omega arith)) [
   | inl e ↦
-      let here : k ≡ next - 1 = omega (arith, e) in
-      let before = get_or-map coordinates_of points (next - 1) a d (omega (arith, some, inside)) ∙ ap coordinates_of (sym at_a) in
-      let this = get_or-map coordinates_of points next b d inside ∙ ap coordinates_of (sym at_b) in
+      let here : k ≡ next - 1 = omega arith in
+      let before = get_or-map coordinates_of points (next - 1) a d (omega arith) ∙ ap coordinates_of (sym at_a) in
+      let this = get_or-map _ _ _ b d inside ∙ ap coordinates_of (sym at_b) in
       differ (sym before ∙ sym (ap (λ (i : ℕ). get_or (map coordinates_of points) i d) here) ∙ same ∙ ap (λ (i : ℕ). get_or (map coordinates_of points) i d) e ∙ this)
   | inr less ↦ none k d less same
 ]

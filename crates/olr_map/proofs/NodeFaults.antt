@@ -1,7 +1,7 @@
 -- The conditions on a record of the file of nodes: which one is the first, and that none holds of a node's record.
-use Rattle.std.proofs.Common.{◌≡◌, ℕ, ◌+◌, ◌<◌, ◌≤◌, List, length, None, sym, ap, subst, ◌∙◌, arith}
+use Rattle.std.proofs.Common.{◌≡◌, ℕ, ◌+◌, ◌<◌, ◌≤◌, List, length, None, sym, ap, ◌∙◌, arith, rules}
 use Rattle.std.specs.Prelude.{Contains}
-use Rattle.olr_records.specs.declared.file.File.TheVariants.{Nodes, Lines, Bans}
+use Rattle.olr_records.specs.declared.file.File.TheVariants.{Nodes}
 use Rattle.olr_map.specs.declared.fault.MapFault.{MapFault}
 use Rattle.olr_map.specs.declared.fault.MapFault.TheVariants as fault
 use Rattle.olr_map.specs.declared.rows.RowError.{RowError}
@@ -28,24 +28,11 @@ none_lacks fields node is column lacking = lacking.lacks (record {
 passes : (before : List ℕ) (fields : List (List ℕ)) (order : ℕ) → order ≤ 4 → (2 ≤ order → length before < 100000) → (3 ≤ order → length fields ≡ 3)
     → (4 ≤ order → (column : ℕ) → IsFirstLacking (HasNodeColumn fields) column → ⊥)
     → (earlier : MapFault) → order_of earlier < order → NodeCondition before fields earlier → ⊥
-passes before fields order most room three full (fault.TooMany Nodes) below holds = omega (arith, holds, room (omega (arith, below)))
-passes before fields order most room three full (fault.TooMany Lines) below holds = holds
-passes before fields order most room three full (fault.TooMany Bans) below holds = holds
-passes before fields order most room three full (fault.Shape Nodes n) below holds = holds.1 (three (omega (arith, below)))
-passes before fields order most room three full (fault.Shape Lines n) below holds = holds
-passes before fields order most room three full (fault.Shape Bans n) below holds = holds
-passes before fields order most room three full (fault.Field Nodes n column) below holds = full (omega (arith, below)) column holds.1
-passes before fields order most room three full (fault.Field Lines n column) below holds = holds
-passes before fields order most room three full (fault.Field Bans n column) below holds = holds
-passes before fields order most room three full (fault.Duplicate file n) below holds = omega (arith, below, most)
-passes before fields order most room three full (fault.Header file) below holds = holds
-passes before fields order most room three full (fault.UnknownNode n) below holds = holds
-passes before fields order most room three full (fault.ZeroLength n) below holds = holds
-passes before fields order most room three full (fault.Degenerate n) below holds = holds
-passes before fields order most room three full (fault.UnknownLine n) below holds = holds
-passes before fields order most room three full (fault.NotAdjacent n) below holds = holds
-passes before fields order most room three full (fault.ReadFailed file) below holds = holds
-passes before fields order most room three full fault.NoMemory below holds = holds
+passes before fields order most room three full (fault.TooMany Nodes) below holds = omega (arith, room (omega (arith, below)))
+passes before fields order most room three full (fault.Shape Nodes n) below holds = holds.1 (three (omega arith))
+passes before fields order most room three full (fault.Field Nodes n column) below holds = full (omega arith) column holds.1
+passes before fields order most room three full (fault.Duplicate file n) below holds = omega arith
+passes before fields order most room three full _ below holds = holds
 
 -- ---- the record at which the reader stopped
 
@@ -53,11 +40,11 @@ refuses_error : (before : List ℕ) (bad : List (List ℕ)) (why : RowError) →
     → Refuses (NodeCondition before bad) (fault_of why Nodes (length before + 1))
 refuses_error before bad error.Shape room is = record {
   holds = (omega arith, is);
-  first = passes before bad 2 (omega arith) (λ _. room) (λ e. absurd (omega (arith, e))) (λ e. absurd (omega (arith, e)));
+  first = passes _ _ 2 (omega arith) (λ _. room) (search rules) (search rules);
 }
 refuses_error before bad (error.Column column) room is = record {
   holds = (omega arith, is.1);
-  first = passes before bad 3 (omega arith) (λ _. room) (λ _. is.0) (λ e. absurd (omega (arith, e)));
+  first = passes _ _ 3 (omega arith) (λ _. room) (λ _. is.0) (search rules);
 }
 
 -- after as many nodes as there may be
@@ -65,8 +52,8 @@ stops_past : (nodes : List Node) (bad : List (List ℕ)) → length nodes ≡ 10
 stops_past nodes bad full = record {
   repeats = λ among. absurd among;
   new = λ _. record {
-    holds = omega (arith, keys_length nodes_table nodes, full);
-    first = passes (node_ids nodes) bad 1 (omega arith) (λ e. absurd (omega (arith, e))) (λ e. absurd (omega (arith, e))) (λ e. absurd (omega (arith, e)));
+    holds = omega (arith, keys_length nodes_table nodes);
+    first = passes _ _ 1 (omega arith) (search rules) (search rules) (search rules);
   };
 }
 
@@ -75,10 +62,10 @@ pub stops_at_error : (nodes : List Node) (bad : List (List ℕ)) (why : RowError
     → stop ≡ fault_of why Nodes (before + 1) → StopsAfter nodes_table nodes bad (record { fault = stop; key = None })
 stops_at_error nodes bad why stop before size room is e =
     let count = keys_length nodes_table nodes ∙ size in
-    let refuses = refuses_error (node_ids nodes) bad why (omega (arith, count, room)) is in
+    let refuses = refuses_error (node_ids nodes) bad why (omega arith) is in
     record {
       repeats = λ among. absurd among;
-      new = λ _. subst (λ (f : MapFault). Refuses (NodeCondition (node_ids nodes) bad) f) (ap (λ (n : ℕ). fault_of why Nodes (n + 1)) count ∙ sym e) refuses;
+      new = λ _. rw (← (ap (λ (n : ℕ). fault_of why Nodes (n + 1)) count ∙ sym e)) refuses;
     }
 
 -- ---- a record that spells a node
@@ -86,27 +73,12 @@ stops_at_error nodes bad why stop before size room is e =
 -- no condition holds of it, where its id is new and there is room
 sound : (before : List ℕ) (fields : List (List ℕ)) (node : Node) → IsNode fields node → length before < 100000 → (Contains before node.id → ⊥)
     → (why : MapFault) → NodeCondition before fields why → ⊥
-sound before fields node is room new (fault.TooMany Nodes) holds = omega (arith, room, holds)
-sound before fields node is room new (fault.TooMany Lines) holds = holds
-sound before fields node is room new (fault.TooMany Bans) holds = holds
+sound before fields node is room new (fault.TooMany Nodes) holds = omega arith
 sound before fields node is room new (fault.Shape Nodes n) holds = holds.1 is.three
-sound before fields node is room new (fault.Shape Lines n) holds = holds
-sound before fields node is room new (fault.Shape Bans n) holds = holds
-sound before fields node is room new (fault.Field Nodes n column) holds = none_lacks fields node is column holds.1
-sound before fields node is room new (fault.Field Lines n column) holds = holds
-sound before fields node is room new (fault.Field Bans n column) holds = holds
+sound before fields node is room new (fault.Field Nodes n column) holds = none_lacks _ _ is _ holds.1
 sound before fields node is room new (fault.Duplicate Nodes n) holds =
-    new (subst (λ (id : ℕ). Contains before id) (number_once 1 9007199254740992 fields 0 holds.1.0 node.id holds.1.1 is.id) holds.1.2)
-sound before fields node is room new (fault.Duplicate Lines n) holds = holds
-sound before fields node is room new (fault.Duplicate Bans n) holds = holds
-sound before fields node is room new (fault.UnknownNode n) holds = holds
-sound before fields node is room new (fault.ZeroLength n) holds = holds
-sound before fields node is room new (fault.Degenerate n) holds = holds
-sound before fields node is room new (fault.UnknownLine n) holds = holds
-sound before fields node is room new (fault.NotAdjacent n) holds = holds
-sound before fields node is room new (fault.Header file) holds = holds
-sound before fields node is room new (fault.ReadFailed file) holds = holds
-sound before fields node is room new fault.NoMemory holds = holds
+    new (rw (← (number_once 1 _ _ 0 _ _ holds.1.1 is.id)) holds.1.2)
+sound before fields node is room new _ holds = holds
 
 pub nodes_lawful : IsLawful nodes_table
 nodes_lawful = record { row_once = node_once; sound = sound; condition_once = node_condition_once }
@@ -116,7 +88,7 @@ pub nodes_settled : IsSettled nodes_table
 nodes_settled = record {
   repeats = λ before fields node is room among. record {
     holds = (omega arith, (node.id, is.id, among));
-    first = passes before fields 4 (omega arith) (λ _. room) (λ _. is.three) (λ _. none_lacks fields node is);
+    first = passes _ _ 4 (omega arith) (λ _. room) (λ _. is.three) (λ _. none_lacks _ _ is);
   };
   past = stops_past;
   no_device = λ before fields file holds. holds;

@@ -1,45 +1,45 @@
 -- A text spells one shape at most.
-use Rattle.std.proofs.Common.{◌≡◌, ℕ, List, [], ◌∷◌, ◌++◌, Some, sym, ap, ◌∙◌, subst, inl, inr, arith}
+use Rattle.std.proofs.Common.{rules, ◌≡◌, ℕ, List, [], ◌∷◌, ◌++◌, Some, sym, ap, ◌∙◌, inl, inr, arith}
 use Rattle.olr_metric.specs.Coordinates.{Coordinates}
 use Rattle.olr_records.specs.Front.{Begins}
 use Rattle.olr_records.specs.Shape.{IsItem, AreItems, IsShape}
-use Rattle.olr_records.proofs.Cuts.{Avoids, not_avoided}
+use Rattle.olr_records.proofs.Cuts.{not_avoided}
 use Rattle.olr_records.proofs.Items.{item_once, rest_of_item}
 
 -- items begin with the first one
 first_of : (text : List ℕ) (a c : Coordinates) (ps : List Coordinates) → (are : AreItems text (a ∷ c ∷ ps)) → Begins (λ front. IsItem front a) 59 text (Some are.1)
-first_of text a c ps are = record { front = are.0; whole = are.2; spelled = are.3 }
+first_of text a c ps are = search rules
 
 items_once : (text : List ℕ) (ps qs : List Coordinates) → AreItems text ps → AreItems text qs → ps ≡ qs
 items_once text [] qs is other = absurd is
 items_once text (a ∷ ps) [] is other = absurd other
-items_once text (a ∷ []) (b ∷ []) is other = ap (λ (place : Coordinates). place ∷ []) (item_once text a b is other)
+items_once text (a ∷ []) (b ∷ []) is other = cc (item_once text a b is other)
 items_once text (a ∷ []) (b ∷ d ∷ qs) is other = let step = rest_of_item text other.1 b a [] (first_of text b d qs other) is in absurd cc
 items_once text (a ∷ c ∷ ps) (b ∷ []) is other = let step = rest_of_item text is.1 a b [] (first_of text a c ps is) other in absurd cc
 items_once text (a ∷ c ∷ ps) (b ∷ d ∷ qs) is other =
-    let step = rest_of_item text is.1 a b (d ∷ qs) (first_of text a c ps is) other in
+    let step = rest_of_item text is.1 a b (d ∷ qs) (first_of _ a c ps is) other in
     let rest = items_once is.1 (c ∷ ps) (step.1 ∷ step.2) is.4 step.4 in
-    ap (λ (place : Coordinates). place ∷ c ∷ ps) (sym step.0) ∙ ap (λ (l : List Coordinates). b ∷ l) (rest ∙ sym step.3)
+    ap (λ (place : Coordinates). place ∷ c ∷ ps) (sym step.0) ∙ ap (λ (l : List Coordinates). b ∷ l) (cc)
 
 -- a text with a byte in it is not empty
 not_empty : (byte : ℕ) (text front rest : List ℕ) → text ≡ front ++ byte ∷ rest → text ≡ [] → ⊥
 not_empty byte text front rest whole none =
-    not_avoided byte text front rest whole (subst (λ (l : List ℕ). Avoids byte l) (sym none) (λ k inside. absurd (omega (arith, inside))))
+    not_avoided byte text front rest whole (rw none (λ k inside. absurd (omega arith)))
 
 -- an empty text is no item
-none_there : (text : List ℕ) (places : List Coordinates) → text ≡ [] → AreItems text places → ⊥
-none_there text [] none are = are
-none_there text (place ∷ []) none are = not_empty 32 text are.lon are.lat are.spaced none
-none_there text (place ∷ next ∷ places) none are = not_empty 59 text are.0 are.1 are.2 none
+none_there : {text : List ℕ} (places : List Coordinates) → text ≡ [] → AreItems text places → ⊥
+none_there [] none are = are
+none_there (place ∷ []) none are = not_empty _ _ _ _ are.spaced none
+none_there (place ∷ next ∷ places) none are = not_empty _ _ _ _ are.2 none
 
 pub shape_once : (text : List ℕ) (a b : List Coordinates) → IsShape text a → IsShape text b → a ≡ b
 shape_once text a b is other = elim is [
   | inl empty ↦ elim other [
     | inl none ↦ empty.1 ∙ sym none.1
-    | inr items ↦ absurd (none_there text b empty.0 items.0)
+    | inr items ↦ absurd (none_there b empty.0 items.0)
   ]
   | inr items ↦ elim other [
-    | inl none ↦ absurd (none_there text a none.0 items.0)
-    | inr others ↦ items_once text a b items.0 others.0
+    | inl none ↦ absurd (none_there a none.0 items.0)
+    | inr others ↦ items_once _ a b items.0 others.0
   ]
 ]

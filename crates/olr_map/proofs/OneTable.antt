@@ -1,12 +1,11 @@
 -- The records of a table spell one list of rows, or have one first fault, and not both; and so it is with a text.
-use Rattle.std.proofs.Common.{◌≡◌, ℕ, suc, ◌+◌, ◌<◌, List, ◌∷◌, ◌++◌, length, drop, sym, ap, ◌∙◌, subst, inl, inr, arith}
+use Rattle.std.proofs.Common.{◌≡◌, ℕ, suc, ◌+◌, ◌<◌, List, ◌∷◌, ◌++◌, length, sym, ◌∙◌, subst, inl, inr, arith}
 use Rattle.std.specs.Prelude.{Contains}
 use Rattle.std.specs.List.{AllZip}
 use Rattle.std.specs.List.Sorted.{IsPermutation}
 use Rattle.std.proofs.lemmas.List.{length-append, length-map, map-append}
 use Rattle.std.proofs.lemmas.List.Sorted.{IsPermutation-sym, IsPermutation-trans}
 use Rattle.olr_map.specs.declared.fault.MapFault.{MapFault}
-use Rattle.olr_records.specs.Records.{records_of}
 use Rattle.olr_index.specs.Repeats.{AllDiffer}
 use Rattle.olr_index.proofs.Permuted.{rising_differ}
 use Rattle.olr_map.specs.Faults.{order_of, Refuses}
@@ -32,68 +31,68 @@ keys_length table rows = length-map rows table.key
 -- records spell one list of rows
 rows_once : {Row : Type 0} (table : Table Row) → IsLawful table → (records : List (List (List ℕ))) (a b : List Row)
     → AllZip table.IsRow records a → AllZip table.IsRow records b → a ≡ b
-rows_once table lawful records a b is other = zip_once table.IsRow lawful.row_once records a b is other
+rows_once table lawful records a b is other = zip_once _ lawful.row_once _ a b is other
 
 -- no condition holds of a record among accepted ones
 inside_sound : {Row : Type 0} (table : Table Row) → IsLawful table → (good : List (List (List ℕ))) (bad : List (List ℕ)) (rest : List (List (List ℕ))) (rows front : List Row)
     → AreRows table (good ++ bad ∷ rest) rows → AllZip table.IsRow good front → (why : MapFault) → table.Condition (keys_of table front) bad why → ⊥
 inside_sound {Row} table lawful good bad rest rows front are each why holds =
-    let found = zip_split table.IsRow good bad rest rows are.each in
-    let same : found.before ≡ front = rows_once table lawful good found.before front found.each each in
-    let split : rows ≡ front ++ found.at ∷ found.after = found.split ∙ ap (λ (l : List Row). l ++ found.at ∷ found.after) same in
-    let size : length rows ≡ length front + suc (length found.after) = ap (λ (l : List Row). length l) split ∙ length-append front (found.at ∷ found.after) in
+    let found = zip_split _ _ _ _ _ are.each in
+    let same : found.before ≡ front = rows_once _ lawful _ _ _ found.each each in
+    let split : rows ≡ front ++ found.at ∷ found.after = cc in
+    let size : length rows ≡ length front + suc (length found.after) = cc (length-append front (found.at ∷ found.after)) in
     let keys : keys_of table rows ≡ keys_of table front ++ table.key found.at ∷ keys_of table found.after =
-    ap (λ (l : List Row). keys_of table l) split ∙ map-append table.key front (found.at ∷ found.after) in
-    lawful.sound (keys_of table front) bad found.at found.holds (omega (arith, keys_length table front, size, are.at_most))
-    (new_id (keys_of table front) (table.key found.at) (keys_of table found.after) (subst (λ (l : List ℕ). AllDiffer l) keys are.differ)) why holds
+    cc (map-append table.key front (found.at ∷ found.after)) in
+    lawful.sound (keys_of table front) bad found.at found.holds (omega (arith, keys_length table front))
+    (new_id _ _ _ (subst (λ (l : List ℕ). AllDiffer l) keys are.differ)) why holds
 
 -- accepted records have no fault
-rows_or_fault : {Row : Type 0} (table : Table Row) → IsLawful table → (records : List (List (List ℕ))) (rows : List Row) (why : MapFault)
+rows_or_fault : {Row : Type 0} (table : Table Row) → IsLawful table → {records : List (List (List ℕ))} (rows : List Row) {why : MapFault}
     → AreRows table records rows → RefusesRecord table records why → ⊥
-rows_or_fault table lawful records rows why are refuses =
-    inside_sound table lawful refuses.good refuses.bad refuses.rest rows refuses.rows (subst (λ (l : List (List (List ℕ))). AreRows table l rows) refuses.split are)
-    refuses.accepted.each why refuses.refused.holds
+rows_or_fault table lawful rows are refuses =
+    inside_sound _ lawful _ _ _ _ _ (subst (λ (l : List (List (List ℕ))). AreRows table l rows) refuses.split are)
+    refuses.accepted.each _ refuses.refused.holds
 
 -- one faulty record isn't accepted before another
 in_front : {Row : Type 0} (table : Table Row) → IsLawful table → (records : List (List (List ℕ))) (a b : MapFault) → (p : RefusesRecord table records a) (q : RefusesRecord table records b)
     → (more : List (List (List ℕ))) → q.good ≡ p.good ++ p.bad ∷ more → ⊥
 in_front table lawful records a b p q more e =
-    inside_sound table lawful p.good p.bad more q.rows p.rows (subst (λ (l : List (List (List ℕ))). AreRows table l q.rows) e q.accepted) p.accepted.each a p.refused.holds
+    inside_sound _ lawful _ _ _ _ _ (subst (λ (l : List (List (List ℕ))). AreRows table l q.rows) e q.accepted) p.accepted.each a p.refused.holds
 
 -- records have one first fault
 fault_once : {Row : Type 0} (table : Table Row) → IsLawful table → (records : List (List (List ℕ))) (a b : MapFault) → RefusesRecord table records a → RefusesRecord table records b → a ≡ b
-fault_once {Row} table lawful records a b p q = elim (two_splits p.good p.bad p.rest q.good q.bad q.rest (sym p.split ∙ q.split)) [
+fault_once {Row} table lawful records a b p q = elim (two_splits _ _ _ _ _ _ (sym p.split ∙ q.split)) [
   | one good bad ↦
-      let rows = rows_once table lawful q.good p.rows q.rows (subst (λ (l : List (List (List ℕ))). AllZip table.IsRow l p.rows) good p.accepted.each) q.accepted.each in
+      let rows = rows_once _ lawful _ _ _ (subst (λ (l : List (List (List ℕ))). AllZip table.IsRow l p.rows) good p.accepted.each) q.accepted.each in
       let refused = subst (λ (l : List Row). Refuses (table.Condition (keys_of table l) q.bad) a) rows
       (subst (λ (fields : List (List ℕ)). Refuses (table.Condition (keys_of table p.rows) fields) a) bad p.refused) in
-      first_once (table.Condition (keys_of table q.rows) q.bad) (lawful.condition_once (keys_of table q.rows) q.bad) a b refused q.refused
-  | before more e ↦ absurd (in_front table lawful records a b p q more e)
-  | behind more e ↦ absurd (in_front table lawful records b a q p more e)
+      first_once _ (lawful.condition_once (keys_of table q.rows) q.bad) a b refused q.refused
+  | before more e ↦ absurd (in_front _ lawful _ a b p q _ e)
+  | behind more e ↦ absurd (in_front _ lawful _ b a q p _ e)
 ]
 
 -- ---- a text
 
 -- the records after a header are one list
 records_once : (header : List (List ℕ)) (all a b : List (List (List ℕ))) → all ≡ header ∷ a → all ≡ header ∷ b → a ≡ b
-records_once header all a b is other = ap (λ (l : List (List (List ℕ))). drop 1 l) (sym is ∙ other)
+records_once header all a b is other = cc
 
 pub keys_differ : {Row : Type 0} (table : Table Row) (text : List ℕ) (rows : List Row) → IsTableOf table text rows → AllDiffer (keys_of table rows)
 keys_differ table text rows is = rising_differ (keys_of table rows) is.2.rise
 
-pub table_once : {Row : Type 0} (table : Table Row) → IsLawful table → (text : List ℕ) (a b : List Row) → IsTableOf table text a → IsTableOf table text b → a ≡ b
-table_once {Row} table lawful text a b is other =
-    let records = records_once table.header (records_of text) is.1.records other.1.records is.1.file other.1.file in
-    let rows = rows_once table lawful other.1.records is.0 other.0 (subst (λ (l : List (List (List ℕ))). AreRows table l is.0) records is.1.accepted).each other.1.accepted.each in
+pub table_once : {Row : Type 0} {table : Table Row} → IsLawful table → {text : List ℕ} (a b : List Row) → IsTableOf table text a → IsTableOf table text b → a ≡ b
+table_once {Row} {table} lawful a b is other =
+    let records = records_once _ _ _ _ is.1.file other.1.file in
+    let rows = rows_once _ lawful _ _ _ (subst (λ (l : List (List (List ℕ))). AreRows table l is.0) records is.1.accepted).each other.1.accepted.each in
     let moved = subst (λ (l : List Row). IsPermutation l a) rows is.2.same in
-    same_rising table.key a b (IsPermutation-trans a other.0 b (IsPermutation-sym other.0 a moved) other.2.same) is.2.rise other.2.rise
+    same_rising _ a b (IsPermutation-trans a _ b (IsPermutation-sym other.0 a moved) other.2.same) is.2.rise other.2.rise
 
-pub table_or_fault : {Row : Type 0} (table : Table Row) → IsLawful table → (text : List ℕ) (rows : List Row) (why : MapFault) → IsTableOf table text rows → IsFaultOfTable table text why → ⊥
-table_or_fault table lawful text rows why is fault = elim fault [
+pub table_or_fault : {Row : Type 0} {table : Table Row} → IsLawful table → {text : List ℕ} {rows : List Row} {why : MapFault} → IsTableOf table text rows → IsFaultOfTable table text why → ⊥
+table_or_fault {table} lawful {why} is fault = elim fault [
   | inl header ↦ header.1 is.1.records is.1.file
   | inr refused ↦
-      let records = records_once table.header (records_of text) refused.0 is.1.records refused.1 is.1.file in
-      rows_or_fault table lawful is.1.records is.0 why is.1.accepted (subst (λ (l : List (List (List ℕ))). RefusesRecord table l why) records refused.2)
+      let records = records_once _ _ _ _ refused.1 is.1.file in
+      rows_or_fault _ lawful _ is.1.accepted (subst (λ (l : List (List (List ℕ))). RefusesRecord table l why) records refused.2)
 ]
 
 pub table_fault_once : {Row : Type 0} (table : Table Row) → IsLawful table → (text : List ℕ) (a b : MapFault) → IsFaultOfTable table text a → IsFaultOfTable table text b → a ≡ b
@@ -105,7 +104,7 @@ table_fault_once table lawful text a b is other = elim is [
   | inr refused ↦ elim other [
     | inl lacks ↦ absurd (lacks.1 refused.0 refused.1)
     | inr again ↦
-        let records = records_once table.header (records_of text) refused.0 again.0 refused.1 again.1 in
-        fault_once table lawful again.0 a b (subst (λ (l : List (List (List ℕ))). RefusesRecord table l a) records refused.2) again.2
+        let records = records_once _ _ _ _ refused.1 again.1 in
+        fault_once _ lawful _ a b (rw (← records) refused.2) again.2
   ]
 ]

@@ -1,5 +1,5 @@
 -- Three texts have a map or a fault.
-use Rattle.std.proofs.Common.{ℕ, List, refl, sym, subst, inl, inr}
+use Rattle.std.proofs.Common.{ℕ, List, refl, inl, inr}
 use Rattle.olr_records.specs.declared.file.File.{File}
 use Rattle.olr_map.specs.declared.fault.MapFault.{MapFault}
 use Rattle.olr_map.specs.declared.fault.MapFault.TheVariants as fault
@@ -22,10 +22,10 @@ fault_of_text : {Row : Type 0} (table : Table Row) (text : List ℕ)
     → ((before : List ℕ) (fields : List (List ℕ)) (file : File) → table.Condition before fields (fault.ReadFailed file) → ⊥)
     → ((before : List ℕ) (fields : List (List ℕ)) → table.Condition before fields fault.NoMemory → ⊥) → (why : MapFault) → IsFaultOfTable table text why → IsOfText why
 fault_of_text table text none_failed memory why is = elim is [
-  | inl header ↦ subst (λ (w : MapFault). IsOfText w) (sym header.0) tt
+  | inl header ↦ rw header.0 tt
   | inr row ↦
       let before = keys_of table row.2.rows in
-      condition_of_text (table.Condition before row.2.bad) (none_failed before row.2.bad) (memory before row.2.bad) why row.2.refused.holds
+      condition_of_text (table.Condition before row.2.bad) (none_failed before row.2.bad) (memory before row.2.bad) _ row.2.refused.holds
 ]
 
 reports : (Is : MapFault → Type 0) (why : MapFault) → IsOfText why → Is why → Reports Is why
@@ -36,23 +36,23 @@ reports Is other of_text is = is
 pub outcome : (nodes_text lines_text bans_text : List ℕ) → HasOutcome nodes_text lines_text bans_text
 outcome nodes_text lines_text bans_text no_map no_fault =
     let texts = known nodes_text lines_text bans_text in
-    table_outcome nodes_table nodes_decided nodes_text (λ nodes set.
-    table_outcome (lines_table nodes) (lines_decided nodes) lines_text (λ lines is.
-    let sound = nodes_are_sound nodes_text nodes set in
+    table_outcome _ nodes_decided _ (λ nodes set.
+    table_outcome _ (lines_decided _) _ (λ lines is.
+    let sound = nodes_are_sound set in
     let accepted : AreLinesAccepted texts.nodes texts.lines nodes lines = record {
       nodes_accepted = record { sound = sound; text = set };
-      sound = lines_are_sound lines_text nodes lines sound is;
+      sound = lines_are_sound sound is;
       text = is;
     } in
-    table_outcome (bans_table lines) (bans_decided lines) bans_text (λ bans its.
+    table_outcome _ (bans_decided _) _ (λ bans its.
     let road : RoadMap = record { nodes = nodes; lines = lines; bans = bans } in
-    no_map road (record { sound = map_is_sound nodes_text lines_text bans_text road set is its; nodes = set; lines = is; bans = its }))
+    no_map road (record { sound = map_is_sound _ _ _ _ set is its; nodes = set; lines = is; bans = its }))
     (λ why its.
-    let of_text = fault_of_text (bans_table lines) bans_text (λ before fields file holds. holds) (λ before fields holds. holds) why its in
-    no_fault why (of_text, bans_reported texts bans_text nodes lines why refl accepted (reports (IsFaultOfTable (bans_table lines) bans_text) why of_text its))))
+    let of_text = fault_of_text _ _ (λ before fields file holds. holds) (λ before fields holds. holds) _ its in
+    no_fault why (of_text, bans_reported _ _ _ _ _ refl accepted (reports (IsFaultOfTable (bans_table lines) bans_text) _ of_text its))))
     (λ why its.
-    let of_text = fault_of_text (lines_table nodes) lines_text (λ before fields file holds. holds) (λ before fields holds. holds) why its in
-    no_fault why (of_text, lines_reported texts nodes_text lines_text nodes why refl refl set (reports (IsFaultOfTable (lines_table nodes) lines_text) why of_text its))))
+    let of_text = fault_of_text _ _ (λ before fields file holds. holds) (λ before fields holds. holds) _ its in
+    no_fault why (of_text, lines_reported _ _ _ _ _ refl refl set (reports (IsFaultOfTable (lines_table nodes) lines_text) _ of_text its))))
     (λ why its.
-    let of_text = fault_of_text nodes_table nodes_text (λ before fields file holds. holds) (λ before fields holds. holds) why its in
-    no_fault why (of_text, nodes_reported texts nodes_text why refl (reports (IsFaultOfTable nodes_table nodes_text) why of_text its)))
+    let of_text = fault_of_text _ _ (λ before fields file holds. holds) (λ before fields holds. holds) _ its in
+    no_fault why (of_text, nodes_reported _ _ _ refl (reports (IsFaultOfTable nodes_table nodes_text) _ of_text its)))

@@ -1,12 +1,12 @@
 -- A node from which lines lead to a goal is no farther outside the goals' spans than these lines are long.
-use Rattle.std.proofs.Common.{◌≡◌, ℕ, zero, suc, ◌+◌, ◌-◌, ◌≤◌, List, [], ◌∷◌, map, get_or, Option, Some, None, inl, refl, subst, ap, sym, ◌∙◌, arith}
-use Rattle.std.specs.Prelude.{All, option_map, slice_get, slice_index}
+use Rattle.std.proofs.Common.{◌≡◌, ℕ, zero, suc, ◌+◌, ◌-◌, ◌≤◌, List, [], ◌∷◌, map, get_or, Some, inl, ap, sym, ◌∙◌, arith}
+use Rattle.std.specs.Prelude.{All, slice_get, slice_index}
 use Rattle.std.specs.Int.{abs_diff}
 use Rattle.std.specs.List.{sum_by}
 use Rattle.std.proofs.lemmas.List.{get_or-map, length-map}
 use Rattle.std.proofs.lemmas.List.Elements.{All-contains}
 use Rattle.std.proofs.lemmas.List.Sums.{sum-map}
-use Rattle.std.proofs.lemmas.Option.{slice_get-map, slice_get_within, get_or_from_slice_get}
+use Rattle.std.proofs.lemmas.Option.{slice_get_within, get_or_from_slice_get}
 use Rattle.olr_metric.specs.declared.degrees.Degrees.{Degrees}
 use Rattle.olr_map.specs.declared.axes.Position.{Position}
 use Rattle.olr_map.specs.declared.axes.Deficits.{Deficits}
@@ -16,35 +16,24 @@ use Rattle.olr_map.specs.declared.line.Entry.{Entry}
 use Rattle.olr_map.specs.declared.node.Node.{Node as NodeByRank}
 use Rattle.olr_map.specs.Axes.{AreDeficits, IsBetween, StartsBetween, position_of, north_of, east_of, deficit_of, outside, least_of}
 use Rattle.olr_map.specs.Goals.{Joins, AreGoalsOn}
-use Rattle.olr_map.specs.Reading.{line_in, lines_in}
+use Rattle.olr_map.specs.Reading.{line_in}
 use Rattle.olr_map.specs.RoadMap.{RoadMap}
 use Rattle.olr_map.specs.Rows.{RoadLine}
 use Rattle.olr_map.specs.Whole.{road_of}
 use Rattle.olr_map.proofs.EndsApart.{climb}
-
-entry_in : (points : List Degrees) (found : Option Entry) (line : RoadLine) → option_map (line_in points) found ≡ Some line
-    → (entry : Entry) × (found ≡ Some entry) × (line_in points entry ≡ line)
-entry_in points None line is = absurd cc
-entry_in points (Some entry) line is = (entry, refl, cc)
-
--- a line of the map is that of an entry
-entry_of : (points : List Degrees) (entries : List Entry) (rank : ℕ) (line : RoadLine)
-    → slice_get (lines_in points entries) rank ≡ Some line
-    → (entry : Entry) × (slice_get entries rank ≡ Some entry) × (line_in points entry ≡ line)
-entry_of points entries rank line is =
-    entry_in points (slice_get entries rank) line (sym (slice_get-map (line_in points) entries rank) ∙ is)
+use Rattle.olr_map.proofs.Sets.{entry_at}
 
 -- on which axis ever a node is farther outside, it is so by no more than this
 least_at : (positions : List Position) (north east : Span) (node most : ℕ)
     → outside north (north_of positions node) ≤ most → outside east (east_of positions node) ≤ most
     → slice_index (least_of positions north east) node ≤ most
 least_at [] north east node most one other = omega arith
-least_at (position ∷ positions) north east zero most one other = omega (arith, one, other)
+least_at (position ∷ positions) north east zero most one other = omega arith
 least_at (position ∷ positions) north east (suc node) most one other = least_at positions north east node most one other
 
 on_axis : (low high deficits long start node : ℕ) (span : Span) → span.low ≡ low - deficits → span.high ≡ high + deficits
     → low ≤ start → start ≤ high → abs_diff start node ≤ long + deficits → outside span node ≤ long
-on_axis low high deficits long start node span begins ends above below near = omega (arith, begins, ends, above, below, near)
+on_axis low high deficits long start node span begins ends above below near = omega arith
 
 module _ (nodes : List NodeByRank) (entries : List Entry) (points : List Degrees) (bans : List Ban) where
   abbrev road : RoadMap
@@ -53,12 +42,11 @@ module _ (nodes : List NodeByRank) (entries : List Entry) (points : List Degrees
   long_enough : (position : ℕ → ℕ) (rank : ℕ) (line : RoadLine) → slice_get road.lines rank ≡ Some line
       → abs_diff (position line.from) (position line.to) ≤ line.length + get_or (map (deficit_of position) entries) rank 0
   long_enough position rank line is =
-      let (entry, at, same) = entry_of points entries rank line is in
+      let (entry, at, same) = entry_at points entries rank line is in
       let inside = slice_get_within entries rank entry at in
       let left = get_or-map (deficit_of position) entries rank entry 0 inside
       ∙ ap (deficit_of position) (get_or_from_slice_get entries rank entry entry at) in
-      subst (λ (l : RoadLine). abs_diff (position l.from) (position l.to) ≤ l.length + get_or (map (deficit_of position) entries) rank 0)
-      same (omega (arith, left))
+      rw (← same) (omega arith)
 
   -- the ends of lines that join are no farther apart than these are long, with the deficits of all lines
   near : (position : ℕ → ℕ) (count from to long : ℕ) → Joins road count from to long
@@ -67,7 +55,7 @@ module _ (nodes : List NodeByRank) (entries : List Entry) (points : List Degrees
       let size = length-map entries (deficit_of position) ∙ sym (length-map entries (line_in points)) in
       let climbed = climb road position (position from) count from to long 0 (map (deficit_of position) entries) joins size
       (λ rank line is. inl (long_enough position rank line is)) (omega arith) in
-      omega (arith, climbed, sum-map (deficit_of position) entries)
+      omega (arith, sum-map (deficit_of position) entries)
 
   pub goals_on : (positions : List Position) (deficits : Deficits) (low high : Position) (lines : List ℕ) (north east : Span)
       → AreDeficits entries positions deficits → All (StartsBetween entries positions low high) lines
@@ -76,16 +64,16 @@ module _ (nodes : List NodeByRank) (entries : List Entry) (points : List Degrees
       → AreGoalsOn road (record { lines = lines; least = least_of positions north east })
   goals_on positions deficits low high lines north east are between north_low north_high east_low east_high
       target node count long line is_goal is joins =
-      let (entry, at, same) = entry_of points entries target line is in
+      let (entry, at, same) = entry_at points entries target line is in
       let from = entry.line.from in
       let start : IsBetween low high (position_of positions from)
       = All-contains (StartsBetween entries positions low high) lines target between is_goal entry at in
       let joined : Joins road count node from long
-      = subst (λ (n : ℕ). Joins road count node n long) (sym (ap (λ (l : RoadLine). l.from) same)) joins in
+      = rw (ap (λ (l : RoadLine). l.from) same) joins in
       least_at positions north east node long
       (on_axis low.north high.north deficits.north long (north_of positions from) (north_of positions node) north
       north_low north_high start.north_low start.north_high
-      (omega (arith, near (north_of positions) count node from long joined, are.north)))
+      (omega (arith, near (north_of positions) count node from long joined)))
       (on_axis low.east high.east deficits.east long (east_of positions from) (east_of positions node) east
       east_low east_high start.east_low start.east_high
-      (omega (arith, near (east_of positions) count node from long joined, are.east)))
+      (omega (arith, near (east_of positions) count node from long joined)))

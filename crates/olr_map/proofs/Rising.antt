@@ -13,7 +13,7 @@ abbrev Rise : List ℕ → Type 0
 Rise xs = AllPairs (λ (a b : ℕ). a < b) xs
 
 rest_rises : (x : ℕ) (xs : List ℕ) → Rise (x ∷ xs) → Rise xs
-rest_rises x xs rise i j d below inside = rise (suc i) (suc j) d (omega (arith, below)) (omega (arith, inside))
+rest_rises x xs rise i j d below inside = rise (suc i) (suc j) d (omega arith) (omega arith)
 
 -- ---- a place as a number of lesser ones
 
@@ -22,37 +22,37 @@ none_less id [] above = refl
 none_less id (x ∷ xs) above =
     let here : ltb x id ≡ false = le-ltb x id (above 0 (omega arith)) in
     ap (λ (b : Bool). length (cond b (x ∷ filter (λ other. ltb other id) xs) (filter (λ other. ltb other id) xs))) here
-    ∙ none_less id xs (λ k inside. above (suc k) (omega (arith, inside)))
+    ∙ none_less id xs (λ k inside. above (suc k) (omega arith))
 
 lesser : (xs : List ℕ) (rank id : ℕ) → Rise xs → slice_get xs rank ≡ Some id → length (filter (λ other. ltb other id) xs) ≡ rank
 lesser [] rank id rise there = absurd cc
 lesser (x ∷ xs) zero id rise there =
     let same : x ≡ id = cc in
-    none_less id (x ∷ xs) (above x xs id same rise)
+    none_less _ (x ∷ xs) (above x xs id same rise)
   where
     above : (x : ℕ) (xs : List ℕ) (id : ℕ) → x ≡ id → Rise (x ∷ xs) → (k : ℕ) → k < length (x ∷ xs) → id ≤ get_or (x ∷ xs) k 0
-    above x xs id same rise zero inside = omega (arith, same)
-    above x xs id same rise (suc k) inside = let below : x < get_or xs k 0 = rise 0 (suc k) 0 (omega arith) inside in omega (arith, below, same)
+    above x xs id same rise zero inside = omega arith
+    above x xs id same rise (suc k) inside = let below : x < get_or xs k 0 = rise 0 (suc k) 0 (omega arith) inside in omega arith
 lesser (x ∷ xs) (suc rank) id rise there =
     let inside = slice_get_within xs rank id there in
-    let last : get_or xs rank 0 ≡ id = get_or_from_slice_get xs rank id 0 there in
-    let below : x < get_or xs rank 0 = rise 0 (suc rank) 0 (omega arith) (omega (arith, inside)) in
-    let here : ltb x id ≡ true = lt-ltb x id (omega (arith, last, below)) in
+    let last : get_or xs rank 0 ≡ id = get_or_from_slice_get xs rank _ 0 there in
+    let below : x < get_or xs rank 0 = rise 0 (suc rank) 0 (omega arith) (omega arith) in
+    let here : ltb x id ≡ true = lt-ltb x id (omega arith) in
     ap (λ (b : Bool). length (cond b (x ∷ filter (λ other. ltb other id) xs) (filter (λ other. ltb other id) xs))) here
-    ∙ ap (λ (n : ℕ). suc n) (lesser xs rank id (rest_rises x xs rise) there)
+    ∙ ap suc (lesser xs rank id (rest_rises x _ rise) there)
 
 pub rank_counts_lesser : (xs : List ℕ) (rank id : ℕ) → IsStrictlyIncreasing xs → slice_get xs rank ≡ Some id → length (filter (λ other. ltb other id) xs) ≡ rank
-rank_counts_lesser xs rank id rise there = lesser xs rank id (AllPairs-from_increasing xs rise) there
+rank_counts_lesser xs rank id rise there = lesser _ _ _ (AllPairs-from_increasing _ rise) there
 
 -- ---- the members decide the list
 
 -- an element behind the first has a greater key
 greater : {X : Type 0} (key : X → ℕ) (x : X) (xs : List X) → Rise (map key (x ∷ xs)) → (z : X) → Contains xs z → key x < key z
 greater key x xs rise z contains =
-    let inside : suc contains.0 < length (map key (x ∷ xs)) = omega (arith, contains.1, length-map xs key) in
+    let inside : suc contains.0 < length (map key (x ∷ xs)) = omega (arith, length-map xs key) in
     let below : key x < get_or (map key xs) contains.0 0 = rise 0 (suc contains.0) 0 (omega arith) inside in
-    let there : get_or (map key xs) contains.0 0 ≡ key z = get_or-map key xs contains.0 z 0 contains.1 ∙ ap key contains.2 in
-    omega (arith, below, there)
+    let there : get_or (map key xs) contains.0 0 ≡ key z = get_or-map _ _ _ z 0 contains.1 ∙ ap key contains.2 in
+    omega arith
 
 -- a member is the first or one behind it
 data IsFirstOrBehind {X : Type 0} (x : X) (xs : List X) (z : X) : Type 0 where
@@ -61,51 +61,51 @@ data IsFirstOrBehind {X : Type 0} (x : X) (xs : List X) (z : X) : Type 0 where
 
 member : {X : Type 0} (x : X) (xs : List X) (z : X) → Contains (x ∷ xs) z → IsFirstOrBehind x xs z
 member x xs z (zero, inside, is) = first is
-member x xs z (suc k, inside, is) = behind (k, omega (arith, inside), is)
+member x xs z (suc k, inside, is) = behind (k, omega arith, is)
 
 here : {X : Type 0} (x : X) (xs : List X) → Contains (x ∷ xs) x
 here x xs = (0, omega arith, refl)
 
 further : {X : Type 0} (x : X) (xs : List X) (z : X) → Contains xs z → Contains (x ∷ xs) z
-further x xs z (k, inside, is) = (suc k, omega (arith, inside), is)
+further x xs z (k, inside, is) = (suc k, omega arith, is)
 
 same_first : {X : Type 0} (key : X → ℕ) (x y : X) (xs ys : List X) → Rise (map key (x ∷ xs)) → Rise (map key (y ∷ ys)) → Contains (y ∷ ys) x → Contains (x ∷ xs) y → x ≡ y
-same_first key x y xs ys up_x up_y x_in y_in = elim (member y ys x x_in) [
+same_first key x y xs ys up_x up_y x_in y_in = elim (member y _ x x_in) [
   | first same ↦ sym same
-  | behind x_behind ↦ elim (member x xs y y_in) [
+  | behind x_behind ↦ elim (member x _ y y_in) [
     | first same ↦ same
     | behind y_behind ↦
-        let less = greater key y ys up_y x x_behind in
-        let more = greater key x xs up_x y y_behind in
-        absurd (omega (arith, less, more))
+        let less = greater _ y _ up_y x x_behind in
+        let more = greater _ x _ up_x y y_behind in
+        absurd (omega arith)
   ]
 ]
 
 -- the members behind equal first elements
 within_rest : {X : Type 0} (key : X → ℕ) (x y : X) (xs ys : List X) → Rise (map key (x ∷ xs)) → x ≡ y → ((z : X) → Contains (x ∷ xs) z → Contains (y ∷ ys) z)
     → (z : X) → Contains xs z → Contains ys z
-within_rest key x y xs ys up same within z contains = elim (member y ys z (within z (further x xs z contains))) [
+within_rest key x y xs ys up same within z contains = elim (member y _ z (within z (further x _ z contains))) [
   | first is ↦
-      let less = greater key x xs up z contains in
-      let equal : key x ≡ key z = ap key (same ∙ is) in
-      absurd (omega (arith, less, equal))
+      let less = greater _ x _ up z contains in
+      let equal : key x ≡ key z = cc in
+      absurd (omega arith)
   | behind there ↦ there
 ]
 
 same_members : {X : Type 0} (key : X → ℕ) (xs ys : List X) → Rise (map key xs) → Rise (map key ys)
     → ((z : X) → Contains xs z → Contains ys z) → ((z : X) → Contains ys z → Contains xs z) → xs ≡ ys
 same_members key [] [] up_x up_y forth back = refl
-same_members key [] (y ∷ ys) up_x up_y forth back = let none = back y (here y ys) in absurd (omega (arith, none.1))
-same_members key (x ∷ xs) [] up_x up_y forth back = let none = forth x (here x xs) in absurd (omega (arith, none.1))
+same_members key [] (y ∷ ys) up_x up_y forth back = let none = back y (here y _) in absurd (omega arith)
+same_members key (x ∷ xs) [] up_x up_y forth back = let none = forth x (here x _) in absurd (omega arith)
 same_members key (x ∷ xs) (y ∷ ys) up_x up_y forth back =
-    let same = same_first key x y xs ys up_x up_y (forth x (here x xs)) (back y (here y ys)) in
-    let rest = same_members key xs ys (rest_rises (key x) (map key xs) up_x) (rest_rises (key y) (map key ys) up_y)
-    (within_rest key x y xs ys up_x same forth) (within_rest key y x ys xs up_y (sym same) back) in
+    let same = same_first _ x y _ _ up_x up_y (forth x (here x _)) (back y (here y _)) in
+    let rest = same_members key xs ys (rest_rises _ _ up_x) (rest_rises _ _ up_y)
+    (within_rest _ x y _ _ up_x same forth) (within_rest _ y x _ _ up_y (sym same) back) in
     cc
 
 -- two lists of the same elements that rise are the same
 pub same_rising : {X : Type 0} (key : X → ℕ) (xs ys : List X) → IsPermutation xs ys → IsStrictlyIncreasing (map key xs) → IsStrictlyIncreasing (map key ys) → xs ≡ ys
 same_rising key xs ys moved up_x up_y =
-    same_members key xs ys (AllPairs-from_increasing (map key xs) up_x) (AllPairs-from_increasing (map key ys) up_y)
-    (λ z contains. Contains-permutation xs ys z moved contains)
-    (λ z contains. Contains-permutation ys xs z (IsPermutation-sym xs ys moved) contains)
+    same_members _ _ _ (AllPairs-from_increasing _ up_x) (AllPairs-from_increasing _ up_y)
+    (λ z contains. Contains-permutation _ _ z moved contains)
+    (λ z contains. Contains-permutation _ _ z (IsPermutation-sym xs ys moved) contains)

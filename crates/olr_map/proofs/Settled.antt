@@ -1,5 +1,5 @@
 -- The outcome of a table's file: its rows, or the fault of the first record that is faulty.
-use Rattle.std.proofs.Common.{◌≡◌, ℕ, suc, ◌+◌, ◌<◌, ◌≤◌, List, [], ◌∷◌, ◌++◌, length, take, drop, inl, inr, Option, Some, None, refl, sym, ap, subst, ◌∙◌, append_assoc, arith}
+use Rattle.std.proofs.Common.{rules, ◌≡◌, ℕ, suc, ◌+◌, ◌<◌, ◌≤◌, List, [], ◌∷◌, ◌++◌, length, take, drop, inl, inr, Option, Some, None, refl, sym, subst, ◌∙◌, append_assoc, arith}
 use Rattle.std.specs.Prelude.{slice_index, Contains, MatchOption}
 use Rattle.std.specs.List.{take-map}
 use Rattle.std.proofs.Math.Seq.{take-append_seam}
@@ -21,29 +21,30 @@ use Rattle.olr_map.proofs.Cases.{when_some}
 use Rattle.olr_map.proofs.Zips.{zip_take, zip_at}
 
 -- the first record whose key an earlier one has, among those that spell rows
-repeated : {Row : Type 0} (table : Table Row) → IsSettled table → (records good more : List (List (List ℕ))) (rows : List Row) (at : ℕ) → records ≡ good ++ more
+repeated : {Row : Type 0} {table : Table Row} → IsSettled table
+    → {records good : List (List (List ℕ))} (more : List (List (List ℕ))) {rows : List Row} {at : ℕ} → records ≡ good ++ more
     → SpellRows table good rows → IsFirstRepeat (keys_of table rows) at → RefusesRecord table records (fault.Duplicate table.file (at + 1))
-repeated {Row} table settled records good more rows at file say first =
+repeated {Row} {table} settled {good} more {rows} {at} file say first =
     let size = keys_length table rows in
-    let inside : at < length rows = omega (arith, size, first.inside) in
+    let inside : at < length rows = omega arith in
     let found = zip_at table.IsRow good rows at say.each inside in
     let key : slice_index (keys_of table rows) at ≡ table.key found.right =
-    get_or-map table.key rows at found.right 0 inside ∙ ap table.key (found.there found.right) in
-    let front = length-take-le at rows (omega (arith, inside)) in
+    cc (get_or-map table.key rows at found.right 0 inside, found.there found.right) in
+    let front = length-take-le at rows (omega arith) in
     let keys : keys_of table (take at rows) ≡ take at (keys_of table rows) = sym (take-map table.key at rows) in
     let count : length (keys_of table (take at rows)) ≡ at = keys_length table (take at rows) ∙ front in
-    let refused = settled.repeats (keys_of table (take at rows)) found.left found.right found.holds (omega (arith, count, inside, say.at_most))
-    (subst (λ (l : List ℕ). Contains l (table.key found.right)) (sym keys) (subst (λ (n : ℕ). Contains (take at (keys_of table rows)) n) key first.repeats)) in
+    let refused = settled.repeats (keys_of table (take at rows)) found.left found.right found.holds (omega arith)
+    (rw keys (rw (← key) first.repeats)) in
     record {
       good = take at good;
       bad = found.left;
       rest = drop (suc at) good ++ more;
       rows = take at rows;
-      split = file ∙ ap (λ (l : List (List (List ℕ))). l ++ more) found.split ∙ append_assoc (take at good) (found.left ∷ drop (suc at) good) more;
+      split = cc (append_assoc (take at good) (found.left ∷ drop (suc at) good) more);
       accepted = record {
         each = zip_take table.IsRow good rows at say.each;
-        at_most = omega (arith, front, inside, say.at_most);
-        differ = subst (λ (l : List ℕ). AllDiffer l) (sym keys) first.before;
+        at_most = omega arith;
+        differ = rw keys first.before;
       };
       refused = subst (λ (n : ℕ). Refuses (table.Condition (keys_of table (take at rows)) found.left) (fault.Duplicate table.file (n + 1))) count refused;
     }
@@ -53,12 +54,12 @@ repeated {Row} table settled records good more rows at file say first =
 -- a key among those before the last one
 earlier_repeat : (keys : List ℕ) (last at : ℕ) → at < length keys → IsFirstRepeat (keys ++ last ∷ []) at → IsFirstRepeat keys at
 earlier_repeat keys last at inside first =
-    let front : take at (keys ++ last ∷ []) ≡ take at keys = take-append-le at keys (last ∷ []) (omega (arith, inside)) in
+    let front : take at (keys ++ last ∷ []) ≡ take at keys = take-append-le at keys (last ∷ []) (omega arith) in
     let same : slice_index (keys ++ last ∷ []) at ≡ slice_index keys at = get_or_append_left keys (last ∷ []) 0 at inside in
     record {
       inside = inside;
-      repeats = subst (λ (l : List ℕ). Contains l (slice_index keys at)) front (subst (λ (n : ℕ). Contains (take at (keys ++ last ∷ [])) n) same first.repeats);
-      before = subst (λ (l : List ℕ). AllDiffer l) front first.before;
+      repeats = rw (← front) (rw (← same) first.repeats);
+      before = rw (← front) first.before;
     }
 
 -- the last key is one of those before it
@@ -69,128 +70,102 @@ pub record LastRepeats (keys : List ℕ) (last at : ℕ) : Type 0 where
 
 last_repeat : (keys : List ℕ) (last at : ℕ) → length keys ≤ at → IsFirstRepeat (keys ++ last ∷ []) at → LastRepeats keys last at
 last_repeat keys last at behind first =
-    let here : at ≡ length keys = omega (arith, behind, first.inside, length-append keys (last ∷ [])) in
-    let front : take at (keys ++ last ∷ []) ≡ keys = ap (λ (n : ℕ). take n (keys ++ last ∷ [])) here ∙ take-append_seam keys (last ∷ []) in
-    let key : slice_index (keys ++ last ∷ []) at ≡ last = get_or_push keys last 0 at (sym here) in
+    let here : at ≡ length keys = omega (arith, length-append keys (last ∷ [])) in
+    let front : take at (keys ++ last ∷ []) ≡ keys = cc (take-append_seam keys (last ∷ [])) in
+    let key : slice_index (keys ++ last ∷ []) at ≡ last = get_or_push _ _ 0 _ (sym here) in
     record {
       here = here;
-      differ = subst (λ (l : List ℕ). AllDiffer l) front first.before;
+      differ = rw (← front) first.before;
       among = subst (λ (l : List ℕ). Contains l last) front (subst (λ (n : ℕ). Contains (take at (keys ++ last ∷ [])) n) key first.repeats);
     }
 
 differ_front : (keys more : List ℕ) → AllDiffer (keys ++ more) → AllDiffer keys
 differ_front keys more differ i j d less inside same =
-    differ i j d less (omega (arith, inside, length-append keys more))
-    (get_or_append_left keys more d i (omega (arith, less, inside)) ∙ same ∙ sym (get_or_append_left keys more d j inside))
+    differ i j d less (omega (arith, length-append keys more))
+    (cc (get_or_append_left keys more d i (omega (arith, less, inside)), get_or_append_left keys more d j inside))
 
 -- the last of keys that differ isn't one of those before it
 last_new : (keys : List ℕ) (last : ℕ) → AllDiffer (keys ++ last ∷ []) → Contains keys last → ⊥
 last_new keys last differ among =
     differ among.0 (length keys) last among.1 (omega (arith, length-append keys (last ∷ [])))
-    (get_or_append_left keys (last ∷ []) last among.0 among.1 ∙ among.2 ∙ sym (get_or_push keys last last (length keys) refl))
+    (cc (get_or_append_left keys (last ∷ []) last among.0 among.1, get_or_push keys _ last _ refl))
 
 -- the same of a key that may not have been read
 front_differs : (keys : List ℕ) (last : Option ℕ) → AllDiffer (with_last keys last) → AllDiffer keys
 front_differs keys None differ = differ
-front_differs keys (Some last) differ = differ_front keys (last ∷ []) differ
+front_differs keys (Some last) differ = differ_front _ _ differ
 
 not_among : (keys : List ℕ) (last : Option ℕ) → AllDiffer (with_last keys last) → IsAmong last keys → ⊥
 not_among keys None differ among = among
-not_among keys (Some last) differ among = last_new keys last differ among
+not_among keys (Some last) differ among = last_new _ _ differ among
 
 -- ---- the fault that decides
 
 -- the record at which the reader stopped is the first that is faulty
 refuses_there : {Row : Type 0} (table : Table Row) (records : List (List (List ℕ))) (rows : List Row) (stop : Stop) (why : MapFault) (stops : StopsIn table records rows stop)
     → AllDiffer (keys_of table rows) → Refuses (table.Condition (keys_of table rows) stops.bad) why → RefusesRecord table records why
-refuses_there table records rows stop why stops differ refuses = record {
-  good = stops.good;
-  bad = stops.bad;
-  rest = stops.rest;
-  rows = rows;
-  split = stops.split;
-  accepted = record { each = stops.spelled.each; at_most = stops.spelled.at_most; differ = differ };
-  refused = refuses;
-}
+refuses_there table records rows stop why stops differ refuses = search rules
 
 -- the first key that occurs twice, where the reader stopped
-repeat_before : {Row : Type 0} (table : Table Row) → IsSettled table → (records : List (List (List ℕ))) (rows : List Row) (why : MapFault) (key : Option ℕ) (at : ℕ)
+repeat_before : {Row : Type 0} {table : Table Row} → IsSettled table → {records : List (List (List ℕ))} {rows : List Row} {why : MapFault} (key : Option ℕ) {at : ℕ}
     → StopsIn table records rows (record { fault = why; key = key }) → IsFirstRepeat (with_last (keys_of table rows) key) at → RefusesRecord table records (fault.Duplicate table.file (at + 1))
-repeat_before table settled records rows why None at stops first = repeated table settled records stops.good (stops.bad ∷ stops.rest) rows at stops.split stops.spelled first
-repeat_before table settled records rows why (Some key) at stops first = elim (cases_lt at (length (keys_of table rows))) [
-  | inl inside ↦ repeated table settled records stops.good (stops.bad ∷ stops.rest) rows at stops.split stops.spelled (earlier_repeat (keys_of table rows) key at inside first)
+repeat_before settled None stops first = repeated settled _ stops.split stops.spelled first
+repeat_before {table} settled {records} {rows} (Some key) {at} stops first = elim (cases_lt at (length (keys_of table rows))) [
+  | inl inside ↦ repeated settled _ stops.split stops.spelled (earlier_repeat _ _ _ inside first)
   | inr behind ↦
-      let last = last_repeat (keys_of table rows) key at behind first in
-      let count : length rows ≡ at = sym (last.here ∙ keys_length table rows) in
+      let last = last_repeat _ _ _ behind first in
+      let count : length rows ≡ at = cc (keys_length table _) in
       let refused = refuses_there table records rows _ (fault.Duplicate table.file (length rows + 1)) stops last.differ (stops.stops.repeats last.among) in
-      subst (λ (n : ℕ). RefusesRecord table records (fault.Duplicate table.file (n + 1))) count refused
+      rw (← count) refused
 ]
 
 -- a fault of a record is no failure of a device
 reports : (Condition Is : MapFault → Type 0) (why : MapFault) → ((file : File) → Condition (fault.ReadFailed file) → ⊥) → Condition why → Is why → Reports Is why
-reports Condition Is (fault.Header file) no_device holds is = is
-reports Condition Is (fault.Shape file n) no_device holds is = is
-reports Condition Is (fault.Field file n column) no_device holds is = is
-reports Condition Is (fault.Duplicate file n) no_device holds is = is
-reports Condition Is (fault.UnknownNode n) no_device holds is = is
-reports Condition Is (fault.ZeroLength n) no_device holds is = is
-reports Condition Is (fault.Degenerate n) no_device holds is = is
-reports Condition Is (fault.UnknownLine n) no_device holds is = is
-reports Condition Is (fault.NotAdjacent n) no_device holds is = is
-reports Condition Is (fault.TooMany file) no_device holds is = is
 reports Condition Is (fault.ReadFailed file) no_device holds is = no_device file holds
 reports Condition Is fault.NoMemory no_device holds is = tt
+reports Condition Is other no_device holds is = is
 
 -- the stop decides, where the keys differ
 stop_decides : {Row : Type 0} (table : Table Row) → IsSettled table → (records : List (List (List ℕ))) (rows : List Row) (stop : Stop)
     → StopsIn table records rows stop → AllDiffer (with_last (keys_of table rows) stop.key) → Reports (RefusesRecord table records) stop.fault
 stop_decides table settled records rows stop stops differ =
-    let refuses = stops.stops.new (not_among (keys_of table rows) stop.key differ) in
+    let refuses = stops.stops.new (not_among _ _ differ) in
     reports (table.Condition (keys_of table rows) stops.bad) (RefusesRecord table records) stop.fault (settled.no_device (keys_of table rows) stops.bad) refuses.holds
     (refuses_there table records rows stop stop.fault stops (front_differs (keys_of table rows) stop.key differ) refuses)
 
 repeat_decides : {Row : Type 0} (table : Table Row) → IsSettled table → (records : List (List (List ℕ))) (rows : List Row) (stop : Option Stop) (at : ℕ)
     → MatchOption stop (SpellRows table records rows) (StopsIn table records rows) → IsFirstRepeat (keys_read (keys_of table rows) stop) at
     → RefusesRecord table records (fault.Duplicate table.file (at + 1))
-repeat_decides table settled records rows None at found first = repeated table settled records records [] rows at (sym (append-nil records)) found first
-repeat_decides table settled records rows (Some stop) at found first = repeat_before table settled records rows stop.fault stop.key at found first
+repeat_decides table settled records rows None at found first = repeated settled [] (sym (append-nil records)) found first
+repeat_decides table settled records rows (Some stop) at found first = repeat_before settled _ found first
 
 -- the fault of a table's records, by what the reader found and what its keys decide
 pub fault_settled : {Row : Type 0} (table : Table Row) → IsSettled table → (records : List (List (List ℕ))) (rows : List Row) (stop : Option Stop) (keys : List ℕ) (why : MapFault)
     → keys ≡ keys_of table rows → MatchOption stop (SpellRows table records rows) (StopsIn table records rows) → Settles keys stop table.file why
     → Reports (RefusesRecord table records) why
-fault_settled table settled records rows stop keys why same found (no_memory e) = subst (λ (f : MapFault). Reports (RefusesRecord table records) f) (sym e) tt
+fault_settled table settled records rows stop keys why same found (no_memory e) = rw e tt
 fault_settled table settled records rows stop keys why same found (repeat at first e) =
     let here = subst (λ (l : List ℕ). IsFirstRepeat (keys_read l stop) at) same first in
-    subst (λ (f : MapFault). Reports (RefusesRecord table records) f) (sym e) (repeat_decides table settled records rows stop at found here)
+    rw e (repeat_decides _ settled _ _ _ _ found here)
 fault_settled table settled records rows stop keys why same found (stopped its is differ e) =
-    let stops = when_some (SpellRows table records rows) (StopsIn table records rows) stop its is found in
+    let stops = when_some (SpellRows table records rows) _ _ _ is found in
     let apart = subst (λ (l : List ℕ). AllDiffer (with_last l its.key)) same differ in
-    subst (λ (f : MapFault). Reports (RefusesRecord table records) f) (sym e) (stop_decides table settled records rows its stops apart)
+    rw e (stop_decides _ settled _ _ _ stops apart)
 
 -- ---- of a text
 
 -- a fault after the header
 after_header : {Row : Type 0} (table : Table Row) (text : List ℕ) (records : List (List (List ℕ))) (why : MapFault) → records_of text ≡ table.header ∷ records
     → Reports (RefusesRecord table records) why → Reports (IsFaultOfTable table text) why
-after_header table text records (fault.Header file) is refuses = inr (records, is, refuses)
-after_header table text records (fault.Shape file n) is refuses = inr (records, is, refuses)
-after_header table text records (fault.Field file n column) is refuses = inr (records, is, refuses)
-after_header table text records (fault.Duplicate file n) is refuses = inr (records, is, refuses)
-after_header table text records (fault.UnknownNode n) is refuses = inr (records, is, refuses)
-after_header table text records (fault.ZeroLength n) is refuses = inr (records, is, refuses)
-after_header table text records (fault.Degenerate n) is refuses = inr (records, is, refuses)
-after_header table text records (fault.UnknownLine n) is refuses = inr (records, is, refuses)
-after_header table text records (fault.NotAdjacent n) is refuses = inr (records, is, refuses)
-after_header table text records (fault.TooMany file) is refuses = inr (records, is, refuses)
 after_header table text records (fault.ReadFailed file) is refuses = refuses
 after_header table text records fault.NoMemory is refuses = refuses
+after_header table text records other is refuses = inr (records, is, refuses)
 
 pub text_fault : {Row : Type 0} (table : Table Row) → IsSettled table → (text : List ℕ) (records : List (List (List ℕ))) (rows : List Row) (stop : Option Stop) (keys : List ℕ) (why : MapFault)
     → records_of text ≡ table.header ∷ records → keys ≡ keys_of table rows → MatchOption stop (SpellRows table records rows) (StopsIn table records rows)
     → Settles keys stop table.file why → Reports (IsFaultOfTable table text) why
 text_fault table settled text records rows stop keys why is same found settles =
-    after_header table text records why is (fault_settled table settled records rows stop keys why same found settles)
+    after_header _ _ _ _ is (fault_settled _ settled _ _ _ _ _ same found settles)
 
 pub text_rows : {Row : Type 0} (table : Table Row) (text : List ℕ) (records : List (List (List ℕ))) (rows sorted : List Row) → records_of text ≡ table.header ∷ records
     → SpellRows table records rows → Sorts table.key rows sorted → IsTableOf table text sorted

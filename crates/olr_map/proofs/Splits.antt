@@ -1,5 +1,5 @@
 -- A list split at an element, and what two splits of one list have to do with one another.
-use Rattle.std.proofs.Common.{◌≡◌, List, [], ◌∷◌, ◌++◌, refl, ap}
+use Rattle.std.proofs.Common.{◌≡◌, List, [], ◌∷◌, ◌++◌, refl}
 use Rattle.std.specs.List.{AllZip}
 
 -- The elements at which a list is split twice: either it is one split, or one part in front goes on with the other's
@@ -19,21 +19,20 @@ pub two_splits : {A : Type 0} (front : List A) (x : A) (rest : List A) (other : 
 two_splits [] x rest [] y others e = one refl (cc)
 two_splits [] x rest (b ∷ other) y others e = before other (cc)
 two_splits (a ∷ front) x rest [] y others e = behind front (cc)
-two_splits (a ∷ front) x rest (b ∷ other) y others e = deeper a b front x other y (cc) (two_splits front x rest other y others (cc))
+two_splits (a ∷ front) x rest (b ∷ other) y others e = deeper a b _ x _ y (cc) (two_splits front x rest other y others (cc))
 
 -- ---- two lists place by place
 
 -- one of the lists decides the other, where an element does
 pub zip_once : {A B : Type 0} (R : A → B → Type 0) → ((x : A) (y z : B) → R x y → R x z → y ≡ z) → (xs : List A) (ys zs : List B) → AllZip R xs ys → AllZip R xs zs → ys ≡ zs
 zip_once R once [] [] [] is other = refl
-zip_once R once [] [] (z ∷ zs) is other = absurd other
 zip_once R once [] (y ∷ ys) zs is other = absurd is
 zip_once R once (x ∷ xs) [] zs is other = absurd is
-zip_once R once (x ∷ xs) (y ∷ ys) [] is other = absurd other
 zip_once R once (x ∷ xs) (y ∷ ys) (z ∷ zs) is other =
     let first = once x y z is.0 other.0 in
     let rest = zip_once R once xs ys zs is.1 other.1 in
     cc
+zip_once R once _ _ _ is other = absurd other
 
 -- the second list, split where the first one is
 pub record ZipSplit {A B : Type 0} (R : A → B → Type 0) (front : List A) (x : A) (ys : List B) : Type 0 where
@@ -45,16 +44,15 @@ pub record ZipSplit {A B : Type 0} (R : A → B → Type 0) (front : List A) (x 
   pub holds : R x at
 
 pub zip_split : {A B : Type 0} (R : A → B → Type 0) (front : List A) (x : A) (rest : List A) (ys : List B) → AllZip R (front ++ x ∷ rest) ys → ZipSplit R front x ys
-zip_split R [] x rest [] all = absurd all
 zip_split R [] x rest (y ∷ ys) all = record { before = []; at = y; after = ys; split = refl; each = tt; holds = all.0 }
-zip_split R (a ∷ front) x rest [] all = absurd all
 zip_split R (a ∷ front) x rest (y ∷ ys) all =
     let found = zip_split R front x rest ys all.1 in
     record {
       before = y ∷ found.before;
       at = found.at;
       after = found.after;
-      split = ap (λ (l : List _). y ∷ l) found.split;
+      split = cc;
       each = (all.0, found.each);
       holds = found.holds;
     }
+zip_split R _ x rest _ all = absurd all

@@ -1,6 +1,6 @@
 -- The steps of the lines, in the order of the lines by the node at which they start.
 use Rattle.std.proofs.Common.{◌≡◌, ℕ, suc, ◌+◌, ◌<◌, List, [], ◌∷◌, ◌++◌, length, take, get_or, Some, refl, sym, ap, ◌∙◌, arith}
-use Rattle.std.specs.Prelude.{All, option_map, slice_get}
+use Rattle.std.specs.Prelude.{All, slice_get}
 use Rattle.std.specs.List.{concat}
 use Rattle.std.proofs.lemmas.List.{length-map, map_push, take_more}
 use Rattle.std.proofs.lemmas.List.Elements.{All-nil, All-append, All-weaker}
@@ -19,21 +19,21 @@ use Rattle.olr_map.specs.Whole.{starts_of}
 pub line_ranks_of_more : (lines : List ℕ) (i : ℕ) (steps more : List Step) (step : Step) → i < length lines → step.line ≡ get_or lines i 0
     → more ≡ steps ++ step ∷ [] → line_ranks steps ≡ take i lines → line_ranks more ≡ take (i + 1) lines
 line_ranks_of_more lines i steps more step inside here is before =
-    ap line_ranks is ∙ map_push (λ (s : Step). s.line) steps step ∙ ap (λ (l : List ℕ). l ++ step.line ∷ []) before
-    ∙ ap (λ (n : ℕ). take i lines ++ n ∷ []) here ∙ sym (take_more lines i 0 inside)
+    ap line_ranks is ∙ map_push _ _ _ ∙ ap (λ (l : List ℕ). l ++ step.line ∷ []) before
+    ∙ ap (λ (n : ℕ). take i lines ++ n ∷ []) here ∙ sym (take_more _ i 0 inside)
 
 -- the step of an entry is that of its line
 pub is_step : (points : List Degrees) (entries : List Entry) (rank : ℕ) (d : Entry) → rank < length entries
     → IsStepOf (lines_in points entries) (step_of rank (line_in points (get_or entries rank d)))
 is_step points entries rank d inside =
-    ap (option_map (step_of rank)) (slice_get-map (line_in points) entries rank ∙ ap (option_map (line_in points)) (slice_get-get_or entries rank d inside))
+    cc (slice_get-map (line_in points) entries rank, slice_get-get_or _ _ d inside)
 
 -- ---- of the lines by node
 
 all_of_groups : (P : ℕ → Type 0) (groups : List (List ℕ)) → ((node : ℕ) (lines : List ℕ) → slice_get groups node ≡ Some lines → All P lines) → All P (concat groups)
 all_of_groups P [] each = All-nil P
 all_of_groups P (lines ∷ groups) each =
-    All-append P lines (concat groups) (each 0 lines refl) (all_of_groups P groups (λ node more is. each (suc node) more is))
+    All-append P _ _ (each 0 lines refl) (all_of_groups P groups (λ node more is. each (suc node) more is))
 
 -- each line by node is one of the lines
 pub lines_known : (entries : List Entry) (nodes : ℕ) (groups : List (List ℕ)) → IsGrouping (starts_of entries) nodes groups → All (λ rank. rank < length entries) (concat groups)

@@ -1,6 +1,6 @@
 -- The lines of a window, by their extents, and those of a band.
-use Rattle.std.proofs.Common.{◌≡◌, ℕ, zero, suc, ◌+◌, ◌<◌, ℤ, pos, ◌≤ℤ◌, true, false, List, [], ◌∷◌, ◌++◌, map, length, take, get_or, Some, None, Option, refl, sym, ap, ◌∙◌, subst, arith}
-use Rattle.std.specs.Prelude.{int_lt, neg_ℤ, option_map, unwrap_or, slice_get, slice_range, All, Contains, IsSomeAnd, IfSome}
+use Rattle.std.proofs.Common.{◌≡◌, ℕ, zero, suc, ◌+◌, ◌<◌, ℤ, pos, ◌≤ℤ◌, true, false, List, [], ◌∷◌, ◌++◌, map, length, take, get_or, Some, None, Option, refl, sym, ap, ◌∙◌, arith}
+use Rattle.std.specs.Prelude.{int_lt, neg_ℤ, slice_get, slice_range, All, Contains, IsSomeAnd}
 use Rattle.std.specs.List.{AllZip}
 use Rattle.std.proofs.lemmas.Int.{ints}
 use Rattle.std.proofs.lemmas.List.{take_more, map-append}
@@ -16,62 +16,61 @@ use Rattle.olr_map.specs.declared.line.Entry.{Entry}
 use Rattle.olr_map.specs.Rows.{RoadLine}
 use Rattle.olr_map.specs.RoadMap.{RoadMap, IsSoundMap, IsSoundLine, MeetsBand, MeetsWindow, RankMeetsBand, RankMeetsWindow, IsBandOf, IsWindowOf}
 use Rattle.olr_map.specs.Reading.{line_in, lines_in, HasExtent}
+use Rattle.olr_map.proofs.Cases.{when_some}
+use Rattle.olr_map.proofs.Sets.{entry_at}
 use Rattle.olr_map.proofs.Zips.{zip_push}
+use Rattle.std.proofs.lemmas.Slice.Zip.{AllZip-left, AllZip-right}
 use Rattle.std.proofs.lemmas.Option.{slice_get-map, slice_get_within, get_or_from_slice_get}
+
+some_and : {X : Type 0} (P : X → Type 0) (o : Option X) → IsSomeAnd o P → (x : X) × (o ≡ Some x) × P x
+some_and P None has = absurd has
+some_and P (Some x) has = (x, refl, has)
 
 -- the other element at a place
 zip_left : {A B : Type 0} (R : A → B → Type 0) (xs : List A) (ys : List B) (at : ℕ) (y : B) → AllZip R xs ys → slice_get ys at ≡ Some y
     → (x : A) × (slice_get xs at ≡ Some x) × R x y
-zip_left R [] [] at y all is = absurd cc
-zip_left R [] (b ∷ ys) at y all is = absurd all
-zip_left R (a ∷ xs) [] at y all is = absurd all
-zip_left R (a ∷ xs) (b ∷ ys) zero y all is = (a, refl, subst (λ (o : Option _). IfSome o (R a)) is all.0)
-zip_left R (a ∷ xs) (b ∷ ys) (suc at) y all is = zip_left R xs ys at y all.1 is
+zip_left R xs ys at y all is = some_and _ _ (when_some _ _ _ y is (AllZip-right R xs ys all at))
 
 zip_right : {A B : Type 0} (R : A → B → Type 0) (xs : List A) (ys : List B) (at : ℕ) (x : A) → AllZip R xs ys → slice_get xs at ≡ Some x
     → (y : B) × (slice_get ys at ≡ Some y) × R x y
-zip_right R [] [] at x all is = absurd cc
-zip_right R [] (b ∷ ys) at x all is = absurd all
-zip_right R (a ∷ xs) [] at x all is = absurd all
-zip_right R (a ∷ xs) (b ∷ ys) zero x all is = (b, refl, subst (λ (o : Option _). IfSome o (λ c. R c b)) is all.0)
-zip_right R (a ∷ xs) (b ∷ ys) (suc at) x all is = zip_right R xs ys at x all.1 is
+zip_right R xs ys at x all is = some_and _ _ (when_some _ _ _ x is (AllZip-left R xs ys all at))
 
 -- ---- points and one of their coordinates
 
 point_at : (of : Coordinates → ℤ) (points : List Degrees) (number : ℤ) → Contains (map (λ (p : Degrees). of (coordinates_of p)) points) number
     → (place : Coordinates) × Contains (map coordinates_of points) place × (of place ≡ number)
-point_at of [] number has = absurd (omega (arith, has.1))
+point_at of [] number has = absurd (omega arith)
 point_at of (point ∷ points) number (zero, inside, e) = (coordinates_of point, (0, omega arith, refl), e)
 point_at of (point ∷ points) number (suc k, inside, e) =
-    let deeper = point_at of points number (k, omega (arith, inside), e) in
-    (deeper.0, (suc deeper.1.0, omega (arith, deeper.1.1), deeper.1.2), deeper.2)
+    let deeper = point_at of points number (k, omega arith, e) in
+    (deeper.0, (suc deeper.1.0, omega arith, deeper.1.2), deeper.2)
 
 number_at : (of : Coordinates → ℤ) (points : List Degrees) (place : Coordinates) → Contains (map coordinates_of points) place → Contains (map (λ (p : Degrees). of (coordinates_of p)) points) (of place)
-number_at of [] place has = absurd (omega (arith, has.1))
+number_at of [] place has = absurd (omega arith)
 number_at of (point ∷ points) place (zero, inside, e) = (0, omega arith, ap of e)
 number_at of (point ∷ points) place (suc k, inside, e) =
-    let deeper = number_at of points place (k, omega (arith, inside), e) in
-    (suc deeper.0, omega (arith, deeper.1), deeper.2)
+    let deeper = number_at of points place (k, omega arith, e) in
+    (suc deeper.0, omega arith, deeper.2)
 
 -- the coordinate of a place lies within the span of those of all
 between : (of : Coordinates → ℤ) (points : List Degrees) (least greatest : ℤ) (place : Coordinates) → IsSpan (map (λ (p : Degrees). of (coordinates_of p)) points) least greatest
     → Contains (map coordinates_of points) place → (least ≤ℤ of place) × (of place ≤ℤ greatest)
 between of points least greatest place is has =
-    All-contains (λ (number : ℤ). (least ≤ℤ number) × (number ≤ℤ greatest)) (map (λ (p : Degrees). of (coordinates_of p)) points) (of place) is.within (number_at of points place has)
+    All-contains (λ (number : ℤ). (least ≤ℤ number) × (number ≤ℤ greatest)) _ _ is.within (number_at of _ _ has)
 
 up : (a b c : ℤ) → a ≤ℤ b → b ≤ℤ c → a ≤ℤ c
 up a b c first second = omega (arith, ints)
 
 -- ---- extents that meet a window
 
-meets_window : (points : List Degrees) (entry : Entry) (extent window : Extent) → window.south ≤ℤ window.north → window.west ≤ℤ window.east → HasExtent points entry extent → Meets window extent
+meets_window : (points : List Degrees) (entry : Entry) {extent window : Extent} → window.south ≤ℤ window.north → window.west ≤ℤ window.east → HasExtent points entry extent → Meets window extent
     → MeetsWindow window (line_in points entry)
-meets_window points entry extent window lats lons is meets =
+meets_window points entry lats lons is meets =
     let part = slice_range points entry.start entry.end in
-    let south = point_at (λ (c : Coordinates). c.lat) part extent.south is.lats.least_is in
-    let north = point_at (λ (c : Coordinates). c.lat) part extent.north is.lats.greatest_is in
-    let west = point_at (λ (c : Coordinates). c.lon) part extent.west is.lons.least_is in
-    let east = point_at (λ (c : Coordinates). c.lon) part extent.east is.lons.greatest_is in
+    let south = point_at (λ (c : Coordinates). c.lat) _ _ is.lats.least_is in
+    let north = point_at (λ (c : Coordinates). c.lat) _ _ is.lats.greatest_is in
+    let west = point_at (λ (c : Coordinates). c.lon) _ _ is.lons.least_is in
+    let east = point_at (λ (c : Coordinates). c.lon) _ _ is.lons.greatest_is in
     record {
       lats = record {
         band = lats;
@@ -79,8 +78,8 @@ meets_window points entry extent window lats lons is meets =
         northern = north.0;
         one = south.1;
         other = north.1;
-        not_north = subst (λ (z : ℤ). z ≤ℤ window.north) (sym south.2) meets.not_north;
-        not_south = subst (λ (z : ℤ). window.south ≤ℤ z) (sym north.2) meets.not_south;
+        not_north = rw south.2 meets.not_north;
+        not_south = rw north.2 meets.not_south;
       };
       lons = record {
         band = lons;
@@ -88,102 +87,89 @@ meets_window points entry extent window lats lons is meets =
         eastern = east.0;
         one = west.1;
         other = east.1;
-        not_east = subst (λ (z : ℤ). z ≤ℤ window.east) (sym west.2) meets.not_east;
-        not_west = subst (λ (z : ℤ). window.west ≤ℤ z) (sym east.2) meets.not_west;
+        not_east = rw west.2 meets.not_east;
+        not_west = rw east.2 meets.not_west;
       };
     }
 
-extent_meets : (points : List Degrees) (entry : Entry) (extent window : Extent) → HasExtent points entry extent → MeetsWindow window (line_in points entry) → Meets window extent
-extent_meets points entry extent window is meets =
+extent_meets : (points : List Degrees) (entry : Entry) {extent window : Extent} → HasExtent points entry extent → MeetsWindow window (line_in points entry) → Meets window extent
+extent_meets points entry is meets =
     let part = slice_range points entry.start entry.end in
-    let south = between (λ (c : Coordinates). c.lat) part extent.south extent.north meets.lats.southern is.lats meets.lats.one in
-    let north = between (λ (c : Coordinates). c.lat) part extent.south extent.north meets.lats.northern is.lats meets.lats.other in
-    let west = between (λ (c : Coordinates). c.lon) part extent.west extent.east meets.lons.western is.lons meets.lons.one in
-    let east = between (λ (c : Coordinates). c.lon) part extent.west extent.east meets.lons.eastern is.lons meets.lons.other in
+    let south = between (λ (c : Coordinates). c.lat) _ _ _ _ is.lats meets.lats.one in
+    let north = between (λ (c : Coordinates). c.lat) _ _ _ _ is.lats meets.lats.other in
+    let west = between (λ (c : Coordinates). c.lon) _ _ _ _ is.lons meets.lons.one in
+    let east = between (λ (c : Coordinates). c.lon) _ _ _ _ is.lons meets.lons.other in
     record {
-      not_north = up extent.south meets.lats.southern.lat window.north south.0 meets.lats.not_north;
-      not_south = up window.south meets.lats.northern.lat extent.north meets.lats.not_south north.1;
-      not_east = up extent.west meets.lons.western.lon window.east west.0 meets.lons.not_east;
-      not_west = up window.west meets.lons.eastern.lon extent.east meets.lons.not_west east.1;
+      not_north = up _ _ _ south.0 meets.lats.not_north;
+      not_south = up _ _ _ meets.lats.not_south north.1;
+      not_east = up _ _ _ west.0 meets.lons.not_east;
+      not_west = up _ _ _ meets.lons.not_west east.1;
     }
 
-some_and : {X : Type 0} (P : X → Type 0) (o : Option X) → IsSomeAnd o P → (x : X) × (o ≡ Some x) × P x
-some_and P None has = absurd has
-some_and P (Some x) has = (x, refl, has)
-
 line_at : (points : List Degrees) (entries : List Entry) (rank : ℕ) (entry : Entry) → slice_get entries rank ≡ Some entry → slice_get (lines_in points entries) rank ≡ Some (line_in points entry)
-line_at points entries rank entry is = slice_get-map (line_in points) entries rank ∙ ap (λ (o : Option Entry). option_map (line_in points) o) is
-
-entry_at : (points : List Degrees) (entries : List Entry) (rank : ℕ) (line : RoadLine) → slice_get (lines_in points entries) rank ≡ Some line
-    → (entry : Entry) × (slice_get entries rank ≡ Some entry) × (line_in points entry ≡ line)
-entry_at points [] rank line is = absurd cc
-entry_at points (entry ∷ entries) zero line is = (entry, refl, ap (λ (o : Option RoadLine). unwrap_or o line) is)
-entry_at points (entry ∷ entries) (suc rank) line is = entry_at points entries rank line is
+line_at points entries rank entry is = cc (slice_get-map (line_in points) entries rank)
 
 rank_meets : (points : List Degrees) (entries : List Entry) (extents : List Extent) (window : Extent) (rank : ℕ) → window.south ≤ℤ window.north → window.west ≤ℤ window.east
     → AllZip (HasExtent points) entries extents → MeetsAt extents window rank → RankMeetsWindow (lines_in points entries) window rank
 rank_meets points entries extents window rank lats lons placed meets =
-    let found = some_and (Meets window) (slice_get extents rank) meets in
-    let there = zip_left (HasExtent points) entries extents rank found.0 placed found.1 in
-    (line_in points there.0, line_at points entries rank there.0 there.1, meets_window points there.0 found.0 window lats lons there.2 found.2)
+    let found = some_and _ _ meets in
+    let there = zip_left _ _ _ _ _ placed found.1 in
+    (line_in points there.0, line_at _ entries rank _ there.1, meets_window points there.0 lats lons there.2 found.2)
 
 extent_at : (points : List Degrees) (entries : List Entry) (extents : List Extent) (window : Extent) (rank : ℕ) → AllZip (HasExtent points) entries extents
     → RankMeetsWindow (lines_in points entries) window rank → MeetsAt extents window rank
 extent_at points entries extents window rank placed meets =
-    let found = entry_at points entries rank meets.0 meets.1 in
-    let there = zip_right (HasExtent points) entries extents rank found.0 placed found.1 in
-    subst (λ (o : Option Extent). IsSomeAnd o (Meets window)) (sym there.1)
-    (extent_meets points found.0 there.0 window there.2 (subst (λ (line : RoadLine). MeetsWindow window line) (sym found.2) meets.2))
+    let found = entry_at points entries rank _ meets.1 in
+    let there = zip_right _ _ _ _ _ placed found.1 in
+    rw there.1 (extent_meets points found.0 there.2 (rw found.2 meets.2))
 
 pub window_of : (points : List Degrees) (entries : List Entry) (extents : List Extent) (window : Extent) (ranks : List ℕ) → window.south ≤ℤ window.north → window.west ≤ℤ window.east
     → AllZip (HasExtent points) entries extents → IsWindow extents window ranks → IsWindowOf (lines_in points entries) window ranks
 window_of points entries extents window ranks lats lons placed is = record {
   once = is.once;
-  only = All-weaker (MeetsAt extents window) (RankMeetsWindow (lines_in points entries) window) (λ rank meets. rank_meets points entries extents window rank lats lons placed meets) ranks is.only;
-  each = λ rank meets. is.each rank (extent_at points entries extents window rank placed meets);
+  only = All-weaker (MeetsAt extents window) (RankMeetsWindow (lines_in points entries) window) (λ rank meets. rank_meets _ _ _ _ rank lats lons placed meets) _ is.only;
+  each = λ rank meets. is.each rank (extent_at _ _ _ _ _ placed meets);
 }
 
 -- a window that ends before it begins
-nothing_meets : (lines : List RoadLine) (window : Extent) → ((line : RoadLine) → MeetsWindow window line → ⊥) → IsWindowOf lines window []
-nothing_meets lines window none = record {
-  once = λ i j d less inside. absurd (omega (arith, inside));
-  only = λ k d inside. absurd (omega (arith, inside));
+nothing_meets : {lines : List RoadLine} {window : Extent} → ((line : RoadLine) → MeetsWindow window line → ⊥) → IsWindowOf lines window []
+nothing_meets none = record {
+  once = λ i j d less inside. absurd (omega arith);
+  only = λ k d inside. absurd (omega arith);
   each = λ rank meets. absurd (none meets.0 meets.2);
 }
 
-pub no_latitude : (lines : List RoadLine) (window : Extent) → (window.south ≤ℤ window.north → ⊥) → IsWindowOf lines window []
-no_latitude lines window empty = nothing_meets lines window (λ line meets. empty meets.lats.band)
+pub no_latitude : {lines : List RoadLine} {window : Extent} → (window.south ≤ℤ window.north → ⊥) → IsWindowOf lines window []
+no_latitude empty = nothing_meets (λ line meets. empty meets.lats.band)
 
-pub no_longitude : (lines : List RoadLine) (window : Extent) → (window.west ≤ℤ window.east → ⊥) → IsWindowOf lines window []
-no_longitude lines window empty = nothing_meets lines window (λ line meets. empty meets.lons.band)
+pub no_longitude : {lines : List RoadLine} {window : Extent} → (window.west ≤ℤ window.east → ⊥) → IsWindowOf lines window []
+no_longitude empty = nothing_meets (λ line meets. empty meets.lons.band)
 
 pub in_order : (low high : ℤ) → int_lt high low ≡ false → low ≤ℤ high
 in_order low high e = omega (arith, ints, e)
 
-pub out_of_order : (low high : ℤ) → int_lt high low ≡ true → low ≤ℤ high → ⊥
-out_of_order low high e le = omega (arith, ints, e, le)
+pub out_of_order : {low high : ℤ} → int_lt high low ≡ true → low ≤ℤ high → ⊥
+out_of_order e le = omega (arith, ints, e, le)
 
 -- ---- one line more, with its extent
 
 pub in_order_more : (lines more : List PlacedLine) (rank : ℕ) (extent : Extent) → more ≡ lines ++ with_extent rank extent ∷ [] → rank ≡ length (extents_of lines) → AreInOrder lines → AreInOrder more
 in_order_more lines more rank extent is place before =
     let extents : extents_of more ≡ extents_of lines ++ extent ∷ [] =
-    ap (λ (l : List PlacedLine). extents_of l) is ∙ map-append (λ (line : PlacedLine). line.extent) lines (with_extent rank extent ∷ []) in
-    let at : 0 + length (extents_of lines) ≡ rank = omega (arith, place) in
+    cc (map-append (λ (line : PlacedLine). line.extent) lines (with_extent rank extent ∷ [])) in
+    let at : 0 + length (extents_of lines) ≡ rank = omega arith in
     is ∙ ap (λ (l : List PlacedLine). l ++ with_extent rank extent ∷ []) before
     ∙ ap (λ (r : ℕ). placed_from 0 (extents_of lines) ++ with_extent r extent ∷ []) (sym at)
     ∙ sym (placed_from-push 0 (extents_of lines) extent)
-    ∙ ap (placed_from 0) (sym extents)
+    ∙ ap (placed_from 0) (cc)
 
 pub extents_more : (points : List Degrees) (entries : List Entry) (i : ℕ) (d : Entry) (lines more : List PlacedLine) (rank : ℕ) (extent : Extent) → i < length entries
     → more ≡ lines ++ with_extent rank extent ∷ [] → HasExtent points (get_or entries i d) extent → AllZip (HasExtent points) (take i entries) (extents_of lines)
     → AllZip (HasExtent points) (take (i + 1) entries) (extents_of more)
 extents_more points entries i d lines more rank extent inside is has before =
     let extents : extents_of more ≡ extents_of lines ++ extent ∷ [] =
-    ap (λ (l : List PlacedLine). extents_of l) is ∙ map-append (λ (line : PlacedLine). line.extent) lines (with_extent rank extent ∷ []) in
-    subst (λ (l : List Extent). AllZip (HasExtent points) (take (i + 1) entries) l) (sym extents)
-    (subst (λ (l : List Entry). AllZip (HasExtent points) l (extents_of lines ++ extent ∷ [])) (sym (take_more entries i d inside))
-    (zip_push (HasExtent points) (take i entries) (extents_of lines) (get_or entries i d) extent before has))
+    cc (map-append (λ (line : PlacedLine). line.extent) lines (with_extent rank extent ∷ [])) in
+    rw extents (rw (take_more _ i d inside) (zip_push _ _ _ _ _ before has))
 
 -- ---- bands, which are windows of all longitudes
 
@@ -192,16 +178,16 @@ abbrev pub wide : ℤ → ℤ → Extent
 wide low high = record { south = low; north = high; west = neg_ℤ (pos 180000000); east = pos 180000000 }
 
 sound_line : (nodes : ℕ) (lines : List RoadLine) (rank : ℕ) (line : RoadLine) → All (IsSoundLine nodes) lines → slice_get lines rank ≡ Some line → IsSoundLine nodes line
-sound_line nodes lines rank line all at = subst (IsSoundLine nodes) (get_or_from_slice_get lines rank line line at) (all rank line (slice_get_within lines rank line at))
+sound_line nodes lines rank line all at = rw (← (get_or_from_slice_get lines rank _ line at)) (all rank line (slice_get_within lines rank line at))
 
 -- a line that meets a band meets its window: any of its points will do
-meets_wide : (nodes : ℕ) (line : RoadLine) (low high : ℤ) → IsSoundLine nodes line → MeetsBand low high line → MeetsWindow (wide low high) line
-meets_wide nodes line low high sound meets =
+meets_wide : {nodes : ℕ} (line : RoadLine) {low high : ℤ} → IsSoundLine nodes line → MeetsBand low high line → MeetsWindow (wide low high) line
+meets_wide line sound meets =
     let range = All-contains IsInRange line.points meets.southern sound.inside meets.one in
     record {
       lats = meets;
       lons = record {
-        band = omega (arith, ints);
+        band = omega arith;
         western = meets.southern;
         eastern = meets.southern;
         one = meets.one;
@@ -215,5 +201,5 @@ pub band_of : (road : RoadMap) (low high : ℤ) (ranks : List ℕ) → IsSoundMa
 band_of road low high ranks sound is = record {
   once = is.once;
   only = All-weaker (RankMeetsWindow road.lines (wide low high)) (RankMeetsBand road.lines low high) (λ rank meets. (meets.0, meets.1, meets.2.lats)) ranks is.only;
-  each = λ rank meets. is.each rank (meets.0, meets.1, meets_wide (length road.nodes) meets.0 low high (sound_line (length road.nodes) road.lines rank meets.0 sound.lines.each meets.1) meets.2);
+  each = λ rank meets. is.each rank (meets.0, meets.1, meets_wide _ (sound_line _ _ _ _ sound.lines.each meets.1) meets.2);
 }

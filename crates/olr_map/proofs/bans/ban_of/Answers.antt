@@ -1,7 +1,5 @@
-use Rattle.std.proofs.Common.{ℕ, Some, None, inl, inr, refl, sym, ap, ◌∙◌, arith}
-use Rattle.olr_map.specs.Reading.{wrong_row, unknown, apart, stop_at}
-use Rattle.olr_map.specs.declared.fault.MapFault.{MapFault}
-use Rattle.olr_map.specs.declared.fault.MapFault.TheVariants.{NotAdjacent}
+use Rattle.std.proofs.Common.{inl, inr, refl, sym, ap, ◌∙◌, arith}
+use Rattle.olr_map.specs.Reading.{wrong_row, unknown, apart}
 use Rattle.olr_map.specs.declared.line.Entry.{Entry}
 use Rattle.olr_map.specs.RoadMap.{ban_of}
 use Rattle.olr_map.proofs.BanRows.{rank_inside, names, meets, never_meets}
@@ -9,7 +7,7 @@ use Rattle.olr_map.proofs.Cases.{when_none}
 use Rattle.olr_map.proofs.bans.ban_of.Goals as goal
 
 pub returns-in-Err-clause-stop : goal.returns-in-Err-clause-stop
-returns-in-Err-clause-stop c = wrong_row c.in-Err.error c.in-Err.ensures.error (ap (λ (why : MapFault). stop_at why None) c.in_record-fault.ensures)
+returns-in-Err-clause-stop c = wrong_row c.in-Err.error c.in-Err.ensures.error (cc)
 
 pub returns-in_default-clause-stop : goal.returns-in_default-clause-stop
 returns-in_default-clause-stop c =
@@ -17,7 +15,7 @@ returns-in_default-clause-stop c =
 
 pub returns-in_default-2-clause-stop : goal.returns-in_default-2-clause-stop
 returns-in_default-2-clause-stop c =
-    unknown c.in-Ok.ids.0 c.in-Ok.ids.1 c.in-Ok.ensures.ids (inl (c.in-Ok.ids.0, c.in-Ok.ensures.ids.from, when_none _ _ c.find_line.result c.in_default.is-0 c.find_line.ensures)) refl
+    unknown c.in-Ok.ids.0 c.in-Ok.ids.1 c.in-Ok.ensures.ids (inl (c.in-Ok.ids.0, c.in-Ok.ensures.ids.from, when_none _ _ _ c.in_default.is-0 c.find_line.ensures)) refl
 
 pub index-requires : goal.index-requires
 index-requires c = omega (arith, rank_inside c.args.lines.now c.in-Ok.ids.0 c.in-Some-Some.from c.in-Some-Some.ensures)
@@ -27,19 +25,19 @@ index-requires-2 c = omega (arith, rank_inside c.args.lines.now c.in-Ok.ids.1 c.
 
 pub returns-then-index-clause-stop : goal.returns-then-index-clause-stop
 returns-then-index-clause-stop c =
-    let named = names c.args.lines.now c.args.row.now c.in-Ok.ids.0 c.in-Ok.ids.1 c.in-Some-Some.from c.in-Some-Some.to c.in-Ok.ensures.ids c.in-Some-Some.ensures c.in-Some-Some.ensures' in
-    let first = rank_inside c.args.lines.now c.in-Ok.ids.0 c.in-Some-Some.from c.in-Some-Some.ensures in
-    let second = rank_inside c.args.lines.now c.in-Ok.ids.1 c.in-Some-Some.to c.in-Some-Some.ensures' in
-    let never = never_meets c.args.lines.now c.in-Some-Some.from c.in-Some-Some.to c.index.result.now c.index-2.result.now first second
+    let named = names c.args.lines.now _ _ _ _ _ c.in-Ok.ensures.ids c.in-Some-Some.ensures c.in-Some-Some.ensures' in
+    let first = rank_inside c.args.lines.now _ _ c.in-Some-Some.ensures in
+    let second = rank_inside c.args.lines.now _ _ c.in-Some-Some.ensures' in
+    let never = never_meets c.args.lines.now _ _ _ _ first second
     (λ same. c.if-index.true (ap (λ (e : Entry). e.line.to) c.index.ensures ∙ same ∙ sym (ap (λ (e : Entry). e.line.from) c.index-2.ensures))) in
-    apart (ban_of c.in-Some-Some.from c.in-Some-Some.to) c.in-Ok.ensures.ids.two named never (ap (λ (key : ℕ). stop_at (NotAdjacent c.args.number) (Some key)) c.key.ensures)
+    apart (ban_of c.in-Some-Some.from c.in-Some-Some.to) c.in-Ok.ensures.ids.two named never (cc)
 
 pub returns-clause-ban : goal.returns-clause-ban
 returns-clause-ban c = record {
   two = c.in-Ok.ensures.ids.two;
-  named = names c.args.lines.now c.args.row.now c.in-Ok.ids.0 c.in-Ok.ids.1 c.in-Some-Some.from c.in-Some-Some.to c.in-Ok.ensures.ids c.in-Some-Some.ensures c.in-Some-Some.ensures';
-  adjacent = meets c.args.lines.now c.in-Some-Some.from c.in-Some-Some.to c.index.result.now c.index-2.result.now
-      (rank_inside c.args.lines.now c.in-Ok.ids.0 c.in-Some-Some.from c.in-Some-Some.ensures)
-      (rank_inside c.args.lines.now c.in-Ok.ids.1 c.in-Some-Some.to c.in-Some-Some.ensures')
+  named = names c.args.lines.now _ _ _ _ _ c.in-Ok.ensures.ids c.in-Some-Some.ensures c.in-Some-Some.ensures';
+  adjacent = meets c.args.lines.now _ _ _ _
+      (rank_inside c.args.lines.now _ _ c.in-Some-Some.ensures)
+      (rank_inside c.args.lines.now _ _ c.in-Some-Some.ensures')
       (sym (ap (λ (e : Entry). e.line.to) c.index.ensures) ∙ c.if-index.false ∙ ap (λ (e : Entry). e.line.from) c.index-2.ensures);
 }

@@ -1,7 +1,6 @@
 use Rattle.std.proofs.Common.{List, subst, sym}
 use Rattle.olr_map.specs.declared.ban.Ban.{Ban}
 use Rattle.olr_map.specs.RoadMap.{AreSoundBans}
-use Rattle.olr_map.specs.Whole.{road_of}
 use Rattle.olr_map.specs.Reading.{lines_of}
 use Rattle.olr_map.proofs.Soundness.{no_bans_are_sound}
 use Rattle.olr_map.proofs.Reported.{map_reported}
@@ -10,7 +9,7 @@ use Rattle.olr_map.proofs.files.read_map.Goals as goal
 pub returns-clause-map : goal.returns-clause-map
 returns-clause-map g c =
     let lines = lines_of c.in_ok-network.network.lines in
-    let bans = subst (λ (l : List Ban). AreSoundBans lines l) (sym c.new.ensures.items) (no_bans_are_sound lines) in
+    let bans = subst (λ (l : List Ban). AreSoundBans lines l) (sym c.new.ensures.items) (no_bans_are_sound _) in
     rw c.in_ok-map.ensures (map_reported _
-    (road_of c.in_ok-network.network.nodes.items c.in_ok-network.network.lines.entries.items c.in_ok-network.network.lines.points.items c.new.result.items)
+    _
     c.in_ok-network.ensures.accepted bans tt)

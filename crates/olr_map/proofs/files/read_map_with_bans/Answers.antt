@@ -1,7 +1,6 @@
 use Rattle.std.proofs.Common.{arith}
 use Rattle.std.proofs.lemmas.List.{length-map}
 use Rattle.std.proofs.lemmas.Result.{err_from_is_err_and}
-use Rattle.olr_map.specs.Whole.{road_of}
 use Rattle.olr_map.specs.Reading.{nodes_of, lines_of, line_in}
 use Rattle.olr_map.specs.Files.{texts_of}
 use Rattle.olr_map.proofs.Soundness.{bans_are_sound}
@@ -12,7 +11,13 @@ pub read_bans-requires : goal.read_bans-requires
 read_bans-requires g c =
     let accepted = c.in_ok-network.ensures.accepted in
     let lines = c.in_ok-network.network.lines in
-    record { rise = accepted.sound.rise; at_most = omega (arith, accepted.sound.at_most, length-map lines.entries.items (line_in lines.points.items)) }
+    record {
+      rise = accepted.sound.rise;
+      at_most = omega (
+        arith,
+        length-map lines.entries.items (line_in lines.points.items),
+      );
+    }
 
 pub map_of-requires-clause-map : goal.map_of-requires-clause-map
 map_of-requires-clause-map g c =
@@ -21,7 +26,7 @@ map_of-requires-clause-map g c =
     record {
       nodes = accepted.nodes_accepted.sound;
       lines = accepted.sound;
-      bans = bans_are_sound read.0 (lines_of c.in_ok-network.network.lines) c.in_ok-bans.bans.items read.2;
+      bans = bans_are_sound read.2;
     }
 
 pub returns-in_err-bans-clause-fault : goal.returns-in_err-bans-clause-fault
@@ -35,6 +40,6 @@ returns-clause-map g c =
     let lines = lines_of c.in_ok-network.network.lines in
     let read = c.in_ok-bans.ensures.bans in
     rw c.in_ok-map.ensures (map_reported _
-    (road_of c.in_ok-network.network.nodes.items c.in_ok-network.network.lines.entries.items c.in_ok-network.network.lines.points.items c.in_ok-bans.bans.items)
-    c.in_ok-network.ensures.accepted (bans_are_sound read.0 lines c.in_ok-bans.bans.items read.2)
-    (bans_left (texts_of (g.S1.Source.left c.args.nodes.now) (g.S2.Source.left c.args.lines.now) (g.S3.Source.left c.args.bans.now)) read.0 lines c.in_ok-bans.bans.items read.1 read.2))
+    _
+    c.in_ok-network.ensures.accepted (bans_are_sound read.2)
+    (bans_left (texts_of (g.S1.Source.left c.args.nodes.now) (g.S2.Source.left c.args.lines.now) (g.S3.Source.left c.args.bans.now)) _ _ _ read.1 read.2))

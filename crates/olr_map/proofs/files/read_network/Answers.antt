@@ -23,10 +23,10 @@ returns-clause-accepted g c =
     let read = c.in_ok-lines.ensures.lines in
     let nodes = subst (λ (l : List NodeByRank). IsNodeSet rows.0 (nodes_of l)) (sym (c.into_items.ensures ∙ c.in_ok-index.ensures)) rows.2 in
     let lines = subst (λ (l : List NodeByRank). IsLineSet (nodes_of l) read.0 (lines_of c.in_ok-lines.lines)) (sym c.into_items.ensures) read.2 in
-    lines_accepted (texts_of (g.S1.Source.left c.args.nodes.now) (g.S2.Source.left c.args.lines.now) None) rows.0 read.0 (nodes_of c.into_items.result.items) (lines_of c.in_ok-lines.lines)
+    lines_accepted (texts_of (g.S1.Source.left c.args.nodes.now) (g.S2.Source.left c.args.lines.now) None) _ _ _ _
     rows.1 read.1 nodes lines
 
 pub index_nodes-requires-clause-at_most : goal.index_nodes-requires-clause-at_most
 index_nodes-requires-clause-at_most g c =
     let read = c.in_ok-rows.ensures.nodes in
-    omega (arith, (nodes_are_sound read.0 (nodes_of c.in_ok-rows.rows.items) read.2).at_most, length-map c.in_ok-rows.rows.items node_of)
+    omega (arith, (nodes_are_sound read.2).at_most, length-map c.in_ok-rows.rows.items node_of)

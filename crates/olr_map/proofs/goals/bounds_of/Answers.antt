@@ -1,4 +1,4 @@
-use Rattle.std.proofs.Common.{◌≡◌, ℕ, min, max, List, get_or, subst, sym, arith}
+use Rattle.std.proofs.Common.{rules, ◌≡◌, ℕ, min, max, List, get_or, sym, arith}
 use Rattle.std.proofs.lemmas.List.{take_all}
 use Rattle.std.proofs.lemmas.List.Elements.{All-more, All-same, All-weaker}
 use Rattle.std.proofs.lemmas.Option.{get_or_from_slice_get}
@@ -11,21 +11,15 @@ module _ (low high start lesser greater : Position)
     (low_north : lesser.north ≡ min low.north start.north) (low_east : lesser.east ≡ min low.east start.east)
     (high_north : greater.north ≡ max high.north start.north) (high_east : greater.east ≡ max high.east start.east) where
   wider : (position : Position) → IsBetween low high position → IsBetween lesser greater position
-  wider position is = record {
-    north_low = omega (arith, is.north_low, low_north);
-    north_high = omega (arith, is.north_high, high_north);
-    east_low = omega (arith, is.east_low, low_east);
-    east_high = omega (arith, is.east_high, high_east);
-  }
+  wider position is = search rules
 
   here : IsBetween lesser greater start
-  here = record { north_low = omega arith; north_high = omega arith; east_low = omega arith; east_high = omega arith }
+  here = search rules
 
 starts_between : (entries : List Entry) (positions : List Position) (low high start : Position) (rank : ℕ) (other : Entry)
     → start ≡ position_of positions (get_or entries rank other).line.from → IsBetween low high start → StartsBetween entries positions low high rank
 starts_between entries positions low high start rank other is between entry at =
-    subst (λ (e : Entry). IsBetween low high (position_of positions e.line.from)) (get_or_from_slice_get entries rank entry other at)
-    (subst (IsBetween low high) is between)
+    rw (← (get_or_from_slice_get entries rank _ other at)) (rw (← is) between)
 
 pub loop-rank-preserved : goal.loop-rank-preserved
 loop-rank-preserved c =
@@ -37,10 +31,10 @@ loop-rank-preserved c =
     let New : ℕ → Type 0 = StartsBetween c.args.entries.now c.args.positions.now low high in
     let lesser = c.lesser-low.ensures in
     let greater = c.greater-high.ensures in
-    All-more New lines c.loop-rank.rank-index 0 c.loop-rank-test.true
+    All-more New _ _ 0 c.loop-rank-test.true
     (All-weaker Old New (λ rank is entry at. wider c.loop-rank.low c.loop-rank.high start low high lesser.north lesser.east greater.north greater.east _ (is entry at)) _ c.loop-rank.invariant)
     (starts_between c.args.entries.now c.args.positions.now low high start (get_or lines c.loop-rank.rank-index 0) _ c.position_of-start.ensures
     (here c.loop-rank.low c.loop-rank.high start low high lesser.north lesser.east greater.north greater.east))
 
 pub returns : goal.returns
-returns c = All-same (StartsBetween c.args.entries.now c.args.positions.now c.loop-rank.low c.loop-rank.high) _ _ (sym (take_all c.loop-rank.rank-index c.args.lines.now (omega (arith, c.loop-rank-test.false)))) c.loop-rank.invariant
+returns c = All-same (StartsBetween c.args.entries.now c.args.positions.now c.loop-rank.low c.loop-rank.high) _ _ (sym (take_all c.loop-rank.rank-index c.args.lines.now (omega arith))) c.loop-rank.invariant

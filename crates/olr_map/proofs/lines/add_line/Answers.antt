@@ -1,27 +1,27 @@
-use Rattle.std.proofs.Common.{rules, ◌≡◌, ℕ, ◌+◌, List, map, length, refl, sym, ap, subst}
+use Rattle.std.proofs.Common.{rules, ◌≡◌, List, map, length, refl, ap}
 use Rattle.olr_metric.specs.declared.degrees.Degrees.{Degrees}
-use Rattle.olr_metric.specs.Coordinates.{Coordinates, coordinates_of}
-use Rattle.olr_map.specs.Reading.{nodes_of, SpellsLine, IsLateFault}
+use Rattle.olr_metric.specs.Coordinates.{coordinates_of}
+use Rattle.olr_map.specs.Reading.{nodes_of}
 use Rattle.olr_map.proofs.Adding.{late, adds}
 use Rattle.olr_map.proofs.Cases.{when_ok, when_err}
 use Rattle.olr_map.proofs.lines.add_line.Goals as goal
 
 pub returns-in_ok-push-in-Ok-2 : goal.returns-in_ok-push-in-Ok-2
 returns-in_ok-push-in-Ok-2 c =
-    let read = when_ok _ _ c.in_ok-line.field-0 c.in-Ok.line c.in-Ok.is c.in_ok-line.ensures in
+    let read = when_ok _ _ _ _ c.in-Ok.is c.in_ok-line.ensures in
     let same = ap (λ (l : List Degrees). map coordinates_of l) c.deref.ensures.value in
-    let line = when_ok _ _ c.in_ok-entry.field-0 c.in-Ok-2.entry c.in-Ok-2.is
-    (c.in_ok-entry.ensures.line (nodes_of c.args.nodes.now) c.args.row.now (subst (λ (l : List Coordinates). SpellsLine c.args.row.now l c.in-Ok.line.0) (sym same) read.0) read.1) in
-    let within = when_ok _ _ c.in_ok-entry.field-0 c.in-Ok-2.entry c.in-Ok-2.is c.in_ok-entry.ensures.within in
-    adds _ c.args.row.now c.args.lines.now _ c.in_ok-entry.ensures.grows.0 c.in-Ok-2.entry c.requires.sound c.in_ok-push-in-Ok-2.ensures.items
+    let line = when_ok _ _ _ _ c.in-Ok-2.is
+    (c.in_ok-entry.ensures.line (nodes_of c.args.nodes.now) c.args.row.now (rw same read.0) read.1) in
+    let within = when_ok _ _ _ _ c.in-Ok-2.is c.in_ok-entry.ensures.within in
+    adds _ _ _ _ _ _ c.requires.sound c.in_ok-push-in-Ok-2.ensures.items
     c.in_ok-entry.ensures.grows.1 c.in_ok-entry.ensures.at_most within line
 
 pub returns-in-Err-2 : goal.returns-in-Err-2
 returns-in-Err-2 c =
-    let read = when_ok _ _ c.in_ok-line.field-0 c.in-Ok.line c.in-Ok.is c.in_ok-line.ensures in
+    let read = when_ok _ _ _ _ c.in-Ok.is c.in_ok-line.ensures in
     let same = ap (λ (l : List Degrees). map coordinates_of l) c.deref.ensures.value in
-    let fault = when_err _ _ c.in_ok-entry.field-0 c.in-Err-2.fault c.in-Err-2.is
-    (c.in_ok-entry.ensures.line (nodes_of c.args.nodes.now) c.args.row.now (subst (λ (l : List Coordinates). SpellsLine c.args.row.now l c.in-Ok.line.0) (sym same) read.0) read.1) in
+    let fault = when_err _ _ _ _ c.in-Err-2.is
+    (c.in_ok-entry.ensures.line (nodes_of c.args.nodes.now) c.args.row.now (rw same read.0) read.1) in
     let size : c.len.result ≡ length c.args.lines.now.entries.items = search rules in
-    late _ c.args.row.now c.args.lines.now (record { entries = c.args.lines.now.entries; points = c.make_line.new.points }) c.in_ok-entry.ensures.grows.0 c.in-Ok.line.0 _ c.in-Err-2.fault c.requires.room c.requires.sound refl
-    c.in_ok-entry.ensures.grows.1 read.0 (subst (λ (n : ℕ). IsLateFault (nodes_of c.args.nodes.now) c.args.row.now (n + 1) c.in-Err-2.fault) size fault)
+    late c.args.row.now c.args.lines.now (record { entries = c.args.lines.now.entries; points = c.make_line.new.points }) c.in_ok-entry.ensures.grows.0 c.in-Ok.line.0 c.in-Err-2.fault c.requires.room c.requires.sound refl
+    c.in_ok-entry.ensures.grows.1 read.0 (rw (← size) fault)

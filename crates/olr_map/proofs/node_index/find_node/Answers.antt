@@ -1,7 +1,5 @@
-use Rattle.std.proofs.Common.{ℕ, List, subst}
-use Rattle.std.specs.Prelude.{Contains}
 use Rattle.olr_map.proofs.Sets.{ids_of_rows}
 use Rattle.olr_map.proofs.node_index.find_node.Goals as goal
 
 pub returns-in_default : goal.returns-in_default
-returns-in_default c = λ has. c.in_default.ensures (subst (λ (l : List ℕ). Contains l c.args.id) (ids_of_rows c.args.nodes.now) has)
+returns-in_default c = λ has. c.in_default.ensures (rw (← (ids_of_rows _)) has)

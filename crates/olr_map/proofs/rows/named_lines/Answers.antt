@@ -1,5 +1,4 @@
-use Rattle.std.proofs.Common.{refl, arith}
-use Rattle.olr_map.proofs.Columns.{none_before, one_more, ban_from}
+use Rattle.std.proofs.Common.{refl, arith, rules}
 use Rattle.olr_map.proofs.rows.named_lines.Goals as goal
 
 pub returns-in_default-clause-error : goal.returns-in_default-clause-error
@@ -8,7 +7,7 @@ returns-in_default-clause-error c = (
   record {
     counted = omega arith;
     lacks = λ has. let value = has.from refl in c.in_default.ensures value.0 value.1;
-    before = none_before _;
+    before = search rules;
   },
 )
 
@@ -18,6 +17,6 @@ returns-in_default-id_at-clause-error c = (
   record {
     counted = omega arith;
     lacks = λ has. let value = has.to refl in c.in_default-id_at.ensures value.0 value.1;
-    before = one_more _ 1 (none_before _) (ban_from _ (c.in-Some.from, c.in-Some.ensures));
+    before = search rules;
   },
 )

@@ -1,5 +1,4 @@
-use Rattle.std.proofs.Common.{refl, arith}
-use Rattle.olr_map.proofs.Columns.{none_before, one_more, node_id, node_lon}
+use Rattle.std.proofs.Common.{refl, arith, rules}
 use Rattle.olr_map.proofs.rows.read_node.Goals as goal
 
 pub returns-in_default-clause-error : goal.returns-in_default-clause-error
@@ -8,7 +7,7 @@ returns-in_default-clause-error c = (
   record {
     counted = omega arith;
     lacks = λ has. let value = has.id refl in c.in_default.ensures value.0 value.1;
-    before = none_before _;
+    before = search rules;
   },
 )
 
@@ -18,7 +17,7 @@ returns-in_default-longitude_at-clause-error c = (
   record {
     counted = omega arith;
     lacks = λ has. let value = has.lon refl in c.in_default-longitude_at.ensures value.0 value.1;
-    before = one_more _ 1 (none_before _) (node_id _ (c.in-Some.id, c.in-Some.ensures));
+    before = search rules;
   },
 )
 
@@ -28,6 +27,6 @@ returns-in_default-latitude_at-clause-error c = (
   record {
     counted = omega arith;
     lacks = λ has. let value = has.lat refl in c.in_default-latitude_at.ensures value.0 value.1;
-    before = one_more _ 2 (one_more _ 1 (none_before _) (node_id _ (c.in-Some.id, c.in-Some.ensures))) (node_lon _ (c.in-Some-longitude_at.lon, c.in-Some-longitude_at.ensures));
+    before = search rules;
   },
 )

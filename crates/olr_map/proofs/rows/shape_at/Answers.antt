@@ -1,8 +1,7 @@
-use Rattle.olr_records.specs.Shape.{IsShape}
 use Rattle.olr_map.proofs.Cases.{when_false}
 use Rattle.olr_map.proofs.Columns.{no_value}
 use Rattle.olr_map.proofs.rows.shape_at.Goals as goal
 
 pub returns-else-branch : goal.returns-else-branch
-returns-else-branch c = no_value IsShape c.args.row.now c.args.place c.in-Some.text.now c.in-Some.ensures
-    (when_false _ _ c.in_ok-read_shape.field-0 c.if-branch.false c.in_ok-read_shape.ensures)
+returns-else-branch c = no_value _ c.in-Some.ensures
+    (when_false _ _ _ c.if-branch.false c.in_ok-read_shape.ensures)

@@ -1,6 +1,5 @@
-use Rattle.std.proofs.Common.{refl, sym, subst, ◌∙◌}
+use Rattle.std.proofs.Common.{refl, subst}
 use Rattle.std.proofs.lemmas.Result.{err_from_is_err_and}
-use Rattle.olr_index.specs.Repeats.{Sorts}
 use Rattle.olr_map.specs.Settling.{Settles}
 use Rattle.olr_map.specs.Table.{keys_of}
 use Rattle.olr_map.proofs.Cases.{when_true, when_none}
@@ -16,7 +15,7 @@ returns-in_err-settle-clause-fault g c =
     let header = when_true _ _ c.in_ok-pass_header.field-0 c.if-not-branch.false c.in_ok-pass_header.ensures in
     let settles = subst (λ (earlier : g.T.TableFile.Earlier). Settles (keys_of (g.T.TableFile.table_of earlier) rows) c.in_ok-stop.stop (g.T.TableFile.table_of earlier).file why)
     c.in_ok-stop.ensures.same c.in_err-settle.ensures.fault in
-    rw (p.1, p.2) (text_fault table c.requires.settled c.args.text.now c.pass_header.new.records rows c.in_ok-stop.stop (keys_of table rows) why (sym c.new-records.ensures ∙ header) refl
+    rw (p.1, p.2) (text_fault table c.requires.settled c.args.text.now c.pass_header.new.records rows c.in_ok-stop.stop (keys_of table rows) why (cc) refl
     c.in_ok-stop.ensures.rows settles)
 
 pub returns-clause-rows : goal.returns-clause-rows
@@ -24,7 +23,7 @@ returns-clause-rows g c =
     let table = g.T.TableFile.table_of (g.T.TableFile.before c.args.table.now) in
     let rows = g.T.TableFile.rows c.read_rows.new.table in
     let sorted = g.T.TableFile.rows c.settle.new.table in
-    let header = when_true _ _ c.in_ok-pass_header.field-0 c.if-not-branch.false c.in_ok-pass_header.ensures in
-    let say = when_none _ _ c.in_ok-stop.stop c.in_ok-settle.ensures.sorted.0 c.in_ok-stop.ensures.rows in
-    text_rows table c.args.text.now c.pass_header.new.records rows sorted (sym c.new-records.ensures ∙ header) say
-    (subst (λ (earlier : g.T.TableFile.Earlier). Sorts (g.T.TableFile.table_of earlier).key rows sorted) c.in_ok-stop.ensures.same c.in_ok-settle.ensures.sorted.1)
+    let header = when_true _ _ _ c.if-not-branch.false c.in_ok-pass_header.ensures in
+    let say = when_none _ _ _ c.in_ok-settle.ensures.sorted.0 c.in_ok-stop.ensures.rows in
+    text_rows _ _ _ _ _ (cc) say
+    (rw (← c.in_ok-stop.ensures.same) c.in_ok-settle.ensures.sorted.1)

@@ -11,6 +11,6 @@ returns-in-Err-clause-added c =
     let size : length c.args.self.now.bans.items ≡ c.len.result = search rules in
     record {
       rows = refl;
-      stops = stops_at lines (rising_differ (line_ids lines) c.requires.sound.rise) c.args.self.now.bans.items c.args.row.now c.in-Err.stop c.len.result size
-          (omega (arith, size, c.requires.room)) c.in-Err.ensures.stop;
+      stops = stops_at _ (rising_differ (line_ids lines) c.requires.sound.rise) size
+          (omega arith) c.in-Err.ensures.stop;
     }

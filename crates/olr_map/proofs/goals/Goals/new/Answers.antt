@@ -10,5 +10,5 @@ returns-clause-goals c nodes points bans =
     let are = subst (λ (positions : List Position). AreDeficits c.args.entries.now positions deficits) (sym c.deref-positions.ensures.value) c.requires.deficits in
     let north = c.new-north.ensures in
     let east = c.new-east.ensures in
-    goals_on nodes c.args.entries.now points bans c.deref-positions.result.now deficits c.bounds_of.result.0 c.bounds_of.result.1 c.args.lines.now c.new-north.result c.new-east.result
+    goals_on nodes _ _ bans _ _ _ _ _ _ _
     are c.bounds_of.ensures north.low north.high east.low east.high

@@ -1,5 +1,4 @@
-use Rattle.std.proofs.Common.{ℕ, List, refl, sym, subst}
-use Rattle.olr_index.specs.Repeats.{IsFirstRepeat}
+use Rattle.std.proofs.Common.{refl}
 use Rattle.olr_map.proofs.Adding.{sorted_are_sound}
 use Rattle.olr_map.proofs.Cases.{option_cases}
 use Rattle.olr_map.proofs.Sets.{ids_of_entries, sorted_lines}
@@ -9,9 +8,9 @@ pub returns : goal.returns
 returns c =
     let lines = c.args.self.now.lines in
     let entries = c.sort_or_repeat.new.items in
-    option_cases _ _ _ _ c.in_ok-repeat.repeat c.in_ok-repeat.ensures
+    option_cases _ _ c.in_ok-repeat.repeat c.in_ok-repeat.ensures
     (λ sorts. (
       sorted_lines lines.points.items lines.entries.items entries.items sorts,
       sorted_are_sound lines (record { entries = entries; points = lines.points }) refl sorts.same c.requires.sound,
     ))
-    (λ place first. subst (λ (l : List ℕ). IsFirstRepeat l place) (sym (ids_of_entries lines.points.items lines.entries.items)) first)
+    (λ place first. rw (ids_of_entries lines.points.items lines.entries.items) first)

@@ -1,8 +1,7 @@
 use Rattle.std.proofs.Common.{◌≡◌, ℕ, Some, subst, arith}
-use Rattle.std.specs.Prelude.{MatchBool, MatchOption, slice_get, Contains}
+use Rattle.std.specs.Prelude.{MatchOption, slice_get, Contains}
 use Rattle.olr_map.specs.Rows.{ban_keys}
-use Rattle.olr_map.specs.RoadMap.{RoadMap, ban_of}
-use Rattle.olr_map.specs.Reading.{lines_in}
+use Rattle.olr_map.specs.RoadMap.{ban_of}
 use Rattle.olr_map.proofs.Banned.{is_there, answered}
 use Rattle.olr_map.proofs.map.Map.banned.Goals as goal
 
@@ -12,7 +11,6 @@ returns c =
     let ban = ban_of c.args.from c.args.to in
     let sound = c.self.invariant.sound in
     let found = subst (λ (key : ℕ). MatchOption c.find.result (Contains (ban_keys bans) key → ⊥) (λ rank. slice_get (ban_keys bans) rank ≡ Some key)) c.key.ensures c.find.ensures in
-    let there = is_there (lines_in c.self.inside.points.items c.self.inside.entries.items) bans ban c.find.result sound.bans (omega (arith, sound.lines.at_most))
-    (omega (arith, c.ranges.to.fits)) found in
-    subst (λ (road : RoadMap). MatchBool c.is_some.result (Contains road.bans ban) (Contains road.bans ban → ⊥)) c.self.view_is
-    (answered (Contains bans ban) c.find.result c.is_some.result c.is_some.ensures there)
+    let there = is_there _ _ _ _ sound.bans (omega arith)
+    (omega arith) found in
+    rw (← c.self.view_is) (answered (Contains bans ban) _ c.is_some.ensures there)

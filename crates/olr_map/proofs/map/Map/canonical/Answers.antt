@@ -8,4 +8,4 @@ loop-number-preserved c =
     let rows = canonical_rows c.args.self.now in
     let number = c.loop-number.number in
     c.in_ok-push_canonical_row.ensures ∙ ap (λ (l : List ℕ). l ++ get_or rows number []) c.loop-number.invariant
-    ∙ row_more rows number (omega (arith, c.loop-number-test.true, c.canonical_rows-number-end.ensures))
+    ∙ row_more rows number (omega arith)

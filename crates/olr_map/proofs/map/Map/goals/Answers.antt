@@ -1,11 +1,8 @@
-use Rattle.std.proofs.Common.{List, length, ap, subst, sym, arith}
+use Rattle.std.proofs.Common.{List, length, ap, arith}
 use Rattle.std.proofs.lemmas.List.{length-map}
-use Rattle.olr_map.specs.Axes.{AreDeficits}
-use Rattle.olr_map.specs.Goals.{AreGoalsOn}
 use Rattle.olr_map.specs.Reading.{line_in}
 use Rattle.olr_map.specs.RoadMap.{RoadMap}
 use Rattle.olr_map.specs.declared.line.Entry.{Entry}
-use Rattle.olr_map.specs.Whole.{road_of}
 use Rattle.olr_map.proofs.map.Map.goals.Goals as goal
 
 pub new-requires : goal.new-requires
@@ -14,13 +11,15 @@ new-requires c =
     let size = ap (λ (road : RoadMap). length road.lines) c.self.view_is in
     let as_many = length-map inside.entries.items (line_in inside.points.items) in
     record {
-      inside = λ k d within. omega (arith, c.requires k d within, size, as_many, c.deref.ensures.len, ap (λ (l : List Entry). length l) c.deref.ensures.value);
-      deficits = subst (λ (l : List Entry). AreDeficits l inside.axes.positions.items inside.axes.deficits) (sym c.deref.ensures.value) c.self.invariant.measured;
+      inside = λ k d within. omega (
+        arith,
+        c.requires k d within,
+        ap (λ (l : List Entry). length l) c.deref.ensures.value,
+      );
+      deficits = rw c.deref.ensures.value c.self.invariant.measured;
     }
 
 pub returns-clause-goals : goal.returns-clause-goals
 returns-clause-goals c =
     let inside = c.self.inside in
-    subst (λ (road : RoadMap). AreGoalsOn road c.new.result) c.self.view_is
-    (subst (λ (l : List Entry). AreGoalsOn (road_of inside.nodes.items l inside.points.items inside.bans) c.new.result) c.deref.ensures.value
-    (c.new.ensures.goals inside.nodes.items inside.points.items inside.bans))
+    rw (← c.self.view_is) (rw (← c.deref.ensures.value) (c.new.ensures.goals inside.nodes.items inside.points.items inside.bans))

@@ -1,9 +1,8 @@
-use Rattle.std.proofs.Common.{◌++◌, ◌-◌, List, get_or, ap, ◌∙◌, arith}
+use Rattle.std.proofs.Common.{◌-◌, get_or, arith}
 use Rattle.std.specs.Prelude.{codes, string_bytes}
 use Rattle.std.proofs.lemmas.Option.{slice_get-get_or}
-use Rattle.olr_map.specs.declared.ban.Ban.{Ban}
 use Rattle.olr_map.specs.RoadMap.{ban_of}
-use Rattle.olr_map.specs.Canonical.{ban_fields, row_text}
+use Rattle.olr_map.specs.Canonical.{ban_fields}
 use Rattle.olr_map.proofs.CanonicalRows.{row_added}
 use Rattle.olr_map.proofs.map.Map.push_row_of_bans.Goals as goal
 
@@ -12,6 +11,6 @@ returns-in_ok-push_ban c =
     let road = c.args.self.now in
     let place = c.args.number - 1 in
     let old = string_bytes c.args.text.now in
-    row_added (ban_fields road.lines) (codes "bans") road.bans c.args.number (get_or road.bans place (ban_of 0 0)) old _ (λ none. omega arith)
+    row_added (ban_fields road.lines) (codes "bans") road.bans c.args.number (get_or road.bans place (ban_of 0 0)) old (λ none. omega arith)
     (slice_get-get_or road.bans place (ban_of 0 0) (omega arith))
-    (c.in_ok-push_ban.ensures ∙ ap (λ (l : List Ban). old ++ row_text (ban_fields road.lines (get_or l place (ban_of 0 0)))) c.bans-bans.ensures.bans)
+    (cc (c.in_ok-push_ban.ensures, c.bans-bans.ensures.bans))

@@ -1,10 +1,8 @@
-use Rattle.std.proofs.Common.{ℕ, List, sym, subst}
-use Rattle.olr_index.specs.Repeats.{IsFirstRepeat}
 use Rattle.olr_map.proofs.Cases.{option_cases}
 use Rattle.olr_map.proofs.Sets.{ids_of_rows, sorted_nodes}
 use Rattle.olr_map.proofs.nodes.NodeFileTableFile.sort.Goals as goal
 
 pub returns : goal.returns
-returns c = option_cases _ _ _ _ c.in_ok-repeat.repeat c.in_ok-repeat.ensures
+returns c = option_cases _ _ c.in_ok-repeat.repeat c.in_ok-repeat.ensures
     (λ sorts. (sorted_nodes c.args.self.now.nodes.items c.sort_or_repeat.new.items.items sorts, tt))
-    (λ place first. subst (λ (l : List ℕ). IsFirstRepeat l place) (sym (ids_of_rows c.args.self.now.nodes.items)) first)
+    (λ place first. rw (ids_of_rows c.args.self.now.nodes.items) first)
