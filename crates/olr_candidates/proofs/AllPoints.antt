@@ -1,5 +1,6 @@
 -- The lists of the points of a reference, from those of each.
-use Rattle.std.proofs.Common.{◌≡◌, ℕ, zero, suc, ◌+◌, ◌<◌, ◌≤◌, List, [], ◌∷◌, ◌++◌, length, get_or, Some, inl, inr, refl, ap, sym, ◌∙◌, arith}
+use Rattle.olr_candidates.proofs.LineCandidates.{line_at}
+use Rattle.std.proofs.Common.{◌≡◌, ℕ, zero, suc, ◌+◌, ◌<◌, ◌≤◌, List, [], ◌∷◌, ◌++◌, length, get_or, Some, inl, inr, refl, ap, ◌∙◌, arith}
 use Rattle.std.specs.Prelude.{◌⊎◌, slice_get}
 use Rattle.std.proofs.lemmas.Bool.{cases_order}
 use Rattle.std.proofs.lemmas.List.{length-append, map_push, same_lists}
@@ -13,14 +14,9 @@ use Rattle.olr_candidates.specs.declared.tolerances.Tolerances.{Tolerances}
 use Rattle.olr_candidates.specs.Laws.{OneListOfPoint, NoListOfPointAndTooMany}
 use Rattle.olr_candidates.specs.Points.{AreCandidatesOf, AreFirstLists, AreLists, HasTooMany, IsListOf, IsFirstTooMany, lists_of}
 
-list_at : {X : Type 0} (xs : List X) (index : ℕ) → index < length xs → (x : X) × (slice_get xs index ≡ Some x)
-list_at [] index within = absurd (omega (arith, within))
-list_at (x ∷ xs) zero within = (x, refl)
-list_at (x ∷ xs) (suc index) within = list_at xs index (omega (arith, within))
-
 first_or_last : {X : Type 0} (xs : List X) (x y : X) (index : ℕ) → slice_get (xs ++ x ∷ []) index ≡ Some y → (slice_get xs index ≡ Some y) ⊎ ((index ≡ length xs) × (x ≡ y))
 first_or_last [] x y zero at = inr (refl, same_Some x y at)
-first_or_last [] x y (suc index) at = absurd (let within = slice_get_within [] index y at in omega (arith, within))
+first_or_last [] x y (suc index) at = absurd (let within = slice_get_within [] index y at in omega arith)
 first_or_last (first ∷ xs) x y zero at = inl at
 first_or_last (first ∷ xs) x y (suc index) at = elim (first_or_last xs x y index at) [
   | inl before ↦ inl before
@@ -43,15 +39,16 @@ module _ (tolerances : Tolerances) (reference : Reference) (lines : List RoadLin
         | inl before ↦ so_far.each index other before
         | inr last ↦ rw (last.0, so_far.counted, ← last.1) (are, at_most)
       ] in
-      let counted = length-append (lists_of lists) (list.items ∷ []) ∙ ap (λ (n : ℕ). n + 1) so_far.counted in
-      let more = map_push (λ (l : ArrayVec Candidate). l.items) lists list in
+      let counted = length-append (lists_of lists) (list.items ∷ []) ∙ ap (λ n. n + 1) so_far.counted in
+      let more = map_push (λ l. l.items) lists list in
       record { each = rw more each; counted = rw more counted }
 
   -- the next point has too many, and none before
   pub first_too_many : (count : ℕ) (lists : List (ArrayVec Candidate)) → AreListsOf count lists → HasTooMany tolerances reference lines count → IsFirstTooMany tolerances reference lines count
   first_too_many count lists so_far too_many =
-      let before : (earlier : ℕ) → earlier < count → (list : List Candidate) × IsListOf tolerances reference lines earlier list = λ earlier lt.
-      let at = list_at (lists_of lists) earlier (rw so_far.counted lt) in
+      let before : (earlier : ℕ) → earlier < count → (list : List Candidate) × IsListOf _ _ _ earlier list =
+      λ earlier lt.
+      let at = line_at (lists_of lists) earlier (rw so_far.counted lt) in
       (at.0, so_far.each earlier at.0 at.1) in
       record { too_many = too_many; before = before }
 
@@ -59,17 +56,17 @@ module _ (tolerances : Tolerances) (reference : Reference) (lines : List RoadLin
 
   list_of_point : (lists : List (List Candidate)) → AreLists tolerances reference lines lists → (index : ℕ) (d : List Candidate) → index < length lists
       → IsListOf tolerances reference lines index (get_or lists index d)
-  list_of_point lists are index d within = are.each index (get_or lists index d) (slice_get-get_or lists index d within)
+  list_of_point lists are index d within = are.each index (get_or lists index d) (slice_get-get_or _ _ d within)
 
   pub one_lists : OneListOfPoint → (a b : List (List Candidate)) → AreLists tolerances reference lines a → AreLists tolerances reference lines b → a ≡ b
   one_lists law a b is other =
-      let many : length a ≡ length b = is.all ∙ sym other.all in
+      let many : length a ≡ length b = cc in
       same_lists a b many (λ k d within. law tolerances reference lines k (get_or a k d) (get_or b k d) (list_of_point a is k d within).0 (list_of_point b other k d (rw (← many) within)).0)
 
   pub no_lists_and_too_many : NoListOfPointAndTooMany → (lists : List (List Candidate)) (index : ℕ) → AreLists tolerances reference lines lists → HasTooMany tolerances reference lines index → ⊥
   no_lists_and_too_many law lists index are many =
       let within : index < length lists = rw are.all (slice_get_within (points_of reference) index many.point many.point_is) in
-      law tolerances reference lines index (get_or lists index []) (list_of_point lists are index [] within) many
+      law tolerances reference lines index (get_or lists index []) (list_of_point _ are _ [] within) many
 
   pub one_first : NoListOfPointAndTooMany → (a b : ℕ) → IsFirstTooMany tolerances reference lines a → IsFirstTooMany tolerances reference lines b → a ≡ b
   one_first law a b is other = elim (cases_order a b) [

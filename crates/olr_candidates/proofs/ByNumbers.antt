@@ -9,17 +9,17 @@ module _ {X : Type 0} (number other : X → ℕ) where
 
   -- no two elements come before each other
   pub one_way : (a b : X) → ComesBefore a b → ComesBefore b a → ⊥
-  one_way a b (inl one) (inl back) = omega (arith, one, back)
-  one_way a b (inl one) (inr back) = omega (arith, one, back.0)
-  one_way a b (inr one) (inl back) = omega (arith, one.0, back)
-  one_way a b (inr one) (inr back) = omega (arith, one.1, back.1)
+  one_way a b (inl one) (inl back) = omega arith
+  one_way a b (inl one) (inr back) = omega arith
+  one_way a b (inr one) (inl back) = omega arith
+  one_way a b (inr one) (inr back) = omega arith
 
   -- what comes before an element comes before those behind it
   pub through : (a b c : X) → ComesBefore a b → ComesBefore b c → ComesBefore a c
-  through a b c (inl one) (inl next) = inl (omega (arith, one, next))
-  through a b c (inl one) (inr next) = inl (omega (arith, one, next.0))
-  through a b c (inr one) (inl next) = inl (omega (arith, one.0, next))
-  through a b c (inr one) (inr next) = inr (omega (arith, one.0, next.0), omega (arith, one.1, next.1))
+  through a b c (inl one) (inl next) = inl (omega arith)
+  through a b c (inl one) (inr next) = inl (omega arith)
+  through a b c (inr one) (inl next) = inl (omega arith)
+  through a b c (inr one) (inr next) = inr (omega arith, omega arith)
 
   -- of two elements that differ in the other number one comes before the other
   pub not_before : (a b : X) → (other a ≡ other b → ⊥) → (ComesBefore a b → ⊥) → ComesBefore b a

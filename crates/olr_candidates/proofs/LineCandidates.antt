@@ -1,7 +1,7 @@
 -- What is found for a line of the map.
-use Rattle.std.proofs.Common.{◌≡◌, ℕ, zero, suc, ◌<◌, Bool, List, [], ◌∷◌, length, All, Option, Some, Result, Ok, Err, subst, ap, sym, ◌∙◌, refl, arith}
+use Rattle.std.proofs.Common.{◌≡◌, ℕ, zero, suc, ◌<◌, Bool, List, [], ◌∷◌, length, All, Some, Result, Ok, Err, subst, sym, refl, arith}
 use Rattle.std.specs.Prelude.{MatchResult, slice_get, option_map}
-use Rattle.std.proofs.lemmas.Option.{same_Some, get_or_from_slice_get, slice_get_within}
+use Rattle.std.proofs.lemmas.Option.{get_or_from_slice_get, slice_get_within}
 use Rattle.olr_metric.specs.declared.spot.Spot.{Spot}
 use Rattle.olr_metric.specs.Coordinates.{Coordinates, coordinates_of}
 use Rattle.olr_metric.specs.Plane.{spot_of}
@@ -14,7 +14,7 @@ use Rattle.olr_candidates.specs.declared.projection.Projection.{Projection}
 use Rattle.olr_candidates.specs.declared.rejection.Rejection.{Rejection}
 use Rattle.olr_candidates.specs.declared.rejection.Rejection.TheVariants.{Radius, Bearing, Class, Position}
 use Rattle.olr_candidates.specs.declared.tolerances.Tolerances.{Tolerances}
-use Rattle.olr_candidates.specs.Candidate.{MeetsConditions, IsCandidate, IsOnLine, Rates, penalty_of}
+use Rattle.olr_candidates.specs.Candidate.{MeetsConditions, IsCandidate, IsOnLine, Rates}
 use Rattle.olr_candidates.specs.Candidates.{IsCandidateAt, IsRejectionAt}
 use Rattle.olr_candidates.specs.declared.query.Query.{Query}
 use Rattle.olr_candidates.specs.Query.{Finds, Rejects}
@@ -37,57 +37,54 @@ rated query lines rank line projection (Err rejection) at is failed = (line, at,
 -- a line that fails a condition doesn't meet all of them
 pub not_met : (tolerances : Tolerances) (point : Point) (is_last : Bool) (line : Line) (projection : Projection) (rejection : Rejection)
     → IsFirstFailed tolerances point is_last line projection rejection → MeetsConditions tolerances point is_last line projection → ⊥
-not_met tolerances point is_last line projection (Radius distance) failed meets = omega (arith, failed.0, failed.1, meets.near)
-not_met tolerances point is_last line projection (Bearing sectors) failed meets = omega (arith, failed.0, failed.1, meets.alike)
-not_met tolerances point is_last line projection (Class classes) failed meets = omega (arith, failed.0, failed.1, meets.classed)
+not_met tolerances point is_last line projection (Radius distance) failed meets = omega arith
+not_met tolerances point is_last line projection (Bearing sectors) failed meets = omega arith
+not_met tolerances point is_last line projection (Class classes) failed meets = omega arith
 not_met tolerances point is_last line projection (Position at) failed meets =
-    failed.1 (subst (λ (k : ℕ). IsOnLine is_last line.length k) (sym failed.0) meets.on_line)
+    failed.1 (subst (λ k. IsOnLine is_last line.length k) (cc) meets.on_line)
 
 -- ---- the line of a rank
 
 -- there is one
-pub line_at : (lines : List RoadLine) (rank : ℕ) → rank < length lines → (line : RoadLine) × (slice_get lines rank ≡ Some line)
-line_at [] rank within = absurd (omega (arith, within))
+pub line_at : {X : Type 0} (lines : List X) (rank : ℕ) → rank < length lines
+    → (line : X) × (slice_get lines rank ≡ Some line)
+line_at [] rank within = absurd (omega arith)
 line_at (line ∷ rest) zero within = (line, refl)
-line_at (line ∷ rest) (suc rank) within = line_at rest rank (omega (arith, within))
+line_at (line ∷ rest) (suc rank) within = line_at rest rank (omega arith)
 
 pub sound_at : (nodes : ℕ) (lines : List RoadLine) (rank : ℕ) (line : RoadLine) → All (IsSoundLine nodes) lines → slice_get lines rank ≡ Some line → IsSoundLine nodes line
-sound_at nodes lines rank line all at = subst (λ (l : RoadLine). IsSoundLine nodes l) (get_or_from_slice_get lines rank line line at)
+sound_at nodes lines rank line all at = rw (← (get_or_from_slice_get lines rank _ line at))
     (all rank line (slice_get_within lines rank line at))
 
 pub head_at : (lines : List RoadLine) (rank : ℕ) (line : RoadLine) (head : Line) → slice_get lines rank ≡ Some line → option_map head_of (slice_get lines rank) ≡ Some head → head ≡ head_of line
-head_at lines rank line head at is = sym (same_Some (head_of line) head (ap (λ (o : Option RoadLine). option_map head_of o) (sym at) ∙ is))
+head_at lines rank line head at is = sym (cc)
 
 pub points_at : (lines : List RoadLine) (rank : ℕ) (line : RoadLine) (points : List Coordinates) → slice_get lines rank ≡ Some line
-    → option_map (λ (l : RoadLine). l.points) (slice_get lines rank) ≡ Some points → points ≡ line.points
-points_at lines rank line points at is = sym (same_Some line.points points (ap (λ (o : Option RoadLine). option_map (λ (l : RoadLine). l.points) o) (sym at) ∙ is))
+    → option_map (λ l. l.points) (slice_get lines rank) ≡ Some points → points ≡ line.points
+points_at lines rank line points at is = sym (cc)
 
 -- ---- one line is one candidate at most
 
 same_candidate : (a b : Candidate) → a.place.line ≡ b.place.line → a.place.at ≡ b.place.at → a.penalty ≡ b.penalty → a ≡ b
 same_candidate a b line at penalty =
-    ap (λ (x : ℕ). let c : Candidate = record { place = record { line = x; at = a.place.at }; penalty = a.penalty } in c) line
-    ∙ ap (λ (x : ℕ). let c : Candidate = record { place = record { line = b.place.line; at = x }; penalty = a.penalty } in c) at
-    ∙ ap (λ (x : ℕ). let c : Candidate = record { place = record { line = b.place.line; at = b.place.at }; penalty = x } in c) penalty
+    let whole : ◌≡◌ {A = Candidate} (record { place = record { line = a.place.line; at = a.place.at }; penalty = a.penalty })
+    (record { place = record { line = b.place.line; at = b.place.at }; penalty = b.penalty }) = cc in whole
 
 pub one_candidate : OneProjection → (tolerances : Tolerances) (origin : Coordinates) (point : Point) (is_last : Bool) (lines : List RoadLine) (rank : ℕ) (a b : Candidate)
     → IsCandidateAt tolerances origin point is_last lines rank a → IsCandidateAt tolerances origin point is_last lines rank b → a ≡ b
 one_candidate one tolerances origin point is_last lines rank a b is other =
-    let line : other.0 ≡ is.0 = same_Some other.0 is.0 (sym other.1 ∙ is.1) in
-    let also : IsCandidate tolerances origin point is_last is.0 rank b = subst (λ (l : RoadLine). IsCandidate tolerances origin point is_last l rank b) line other.2 in
+    let line : other.0 ≡ is.0 = cc in
+    let also : IsCandidate tolerances origin point is_last is.0 rank b = rw (← line) other.2 in
     let projection : also.projection ≡ is.2.projection = one (polyline_of origin is.0) is.0.length is_last (spot_of origin (coordinates_of point.at)) also.projection is.2.projection also.is_projection is.2.is_projection in
-    same_candidate a b
-    (is.2.rates.line_is ∙ sym also.rates.line_is)
-    (is.2.rates.at_is ∙ ap (λ (s : Projection). s.at) (sym projection) ∙ sym also.rates.at_is)
-    (is.2.rates.penalty_is ∙ ap (λ (s : Projection). penalty_of tolerances point (head_of is.0) s) (sym projection) ∙ sym also.rates.penalty_is)
+    same_candidate a b (cc) (cc) (cc)
 
 -- a line that fails a condition is no candidate
 pub rejected : OneProjection → (tolerances : Tolerances) (origin : Coordinates) (point : Point) (is_last : Bool) (lines : List RoadLine) (rank : ℕ) (rejection : Rejection)
     → IsRejectionAt tolerances origin point is_last lines rank rejection → (candidate : Candidate) → IsCandidateAt tolerances origin point is_last lines rank candidate → ⊥
 rejected one tolerances origin point is_last lines rank rejection fails candidate is =
-    let line : is.0 ≡ fails.0 = same_Some is.0 fails.0 (sym is.1 ∙ fails.1) in
-    let also : IsCandidate tolerances origin point is_last fails.0 rank candidate = subst (λ (l : RoadLine). IsCandidate tolerances origin point is_last l rank candidate) line is.2 in
+    let line : is.0 ≡ fails.0 = cc in
+    let also : IsCandidate tolerances origin point is_last fails.0 rank candidate = rw (← line) is.2 in
     let same : also.projection ≡ fails.2.projection = one (polyline_of origin fails.0) fails.0.length is_last (spot_of origin (coordinates_of point.at))
     also.projection fails.2.projection also.is_projection fails.2.is_projection in
-    not_met tolerances point is_last (head_of fails.0) fails.2.projection rejection fails.2.failed
+    not_met _ _ _ _ _ _ fails.2.failed
     (subst (λ (p : Projection). MeetsConditions tolerances point is_last (head_of fails.0) p) same also.rates.conditions)

@@ -1,10 +1,10 @@
 -- What holds of each candidate of a point.
-use Rattle.std.proofs.Common.{◌≡◌, ℕ, suc, zero, ◌*◌, ◌/◌, ◌<◌, ◌≤◌, Bool, List, length, All, Option, Some, sym, ap, ◌∙◌, subst, arith}
+use Rattle.std.proofs.Common.{◌≡◌, ℕ, suc, zero, ◌*◌, ◌/◌, ◌<◌, ◌≤◌, Bool, List, length, All, Option, Some, subst, arith}
 use Rattle.std.specs.Prelude.{slice_get, ◌==◌, ◌||◌}
 use Rattle.std.specs.Int.{abs_diff}
 use Rattle.std.proofs.lemmas.Bool.{cond_both}
 use Rattle.std.proofs.lemmas.Nat.{div_below, mul-le}
-use Rattle.std.proofs.lemmas.Option.{same_Some, slice_get_within}
+use Rattle.std.proofs.lemmas.Option.{slice_get_within}
 use Rattle.olr_metric.specs.declared.polyline.Near.{Near}
 use Rattle.olr_metric.specs.declared.spot.Spot.{Spot}
 use Rattle.olr_metric.specs.Coordinates.{Coordinates, coordinates_of}
@@ -14,7 +14,7 @@ use Rattle.olr_metric.specs.Polyline.{arc, IsNearest}
 use Rattle.olr_binary.specs.declared.point.Point.{Point}
 use Rattle.olr_map.specs.Rows.{RoadLine}
 use Rattle.olr_map.specs.declared.line.Line.{Line}
-use Rattle.olr_map.specs.RoadMap.{IsSoundLine, head_of}
+use Rattle.olr_map.specs.RoadMap.{IsSoundLine}
 use Rattle.olr_candidates.specs.declared.candidate.Candidate.{Candidate}
 use Rattle.olr_candidates.specs.declared.projection.Projection.{Projection}
 use Rattle.olr_candidates.specs.declared.tolerances.Tolerances.{Tolerances}
@@ -38,19 +38,19 @@ form_at_most a b =
     cond_both (is_like a b || is_like b a) 15 30 at_most (λ is. omega arith) (λ is. omega arith)))
 
 away_at_most : (distance radius : ℕ) → 1 ≤ radius → distance ≤ 100 * radius → distance / radius ≤ 100
-away_at_most distance radius positive near = omega (arith, div_below distance radius 101 (omega (arith, positive)) (omega (arith, positive, near)))
+away_at_most distance radius positive near = omega (arith, div_below distance radius 101 (omega arith) (omega arith))
 
 classes_at_most : (a b : ℕ) → a ≤ 7 → b < 8 → abs_diff a b ≤ 7
-classes_at_most a b one other = omega (arith, one, other)
+classes_at_most a b one other = omega arith
 
 pub penalty_at_most : SectorsAtMost → (tolerances : Tolerances) (point : Point) (is_last : Bool) (line : Line) (projection : Projection) → MeetsConditions tolerances point is_last line projection → line.class ≤ 7
     → penalty_of tolerances point line projection ≤ 360
 penalty_at_most sectors tolerances point is_last line projection is class =
     omega (
       arith,
-      away_at_most projection.distance tolerances.radius tolerances.radius_in_range.least is.near,
+      away_at_most _ _ tolerances.radius_in_range.least is.near,
       sectors projection.sector point.sector,
-      classes_at_most line.class point.class class point.class_in_range,
+      classes_at_most _ _ class point.class_in_range,
       form_at_most line.form point.form,
     )
 
@@ -62,36 +62,34 @@ NearestWithin = (spots : List Spot) (p : Spot) (near : Near) → IsNearest spots
 
 -- a share of a length is no greater
 share_at_most : (part length whole : ℕ) → part ≤ whole → part * length / whole ≤ length
-share_at_most part length zero within = let none : part ≡ 0 = omega (arith, within) in rw none (omega arith)
+share_at_most part length zero within = let none : part ≡ 0 = omega arith in rw none (omega arith)
 share_at_most part length (suc w) within =
     let less : part * length ≤ suc w * length = mul-le part length (suc w) length within (omega arith) in
-    omega (arith, div_below (part * length) (suc w) (suc length) (omega arith) (omega (arith, less)))
+    omega (arith, div_below (part * length) (suc w) (suc length) (omega arith) (omega arith))
 
 -- ---- the candidates of a point
 
 module _ (tolerances : Tolerances) (origin : Coordinates) (point : Point) (is_last : Bool) (lines : List RoadLine) where
   pub on_a_line : (candidate : Candidate) → IsOneOf tolerances origin point is_last lines candidate → candidate.place.line < length lines
   on_a_line candidate is = let line = is.1.2.rates.line_is in
-      omega (arith, line, slice_get_within lines is.0 is.1.0 is.1.1)
+      omega (arith, slice_get_within lines is.0 is.1.0 is.1.1)
 
   pub fits : SectorsAtMost → (nodes : ℕ) → All (IsSoundLine nodes) lines → (candidate : Candidate) → IsOneOf tolerances origin point is_last lines candidate → candidate.penalty ≤ 360
   fits sectors nodes sound candidate is =
-      let line = sound_at nodes lines is.0 is.1.0 sound is.1.1 in
-      omega (arith, is.1.2.rates.penalty_is, penalty_at_most sectors tolerances point is_last (head_of is.1.0) is.1.2.projection is.1.2.rates.conditions line.class)
+      let line = sound_at _ _ _ _ sound is.1.1 in
+      omega (arith, penalty_at_most sectors _ _ _ _ _ is.1.2.rates.conditions line.class)
 
   -- its line
   line_is : (candidate : Candidate) (is : IsOneOf tolerances origin point is_last lines candidate) (line : RoadLine) → slice_get lines candidate.place.line ≡ Some line → is.1.0 ≡ line
-  line_is candidate is line at = same_Some is.1.0 line (sym is.1.1 ∙ ap (λ (k : ℕ). slice_get lines k) (sym is.1.2.rates.line_is) ∙ at)
+  line_is candidate is line at = cc
 
   pub driven : (candidate : Candidate) → IsOneOf tolerances origin point is_last lines candidate → (line : RoadLine) → slice_get lines candidate.place.line ≡ Some line
       → IsOnLine is_last line.length candidate.place.at
   driven candidate is line at =
-      subst (λ (l : RoadLine). IsOnLine is_last l.length candidate.place.at) (line_is candidate is line at)
-      (subst (λ (n : ℕ). IsOnLine is_last is.1.0.length n) (sym is.1.2.rates.at_is) is.1.2.rates.conditions.on_line)
+      rw (← (line_is _ is _ at)) (subst (λ n. IsOnLine is_last is.1.0.length n) (cc) is.1.2.rates.conditions.on_line)
 
   pub no_further : NearestWithin → (candidate : Candidate) → IsOneOf tolerances origin point is_last lines candidate → (line : RoadLine) → slice_get lines candidate.place.line ≡ Some line
       → candidate.place.at ≤ line.length
   no_further within candidate is line at =
-      subst (λ (l : RoadLine). candidate.place.at ≤ l.length) (line_is candidate is line at)
-      (rw (is.1.2.rates.at_is, is.1.2.is_projection.at_is)
-      (share_at_most is.1.2.is_projection.near.arc is.1.0.length (arc (polyline_of origin is.1.0)) (within (polyline_of origin is.1.0) (spot_of origin (coordinates_of point.at)) is.1.2.is_projection.near is.1.2.is_projection.nearest)))
+      rw (← (line_is _ is _ at)) (rw (is.1.2.rates.at_is, is.1.2.is_projection.at_is)
+      (share_at_most _ _ _ (within (polyline_of origin is.1.0) (spot_of origin (coordinates_of point.at)) is.1.2.is_projection.near is.1.2.is_projection.nearest)))

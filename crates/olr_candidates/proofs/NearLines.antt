@@ -1,8 +1,7 @@
 -- A line near a point is one such line at most. It fails no condition exactly where it is a candidate.
-use Rattle.std.proofs.Common.{◌≡◌, ℕ, Bool, true, false, List, length, Option, Some, None, subst, ap, sym, ◌∙◌, refl}
+use Rattle.std.proofs.Common.{◌≡◌, ℕ, Bool, true, false, List, length, Option, Some, None, refl}
 use Rattle.std.specs.Prelude.{◌+◌, ◌==◌}
 use Rattle.std.proofs.lemmas.Bool.{MatchBool-at_false}
-use Rattle.std.proofs.lemmas.Option.{same_Some}
 use Rattle.olr_metric.specs.Coordinates.{Coordinates, coordinates_of}
 use Rattle.olr_metric.specs.Plane.{spot_of}
 use Rattle.olr_binary.specs.declared.point.Point.{Point}
@@ -25,10 +24,9 @@ use Rattle.olr_candidates.proofs.LineCandidates.{OneProjection}
 -- ---- by one projection
 
 same_flag : (a b : Bool) (Condition : Type 0) → FailsExactly a Condition → FailsExactly b Condition → a ≡ b
-same_flag true true Condition one other = refl
 same_flag true false Condition one other = absurd (one other)
 same_flag false true Condition one other = absurd (other one)
-same_flag false false Condition one other = refl
+same_flag _ _ Condition one other = refl
 
 holds : (flag : Bool) (Condition : Type 0) → FailsExactly flag Condition → flag ≡ false → Condition
 holds flag Condition exactly is = MatchBool-at_false (Condition → ⊥) Condition is exactly
@@ -39,78 +37,74 @@ not_raised false Condition exactly is = refl
 
 same_conditions : (a b : FailedConditions) → a.radius ≡ b.radius → a.bearing ≡ b.bearing → a.class ≡ b.class → a.end ≡ b.end → a ≡ b
 same_conditions a b radius bearing class end =
-    ap (λ (x : Bool). let f : FailedConditions = record { radius = x; bearing = a.bearing; class = a.class; end = a.end } in f) radius
-    ∙ ap (λ (x : Bool). let f : FailedConditions = record { radius = b.radius; bearing = x; class = a.class; end = a.end } in f) bearing
-    ∙ ap (λ (x : Bool). let f : FailedConditions = record { radius = b.radius; bearing = b.bearing; class = x; end = a.end } in f) class
-    ∙ ap (λ (x : Bool). let f : FailedConditions = record { radius = b.radius; bearing = b.bearing; class = b.class; end = x } in f) end
+    let whole : ◌≡◌ {A = FailedConditions}
+    (record { radius = a.radius; bearing = a.bearing; class = a.class; end = a.end })
+    (record { radius = b.radius; bearing = b.bearing; class = b.class; end = b.end }) = cc in whole
 
 same_near : (a b : NearLine) → a.line ≡ b.line → a.distance ≡ b.distance → a.at ≡ b.at → a.sector ≡ b.sector
     → a.failed ≡ b.failed → a.penalty ≡ b.penalty → a ≡ b
 same_near a b line distance at sector failed penalty =
-    ap (λ (x : ℕ). let n : NearLine = record { line = x; distance = a.distance; at = a.at; sector = a.sector; failed = a.failed; penalty = a.penalty } in n) line
-    ∙ ap (λ (x : ℕ). let n : NearLine = record { line = b.line; distance = x; at = a.at; sector = a.sector; failed = a.failed; penalty = a.penalty } in n) distance
-    ∙ ap (λ (x : ℕ). let n : NearLine = record { line = b.line; distance = b.distance; at = x; sector = a.sector; failed = a.failed; penalty = a.penalty } in n) at
-    ∙ ap (λ (x : Option ℕ). let n : NearLine = record { line = b.line; distance = b.distance; at = b.at; sector = x; failed = a.failed; penalty = a.penalty } in n) sector
-    ∙ ap (λ (x : FailedConditions). let n : NearLine = record { line = b.line; distance = b.distance; at = b.at; sector = b.sector; failed = x; penalty = a.penalty } in n) failed
-    ∙ ap (λ (x : Option ℕ). let n : NearLine = record { line = b.line; distance = b.distance; at = b.at; sector = b.sector; failed = b.failed; penalty = x } in n) penalty
+    let whole : ◌≡◌ {A = NearLine}
+    (record { line = a.line; distance = a.distance; at = a.at; sector = a.sector; failed = a.failed; penalty = a.penalty })
+    (record { line = b.line; distance = b.distance; at = b.at; sector = b.sector; failed = b.failed; penalty = b.penalty }) = cc in whole
 
 module _ (tolerances : Tolerances) (point : Point) (is_last : Bool) (line : Line) (projection : Projection) where
   same_failed : (a b : FailedConditions) → AreFailed tolerances point is_last line projection a → AreFailed tolerances point is_last line projection b → a ≡ b
   same_failed a b one other = same_conditions a b
-      (same_flag a.radius b.radius (IsWithinRadius tolerances projection) one.radius other.radius)
-      (same_flag a.bearing b.bearing (IsAlikeInBearing tolerances point projection) one.bearing other.bearing)
-      (same_flag a.class b.class (IsAlikeInClass tolerances point line) one.class other.class)
-      (same_flag a.end b.end (IsOnLine is_last line.length projection.at) one.end other.end)
+      (same_flag _ _ (IsWithinRadius tolerances projection) one.radius other.radius)
+      (same_flag _ _ (IsAlikeInBearing tolerances point projection) one.bearing other.bearing)
+      (same_flag _ _ (IsAlikeInClass tolerances point line) one.class other.class)
+      (same_flag _ _ (IsOnLine is_last line.length projection.at) one.end other.end)
 
   same_penalty : (a b : Option ℕ) → HasPenalty tolerances point is_last line projection a → HasPenalty tolerances point is_last line projection b → a ≡ b
   same_penalty None None one other = refl
   same_penalty None (Some q) one other = absurd (one other.0)
   same_penalty (Some p) None one other = absurd (other one.0)
-  same_penalty (Some p) (Some q) one other = ap (λ (k : ℕ). Some k) (one.1 ∙ sym other.1)
+  same_penalty (Some p) (Some q) one other = cc
 
   described_once : (rank : ℕ) (a b : NearLine) → Describes tolerances point is_last line rank projection a
       → Describes tolerances point is_last line rank projection b → a ≡ b
   described_once rank a b one other = same_near a b
-      (one.line_is ∙ sym other.line_is) (one.distance_is ∙ sym other.distance_is) (one.at_is ∙ sym other.at_is) (one.sector_is ∙ sym other.sector_is)
-      (same_failed a.failed b.failed one.failed other.failed) (same_penalty a.penalty b.penalty one.penalty other.penalty)
+      (cc) (cc) (cc) (cc)
+      (same_failed _ _ one.failed other.failed) (same_penalty _ _ one.penalty other.penalty)
 
   -- a line that fails none of the conditions meets them all, and the other way round
   met : (failed : FailedConditions) → AreFailed tolerances point is_last line projection failed → failed ≡ none_failed
       → MeetsConditions tolerances point is_last line projection
   met failed are none = record {
-    near = holds failed.radius (IsWithinRadius tolerances projection) are.radius (ap (λ (f : FailedConditions). f.radius) none);
-    alike = holds failed.bearing (IsAlikeInBearing tolerances point projection) are.bearing (ap (λ (f : FailedConditions). f.bearing) none);
-    classed = holds failed.class (IsAlikeInClass tolerances point line) are.class (ap (λ (f : FailedConditions). f.class) none);
-    on_line = holds failed.end (IsOnLine is_last line.length projection.at) are.end (ap (λ (f : FailedConditions). f.end) none);
+    near = holds _ (IsWithinRadius tolerances projection) are.radius (cc);
+    alike = holds _ (IsAlikeInBearing tolerances point projection) are.bearing (cc);
+    classed = holds _ (IsAlikeInClass tolerances point line) are.class (cc);
+    on_line = holds _ (IsOnLine is_last line.length projection.at) are.end (cc);
   }
 
   fails_none : (failed : FailedConditions) → AreFailed tolerances point is_last line projection failed
       → MeetsConditions tolerances point is_last line projection → failed ≡ none_failed
-  fails_none failed are meets = same_conditions failed none_failed
-      (not_raised failed.radius (IsWithinRadius tolerances projection) are.radius meets.near)
-      (not_raised failed.bearing (IsAlikeInBearing tolerances point projection) are.bearing meets.alike)
-      (not_raised failed.class (IsAlikeInClass tolerances point line) are.class meets.classed)
-      (not_raised failed.end (IsOnLine is_last line.length projection.at) are.end meets.on_line)
+  fails_none failed are meets = same_conditions _ _
+      (not_raised _ (IsWithinRadius tolerances projection) are.radius meets.near)
+      (not_raised _ (IsAlikeInBearing tolerances point projection) are.bearing meets.alike)
+      (not_raised _ (IsAlikeInClass tolerances point line) are.class meets.classed)
+      (not_raised _ (IsOnLine is_last line.length projection.at) are.end meets.on_line)
 
   -- then it has the candidate's penalty
   penalty_met : (penalty : Option ℕ) → HasPenalty tolerances point is_last line projection penalty → MeetsConditions tolerances point is_last line projection
       → penalty ≡ Some (penalty_of tolerances point line projection)
   penalty_met None has meets = absurd (has meets)
-  penalty_met (Some value) has meets = ap (λ (k : ℕ). Some k) has.1
+  penalty_met (Some value) has meets = cc
 
   as_candidate : (rank : ℕ) (near : NearLine) (candidate : Candidate) → Describes tolerances point is_last line rank projection near
       → Rates tolerances point is_last line rank projection candidate → IsAsCandidate near candidate
   as_candidate rank near candidate describes rates = record {
-    line_is = describes.line_is ∙ sym rates.line_is;
-    at_is = describes.at_is ∙ sym rates.at_is;
-    penalty_is = penalty_met near.penalty describes.penalty rates.conditions ∙ ap (λ (k : ℕ). Some k) (sym rates.penalty_is);
+    line_is = cc;
+    at_is = cc;
+    penalty_is = cc (penalty_met _ describes.penalty rates.conditions);
   }
 
   rates_near : (rank : ℕ) (near : NearLine) → Describes tolerances point is_last line rank projection near → near.failed ≡ none_failed
       → (candidate : Candidate) × Rates tolerances point is_last line rank projection candidate
   rates_near rank near describes none = (
     record { place = record { line = rank; at = projection.at }; penalty = penalty_of tolerances point line projection },
-    record { conditions = met near.failed describes.failed none; line_is = refl; at_is = refl; penalty_is = refl },
+    record { conditions = met _ describes.failed none; line_is = refl; at_is = refl; penalty_is = refl },
   )
 
 -- ---- on a map
@@ -120,60 +114,63 @@ module _ (one : OneProjection) (tolerances : Tolerances) (origin : Coordinates) 
   other_described : (a b : NearLine) (is : IsNearLineAt tolerances origin point is_last lines rank a) → IsNearLineAt tolerances origin point is_last lines rank b
       → Describes tolerances point is_last (head_of is.0) rank is.2.projection b
   other_described a b is other =
-      let line : other.0 ≡ is.0 = same_Some other.0 is.0 (sym other.1 ∙ is.1) in
-      let also : IsNearLine tolerances origin point is_last is.0 rank b = subst (λ (l : RoadLine). IsNearLine tolerances origin point is_last l rank b) line other.2 in
+      let line : other.0 ≡ is.0 = cc in
+      let also : IsNearLine tolerances origin point is_last is.0 rank b = rw (← line) other.2 in
       let same : also.projection ≡ is.2.projection = one (polyline_of origin is.0) is.0.length is_last (spot_of origin (coordinates_of point.at))
       also.projection is.2.projection also.is_projection is.2.is_projection in
-      subst (λ (p : Projection). Describes tolerances point is_last (head_of is.0) rank p b) same also.describes
+      rw (← same) also.describes
 
   pub one_near : (a b : NearLine) → IsNearLineAt tolerances origin point is_last lines rank a → IsNearLineAt tolerances origin point is_last lines rank b → a ≡ b
-  one_near a b is other = described_once tolerances point is_last (head_of is.0) is.2.projection rank a b is.2.describes (other_described a b is other)
+  one_near a b is other = described_once _ _ _ (head_of is.0) is.2.projection rank a b is.2.describes
+      (other_described a b is other)
 
   -- a candidate and a line near a point, of one rank: by the same projection
   candidate_rated : (near : NearLine) (candidate : Candidate) (is : IsNearLineAt tolerances origin point is_last lines rank near)
       → IsCandidateAt tolerances origin point is_last lines rank candidate → Rates tolerances point is_last (head_of is.0) rank is.2.projection candidate
   candidate_rated near candidate is other =
-      let line : other.0 ≡ is.0 = same_Some other.0 is.0 (sym other.1 ∙ is.1) in
+      let line : other.0 ≡ is.0 = cc in
       let also : IsCandidate tolerances origin point is_last is.0 rank candidate =
-      subst (λ (l : RoadLine). IsCandidate tolerances origin point is_last l rank candidate) line other.2 in
+      rw (← line) other.2 in
       let same : also.projection ≡ is.2.projection = one (polyline_of origin is.0) is.0.length is_last (spot_of origin (coordinates_of point.at))
       also.projection is.2.projection also.is_projection is.2.is_projection in
-      subst (λ (p : Projection). Rates tolerances point is_last (head_of is.0) rank p candidate) same also.rates
+      rw (← same) also.rates
 
   pub candidate_fails_none : (near : NearLine) (candidate : Candidate) → IsNearLineAt tolerances origin point is_last lines rank near
       → IsCandidateAt tolerances origin point is_last lines rank candidate → (near.failed ≡ none_failed) × IsAsCandidate near candidate
   candidate_fails_none near candidate is other =
-      let rates = candidate_rated near candidate is other in (
-        fails_none tolerances point is_last (head_of is.0) is.2.projection near.failed is.2.describes.failed rates.conditions,
-        as_candidate tolerances point is_last (head_of is.0) is.2.projection rank near candidate is.2.describes rates,
+      let rates = candidate_rated _ _ is other in (
+        fails_none _ point is_last (head_of is.0) is.2.projection near.failed is.2.describes.failed rates.conditions,
+        as_candidate _ _ _ (head_of is.0) is.2.projection rank near candidate is.2.describes rates,
       )
 
 pub near_candidate : (tolerances : Tolerances) (origin : Coordinates) (point : Point) (is_last : Bool) (lines : List RoadLine) (rank : ℕ) (near : NearLine)
     → IsNearLineAt tolerances origin point is_last lines rank near → near.failed ≡ none_failed
     → (candidate : Candidate) × IsCandidateAt tolerances origin point is_last lines rank candidate × IsAsCandidate near candidate
 near_candidate tolerances origin point is_last lines rank near is none =
-    let rated = rates_near tolerances point is_last (head_of is.0) is.2.projection rank near is.2.describes none in (
+    let rated = rates_near _ _ is_last (head_of is.0) is.2.projection rank near is.2.describes none in (
       rated.0,
       (is.0, is.1, record { projection = is.2.projection; is_projection = is.2.is_projection; rates = rated.1 }),
-      as_candidate tolerances point is_last (head_of is.0) is.2.projection rank near rated.0 is.2.describes rated.1,
+      as_candidate _ _ _ (head_of is.0) is.2.projection rank near rated.0 is.2.describes rated.1,
     )
 
 -- ---- of a reference
 
 pub one_near_line : OneProjection → OneNearLine
 one_near_line one tolerances reference lines index rank a b is other =
-    let first : other.first ≡ is.first = same_Some other.first is.first (sym other.first_is ∙ is.first_is) in
-    let point : other.point ≡ is.point = same_Some other.point is.point (sym other.point_is ∙ is.point_is) in
-    one_near one tolerances (coordinates_of is.first.at) is.point (index + 1 == length (points_of reference)) lines rank a b is.just (rw (← first, ← point) other.just)
+    let first : other.first ≡ is.first = cc in
+    let point : other.point ≡ is.point = cc in
+    one_near one _ (coordinates_of is.first.at) is.point
+    (index + 1 == length (points_of reference)) lines rank a b is.just (rw (← first, ← point) other.just)
 
 pub near_are_candidates : NearAreCandidates
 near_are_candidates tolerances reference lines index rank near is none =
-    let found = near_candidate tolerances (coordinates_of is.first.at) is.point (index + 1 == length (points_of reference)) lines rank near is.just none in
+    let found = near_candidate _ _ _ _ _ _ _ is.just none in
     (found.0, record { first = is.first; point = is.point; first_is = is.first_is; point_is = is.point_is; just = found.1 }, found.2)
 
 pub candidates_fail_none : OneProjection → CandidatesFailNone
 candidates_fail_none one tolerances reference lines index rank near candidate is other =
-    let first : other.first ≡ is.first = same_Some other.first is.first (sym other.first_is ∙ is.first_is) in
-    let point : other.point ≡ is.point = same_Some other.point is.point (sym other.point_is ∙ is.point_is) in
-    candidate_fails_none one tolerances (coordinates_of is.first.at) is.point (index + 1 == length (points_of reference)) lines rank near candidate
+    let first : other.first ≡ is.first = cc in
+    let point : other.point ≡ is.point = cc in
+    candidate_fails_none one _ (coordinates_of is.first.at) is.point
+    (index + 1 == length (points_of reference)) lines rank near candidate
     is.just (rw (← first, ← point) other.just)

@@ -1,7 +1,6 @@
 -- The lines that meet a window around a point are, among others, all lines that lie within the radius.
 use Rattle.std.proofs.Common.{ℕ, List, get_or, All, arith}
 use Rattle.std.proofs.lemmas.Option.{slice_get_within}
-use Rattle.olr_metric.specs.declared.spot.Spot.{Spot}
 use Rattle.olr_metric.specs.Coordinates.{coordinates_of, IsInRange}
 use Rattle.olr_map.specs.Rows.{RoadLine}
 use Rattle.olr_map.specs.RoadMap.{IsSoundLine}
@@ -11,7 +10,7 @@ use Rattle.olr_candidates.specs.Query.{IsNear}
 use Rattle.olr_candidates.proofs.LineCandidates.{sound_at}
 use Rattle.olr_candidates.proofs.WindowAround.{FootBetween, NoShorter, meets_window}
 
-pub covers_radius : FootBetween (λ (s : Spot). s.x) → FootBetween (λ (s : Spot). s.y) → NoShorter (λ (s : Spot). s.x) → NoShorter (λ (s : Spot). s.y)
+pub covers_radius : FootBetween (λ s. s.x) → FootBetween (λ s. s.y) → NoShorter (λ s. s.x) → NoShorter (λ s. s.y)
     → (query : Query) (radius : ℕ) (lines : List RoadLine) (nodes : ℕ) (ranks : List ℕ)
     → All (IsSoundLine nodes) lines → IsNear query lines radius ranks → CoverRadius query lines radius ranks
 covers_radius between_x between_y shorter_x shorter_y query radius lines nodes ranks sound near =
@@ -24,7 +23,7 @@ covers_radius between_x between_y shorter_x shorter_y query radius lines nodes r
           near.meeting.each rank (
             found.0,
             found.1,
-            meets_window between_x between_y shorter_x shorter_y query radius found.0 projection.near near.window near.covers here
-                (sound_at nodes lines rank found.0 sound found.1).inside projection.nearest (omega (arith, within, found.2.describes.distance_is, projection.distance_is)),
+            meets_window between_x between_y shorter_x shorter_y _ _ _ _ _ near.covers here
+                (sound_at _ _ _ _ sound found.1).inside projection.nearest (omega arith),
           );
     }

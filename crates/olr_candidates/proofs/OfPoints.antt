@@ -24,11 +24,11 @@ module _ (tolerances : Tolerances) (reference : Reference) (lines : List RoadLin
   crowded many = record { first = is.first; point = query.point; first_is = is.first_is; point_is = is.point_is; many = rw (← is.plane_is, ← is.last_is, ← is.tolerances_is) many }
 
   pub answered : (refusal : TooManyCandidates) (found : Option (ArrayVec Candidate)) → refusal.0 ≡ index + 1
-      → MatchOption found (FindsTooMany query lines) (λ (list : ArrayVec Candidate). Answers query lines list.items)
-      → MatchResult (ok_or found refusal) (λ (list : ArrayVec Candidate). AreCandidatesOf tolerances reference lines index list.items)
-      (λ (refused : TooManyCandidates). (refused.0 ≡ index + 1) × HasTooMany tolerances reference lines index)
+      → MatchOption found (FindsTooMany query lines) (λ list. Answers query lines list.items)
+      → MatchResult (ok_or found refusal) (λ list. AreCandidatesOf tolerances reference lines index list.items)
+      (λ refused. (refused.0 ≡ index + 1) × HasTooMany tolerances reference lines index)
   answered refusal None number many = (number, crowded many)
-  answered refusal (Some list) number just = listed list.items just
+  answered refusal (Some list) number just = listed _ just
 
   -- the same of one line
   pub rated : (rank : ℕ) (result : Result Candidate Rejection) → MatchResult result (Finds query lines rank) (Rejects query lines rank)

@@ -1,6 +1,6 @@
 -- A point has one list of candidates. A place in it is the number of the candidates before it.
 use Rattle.std.proofs.Common.{◌≡◌, ℕ, ◌≤◌, Bool, List, length, get_or, Some, arith}
-use Rattle.std.specs.Prelude.{◌==◌, ◌&&◌, nat_lt, slice_get, filter, Contains, Decides}
+use Rattle.std.specs.Prelude.{slice_get, filter, Contains, Decides}
 use Rattle.std.proofs.lemmas.Bool.Decides.{Decides-or, Decides-and, Decides-ltb, Decides-eqb}
 use Rattle.std.proofs.lemmas.List.Elements.{All-contains}
 use Rattle.olr_metric.specs.Coordinates.{Coordinates}
@@ -15,25 +15,26 @@ use Rattle.olr_candidates.proofs.Rising.{same_list, place_counts}
 
 -- no two candidates come before each other
 one_way : (a b : Candidate) → IsBefore a b → IsBefore b a → ⊥
-one_way = numbers.one_way (λ (c : Candidate). c.penalty) (λ (c : Candidate). c.place.line)
+one_way = numbers.one_way _ _
 
 pub before_decides : (a b : Candidate) → Decides (is_before a b) (IsBefore a b)
 before_decides a b =
-    Decides-or (nat_lt a.penalty b.penalty) (a.penalty == b.penalty && nat_lt a.place.line b.place.line) (Decides-ltb a.penalty b.penalty)
-    (Decides-and (a.penalty == b.penalty) (nat_lt a.place.line b.place.line) (Decides-eqb a.penalty b.penalty) (Decides-ltb a.place.line b.place.line))
+    Decides-or _ _ (Decides-ltb _ _)
+    (Decides-and _ _ (Decides-eqb a.penalty b.penalty) (Decides-ltb _ _))
 
 module _ (tolerances : Tolerances) (origin : Coordinates) (point : Point) (is_last : Bool) (lines : List RoadLine) where
   -- a member of one list is a member of the other
   contained : (a b : List Candidate) → AreCandidates tolerances origin point is_last lines a → AreCandidates tolerances origin point is_last lines b → (c : Candidate) → Contains a c → Contains b c
-  contained a b one other c there = other.each c (All-contains (IsOneOf tolerances origin point is_last lines) a c one.only there)
+  contained a b one other c there = other.each c (All-contains (IsOneOf _ _ _ _ _) a c one.only there)
 
   pub one_list : (a b : List Candidate) → AreCandidates tolerances origin point is_last lines a → AreCandidates tolerances origin point is_last lines b → a ≡ b
   one_list a b one other = same_list IsBefore one_way a b one.rise other.rise (contained a b one other) (contained b a other one)
 
   pub not_too_many : (candidates : List Candidate) → AreCandidates tolerances origin point is_last lines candidates → length candidates ≤ 64 → AreTooMany tolerances origin point is_last lines → ⊥
   not_too_many candidates are at_most many =
-      omega (arith, at_most, many.many, no_longer many.found candidates many.differ (λ k d inside. are.each (get_or many.found k d) (many.only k d inside)))
+      omega (arith, no_longer _ _ many.differ (λ k d inside. are.each (get_or many.found k d) (many.only k d inside)))
 
   pub ranks_count : (candidates : List Candidate) (index : ℕ) (candidate : Candidate) → AreCandidates tolerances origin point is_last lines candidates → slice_get candidates index ≡ Some candidate
-      → length (filter (λ (other : Candidate). is_before other candidate) candidates) ≡ index
-  ranks_count candidates index candidate are at = place_counts IsBefore one_way is_before before_decides candidates index candidate are.rise at
+      → length (filter (λ other. is_before other candidate) candidates) ≡ index
+  ranks_count candidates index candidate are at =
+      place_counts IsBefore one_way is_before before_decides _ _ _ are.rise at

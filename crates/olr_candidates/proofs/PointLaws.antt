@@ -1,5 +1,5 @@
 -- The laws on a point, of a point of a reference; the order by ids.
-use Rattle.std.proofs.Common.{◌≡◌, ℕ, zero, suc, ◌+◌, ◌<◌, false, List, [], ◌∷◌, length, get_or, Some, inl, inr, sym, ap, ◌∙◌, arith}
+use Rattle.std.proofs.Common.{◌≡◌, ℕ, zero, suc, ◌+◌, ◌<◌, false, List, [], ◌∷◌, length, get_or, Some, inl, inr, arith}
 use Rattle.std.specs.Prelude.{slice_get, ◌==◌}
 use Rattle.std.specs.List.Sorted.{IsStrictlyIncreasing}
 use Rattle.std.proofs.lemmas.Bool.{false_from_ne_true}
@@ -18,34 +18,39 @@ use Rattle.olr_candidates.proofs.LineCandidates.{OneProjection, line_at, rejecte
 
 pub one_list : OneList → OneListOfPoint
 one_list law tolerances reference lines index a b is other =
-    let first : other.first ≡ is.first = same_Some other.first is.first (sym other.first_is ∙ is.first_is) in
-    let point : other.point ≡ is.point = same_Some other.point is.point (sym other.point_is ∙ is.point_is) in
+    let first : other.first ≡ is.first = cc in
+    let point : other.point ≡ is.point = cc in
     law tolerances (coordinates_of is.first.at) is.point (index + 1 == length (points_of reference)) lines a b is.just (rw (← first, ← point) other.just)
 
 pub not_both : NoListAndTooMany → NoListOfPointAndTooMany
 not_both law tolerances reference lines index list are many =
-    let first : many.first ≡ are.0.first = same_Some many.first are.0.first (sym many.first_is ∙ are.0.first_is) in
-    let point : many.point ≡ are.0.point = same_Some many.point are.0.point (sym many.point_is ∙ are.0.point_is) in
+    let first : many.first ≡ are.0.first = cc in
+    let point : many.point ≡ are.0.point = cc in
     law tolerances (coordinates_of are.0.first.at) are.0.point (index + 1 == length (points_of reference)) lines list are.0.just are.1 (rw (← first, ← point) many.many)
 
 pub are_places : HoldsOfEach IsOfLines → HoldsOfEach LiesUpToEnd → ArePlaces
 are_places of_lines up_to_end tolerances reference road index candidates are k d within =
     let last = index + 1 == length (points_of reference) in
-    let at = line_at road.lines (get_or candidates k d).place.line (of_lines tolerances (coordinates_of are.first.at) are.point last road.lines candidates are.just k d within) in
+    let at = line_at _ (get_or candidates k d).place.line
+    (of_lines tolerances (coordinates_of are.first.at) are.point last road.lines candidates are.just k d within) in
     record { line = at.0; at_rank = at.1; up_to_end = up_to_end tolerances (coordinates_of are.first.at) are.point last road.lines candidates are.just k d within at.0 at.1 }
 
 pub are_departures : HoldsOfEach IsOfLines → HoldsOfEach LiesOnLine → AreDepartures
 are_departures of_lines on_line tolerances reference road index candidates before are k d within =
-    let not_last : (index + 1 == length (points_of reference)) ≡ false = false_from_ne_true (index + 1 == length (points_of reference)) (λ same. omega (arith, before, eqb-true (index + 1) (length (points_of reference)) same)) in
+    let not_last : (index + 1 == length (points_of reference)) ≡ false = false_from_ne_true _ (λ same. omega (
+      arith,
+      eqb-true (index + 1) (length (points_of reference)) same,
+    )) in
     let just : AreCandidates tolerances (coordinates_of are.first.at) are.point false road.lines candidates = rw (← not_last) are.just in
-    let at = line_at road.lines (get_or candidates k d).place.line (of_lines tolerances (coordinates_of are.first.at) are.point false road.lines candidates just k d within) in
+    let at = line_at _ (get_or candidates k d).place.line
+    (of_lines tolerances (coordinates_of are.first.at) are.point false road.lines candidates just k d within) in
     record { line = at.0; at_rank = at.1; before_end = on_line tolerances (coordinates_of are.first.at) are.point false road.lines candidates just k d within at.0 at.1 }
 
 -- a line that fails a condition is no candidate
 pub rejected_of_point : OneProjection → RejectedAreNone
 rejected_of_point one tolerances reference lines index rank rejection candidate fails is =
-    let first : is.first ≡ fails.first = same_Some is.first fails.first (sym is.first_is ∙ fails.first_is) in
-    let point : is.point ≡ fails.point = same_Some is.point fails.point (sym is.point_is ∙ fails.point_is) in
+    let first : is.first ≡ fails.first = cc in
+    let point : is.point ≡ fails.point = cc in
     rejected one tolerances (coordinates_of fails.first.at) fails.point (index + 1 == length (points_of reference)) lines rank rejection fails.just candidate
     (rw (← first, ← point) is.just)
 
@@ -54,16 +59,20 @@ rejected_of_point one tolerances reference lines index rank rejection candidate 
 -- the id at a rank
 id_at : (lines : List RoadLine) (rank : ℕ) (line : RoadLine) → slice_get lines rank ≡ Some line → get_or (line_ids lines) rank 0 ≡ line.id
 id_at [] rank line at = absurd (none-some line at)
-id_at (first ∷ rest) zero line at = ap (λ (l : RoadLine). l.id) (same_Some first line at)
+id_at (first ∷ rest) zero line at = cc (same_Some first line at)
 id_at (first ∷ rest) (suc rank) line at = id_at rest rank line at
 
 -- the line of a lesser rank has a lesser id
 pub lesser_id : (lines : List RoadLine) → IsStrictlyIncreasing (line_ids lines) → (i j : ℕ) (first second : RoadLine) → i < j → slice_get lines i ≡ Some first → slice_get lines j ≡ Some second
     → first.id < second.id
 lesser_id lines rise i j first second less at_first at_second =
-    let inside : j < length (line_ids lines) = omega (arith, slice_get_within lines j second at_second, length-map lines (λ (line : RoadLine). line.id)) in
-    let below = AllPairs-from_increasing (line_ids lines) rise i j 0 less inside in
-    omega (arith, below, id_at lines i first at_first, id_at lines j second at_second)
+    let inside : j < length (line_ids lines) = omega (
+      arith,
+      slice_get_within lines j second at_second,
+      length-map lines (λ line. line.id),
+    ) in
+    let below = AllPairs-from_increasing _ rise i j 0 less inside in
+    omega (arith, id_at _ i _ at_first, id_at _ j _ at_second)
 
 pub in_order : AreInOrderOfIds
 in_order tolerances reference road index candidates sound are i j d less inside first second at_first at_second = elim (are.just.rise i j d less inside) [

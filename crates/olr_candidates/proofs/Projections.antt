@@ -1,10 +1,10 @@
 -- A spot has one projection onto a polyline at most.
-use Rattle.std.proofs.Common.{◌≡◌, ℕ, Bool, List, Option, Some, None, ap, sym, ◌∙◌, ◌*◌, ◌/◌, subst, refl}
+use Rattle.std.proofs.Common.{◌≡◌, ℕ, Bool, List, Option, Some, None, refl}
 use Rattle.std.specs.Prelude.{MatchOption}
 use Rattle.olr_metric.specs.declared.spot.Spot.{Spot}
 use Rattle.olr_metric.specs.declared.polyline.Near.{Near}
 use Rattle.olr_metric.specs.Polyline.{arc, IsAlong, IsNearest}
-use Rattle.olr_metric.specs.Sector.{Direction, direction, zero_direction, IsSector}
+use Rattle.olr_metric.specs.Sector.{Direction, zero_direction, IsSector}
 use Rattle.olr_candidates.specs.declared.projection.Projection.{Projection}
 use Rattle.olr_candidates.specs.Projection.{bearing_arc, HasBearing, IsProjection}
 
@@ -23,28 +23,27 @@ NoSector = (s : ℕ) → IsSector zero_direction s → ⊥
 
 same_sector : OneSector → NoSector → (a b : Option ℕ) (d : Direction) → MatchOption a (d ≡ zero_direction) (IsSector d) → MatchOption b (d ≡ zero_direction) (IsSector d) → a ≡ b
 same_sector one none None None d is_a is_b = refl
-same_sector one none None (Some t) d is_a is_b = absurd (none t (subst (λ (e : Direction). IsSector e t) is_a is_b))
-same_sector one none (Some s) None d is_a is_b = absurd (none s (subst (λ (e : Direction). IsSector e s) is_b is_a))
-same_sector one none (Some s) (Some t) d is_a is_b = ap (λ (k : ℕ). Some k) (one d s t is_a is_b)
+same_sector one none None (Some t) d is_a is_b = absurd (none t (rw (← is_a) is_b))
+same_sector one none (Some s) None d is_a is_b = absurd (none s (rw (← is_b) is_a))
+same_sector one none (Some s) (Some t) d is_a is_b = cc (one d s t is_a is_b)
 
 same_bearing : OneAlong → OneSector → NoSector → (polyline : List Spot) (is_last : Bool) (near : Near) (a b : Option ℕ) → HasBearing polyline is_last near a → HasBearing polyline is_last near b → a ≡ b
 same_bearing alongs one none polyline is_last near a b has other =
     let same : other.ahead ≡ has.ahead = alongs polyline (bearing_arc is_last near.arc (arc polyline)) other.ahead has.ahead other.along has.along in
-    same_sector one none a b (direction near.spot has.ahead) has.sector_of
-    (subst (λ (s : Spot). MatchOption b (direction near.spot s ≡ zero_direction) (IsSector (direction near.spot s))) same other.sector_of)
+    same_sector one none a b _ has.sector_of
+    (rw (← same) other.sector_of)
 
 same_projection : (a b : Projection) → a.distance ≡ b.distance → a.at ≡ b.at → a.sector ≡ b.sector → a ≡ b
 same_projection a b distance at sector =
-    ap (λ (x : ℕ). let s : Projection = record { distance = x; at = a.at; sector = a.sector } in s) distance
-    ∙ ap (λ (x : ℕ). let s : Projection = record { distance = b.distance; at = x; sector = a.sector } in s) at
-    ∙ ap (λ (x : Option ℕ). let s : Projection = record { distance = b.distance; at = b.at; sector = x } in s) sector
+    let whole : ◌≡◌ {A = Projection} (record { distance = a.distance; at = a.at; sector = a.sector })
+    (record { distance = b.distance; at = b.at; sector = b.sector }) = cc in whole
 
 pub one_projection : OneNearest → OneAlong → OneSector → NoSector → (polyline : List Spot) (length : ℕ) (is_last : Bool) (p : Spot) (a b : Projection)
     → IsProjection polyline length is_last p a → IsProjection polyline length is_last p b → a ≡ b
 one_projection nearests alongs one none polyline length is_last p a b is_projection other =
     let same : other.near ≡ is_projection.near = nearests polyline p other.near is_projection.near other.nearest is_projection.nearest in
     same_projection a b
-    (is_projection.distance_is ∙ ap (λ (n : Near). n.distance) (sym same) ∙ sym other.distance_is)
-    (is_projection.at_is ∙ ap (λ (n : Near). n.arc * length / arc polyline) (sym same) ∙ sym other.at_is)
-    (same_bearing alongs one none polyline is_last is_projection.near a.sector b.sector is_projection.bearing
-    (subst (λ (n : Near). HasBearing polyline is_last n b.sector) same other.bearing))
+    (cc)
+    (cc)
+    (same_bearing alongs one none _ _ _ _ _ is_projection.bearing
+    (rw (← same) other.bearing))

@@ -1,5 +1,5 @@
 -- A line that is near enough to a point meets each window that holds all places so near.
-use Rattle.std.proofs.Common.{◌≡◌, ℕ, suc, ◌+◌, ◌*◌, ◌≤◌, List, Some, sym, ap, subst, arith, ℤ, pos, negsuc, ◌+ℤ◌, ◌-ℤ◌, ◌*ℤ◌, ◌≤ℤ◌, ◌<ℤ◌}
+use Rattle.std.proofs.Common.{◌≡◌, ℕ, suc, ◌+◌, ◌*◌, ◌≤◌, List, Some, subst, arith, ℤ, pos, negsuc, ◌+ℤ◌, ◌-ℤ◌, ◌*ℤ◌, ◌≤ℤ◌, ◌<ℤ◌}
 use Rattle.std.specs.Prelude.{nat_abs, slice_get, Contains, All}
 use Rattle.std.proofs.lemmas.Int.{ints, by_lt_z}
 use Rattle.std.proofs.lemmas.Nat.{mul-le}
@@ -49,39 +49,39 @@ not_south lat p o r near = omega (arith, ints, near, floor_low ((lat -ℤ o) *�
 
 times_rises : (a b : ℤ) (k : ℕ) → a ≤ℤ b → (a *ℤ pos k) ≤ℤ (b *ℤ pos k)
 times_rises (pos a) (pos b) k le = omega (arith, ints, mul-le a k b k (omega (arith, ints, le)) (omega arith))
-times_rises (pos a) (negsuc b) k le = absurd (omega (arith, ints, le))
+times_rises (pos a) (negsuc b) k le = absurd (omega arith)
 times_rises (negsuc a) (pos b) k le = omega (arith, ints)
 times_rises (negsuc a) (negsuc b) k le = omega (arith, ints, mul-le (suc b) k (suc a) k (omega (arith, ints, le)) (omega arith))
 
 floor_rises : (z w : ℤ) → z ≤ℤ w → floor z 10000000 ≤ℤ floor w 10000000
 floor_rises (pos a) (pos b) le = omega (arith, ints, le)
-floor_rises (pos a) (negsuc b) le = absurd (omega (arith, ints, le))
-floor_rises (negsuc a) (pos b) le = omega (arith, ints)
+floor_rises (pos a) (negsuc b) le = absurd (omega arith)
+floor_rises (negsuc a) (pos b) le = omega arith
 floor_rises (negsuc a) (negsuc b) le = omega (arith, ints, le)
 
 -- the x in the plane doesn't fall where the longitude rises
 pub x_rises : (origin : Coordinates) (a b : ℤ) → a ≤ℤ b → x_of origin a ≤ℤ x_of origin b
 x_rises origin a b le =
-    floor_rises ((a -ℤ origin.lon) *ℤ pos (11132 * scale_of origin.lat)) ((b -ℤ origin.lon) *ℤ pos (11132 * scale_of origin.lat))
+    floor_rises _ _
     (times_rises (a -ℤ origin.lon) (b -ℤ origin.lon) (11132 * scale_of origin.lat) (omega (arith, ints, le)))
 
 -- what is west of an edge is no further east than a longitude whose next one is east of that edge, and the other way round
 pub not_east : (origin : Coordinates) (lon bound edge : ℤ) → edge <ℤ x_of origin (bound +ℤ pos 1) → x_of origin lon ≤ℤ edge → lon ≤ℤ bound
 not_east origin lon bound edge beyond within =
-    by_lt_z bound lon
+    by_lt_z _ _
     (λ lt. let more = x_rises origin (bound +ℤ pos 1) lon (omega (arith, ints, lt)) in absurd (omega (arith, ints, more, beyond, within)))
     (λ ge. ge)
 
 pub not_west : (origin : Coordinates) (lon bound edge : ℤ) → x_of origin (bound -ℤ pos 1) <ℤ edge → edge ≤ℤ x_of origin lon → bound ≤ℤ lon
 not_west origin lon bound edge beyond within =
-    by_lt_z lon bound
+    by_lt_z _ _
     (λ lt. let less = x_rises origin lon (bound -ℤ pos 1) (omega (arith, ints, lt)) in absurd (omega (arith, ints, less, beyond, within)))
     (λ ge. ge)
 
 -- ---- lines
 
 member : (points : List Coordinates) (i : ℕ) (p : Coordinates) → slice_get points i ≡ Some p → Contains points p
-member points i p at = (i, slice_get_within points i p at, get_or_from_slice_get points i p p at)
+member points i p at = (i, slice_get_within points i p at, get_or_from_slice_get _ i p p at)
 
 -- two places of a line, of which one coordinate in the plane is no greater than a number, and no less
 record AreBeside (of : Spot → ℤ) (origin : Coordinates) (line : RoadLine) (f : ℤ) : Type 0 where
@@ -98,9 +98,10 @@ beside : (of : Spot → ℤ) → FootBetween of → (origin p : Coordinates) (li
 beside of between origin p line near is =
     let first = place_at (spot_of origin) line.points is.i is.a is.nearest.segment.start in
     let second = place_at (spot_of origin) line.points (suc is.i) is.b is.nearest.segment.end in
-    let lies : IsBetween (of is.a) (of is.b) (of near.spot) = subst (λ (s : Spot). IsBetween (of is.a) (of is.b) (of s)) (sym is.foot_of) (between (spot_of origin p) is.a is.b) in
-    let first_is : of (spot_of origin first.0) ≡ of is.a = ap of first.2 in
-    let second_is : of (spot_of origin second.0) ≡ of is.b = ap of second.2 in
+    let lies : IsBetween (of is.a) (of is.b) (of near.spot) = subst (λ s. IsBetween (of is.a) (of is.b) (of s)) (cc)
+    (between (spot_of origin p) is.a is.b) in
+    let first_is : of (spot_of origin first.0) ≡ of is.a = cc in
+    let second_is : of (spot_of origin second.0) ≡ of is.b = cc in
     let has_first = member line.points is.i first.0 first.1 in
     let has_second = member line.points (suc is.i) second.0 second.1 in
     by_lt_z (of is.b) (of is.a)
@@ -136,7 +137,7 @@ itself_below p r = omega (arith, ints)
 itself_above : (p : ℤ) (r : ℕ) → (p -ℤ pos r) ≤ℤ p
 itself_above p r = omega (arith, ints)
 
-pub meets_window : FootBetween (λ (s : Spot). s.x) → FootBetween (λ (s : Spot). s.y) → NoShorter (λ (s : Spot). s.x) → NoShorter (λ (s : Spot). s.y)
+pub meets_window : FootBetween (λ s. s.x) → FootBetween (λ s. s.y) → NoShorter (λ s. s.x) → NoShorter (λ s. s.y)
     → (query : Query) (radius : ℕ) (line : RoadLine) (near : Near) (window : Extent) → CoversRadius query radius window → IsInRange (coordinates_of query.point.at) → All IsInRange line.points
     → IsNearest (polyline_of (coordinates_of query.plane) line) (spot_of (coordinates_of query.plane) (coordinates_of query.point.at)) near
     → near.distance ≤ 100 * radius → MeetsWindow window line
@@ -145,13 +146,13 @@ meets_window between_x between_y shorter_x shorter_y query radius line near wind
     let point = coordinates_of query.point.at in
     let p : Spot = spot_of origin point in
     let r : ℕ = 100 * radius in
-    let xs = beside (λ (s : Spot). s.x) between_x origin point line near is in
-    let ys = beside (λ (s : Spot). s.y) between_y origin point line near is in
-    let close_x : nat_abs (p.x -ℤ near.spot.x) ≤ r = omega (arith, shorter_x p near.spot, is.distance_of, within) in
-    let close_y : nat_abs (p.y -ℤ near.spot.y) ≤ r = omega (arith, shorter_y p near.spot, is.distance_of, within) in
+    let xs = beside _ between_x origin point line _ is in
+    let ys = beside _ between_y _ _ line _ is in
+    let close_x : nat_abs (p.x -ℤ near.spot.x) ≤ r = omega (arith, shorter_x p near.spot) in
+    let close_y : nat_abs (p.y -ℤ near.spot.y) ≤ r = omega (arith, shorter_y p near.spot) in
     record {
       lats = record {
-        band = up window.south point.lat window.north (covers.south point here (itself_above p.y r)) (covers.north point here (itself_below p.y r));
+        band = up _ _ _ (covers.south point here (itself_above _ r)) (covers.north point here (itself_below _ r));
         southern = ys.low;
         northern = ys.high;
         one = ys.has_low;
@@ -160,7 +161,7 @@ meets_window between_x between_y shorter_x shorter_y query radius line near wind
         not_south = covers.south ys.high (All-contains IsInRange line.points ys.high inside ys.has_high) (above (spot_of origin ys.high).y near.spot.y p.y r close_y ys.no_less);
       };
       lons = record {
-        band = up window.west point.lon window.east (covers.west point here (itself_above p.x r)) (covers.east point here (itself_below p.x r));
+        band = up _ _ _ (covers.west point here (itself_above _ r)) (covers.east point here (itself_below _ r));
         western = xs.low;
         eastern = xs.high;
         one = xs.has_low;

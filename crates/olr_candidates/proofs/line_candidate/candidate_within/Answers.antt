@@ -6,12 +6,13 @@ use Rattle.olr_candidates.proofs.line_candidate.candidate_within.Goals as goal
 
 pub returns-in_err-projection : goal.returns-in_err-projection
 returns-in_err-projection c = rw c.from_residual.ensures (λ candidate is.
-    let far = c.in_err-projection.ensures.projection is.2.projection (is.0, is.1, is.2.is_projection) in omega (arith, far, is.2.rates.conditions.near))
+    let far = c.in_err-projection.ensures.projection is.2.projection (is.0, is.1, is.2.is_projection) in omega arith)
 
 pub candidate_by-requires-clause-class : goal.candidate_by-requires-clause-class
 candidate_by-requires-clause-class c =
     let at = c.in_ok-projection.ensures.projection in
-    let sound : IsSoundLine (length c.args.map.now.nodes) at.0 = sound_at (length c.args.map.now.nodes) c.args.map.now.lines c.args.rank at.0 c.line-line.ensures.sound.lines.each at.1 in
+    let sound : IsSoundLine (length c.args.map.now.nodes) at.0 =
+    sound_at _ _ _ _ c.line-line.ensures.sound.lines.each at.1 in
     rw (head_at c.args.map.now.lines c.args.rank at.0 c.line-line.result at.1 c.line-line.ensures.line) sound.class
 
 pub returns-in_default : goal.returns-in_default

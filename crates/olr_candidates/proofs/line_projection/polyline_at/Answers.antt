@@ -1,5 +1,5 @@
-use Rattle.std.proofs.Common.{◌≡◌, List, length, map, ap, ◌∙◌}
-use Rattle.olr_metric.specs.Coordinates.{Coordinates, coordinates_of}
+use Rattle.std.proofs.Common.{◌≡◌, length, map, ap, ◌∙◌}
+use Rattle.olr_metric.specs.Coordinates.{coordinates_of}
 use Rattle.olr_metric.specs.Plane.{spot_of}
 use Rattle.olr_map.specs.RoadMap.{IsSoundLine}
 use Rattle.olr_candidates.proofs.Polylines.{spots_of, is_polyline}
@@ -9,17 +9,17 @@ use Rattle.olr_candidates.proofs.line_projection.polyline_at.Goals as goal
 pub returns-clause-spots : goal.returns-clause-spots
 returns-clause-spots c = λ line at.
     let origin = coordinates_of c.args.query.now.plane in
-    c.polyline_of.ensures.spots ∙ spots_of origin c.points.result.now
-    ∙ ap (λ (l : List Coordinates). map (spot_of origin) l) (points_at c.args.map.now.lines c.args.rank line (map coordinates_of c.points.result.now) at c.points.ensures.points)
+    c.polyline_of.ensures.spots ∙ spots_of origin _
+    ∙ ap (λ l. map (spot_of origin) l) (points_at c.args.map.now.lines c.args.rank _ _ at c.points.ensures.points)
 
 pub returns-clause-polyline : goal.returns-clause-polyline
 returns-clause-polyline c =
-    let at = line_at c.args.map.now.lines c.args.rank c.requires in
+    let at = line_at _ _ c.requires in
     let sound : IsSoundLine (length c.args.map.now.nodes) at.0 =
-    sound_at (length c.args.map.now.nodes) c.args.map.now.lines c.args.rank at.0 c.points.ensures.sound.lines.each at.1 in
+    sound_at _ _ _ _ c.points.ensures.sound.lines.each at.1 in
     let points : map coordinates_of c.points.result.now ≡ at.0.points =
-    points_at c.args.map.now.lines c.args.rank at.0 (map coordinates_of c.points.result.now) at.1 c.points.ensures.points in
+    points_at c.args.map.now.lines c.args.rank _ _ at.1 c.points.ensures.points in
     let origin = coordinates_of c.args.query.now.plane in
-    is_polyline c.one_place_a_spot.ensures origin c.args.query.now.plane.lat_in_range at.0.points c.polyline_of.result.items
-    (c.polyline_of.ensures.spots ∙ spots_of origin c.points.result.now ∙ ap (λ (l : List Coordinates). map (spot_of origin) l) points)
+    is_polyline c.one_place_a_spot.ensures _ c.args.query.now.plane.lat_in_range _ _
+    (c.polyline_of.ensures.spots ∙ spots_of origin _ ∙ ap (λ l. map (spot_of origin) l) points)
     sound.points_at_least sound.points_at_most sound.apart c.polyline_of.ensures.in_plane

@@ -1,6 +1,5 @@
-use Rattle.std.proofs.Common.{◌≡◌, ap, ◌∙◌}
+use Rattle.std.proofs.Common.{◌≡◌, ap}
 use Rattle.olr_metric.specs.Coordinates.{coordinates_of}
-use Rattle.olr_map.specs.declared.line.Line.{Line}
 use Rattle.olr_map.specs.RoadMap.{head_of}
 use Rattle.olr_candidates.specs.Projection.{polyline_of}
 use Rattle.olr_candidates.proofs.LineCandidates.{line_at, head_at}
@@ -11,8 +10,9 @@ project-requires-clause-polyline c = rw c.deref.ensures.0 c.polyline_at-polyline
 
 pub returns-clause-projection : goal.returns-clause-projection
 returns-clause-projection c =
-    let at = line_at c.args.map.now.lines c.args.rank c.requires in
-    let head : c.line-line.result ≡ head_of at.0 = head_at c.args.map.now.lines c.args.rank at.0 c.line-line.result at.1 c.line-line.ensures.line in
+    let at = line_at _ _ c.requires in
+    let head : c.line-line.result ≡ head_of at.0 =
+    head_at c.args.map.now.lines c.args.rank _ _ at.1 c.line-line.ensures.line in
     let spots : c.deref.result.now ≡ polyline_of (coordinates_of c.args.query.now.plane) at.0 =
-    c.deref.ensures.0 ∙ c.polyline_at-polyline.ensures.spots at.0 at.1 in
-    (at.0, at.1, rw (← spots, ← c.to_plane-p.ensures.spot, ← ap (λ (l : Line). l.length) head) c.project.ensures.projection)
+    cc (c.polyline_at-polyline.ensures.spots at.0 at.1) in
+    (at.0, at.1, rw (← spots, ← c.to_plane-p.ensures.spot, ← ap (λ l. l.length) head) c.project.ensures.projection)

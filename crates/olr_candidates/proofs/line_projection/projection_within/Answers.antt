@@ -1,9 +1,8 @@
-use Rattle.std.proofs.Common.{◌≡◌, ap, ◌∙◌, arith}
+use Rattle.std.proofs.Common.{◌≡◌, ap, arith}
 use Rattle.olr_metric.specs.Coordinates.{coordinates_of}
 use Rattle.olr_metric.specs.Plane.{spot_of}
 use Rattle.olr_metric.specs.Polyline.{IsNearest}
 use Rattle.olr_metric.specs.declared.polyline.Near.{Near}
-use Rattle.olr_map.specs.declared.line.Line.{Line}
 use Rattle.olr_map.specs.RoadMap.{head_of}
 use Rattle.olr_candidates.specs.Projection.{polyline_of}
 use Rattle.olr_candidates.proofs.LineCandidates.{line_at, head_at}
@@ -15,24 +14,25 @@ nearest-near-requires-clause-polyline c = rw c.deref.ensures.0 c.polyline_at-pol
 pub returns-then-near-most-clause-projection : goal.returns-then-near-most-clause-projection
 returns-then-near-most-clause-projection c = λ projection is.
     let origin = coordinates_of c.args.query.now.plane in
-    let spots : c.deref.result.now ≡ polyline_of origin is.0 = c.deref.ensures.0 ∙ c.polyline_at-polyline.ensures.spots is.0 is.1 in
+    let spots : c.deref.result.now ≡ polyline_of origin is.0 = cc (c.polyline_at-polyline.ensures.spots is.0 is.1) in
     let here : IsNearest (polyline_of origin is.0) (spot_of origin (coordinates_of c.args.query.now.point.at)) c.nearest-near.result =
     rw (← spots, ← c.to_plane-p.ensures.spot) c.nearest-near.ensures.nearest in
     let same : is.2.near ≡ c.nearest-near.result = c.one_spot.ensures.nearest _ _ is.2.near c.nearest-near.result is.2.nearest here in
-    omega (arith, is.2.distance_is, ap (λ (near : Near). near.distance) same, c.if-near-most.true)
+    omega (arith, ap (λ (near : Near). near.distance) same)
 
 pub returns-clause-projection : goal.returns-clause-projection
 returns-clause-projection c =
     let origin = coordinates_of c.args.query.now.plane in
-    let at = line_at c.args.map.now.lines c.args.rank c.requires in
-    let head : c.line-line.result ≡ head_of at.0 = head_at c.args.map.now.lines c.args.rank at.0 c.line-line.result at.1 c.line-line.ensures.line in
+    let at = line_at _ _ c.requires in
+    let head : c.line-line.result ≡ head_of at.0 =
+    head_at c.args.map.now.lines c.args.rank _ _ at.1 c.line-line.ensures.line in
     let polyline = c.polyline_at-polyline.ensures.spots at.0 at.1 in
-    let spots : c.deref.result.now ≡ polyline_of origin at.0 = c.deref.ensures.0 ∙ polyline in
-    let again : c.deref-2.result.now ≡ polyline_of origin at.0 = c.deref-2.ensures.0 ∙ polyline in
+    let spots : c.deref.result.now ≡ polyline_of origin at.0 = cc in
+    let again : c.deref-2.result.now ≡ polyline_of origin at.0 = cc in
     let here : IsNearest (polyline_of origin at.0) (spot_of origin (coordinates_of c.args.query.now.point.at)) c.nearest-near.result =
     rw (← spots, ← c.to_plane-p.ensures.spot) c.nearest-near.ensures.nearest in (
       at.0,
       at.1,
-      rw (← again, ← ap (λ (l : Line). l.length) head)
+      rw (← again, ← ap (λ l. l.length) head)
           (c.projection_by.ensures.projection (spot_of origin (coordinates_of c.args.query.now.point.at)) (rw again here)),
     )

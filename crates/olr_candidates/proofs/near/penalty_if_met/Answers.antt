@@ -2,4 +2,4 @@ use Rattle.olr_candidates.proofs.LineCandidates.{not_met}
 use Rattle.olr_candidates.proofs.near.penalty_if_met.Goals as goal
 
 pub returns-in_default : goal.returns-in_default
-returns-in_default c = not_met c.args.query.now.tolerances c.args.query.now.point c.args.query.now.is_last c.args.line.now c.args.projection.now _ c.in_default.ensures
+returns-in_default c = not_met _ _ _ _ _ _ c.in_default.ensures

@@ -3,10 +3,10 @@ use Rattle.olr_candidates.proofs.near_search.add_near.Goals as goal
 
 pub returns-in_default : goal.returns-in_default
 returns-in_default c seen so_far unseen =
-    nearest_still c.args.query.now c.args.map.now.lines seen c.args.rank c.args.count c.args.list.now.items so_far
+    nearest_still _ _ _ _ _ _ so_far
     (rw (← c.deref.ensures.value) c.in_default.ensures)
 
 pub returns : goal.returns
 returns c seen so_far unseen =
-    nearest_more c.args.query.now c.args.map.now.lines c.one_projection.ensures seen c.args.rank c.args.count c.args.list.now.items
-    c.in-Some.near so_far unseen c.in-Some.ensures _ c.in_ok-keep.ensures
+    nearest_more _ _ c.one_projection.ensures _ _ _ _
+    _ so_far unseen c.in-Some.ensures _ c.in_ok-keep.ensures

@@ -1,22 +1,22 @@
-use Rattle.std.proofs.Common.{ℕ, ◌++◌, ◌∷◌, List, [], subst}
+use Rattle.std.proofs.Common.{◌++◌, ◌∷◌, [], append_assoc}
 use Rattle.olr_candidates.specs.Nearest.{CoverRadius}
 use Rattle.olr_candidates.proofs.NearestLines.{none_nearest}
-use Rattle.olr_candidates.proofs.SeenLines.{not_seen, moved}
+use Rattle.olr_candidates.proofs.SeenLines.{not_seen}
 use Rattle.olr_candidates.proofs.near_search.nearest_in_window.Goals as goal
 
 pub loop-rank-init : goal.loop-rank-init
 loop-rank-init c = (
   [],
   rw c.into_iter-rank-iterator.ensures.into_iter_gives c.lines_within-rank-items.ensures,
-  rw c.new-nearest.ensures.items (none_nearest c.args.query.now c.args.map.now.lines c.args.count),
+  rw c.new-nearest.ensures.items (none_nearest _ _ _),
 )
 
 pub loop-rank-preserved : goal.loop-rank-preserved
 loop-rank-preserved c =
     let seen = c.loop-rank.invariant.0 in
     let cover : CoverRadius c.args.query.now c.args.map.now.lines c.args.radius (seen ++ c.in-Some.rank ∷ c.next.new.self) =
-    subst (λ (l : List ℕ). CoverRadius c.args.query.now c.args.map.now.lines c.args.radius (seen ++ l)) c.in-Some.ensures.steps c.loop-rank.invariant.1 in (
+    rw (← c.in-Some.ensures.steps) c.loop-rank.invariant.1 in (
       seen ++ c.in-Some.rank ∷ [],
-      subst (λ (l : List ℕ). CoverRadius c.args.query.now c.args.map.now.lines c.args.radius l) (moved seen c.in-Some.rank c.next.new.self) cover,
-      c.in_ok-add_near.ensures seen c.loop-rank.invariant.2 (not_seen seen c.in-Some.rank c.next.new.self cover.once),
+      rw append_assoc cover,
+      c.in_ok-add_near.ensures seen c.loop-rank.invariant.2 (not_seen _ _ _ cover.once),
     )

@@ -7,7 +7,7 @@ pub loop-rank-preserved : goal.loop-rank-preserved
 loop-rank-preserved c =
     let (seen, first, so_far) = c.loop-rank.invariant in (
       seen ++ c.loop-rank.rank ∷ [],
-      next_rank c.loop-rank.rank seen first,
+      next_rank _ _ first,
       c.in_ok-add_near.ensures seen so_far (λ is. omega (arith, first.only c.loop-rank.rank is)),
     )
 
@@ -15,5 +15,5 @@ pub returns : goal.returns
 returns c =
     let (seen, first, so_far) = c.loop-rank.invariant in
     let all : c.loop-rank.rank ≡ length c.args.map.now.lines = omega arith in
-    nearest.nearest_of_all c.args.query.now c.args.map.now.lines seen c.args.count c.loop-rank.nearest.items so_far (omega (arith, first.counted, all))
-    (λ rank inside. first.each rank (omega (arith, inside, all)))
+    nearest.nearest_of_all _ _ _ _ _ so_far (omega arith)
+    (λ rank inside. first.each rank (omega arith))

@@ -1,5 +1,4 @@
 use Rattle.std.proofs.Common.{◌≡◌, length, map, take, All}
-use Rattle.olr_metric.specs.declared.degrees.Degrees.{Degrees}
 use Rattle.olr_metric.specs.Coordinates.{coordinates_of}
 use Rattle.olr_metric.specs.Plane.{spot_of}
 use Rattle.olr_metric.specs.Spot.{IsInPlane}
@@ -8,7 +7,7 @@ use Rattle.olr_candidates.proofs.projection.polyline_of.Given as goal
 -- the spots of the points so far
 abbrev pub invariant-loop-point : goal.invariant-loop-point
 invariant-loop-point l = record {
-  spots : l.polyline.items ≡ map (λ (point : Degrees). spot_of (coordinates_of l.fn.plane) (coordinates_of point)) (take l.point-index l.points);
+  spots : l.polyline.items ≡ map (λ point. spot_of (coordinates_of l.fn.plane) (coordinates_of point)) (take l.point-index l.points);
   in_plane : All IsInPlane l.polyline.items;
   count : length l.polyline.items ≡ l.point-index;
 }

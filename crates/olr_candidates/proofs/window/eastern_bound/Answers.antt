@@ -12,7 +12,6 @@ returns c =
     let west = here.lon_in_range.west in
     let east = here.lon_in_range.east in
     let positive = c.reach_in_longitude.ensures.positive in
-    let at_most = c.reach_in_longitude.ensures.at_most in
     let lon : to_z w32 (of_z w32 here.lon) ≡ here.lon = omega (arith, ints) in
     let reach : to_z w32 (of_z w32 c.reach_in_longitude.result) ≡ c.reach_in_longitude.result = omega (arith, ints) in
     let bound : to_z w32 (of_z w32 (here.lon +ℤ c.reach_in_longitude.result)) ≡ here.lon +ℤ c.reach_in_longitude.result = omega (arith, ints) in

@@ -12,8 +12,8 @@ returns c =
     let west_fits : FitsSigned w32 c.western_bound.result = search rules in
     let east_fits : FitsSigned w32 c.eastern_bound.result = search rules in
     record {
-      south = λ place range near. rw south (not_south place.lat query.point.at.lat query.plane.lat radius near);
-      north = λ place range near. rw north (not_north place.lat query.point.at.lat query.plane.lat radius near);
+      south = λ place range near. rw south (not_south _ _ _ _ near);
+      north = λ place range near. rw north (not_north _ _ _ _ near);
       west = λ place range near. rw (to_z-of_z w32 c.western_bound.result west_fits) (c.western_bound.ensures place.lon range.lon near);
       east = λ place range near. rw (to_z-of_z w32 c.eastern_bound.result east_fits) (c.eastern_bound.ensures place.lon range.lon near);
     }
