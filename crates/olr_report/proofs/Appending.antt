@@ -1,5 +1,5 @@
 -- A piece added to the end of joined pieces.
-use Rattle.std.proofs.Common.{◌≡◌, ℕ, ◌+◌, ◌-◌, ◌<◌, ◌≤◌, Some, List, [], ◌∷◌, ◌++◌, length, take, get_or, set, refl, sym, ap, ◌∙◌, subst, append_assoc, arith}
+use Rattle.std.proofs.Common.{◌≡◌, ℕ, ◌+◌, ◌-◌, ◌<◌, ◌≤◌, Some, List, [], ◌∷◌, ◌++◌, length, take, get_or, set, refl, sym, ◌∙◌, append_assoc, arith}
 use Rattle.std.specs.List.{flat_map}
 use Rattle.std.proofs.lemmas.List.{append-nil, flat_map_more, length-set, take_all, take_more, take_more_set}
 use Rattle.std.proofs.lemmas.List.Concat.{flat_map-append}
@@ -12,7 +12,7 @@ use Rattle.olr_report.proofs.StepLists.{touching_steps}
 -- ---- steps
 
 pub steps_push : (pieces : List Piece) (piece : Piece) → steps_of (pieces ++ piece ∷ []) ≡ steps_of pieces ++ steps_in piece
-steps_push pieces piece = flat_map-append steps_in pieces (piece ∷ []) ∙ ap (λ (l : List Step). steps_of pieces ++ l) (append-nil (steps_in piece))
+steps_push pieces piece = cc (flat_map-append steps_in pieces (piece ∷ []), append-nil (steps_in piece))
 
 -- ---- neighbours
 
@@ -21,7 +21,7 @@ apart_longer : (front : List Piece) (last longer : Piece) → longer.line ≡ la
     → AreApart (front ++ longer ∷ [])
 apart_longer [] last longer line from apart = tt
 apart_longer (piece ∷ []) last longer line from apart =
-    (λ touch. apart.0 (record { same_line = touch.same_line ∙ line; same_position = touch.same_position ∙ from }), tt)
+    (λ touch. apart.0 (record { same_line = cc; same_position = cc }), tt)
 apart_longer (piece ∷ next ∷ front) last longer line from apart = (apart.0, apart_longer (next ∷ front) last longer line from apart.1)
 
 apart_push : (front : List Piece) (last piece : Piece) → AreApart (front ++ last ∷ []) → (Touches last piece → ⊥)
@@ -43,10 +43,12 @@ longer_last front last piece longer joined touch forwards positive line from to 
     apart = apart_longer front last longer line from joined.apart;
   };
   steps_are =
-      steps_push front longer ∙ ap (λ (l : List Step). steps_of front ++ l)
-      (touching_steps last piece longer touch.same_line touch.same_position forwards (omega arith) line from to)
-      ∙ sym (append_assoc (steps_of front) (steps_in last) (steps_in piece))
-      ∙ ap (λ (l : List Step). l ++ steps_in piece) (sym (steps_push front last));
+      cc (
+        steps_push front longer,
+        touching_steps last piece longer touch.same_line touch.same_position forwards (omega arith) line from to,
+        append_assoc (steps_of front) (steps_in last) (steps_in piece),
+        steps_push front last,
+      );
 }
 
 piece_more : (front : List Piece) (last piece : Piece) → IsJoined (front ++ last ∷ []) → (Touches last piece → ⊥) → IsNotEmpty piece
@@ -54,7 +56,7 @@ piece_more : (front : List Piece) (last piece : Piece) → IsJoined (front ++ la
 piece_more front last piece joined not_touching positive = record {
   joined = record {
     not_empty = All-push IsNotEmpty (front ++ last ∷ []) piece joined.not_empty positive;
-    apart = subst AreApart (sym (append_assoc front (last ∷ []) (piece ∷ []))) (apart_push front last piece joined.apart not_touching);
+    apart = rw (append_assoc front (last ∷ []) (piece ∷ [])) (apart_push front last piece joined.apart not_touching);
   };
   steps_are = steps_push (front ++ last ∷ []) piece;
 }
@@ -66,26 +68,22 @@ pub appended_longer : (route front longer_route : List Piece) (last piece longer
     → Touches last piece → IsNotEmpty piece → longer.line ≡ last.line → longer.from ≡ last.from → longer.to ≡ piece.to
     → IsRouteOver (steps_of route ++ steps_in piece) longer_route
 appended_longer route front longer_route last piece longer is longer_is joined touch positive line from to =
-    let whole : IsJoined (front ++ last ∷ []) = subst IsJoined is joined in
+    let whole : IsJoined (front ++ last ∷ []) = rw (← is) joined in
     let forwards = (All-pop IsNotEmpty (front ++ last ∷ []) front (Some last) refl whole.not_empty).1 in
-    subst (λ (old : List Piece). IsRouteOver (steps_of old ++ steps_in piece) longer_route) (sym is)
-    (subst (λ (new : List Piece). IsRouteOver (steps_of (front ++ last ∷ []) ++ steps_in piece) new) (sym longer_is)
-    (longer_last front last piece longer whole touch (omega (arith, forwards)) positive line from to))
+    rw is (rw longer_is (longer_last front last piece longer whole touch
+    (omega (arith, forwards)) positive line from to))
 
 pub appended_piece : (route front more : List Piece) (last piece : Piece) → route ≡ front ++ last ∷ [] → more ≡ (front ++ last ∷ []) ++ piece ∷ []
     → IsJoined route
     → (Touches last piece → ⊥) → IsNotEmpty piece → IsRouteOver (steps_of route ++ steps_in piece) more
 appended_piece route front more last piece is more_is joined not_touching positive =
-    subst (λ (old : List Piece). IsRouteOver (steps_of old ++ steps_in piece) more) (sym is)
-    (subst (λ (new : List Piece). IsRouteOver (steps_of (front ++ last ∷ []) ++ steps_in piece) new) (sym more_is)
-    (piece_more front last piece (subst IsJoined is joined) not_touching positive))
+    rw is (rw more_is (piece_more front last piece (rw (← is) joined) not_touching positive))
 
 -- a route ends in its last piece
 last_of : (route : List Piece) (last : Piece) (count : ℕ) → count ≡ length route → 0 < count → last ≡ get_or route (count - 1) last
     → route ≡ take (count - 1) route ++ last ∷ []
 last_of route last count is positive at_end =
-    sym (take_all (count - 1 + 1) route (omega arith)) ∙ take_more route (count - 1) last (omega arith)
-    ∙ ap (λ (piece : Piece). take (count - 1) route ++ piece ∷ []) (sym at_end)
+    cc (take_all (count - 1 + 1) route (omega arith), take_more route (count - 1) last (omega arith))
 
 -- and in another one, where that is put in its place
 last_put : (route : List Piece) (longer : Piece) (count : ℕ) → count ≡ length route → 0 < count
@@ -108,11 +106,11 @@ pub piece_at_end : (route more : List Piece) (last piece : Piece) (count : ℕ) 
     → IsNotEmpty piece → IsRouteOver (steps_of route ++ steps_in piece) more
 piece_at_end route more last piece count is positive at_end more_is joined not_touching not_empty =
     appended_piece route (take (count - 1) route) more last piece (last_of route last count is positive at_end)
-    (more_is ∙ ap (λ (front : List Piece). front ++ piece ∷ []) (last_put route last count is positive)) joined not_touching not_empty
+    (cc (last_put route last count is positive)) joined not_touching not_empty
 
 pub first_piece : (route more : List Piece) (piece : Piece) → length route ≡ 0 → more ≡ route ++ piece ∷ [] → IsNotEmpty piece
     → IsRouteOver (steps_of route ++ steps_in piece) more
-first_piece [] more piece none more_is not_empty = subst (λ (new : List Piece). IsRouteOver (steps_in piece) new) (sym more_is) (record {
+first_piece [] more piece none more_is not_empty = rw more_is (record {
   joined = record { not_empty = All-push IsNotEmpty [] piece (All-nil IsNotEmpty) not_empty; apart = tt };
   steps_are = append-nil (steps_in piece);
 })
@@ -124,8 +122,7 @@ pub route_of_itself : (steps : List Step) (route : List Piece) → IsRouteOver s
 route_of_itself steps route is = record { joined = is.joined; steps_are = refl }
 
 pub no_pieces : (route : List Piece) → route ≡ [] → IsRouteOver [] route
-no_pieces route none = subst (λ (pieces : List Piece). IsRouteOver [] pieces) (sym none)
-    (record { joined = record { not_empty = All-nil IsNotEmpty; apart = tt }; steps_are = refl })
+no_pieces route none = rw none (record { joined = record { not_empty = All-nil IsNotEmpty; apart = tt }; steps_are = refl })
 
 -- a route over steps, with more steps behind it
 pub steps_more : (before more after : List Step) (route new : List Piece) → IsRouteOver before route → before ++ more ≡ after
@@ -133,11 +130,11 @@ pub steps_more : (before more after : List Step) (route new : List Piece) → Is
     → IsRouteOver after new
 steps_more before more after route new is same longer = record {
   joined = longer.joined;
-  steps_are = longer.steps_are ∙ ap (λ (steps : List Step). steps ++ more) is.steps_are ∙ same;
+  steps_are = cc;
 }
 
 -- the steps of one element more of a list
 pub steps_taken : {X : Type 0} (steps : X → List Step) (before : List Step) (all : List X) (i : ℕ) (d : X) → i < length all
     → (before ++ flat_map steps (take i all)) ++ steps (get_or all i d) ≡ before ++ flat_map steps (take (i + 1) all)
 steps_taken {X = X} steps before all i d inside =
-    flat_map_more steps before (take i all) (get_or all i d) ∙ ap (λ (taken : List X). before ++ flat_map steps taken) (sym (take_more all i d inside))
+    cc (flat_map_more steps before (take i all) (get_or all i d), take_more all i d inside)

@@ -29,14 +29,14 @@ module _ (road : RoadMap) where
       let pieces = pieces_plain route in
       let within = part_plain inner in
       let around = part_plain outer in record {
-        no_float = rw (within.no_float, legs.no_float, around.no_float, points.no_float, pieces.no_float) refl;
+        no_float = rw (within.no_float, legs.no_float, around.no_float, points.no_float, pieces.no_float);
         shallow = omega (arith, within.shallow, legs.shallow, around.shallow, points.shallow, pieces.shallow);
       }
   matching_plain key matched route (Point earliest latest) =
       let legs = all_plain 1 leg_object (λ leg. record { no_float = refl; shallow = omega arith }) matched.legs.items in
       let points = all_plain 1 (candidate_object road) (λ point. record { no_float = refl; shallow = omega arith }) matched.candidates.items in
       let pieces = pieces_plain route in record {
-        no_float = rw (legs.no_float, points.no_float, pieces.no_float) refl;
+        no_float = rw (legs.no_float, points.no_float, pieces.no_float);
         shallow = omega (arith, legs.shallow, points.shallow, pieces.shallow);
       }
 
@@ -46,10 +46,10 @@ module _ (road : RoadMap) where
   pub page_plain : (entries : List Entry) (next : Option KeyValue) (mark : Option Mark) → IsPlain 5 (page_object road entries next mark)
   page_plain entries None mark =
       let matchings = all_plain 3 (entry_object road) entry_plain entries in
-      record { no_float = rw (matchings.no_float) refl; shallow = omega (arith, matchings.shallow) }
+      record { no_float = rw (matchings.no_float); shallow = omega (arith, matchings.shallow) }
   page_plain entries (Some last) mark =
       let matchings = all_plain 3 (entry_object road) entry_plain entries in
-      record { no_float = rw (matchings.no_float) refl; shallow = omega (arith, matchings.shallow) }
+      record { no_float = rw (matchings.no_float); shallow = omega (arith, matchings.shallow) }
 
 pub next_plain : (next : Option KeyValue) (mark : Option Mark) → IsPlain 5 (next_value next mark)
 next_plain None mark = record { no_float = refl; shallow = omega arith }

@@ -1,5 +1,5 @@
 -- The lengths of legs and of their joined route.
-use Rattle.std.proofs.Common.{◌≡◌, ℕ, ◌+◌, ◌*◌, ◌^◌, ◌<◌, ◌≤◌, List, [], ◌∷◌, ◌++◌, length, take, get_or, sym, ap, ◌∙◌, subst, length-append, arith}
+use Rattle.std.proofs.Common.{◌≡◌, ℕ, ◌+◌, ◌*◌, ◌^◌, ◌<◌, ◌≤◌, List, [], ◌∷◌, ◌++◌, length, take, get_or, ap, length-append, arith}
 use Rattle.std.specs.Prelude.{All}
 use Rattle.std.specs.List.{sum_by}
 use Rattle.std.proofs.lemmas.List.Elements.{All-get_or}
@@ -11,7 +11,7 @@ use Rattle.olr_route.specs.declared.piece.Piece.{Piece}
 use Rattle.olr_route.specs.Walk.{piece_length}
 use Rattle.olr_report.specs.Joined.{IsJoinedRoute}
 use Rattle.olr_report.specs.Location.{AreLegsOf, IsMeasured}
-use Rattle.olr_report.specs.Steps.{Step, steps_of, steps_of_legs}
+use Rattle.olr_report.specs.Steps.{steps_of, steps_of_legs}
 use Rattle.olr_report.proofs.Appending.{steps_taken}
 use Rattle.olr_report.proofs.StepLists.{length-steps_of}
 
@@ -21,24 +21,23 @@ some_leg (PointAlong points orientation side positive) legs is legs_are = omega 
 
 -- the steps of a leg are as many as it is long
 leg_steps : (leg : Leg) → IsMeasured leg → length (steps_of leg.route.items) ≡ leg.length
-leg_steps leg is = length-steps_of leg.route.items ∙ sym is.length_is
+leg_steps leg is = cc (length-steps_of leg.route.items)
 
 -- one leg more
 pub total_more : (legs : List Leg) (leg : Leg) (i total : ℕ) → All IsMeasured legs → i < length legs → leg ≡ get_or legs i leg
     → (total ≡ length (steps_of_legs (take i legs))) × (total ≤ i * 2 ^ 20)
     → (total + leg.length ≡ length (steps_of_legs (take (i + 1) legs))) × (total + leg.length ≤ (i + 1) * 2 ^ 20)
 total_more legs leg i total measured inside is (so_far, below) =
-    let here : IsMeasured leg = subst IsMeasured (sym is) (All-get_or IsMeasured legs i leg inside measured) in
+    let here : IsMeasured leg = rw is (All-get_or IsMeasured legs i leg inside measured) in
     let more : steps_of_legs (take i legs) ++ steps_of (get_or legs i leg).route.items ≡ steps_of_legs (take (i + 1) legs) =
-    steps_taken (λ (l : Leg). steps_of l.route.items) [] legs i leg inside
+    steps_taken (λ l. steps_of l.route.items) [] legs i leg inside
     in
-    let same : length (steps_of (get_or legs i leg).route.items) ≡ leg.length = ap (λ (l : Leg). length (steps_of l.route.items)) (sym is)
-    ∙ leg_steps leg here in (
+    let same : length (steps_of (get_or legs i leg).route.items) ≡ leg.length = cc (leg_steps leg here) in (
       omega (
         arith,
         so_far,
         same,
-        ap (λ (steps : List Step). length steps) more,
+        ap length more,
         length-append (steps_of_legs (take i legs))
             (steps_of (get_or legs i leg).route.items),
       ),
@@ -47,7 +46,7 @@ total_more legs leg i total measured inside is (so_far, below) =
 
 -- the joined route is as long as the legs together
 joined_length : (legs : List Leg) (route : List Piece) → IsJoinedRoute legs route → sum_by piece_length route ≡ length (steps_of_legs legs)
-joined_length legs route is = sym (length-steps_of route) ∙ ap (λ (steps : List Step). length steps) is.steps_are
+joined_length legs route is = cc (length-steps_of route)
 
 first_steps : (legs : List Leg) (d : Leg) → All IsMeasured legs → 0 < length legs
     → (1 ≤ (get_or legs 0 d).length) × ((get_or legs 0 d).length ≤ length (steps_of_legs legs))
@@ -63,6 +62,5 @@ pub reaches : (reference : Reference) (legs : List Leg) (route pieces : List Pie
     → (0 < sum_by piece_length pieces) × (distance ≤ sum_by piece_length pieces)
 reaches reference legs route pieces d distance is legs_are joined same within =
     let steps = first_steps legs d legs_are.measured (some_leg reference legs is legs_are) in
-    let total : sum_by piece_length pieces ≡ length (steps_of_legs legs) = ap (λ (all : List Piece). sum_by piece_length all) same
-    ∙ joined_length legs route joined in
+    let total : sum_by piece_length pieces ≡ length (steps_of_legs legs) = cc (joined_length legs route joined) in
     (omega (arith, steps.0, steps.1, total), omega (arith, within, steps.1, total))

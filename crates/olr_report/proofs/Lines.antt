@@ -34,7 +34,8 @@ module _ (road : RoadMap) where
 
   -- ---- from pieces to steps
 
-  on_line : (line : ℕ) (positions : List ℕ) → HasLine road line → HasSteps (map (λ (at : ℕ). record { line = line; at = at }) positions)
+  on_line : (line : ℕ) (positions : List ℕ) → HasLine road line
+      → HasSteps (map (λ at. record { line = line; at = at }) positions)
   on_line line [] has = All-nil IsStepOn
   on_line line (at ∷ positions) has = All-cons IsStepOn _ _ has (on_line line positions has)
 
@@ -54,7 +55,7 @@ module _ (road : RoadMap) where
 
   -- a piece that isn't empty has a step
   first_line : (line from count : ℕ) (rest : List Step) → 0 < count
-      → HasSteps (map (λ (at : ℕ). record { line = line; at = at }) (range_with_len from count) ++ rest) → HasLine road line
+      → HasSteps (map (λ at. record { line = line; at = at }) (range_with_len from count) ++ rest) → HasLine road line
   first_line line from zero rest some has = absurd (omega arith)
   first_line line from (suc count) rest some has = All-head IsStepOn _ _ has
 
@@ -104,8 +105,7 @@ module _ (road : RoadMap) where
   location_of legs (Line points positive negative) (LocatedLine outer inner) has is =
       let steps = steps_of_all legs has in
       (part_of (steps_of_legs legs) _ _ outer steps is.outer_part, part_of (steps_of_legs legs) _ _ inner steps is.inner_part)
-  location_of legs (Line points positive negative) (LocatedPoint earliest latest) has is = absurd is
-  location_of legs (PointAlong points orientation side positive) (LocatedLine outer inner) has is = absurd is
   location_of legs (PointAlong points orientation side positive) (LocatedPoint earliest latest) has is =
       let steps = steps_of_all legs has in
       (place_on (steps_of_legs legs) _ earliest steps is.earliest_place, place_on (steps_of_legs legs) _ latest steps is.latest_place)
+  location_of legs _ _ has is = absurd is

@@ -21,14 +21,14 @@ slice_get-append_left (x ∷ s) r (suc k) inside = slice_get-append_left s r k (
 pub slice_get-append_right : {X : Type 0} (s r : List X) (k : ℕ) → slice_get (s ++ r) (length s + k) ≡ slice_get r k
 slice_get-append_right [] r k =
     let same : 0 + k ≡ k = omega arith in
-    rw same refl
+    rw same
 slice_get-append_right (x ∷ s) r k =
     let same : suc (length s) + k ≡ suc (length s + k) = omega arith in
     rw same (slice_get-append_right s r k)
 
 pub slice_get-stretch : (line from count k : ℕ) → k < count → slice_get (stretch line from count) k ≡ Some (record { line = line; at = from + k })
 slice_get-stretch line from zero k inside = absurd (omega (arith, inside))
-slice_get-stretch line from (suc count) zero inside = rw (add-zero from) refl
+slice_get-stretch line from (suc count) zero inside = rw (add-zero from)
 slice_get-stretch line from (suc count) (suc k) inside =
     let next : from + suc k ≡ from + 1 + k = omega arith in
     rw next (slice_get-stretch line (from + 1) count k (omega (arith, inside)))
@@ -50,7 +50,7 @@ step_behind piece steps k =
 first_step : (piece : Piece) (rest : List Piece) → IsNotEmpty piece
     → slice_get (steps_of (piece ∷ rest)) 0 ≡ Some (record { line = piece.line; at = piece.from })
 first_step piece rest positive =
-    step_inside piece (steps_of rest) 0 (omega (arith, positive)) ∙ ap (λ (at : ℕ). Some (record { line = piece.line; at = at })) (add-zero piece.from)
+    cc (step_inside piece (steps_of rest) 0 (omega (arith, positive)), add-zero piece.from)
 
 -- ---- the first pieces of two lists with the same steps
 
@@ -126,4 +126,4 @@ same_pieces (piece ∷ rest) (other ∷ others) a_joined b_joined same =
     let tails = same_pieces rest others (joined_tail piece rest a_joined) (joined_tail other others b_joined) behind in cc
 
 pub one_route : (steps : List Step) (a b : List Piece) → IsRouteOver steps a → IsRouteOver steps b → a ≡ b
-one_route steps a b a_is b_is = same_pieces a b a_is.joined b_is.joined (a_is.steps_are ∙ sym b_is.steps_are)
+one_route steps a b a_is b_is = same_pieces a b a_is.joined b_is.joined (cc)

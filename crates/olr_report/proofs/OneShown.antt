@@ -1,12 +1,7 @@
 -- A page has one text at most, and one JSON at most: the joined route of legs and the location of a reference on it are determined by the legs.
-use Rattle.std.proofs.Common.{◌≡◌, ℕ, List, [], ◌∷◌, ◌++◌, map, Option, Some, None, refl, sym, subst, ap, ◌∙◌, All, codes, arith}
+use Rattle.std.proofs.Common.{◌≡◌, ℕ, List, [], ◌∷◌, map, Option, Some, None, refl, ap, ◌∙◌, All, codes, arith}
 use Rattle.std.specs.Global.{Vec}
 use Rattle.std.proofs.lemmas.List.Elements.{All-head, All-tail}
-use Rattle.std.proofs.lemmas.Option.{same_Some}
-use Rattle.serde_json.specs.Data.{Data, object, array, member, no_members}
-use Rattle.serde_json.specs.View.{items_of}
-use Rattle.serde_json.specs.Written.{compact_text}
-use Rattle.olr_binary.specs.JsonValues.{IsJsonLine}
 use Rattle.olr_binary.specs.declared.reference.Reference.{Reference}
 use Rattle.olr_binary.specs.declared.reference.Reference.TheVariants.{Line, PointAlong}
 use Rattle.olr_keys.specs.Key.{KeyValue}
@@ -17,13 +12,13 @@ use Rattle.olr_matching.specs.declared.matched.Matched.{Matched}
 use Rattle.olr_route.specs.declared.piece.Piece.{Piece}
 use Rattle.olr_report.specs.Entries.{Entry, IsEntryOf, AreEntriesOf}
 use Rattle.olr_report.specs.Joined.{IsJoinedRoute, IsRouteOver}
-use Rattle.olr_report.specs.Json.{pieces_array, part_value, matching_object, entry_object, next_value}
+use Rattle.olr_report.specs.Json.{part_value, matching_object, entry_object, next_value}
 use Rattle.olr_report.specs.JsonLaws.{OneJson, OnlyMarkDiffers}
 use Rattle.olr_report.specs.Location.{IsLocation, IsPartBetween}
 use Rattle.olr_report.specs.Steps.{Step, steps_of_legs}
 use Rattle.olr_report.specs.Text.{entries_rows, next_after}
 use Rattle.olr_report.specs.TextLaws.{OneText}
-use Rattle.olr_report.specs.TextRows.{pieces_row, part_row, location_rows, entry_rows, end_row}
+use Rattle.olr_report.specs.TextRows.{pieces_row, part_row, location_rows, entry_rows}
 use Rattle.olr_report.specs.declared.locating.Located.{Located}
 use Rattle.olr_report.specs.declared.locating.Located.TheVariants.{Line as LocatedLine, Point as LocatedPoint}
 
@@ -42,12 +37,12 @@ module _ (one_route : OneRoute) (road : RoadMap) where
   one_part steps before behind None (Some b) is is' = absurd (omega (arith, is, is'.0))
   one_part steps before behind (Some a) None is is' = absurd (omega (arith, is', is.0))
   one_part steps before behind (Some a) (Some b) is is' = let same = one_route _ a.items b.items is.1 is'.1 in record {
-    rows = λ name. ap (λ (pieces : List Piece). pieces_row road name pieces) same;
-    values = ap (λ (pieces : List Piece). pieces_array road pieces) same;
+    rows = λ name. ap (λ pieces. pieces_row road name pieces) same;
+    values = cc;
   }
 
   one_place : (found : Option Place) (a b : Place) → found ≡ Some a → found ≡ Some b → a ≡ b
-  one_place found a b is is' = same_Some a b (sym is ∙ is')
+  one_place found a b is is' = cc
 
   -- two locations have the same rows, and the same members
   record SameLocation (a b : Located) : Type 0 where
@@ -59,16 +54,15 @@ module _ (one_route : OneRoute) (road : RoadMap) where
       let around = one_part (steps_of_legs legs) _ _ outer outer' is.outer_part is'.outer_part in
       let within = one_part (steps_of_legs legs) _ _ inner inner' is.inner_part is'.inner_part in record {
         rows = let outer_is = around.rows (codes "outer") in let inner_is = within.rows (codes "inner") in cc;
-        objects = λ key matched route. rw (around.values, within.values) refl;
+        objects = λ key matched route. rw (around.values, within.values);
       }
-  one_location legs (Line points positive negative) (LocatedLine outer inner) (LocatedPoint earliest latest) is is' = absurd is'
   one_location legs (Line points positive negative) (LocatedPoint earliest latest) b is is' = absurd is
   one_location legs (PointAlong points orientation side positive) (LocatedLine outer inner) b is is' = absurd is
-  one_location legs (PointAlong points orientation side positive) (LocatedPoint earliest latest) (LocatedLine outer inner) is is' = absurd is'
   one_location legs (PointAlong points orientation side positive) (LocatedPoint earliest latest) (LocatedPoint earliest' latest') is is' =
       let earliest_is = one_place _ earliest earliest' is.earliest_place is'.earliest_place in
       let latest_is = one_place _ latest latest' is.latest_place is'.latest_place in
-      record { rows = rw (earliest_is, latest_is) refl; objects = λ key matched route. rw (earliest_is, latest_is) refl }
+      record { rows = rw (earliest_is, latest_is); objects = λ key matched route. rw (earliest_is, latest_is) }
+  one_location legs _ _ _ is is' = absurd is'
 
   -- two lists of entries have the same rows, and the same objects
   record SameEntries (a b : List Entry) : Type 0 where
@@ -78,49 +72,43 @@ module _ (one_route : OneRoute) (road : RoadMap) where
   one_entry : (reference : Reference) (a b : Entry) → a.key ≡ b.key → a.matched ≡ b.matched → IsEntryOf reference a → IsEntryOf reference b
       → (entry_rows road a ≡ entry_rows road b) × (entry_object road a ≡ entry_object road b)
   one_entry reference a b key matched is is' =
-      let joined : IsJoinedRoute b.matched.legs.items a.route = subst (λ (m : Matched). IsJoinedRoute m.legs.items a.route) matched is.route in
-      let lies : IsLocation b.matched.legs.items reference a.located =
-      subst (λ (m : Matched). IsLocation m.legs.items reference a.located) matched is.location in
+      let joined : IsJoinedRoute b.matched.legs.items a.route = rw (← matched) is.route in
+      let lies : IsLocation b.matched.legs.items reference a.located = rw (← matched) is.location in
       let routes = one_route _ a.route b.route joined is'.route in
       let locations = one_location b.matched.legs.items reference a.located b.located lies is'.location in (
-        let rows = locations.rows in rw (key, matched, routes, rows) refl,
-        ap (λ (k : KeyValue). matching_object road k a.matched a.route a.located) key
-            ∙ ap (λ (m : Matched). matching_object road b.key m a.route a.located) matched
-            ∙ ap (λ (r : List Piece). matching_object road b.key b.matched r a.located) routes ∙ locations.objects b.key b.matched b.route,
+        let rows = locations.rows in rw (key, matched, routes, rows),
+        let objects = locations.objects b.key b.matched b.route in cc,
       )
 
-  one_list : (reference : Reference) (a b : List Entry) → map (λ (entry : Entry). entry.key) a ≡ map (λ (entry : Entry). entry.key) b
-      → map (λ (entry : Entry). entry.matched) a ≡ map (λ (entry : Entry). entry.matched) b → All (IsEntryOf reference) a → All (IsEntryOf reference) b
+  one_list : (reference : Reference) (a b : List Entry) → map (λ entry. entry.key) a ≡ map (λ entry. entry.key) b
+      → map (λ entry. entry.matched) a ≡ map (λ entry. entry.matched) b → All (IsEntryOf reference) a
+      → All (IsEntryOf reference) b
       → SameEntries a b
   one_list reference [] [] keys matched is is' = record { rows = refl; objects = refl }
-  one_list reference [] (entry ∷ b) keys matched is is' = absurd (cc)
-  one_list reference (entry ∷ a) [] keys matched is is' = absurd (cc)
   one_list reference (entry ∷ a) (entry' ∷ b) keys matched is is' =
       let key : entry.key ≡ entry'.key = cc in
       let one : entry.matched ≡ entry'.matched = cc in
       let first = one_entry reference entry entry' key one (All-head (IsEntryOf reference) entry a is) (All-head (IsEntryOf reference) entry' b is') in
       let others = one_list reference a b (cc) (cc) (All-tail (IsEntryOf reference) entry a is) (All-tail (IsEntryOf reference) entry' b is') in record {
         rows = let here = first.0 in let behind = others.rows in cc;
-        objects = ap (λ (d : Data). d ∷ map (entry_object road) a) first.1 ∙ ap (λ (l : List Data). entry_object road entry' ∷ l) others.objects;
+        objects = let here = first.1 in let behind = others.objects in cc;
       }
+  one_list reference _ _ keys matched is is' = absurd (cc)
 
   all_same : (reference : Reference) (keys : List KeyValue) (matched : List Matched) (a b : List Entry) → AreEntriesOf reference keys matched a
       → AreEntriesOf reference keys matched b → SameEntries a b
   all_same reference keys matched a b are are' =
-      one_list reference a b (are.keys_are ∙ sym are'.keys_are) (are.matched_are ∙ sym are'.matched_are) are.each are'.each
+      one_list reference a b (cc) (cc) are.each are'.each
 
 pub one_text : OneRoute → OneText
 one_text one_route road reference page matched mark text other is is' =
     let same = all_same one_route road reference page.keys matched is.entries is'.entries is.are_entries is'.are_entries in
-    is.text_is ∙ ap (λ (l : List ℕ). l ++ end_row (next_after page) mark) same.rows ∙ sym is'.text_is
+    is.text_is ∙ rw same.rows (cc)
 
 pub one_json : OneRoute → OneJson
 one_json one_route road reference page matched mark text other is is' =
     let same = all_same one_route road reference page.keys matched is.entries is'.entries is.are_entries is'.are_entries in
-    is.json.line_is
-    ∙ ap (λ (l : List Data). compact_text (object (member (codes "matchings") (array (items_of l)) (member (codes "next") (next_value (next_after page) mark) no_members)))
-    ++ codes "\n") same.objects
-    ∙ sym is'.json.line_is
+    is.json.line_is ∙ rw same.objects (cc)
 
 pub only_mark_differs : OneRoute → OnlyMarkDiffers
 only_mark_differs one_route road reference page matched mark other text again is is' =
@@ -128,7 +116,6 @@ only_mark_differs one_route road reference page matched mark other text again is
     let next = next_value (next_after page) mark in record {
       entries = is'.entries;
       next = next_after page;
-      text_is = subst (λ (objects : List Data).
-          IsJsonLine (object (member (codes "matchings") (array (items_of objects)) (member (codes "next") next no_members))) text) same.objects is.json;
+      text_is = rw (← same.objects) is.json;
       again_is = is'.json;
     }

@@ -23,18 +23,16 @@ module _ (reference : Reference) (keys : List KeyValue) (matched : List Matched)
       → IsEntryOf reference (entry_of entry) → new ≡ list ++ entry ∷ [] → AreEntriesOf reference (take count keys) (take count matched) (map entry_of list)
       → AreEntriesOf reference (take next keys) (take next matched) (map entry_of new)
   with_entry new entry next inside within is key_at one_at of grown are = record {
-    keys_are = ap (λ l. map (λ (e : Entry). e.key) (map entry_of l)) grown
-        ∙ more_of (λ (e : Entry). e.key) keys list entry count next inside is key_at are.keys_are;
-    matched_are = ap (λ l. map (λ (e : Entry). e.matched) (map entry_of l)) grown
-        ∙ more_of (λ (e : Entry). e.matched) matched list entry count next within is one_at are.matched_are;
-    each = All-same (IsEntryOf reference) _ _ (ap (map entry_of) grown ∙ map_push entry_of list entry)
+    keys_are = cc (more_of (λ (e : Entry). e.key) keys list entry count next inside is key_at are.keys_are);
+    matched_are = cc (more_of (λ (e : Entry). e.matched) matched list entry count next within is one_at are.matched_are);
+    each = All-same (IsEntryOf reference) _ _ (cc (map_push entry_of list entry))
         (All-push (IsEntryOf reference) (map entry_of list) (entry_of entry) are.each of);
   }
 
   pub all_entries : length keys ≤ count → length matched ≤ count → AreEntriesOf reference (take count keys) (take count matched) (map entry_of list)
       → AreEntriesOf reference keys matched (map entry_of list)
   all_entries inside within are = record {
-    keys_are = are.keys_are ∙ take_all count keys inside;
-    matched_are = are.matched_are ∙ take_all count matched within;
+    keys_are = cc (take_all count keys inside);
+    matched_are = cc (take_all count matched within);
     each = are.each;
   }

@@ -1,5 +1,5 @@
 -- A part of a route, while its pieces are gone through.
-use Rattle.std.proofs.Common.{◌≡◌, ℕ, ◌+◌, ◌-◌, ◌<◌, ◌≤◌, List, [], ◌++◌, length, take, drop, get_or, sym, ap, ◌∙◌, append_assoc, arith}
+use Rattle.std.proofs.Common.{◌≡◌, ℕ, ◌+◌, ◌-◌, ◌<◌, ◌≤◌, List, [], ◌++◌, length, take, drop, get_or, ap, append_assoc, arith}
 use Rattle.std.proofs.lemmas.List.{append-nil, drop_all, drop_more, length-drop, length-take, nil_from_length}
 use Rattle.olr_route.specs.declared.piece.Piece.{Piece}
 use Rattle.olr_route.specs.Walk.{piece_length}
@@ -16,7 +16,7 @@ pub part_none : (sought : List Step) (part rest : List Piece) (skip left : ℕ) 
     → IsPartSoFar sought part rest skip left
 part_none sought part rest skip left none same = record {
   joined = none.joined;
-  steps_are = ap (λ (steps : List Step). steps ++ take left (drop skip (steps_of rest))) none.steps_are ∙ same;
+  steps_are = cc;
 }
 
 pub part_more : (sought : List Step) (part new pieces : List Piece) (clipped d : Piece) (i skip left : ℕ) → i < length pieces
@@ -28,24 +28,24 @@ part_more sought part new pieces clipped d i skip left inside so_far clipped_is 
     let rest : List Step = steps_of (drop (i + 1) pieces) in
     let split : take left (drop skip (steps_of (drop i pieces))) ≡ steps_in clipped ++ take (left - piece_length clipped)
     (drop (skip - piece_length (get_or pieces i d)) rest) =
-    ap (λ (all : List Piece). take left (drop skip (steps_of all))) (drop_more pieces i d inside) ∙ part-append left skip here rest
-    ∙ ap (λ (count : ℕ). take left (drop skip here) ++ take (left - length (take left (drop skip here))) (drop (skip - count) rest))
-    (length-steps_in (get_or pieces i d))
-    ∙ ap (λ (first : List Step). first ++ take (left - length first) (drop (skip - piece_length (get_or pieces i d)) rest)) (sym clipped_is)
-    ∙ ap (λ (count : ℕ). steps_in clipped ++ take (left - count) (drop (skip - piece_length (get_or pieces i d)) rest)) (length-steps_in clipped)
+    cc (
+      drop_more pieces i d inside,
+      part-append left skip here rest,
+      length-steps_in (get_or pieces i d),
+      length-steps_in clipped,
+    )
     in
     record {
       joined = longer.joined;
       steps_are =
-          ap (λ (steps : List Step). steps ++ take (left - piece_length clipped) (drop (skip - piece_length (get_or pieces i d)) rest)) longer.steps_are
-          ∙ append_assoc (steps_of part) (steps_in clipped) (take (left - piece_length clipped) (drop (skip - piece_length (get_or pieces i d)) rest))
-          ∙ ap (λ (steps : List Step). steps_of part ++ steps) (sym split) ∙ so_far.steps_are;
+          cc (append_assoc (steps_of part) (steps_in clipped)
+          (take (left - piece_length clipped) (drop (skip - piece_length (get_or pieces i d)) rest)));
     }
 
 -- the clipped piece is no longer than what is left
 pub clipped_within : (piece clipped : Piece) (skip left : ℕ) → steps_in clipped ≡ take left (drop skip (steps_in piece)) → piece_length clipped ≤ left
 clipped_within piece clipped skip left is =
-    omega (arith, length-steps_in clipped, ap (λ (steps : List Step). length steps) is, length-take left (drop skip (steps_in piece)))
+    omega (arith, length-steps_in clipped, ap length is, length-take left (drop skip (steps_in piece)))
 
 none_left : (left skip : ℕ) → take left (drop skip (steps_of [])) ≡ []
 none_left left skip = nil_from_length (take left (drop skip (steps_of [])))
@@ -55,9 +55,9 @@ pub part_all : (sought : List Step) (part pieces : List Piece) (i skip left : �
     → IsPartSoFar sought part (drop i pieces) skip left → IsRouteOver sought part
 part_all sought part pieces i skip left past so_far =
     let nothing : take left (drop skip (steps_of (drop i pieces))) ≡ [] =
-    ap (λ (rest : List Piece). take left (drop skip (steps_of rest))) (drop_all i pieces past) ∙ none_left left skip
+    cc (drop_all i pieces past, none_left left skip)
     in
     record {
       joined = so_far.joined;
-      steps_are = sym (append-nil (steps_of part)) ∙ ap (λ (steps : List Step). steps_of part ++ steps) (sym nothing) ∙ so_far.steps_are;
+      steps_are = cc (append-nil (steps_of part));
     }

@@ -13,13 +13,13 @@ pieces_after road separator (piece ∷ pieces) = separator ++ (piece_text road p
 joined : (road : RoadMap) (pieces : List Piece) → pieces_after road [] pieces ≡ pieces_text road pieces
 joined road [] = refl
 joined road (piece ∷ []) = append-nil (piece_text road piece)
-joined road (piece ∷ next ∷ pieces) = ap (λ (l : List ℕ). piece_text road piece ++ 32 ∷ l) (joined road (next ∷ pieces))
+joined road (piece ∷ next ∷ pieces) = cc (joined road (next ∷ pieces))
 
 module _ (road : RoadMap) (all : List Piece) where
   -- the text so far is empty, and all pieces are left
   pub begun : (text separator : List ℕ) → separator ≡ [] → text ++ pieces_after road separator (drop 0 all) ≡ text ++ pieces_text road all
   begun text separator none =
-      ap (λ (l : List ℕ). text ++ pieces_after road l all) none ∙ ap (λ (l : List ℕ). text ++ l) (joined road all)
+      cc (joined road all)
 
   -- with the pieces that are left, the text is the same before and after one of them is added
   pub one_more : (index next : ℕ) (piece : Piece) (text separated new separator space whole : List ℕ) → index < length all → next ≡ index + 1

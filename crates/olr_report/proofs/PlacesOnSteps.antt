@@ -1,6 +1,6 @@
 -- The place at a distance along pieces, while they are gone through.
-use Rattle.std.proofs.Common.{◌≡◌, ℕ, zero, suc, ◌+◌, ◌-◌, ◌<◌, ◌≤◌, Option, Some, List, ◌++◌, length, drop, get_or, sym, ap, ◌∙◌, subst, arith}
-use Rattle.std.specs.Prelude.{All, option_map, slice_get}
+use Rattle.std.proofs.Common.{◌≡◌, ℕ, zero, suc, ◌+◌, ◌-◌, ◌<◌, ◌≤◌, Option, Some, List, ◌++◌, length, drop, get_or, ap, ◌∙◌, arith}
+use Rattle.std.specs.Prelude.{All, option_map}
 use Rattle.std.specs.List.{sum_by}
 use Rattle.std.proofs.lemmas.List.{drop_all, drop_more}
 use Rattle.std.proofs.lemmas.List.Elements.{All-get_or}
@@ -9,19 +9,18 @@ use Rattle.olr_map.specs.declared.place.Place.{Place}
 use Rattle.olr_route.specs.declared.piece.Piece.{Piece}
 use Rattle.olr_route.specs.Walk.{piece_length}
 use Rattle.olr_report.specs.Joined.{IsNotEmpty}
-use Rattle.olr_report.specs.Steps.{Step, end_of, place_at, start_of, steps_in, steps_of}
+use Rattle.olr_report.specs.Steps.{Step, end_of, place_at, steps_in, steps_of}
 use Rattle.olr_report.proofs.OneRoute.{step_behind, step_inside}
 
 -- ---- one piece and the steps behind it
 
 place_here : (piece : Piece) (behind : List Step) (left : ℕ) → IsNotEmpty piece → left ≤ piece_length piece
     → place_at (steps_in piece ++ behind) left ≡ Some (record { line = piece.line; at = piece.from + left })
-place_here piece behind zero positive within = ap (λ (step : Option Step). option_map start_of step)
-    (step_inside piece behind 0 (omega (arith, positive)))
+place_here piece behind zero positive within = cc (step_inside piece behind 0 (omega (arith, positive)))
 place_here piece behind (suc before) positive within =
     let next : piece.from + before + 1 ≡ piece.from + suc before = omega arith in
-    ap (λ (step : Option Step). option_map end_of step) (step_inside piece behind before (omega (arith, within)))
-    ∙ ap (λ (at : ℕ). Some (record { line = piece.line; at = at })) next
+    ap (λ step. option_map end_of step) (step_inside piece behind before (omega (arith, within)))
+    ∙ ap (λ at. Some (record { line = piece.line; at = at })) next
 
 place_behind : (piece : Piece) (behind : List Step) (left : ℕ) → piece_length piece < left
     → place_at (steps_in piece ++ behind) left ≡ place_at behind (left - piece_length piece)
@@ -29,9 +28,7 @@ place_behind piece behind zero past = absurd (omega (arith, past))
 place_behind piece behind (suc before) past =
     let at : piece_length piece + (before - piece_length piece) ≡ before = omega (arith, past) in
     let less : suc before - piece_length piece ≡ suc (before - piece_length piece) = omega (arith, past) in
-    subst (λ (left : ℕ). place_at (steps_in piece ++ behind) (suc before) ≡ place_at behind left) (sym less)
-    (ap (λ (step : Option Step). option_map end_of step)
-    (ap (λ (k : ℕ). slice_get (steps_in piece ++ behind) k) (sym at) ∙ step_behind piece behind (before - piece_length piece)))
+    rw less (cc (step_behind piece behind (before - piece_length piece)))
 
 -- ---- the pieces that are left
 
@@ -45,20 +42,24 @@ module _ (sought : Option Place) (pieces : List Piece) (not_empty : All IsNotEmp
   pub place_found : i < length pieces → left ≤ piece_length (get_or pieces i d)
       → sought ≡ Some (record { line = (get_or pieces i d).line; at = (get_or pieces i d).from + left })
   place_found inside within =
-      sym so_far.place_is ∙ ap (λ (all : List Piece). place_at (steps_of all) left) (drop_more pieces i d inside)
-      ∙ place_here (get_or pieces i d) (steps_of (drop (i + 1) pieces)) left (All-get_or IsNotEmpty pieces i d inside not_empty) within
+      cc (
+        drop_more pieces i d inside,
+        place_here (get_or pieces i d) (steps_of (drop (i + 1) pieces)) left
+            (All-get_or IsNotEmpty pieces i d inside not_empty) within,
+      )
 
   pub place_further : i < length pieces → piece_length (get_or pieces i d) < left
       → IsAlongRest sought (drop (i + 1) pieces) (left - piece_length (get_or pieces i d))
   place_further inside past =
       let sum = sum_by-drop_more piece_length pieces i d inside in record {
         place_is =
-            sym (place_behind (get_or pieces i d) (steps_of (drop (i + 1) pieces)) left past)
-            ∙ ap (λ (all : List Piece). place_at (steps_of all) left) (sym (drop_more pieces i d inside))
-            ∙ so_far.place_is;
+            cc (
+              place_behind (get_or pieces i d) (steps_of (drop (i + 1) pieces)) left past,
+              drop_more pieces i d inside,
+            );
         within = omega (arith, sum, so_far.within);
         positive = omega (arith, sum, so_far.within, past);
       }
 
   pub place_inside : length pieces ≤ i → ⊥
-  place_inside past = omega (arith, so_far.positive, ap (λ (all : List Piece). sum_by piece_length all) (drop_all i pieces past))
+  place_inside past = omega (arith, so_far.positive, ap (λ all. sum_by piece_length all) (drop_all i pieces past))

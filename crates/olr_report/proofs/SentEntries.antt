@@ -12,7 +12,7 @@ use Rattle.olr_report.specs.declared.locating.Located.{Located}
 use Rattle.olr_report.specs.declared.locating.Located.TheVariants.{Line, Point}
 
 pub three_sent : (a b c : List ℕ) (x y z : Data) (old first second new : Log) → SendsMember a x old first → SendsMember b y first second
-    → SendsMember c z second new → SendsBefore (λ (others : Members). member a x (member b y (member c z others))) old new
+    → SendsMember c z second new → SendsBefore (λ others. member a x (member b y (member c z others))) old new
 three_sent a b c x y z old first second new sent next last = λ others end rest. (
   sent.named,
   first,

@@ -1,5 +1,5 @@
 -- What a value sends is written as its compact text, and this text reads as the value.
-use Rattle.std.proofs.Common.{◌≡◌, ℕ, ◌+◌, ◌<◌, ◌≤◌, max, List, [], ◌∷◌, ◌++◌, length, get_or, drop, map, Some, option_map, option_and_then, codes, false, suc, refl, sym, ap, ap₂, ◌∙◌, subst, arith, append-nil}
+use Rattle.std.proofs.Common.{◌≡◌, ℕ, ◌+◌, ◌<◌, ◌≤◌, max, List, [], ◌∷◌, ◌++◌, length, get_or, drop, map, Some, option_map, option_and_then, codes, false, suc, refl, sym, ap, ap₂, ◌∙◌, arith, append-nil}
 use Rattle.std.proofs.lemmas.List.{drop_more}
 use Rattle.json.specs.Json as json
 use Rattle.json.specs.Tree as tree
@@ -124,7 +124,7 @@ reads value log sent shallow =
 pub line_of : (value : Data) (log : Log) (text line : List ℕ) → Sends value (Some []) log → IsTextOf log text → has_float value ≡ false
     → depth value ≤ max_depth → line ≡ text ++ codes "\n" → IsJsonLine value line
 line_of value log text line sent is whole shallow ended = record {
-  line_is = ended ∙ ap (λ (t : List ℕ). t ++ codes "\n") (text_of_value value log text (value_sent value (Some []) log sent) is whole);
+  line_is = cc (text_of_value value log text (value_sent value (Some []) log sent) is whole);
   reads_as = reads value log sent shallow;
 }
 
@@ -140,5 +140,5 @@ module _ {A : Type 0} (value : A → Data) where
       → SendsItems (items_of (map value (drop (index + 1) list))) mid end → SendsItems (items_of (map value (drop index list))) old end
   one_more list index a old mid end inside at sent others =
       let dropped : drop index list ≡ a ∷ drop (index + 1) list =
-      drop_more list index a inside ∙ ap (λ x. x ∷ drop (index + 1) list) (sym at) in
-      subst (λ l. SendsItems (items_of (map value l)) old end) (sym dropped) (mid, sent, others)
+      cc (drop_more list index a inside) in
+      rw dropped (mid, sent, others)

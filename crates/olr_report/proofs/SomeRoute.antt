@@ -1,12 +1,12 @@
 -- Each list of steps has joined pieces.
-use Rattle.std.proofs.Common.{◌≡◌, ℕ, suc, ◌+◌, ◌-◌, List, [], ◌∷◌, ◌++◌, inl, inr, refl, sym, ap, ◌∙◌, arith}
+use Rattle.std.proofs.Common.{◌≡◌, ℕ, suc, ◌+◌, ◌-◌, List, [], ◌∷◌, inl, inr, refl, sym, ap, ◌∙◌, arith}
 use Rattle.std.proofs.lemmas.Bool.{cases_eq}
 use Rattle.std.proofs.lemmas.List.Elements.{All-cons, All-head, All-nil, All-tail}
 use Rattle.olr_route.specs.declared.piece.Piece.{Piece}
 use Rattle.olr_route.specs.Walk.{piece_length}
 use Rattle.olr_report.specs.Joined.{AreApart, IsNotEmpty, IsRouteOver}
 use Rattle.olr_report.specs.PartLaws.{SomeRouteOver}
-use Rattle.olr_report.specs.Steps.{Step, steps_in, steps_of}
+use Rattle.olr_report.specs.Steps.{Step, steps_in}
 use Rattle.olr_report.proofs.StepLists.{stretch}
 
 -- the piece of one step
@@ -23,15 +23,15 @@ made line at = record { line = line; at = at }
 one_step : (step : Step) → steps_in (piece_of step) ≡ step ∷ []
 one_step step =
     let one : step.at + 1 - step.at ≡ suc 0 = omega arith in
-    ap (λ (n : ℕ). stretch step.line step.at n) one
+    ap (λ n. stretch step.line step.at n) one
 
 longer_steps : (step : Step) (piece : Piece) → step.line ≡ piece.line → step.at + 1 ≡ piece.from → IsNotEmpty piece
     → steps_in (longer step piece) ≡ step ∷ steps_in piece
 longer_steps step piece line at positive =
     let count : piece.to - step.at ≡ suc (piece_length piece) = omega (arith, at, positive) in
-    ap (λ (n : ℕ). stretch piece.line step.at n) count
-    ∙ ap (λ (from : ℕ). made piece.line step.at ∷ stretch piece.line from (piece_length piece)) at
-    ∙ ap (λ (l : ℕ). made l step.at ∷ steps_in piece) (sym line)
+    ap (λ n. stretch piece.line step.at n) count
+    ∙ ap (λ from. made piece.line step.at ∷ stretch piece.line from (piece_length piece)) at
+    ∙ ap (λ l. made l step.at ∷ steps_in piece) (sym line)
 
 -- a longer piece touches the next one no more than the piece does
 still_apart : (step : Step) (piece : Piece) (pieces : List Piece) → AreApart (piece ∷ pieces) → AreApart (longer step piece ∷ pieces)
@@ -48,7 +48,7 @@ alone step steps pieces is apart = (
   piece_of step ∷ pieces,
   record {
     joined = record { not_empty = All-cons IsNotEmpty (piece_of step) pieces (omega arith) is.joined.not_empty; apart = apart };
-    steps_are = ap (λ (front : List Step). front ++ steps_of pieces) (one_step step) ∙ ap (λ (l : List Step). step ∷ l) is.steps_are;
+    steps_are = cc (one_step step);
   },
 )
 
@@ -66,8 +66,7 @@ one_more step steps (piece ∷ pieces) is = elim (cases_eq step.line piece.line)
               not_empty = All-cons IsNotEmpty (longer step piece) pieces (omega (arith, at, positive)) (All-tail IsNotEmpty piece pieces is.joined.not_empty);
               apart = still_apart step piece pieces is.joined.apart;
             };
-            steps_are = ap (λ (front : List Step). front ++ steps_of pieces) (longer_steps step piece line at positive)
-                ∙ ap (λ (l : List Step). step ∷ l) is.steps_are;
+            steps_are = cc (longer_steps step piece line at positive);
           },
         )
   ]

@@ -21,5 +21,6 @@ pub legs_of : (road : RoadMap) (reference : Reference) (matched : Matched) → I
 legs_of road reference matched sound = record {
   count = sound.legs;
   measured = All-weaker (IsSoundLeg road) IsMeasured (measured road) matched.legs.items sound.each;
-  forwards = All-weaker (IsSoundLeg road) (λ (leg : Leg). All IsForwards leg.route.items) (is_forwards road) matched.legs.items sound.each;
+  forwards = All-weaker (IsSoundLeg road) (λ leg. All IsForwards leg.route.items)
+      (is_forwards road) matched.legs.items sound.each;
 }

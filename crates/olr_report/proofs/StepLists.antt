@@ -1,5 +1,5 @@
 -- Lists of steps: their lengths, and how they are cut and joined.
-use Rattle.std.proofs.Common.{◌≡◌, ℕ, zero, suc, ◌+◌, ◌-◌, ◌≤◌, min, List, [], ◌∷◌, ◌++◌, length, take, drop, map, refl, sym, ap, ◌∙◌, subst, length-append, zero-add, add-zero, arith}
+use Rattle.std.proofs.Common.{◌≡◌, ℕ, zero, suc, ◌+◌, ◌-◌, ◌≤◌, min, List, [], ◌∷◌, ◌++◌, length, take, drop, map, refl, sym, ap, ◌∙◌, length-append, zero-add, add-zero, arith}
 use Rattle.std.specs.List.{range_with_len, sum_by}
 use Rattle.std.proofs.lemmas.List.{drop_at, drop_min, take_min, length-take}
 use Rattle.std.proofs.lemmas.List.FromFn.{length-map-range_with_len, take-map-range_with_len}
@@ -13,10 +13,10 @@ use Rattle.olr_report.specs.Steps.{Step, steps_in, steps_of}
 pub drop-append : {X : Type 0} (n : ℕ) (s r : List X) → drop n (s ++ r) ≡ drop n s ++ drop (n - length s) r
 drop-append zero s r =
     let none : 0 - length s ≡ 0 = omega arith in
-    rw none refl
+    rw none
 drop-append (suc n) [] r =
     let all : suc n - 0 ≡ suc n = omega arith in
-    rw all refl
+    rw all
 drop-append (suc n) (x ∷ s) r =
     let less : suc n - suc (length s) ≡ n - length s = omega arith in
     rw less (drop-append n s r)
@@ -24,13 +24,13 @@ drop-append (suc n) (x ∷ s) r =
 pub take-append : {X : Type 0} (n : ℕ) (s r : List X) → take n (s ++ r) ≡ take n s ++ take (n - length s) r
 take-append zero s r =
     let none : 0 - length s ≡ 0 = omega arith in
-    rw none refl
+    rw none
 take-append (suc n) [] r =
     let all : suc n - 0 ≡ suc n = omega arith in
-    rw all refl
+    rw all
 take-append {X = X} (suc n) (x ∷ s) r =
     let less : suc n - suc (length s) ≡ n - length s = omega arith in
-    rw less (ap (λ (l : List X). x ∷ l) (take-append n s r))
+    rw less (cc (take-append n s r))
 
 -- the part of two lists behind the first `skip` elements, at most `most` long: that part of the first one, and what is then left of the second one
 pub part-append : {X : Type 0} (most skip : ℕ) (s r : List X)
@@ -38,29 +38,31 @@ pub part-append : {X : Type 0} (most skip : ℕ) (s r : List X)
 part-append most skip s r =
     let less : most - length (drop skip s) ≡ most - length (take most (drop skip s)) = omega (arith, length-take most (drop skip s)) in
     ap (take most) (drop-append skip s r) ∙ take-append most (drop skip s) (drop (skip - length s) r)
-    ∙ ap (λ (left : ℕ). take most (drop skip s) ++ take left (drop (skip - length s) r)) less
+    ∙ ap (λ left. take most (drop skip s) ++ take left (drop (skip - length s) r)) less
 
 -- ---- steps on one line
 
 -- the steps of a line from a position on, this many
 abbrev pub stretch : ℕ → ℕ → ℕ → List Step
-stretch line from count = map (λ (at : ℕ). record { line = line; at = at }) (range_with_len from count)
+stretch line from count = map (λ at. record { line = line; at = at }) (range_with_len from count)
 
 pub length-stretch : (line from count : ℕ) → length (stretch line from count) ≡ count
-length-stretch line from count = length-map-range_with_len (λ (at : ℕ). record { line = line; at = at }) from count
+length-stretch line from count = length-map-range_with_len (λ at. record { line = line; at = at }) from count
 
 pub stretch-add : (line from m n : ℕ) → stretch line from (m + n) ≡ stretch line from m ++ stretch line (from + m) n
-stretch-add line from zero n = rw (zero-add n, add-zero from) refl
+stretch-add line from zero n = rw (zero-add n, add-zero from)
 stretch-add line from (suc m) n =
     let more : suc m + n ≡ suc (m + n) = omega arith in
     let next : from + suc m ≡ from + 1 + m = omega arith in
-    rw (more, next) (ap (λ (l : List Step). record { line = line; at = from } ∷ l) (stretch-add line (from + 1) m n))
+    rw (more, next) (cc (stretch-add line (from + 1) m n))
 
 pub drop-stretch : (line from n k : ℕ) → k ≤ n → drop k (stretch line from n) ≡ stretch line (from + k) (n - k)
 drop-stretch line from n k within =
     let whole : k + (n - k) ≡ n = omega arith in
-    subst (λ (count : ℕ). drop k (stretch line from count) ≡ stretch line (from + k) (n - k)) whole
-    (ap (drop k) (stretch-add line from k (n - k)) ∙ drop_at (stretch line from k) (stretch line (from + k) (n - k)) k (length-stretch line from k))
+    rw (← whole) (cc (
+      stretch-add line from k (n - k),
+      drop_at (stretch line from k) (stretch line (from + k) (n - k)) k (length-stretch line from k),
+    ))
 
 -- the part behind the first `skip` steps, at most `most` long
 part-stretch : (line from n skip most : ℕ) → take most (drop skip (stretch line from n)) ≡ stretch line (from + min skip n) (min most (n - min skip n))
@@ -68,12 +70,12 @@ part-stretch line from n skip most =
     let skipped : ℕ = min skip n in
     let rest : List Step = stretch line (from + skipped) (n - skipped) in
     let dropped : drop skip (stretch line from n) ≡ rest =
-    sym (drop_min skip (stretch line from n)) ∙ ap (λ (count : ℕ). drop (min skip count) (stretch line from n)) (length-stretch line from n)
-    ∙ drop-stretch line from n skipped (omega arith)
+    cc (drop_min skip (stretch line from n), length-stretch line from n, drop-stretch line from n skipped (omega arith))
     in
     ap (take most) dropped ∙ sym (take_min most rest)
-    ∙ ap (λ (count : ℕ). take (min most count) rest) (length-stretch line (from + skipped) (n - skipped))
-    ∙ take-map-range_with_len (λ (at : ℕ). record { line = line; at = at }) (from + skipped) (n - skipped) (min most (n - skipped)) (omega arith)
+    ∙ ap (λ count. take (min most count) rest) (length-stretch line (from + skipped) (n - skipped))
+    ∙ take-map-range_with_len (λ at. record { line = line; at = at }) (from + skipped) (n - skipped)
+    (min most (n - skipped)) (omega arith)
 
 -- ---- steps of pieces
 
@@ -92,7 +94,7 @@ pub clipped_steps : (piece clipped : Piece) (skip most : ℕ) → clipped.line �
 clipped_steps piece clipped skip most line from to =
     let count : piece_length clipped ≡ min most (piece_length piece - min skip (piece_length piece)) = omega arith in
     let same : steps_in clipped ≡ stretch piece.line (piece.from + min skip (piece_length piece))
-    (min most (piece_length piece - min skip (piece_length piece))) = rw (count, line, from) refl in
+    (min most (piece_length piece - min skip (piece_length piece))) = rw (count, line, from) in
     same ∙ sym (part-stretch piece.line piece.from (piece_length piece) skip most)
 
 -- two pieces that touch have the steps of one
@@ -101,7 +103,8 @@ pub touching_steps : (first second whole : Piece) → first.line ≡ second.line
 touching_steps first second whole line position forwards further same_line same_from same_to =
     let count : piece_length whole ≡ piece_length first + piece_length second = omega arith in
     let next : second.from ≡ first.from + piece_length first = omega arith in
-    let all : steps_in whole ≡ stretch first.line first.from (piece_length first + piece_length second) = rw (count, same_line, same_from) refl in
+    let all : steps_in whole ≡ stretch first.line first.from (piece_length first + piece_length second) =
+    rw (count, same_line, same_from) in
     all ∙ stretch-add first.line first.from (piece_length first) (piece_length second)
-    ∙ ap (λ (at : ℕ). steps_in first ++ stretch first.line at (piece_length second)) (sym next)
-    ∙ ap (λ (on : ℕ). steps_in first ++ stretch on second.from (piece_length second)) line
+    ∙ ap (λ at. steps_in first ++ stretch first.line at (piece_length second)) (sym next)
+    ∙ ap (λ on. steps_in first ++ stretch on second.from (piece_length second)) line

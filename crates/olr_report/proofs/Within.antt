@@ -22,10 +22,10 @@ range_within {X} xs a b c d ab bc cd =
     let ys : List X = drop a xs in
     let count : d - a ≡ (b - a) + ((c - b) + (d - c)) = omega (arith, ab, bc, cd) in
     let whole : a + (b - a) ≡ b = omega (arith, ab) in
-    let behind : drop (b - a) ys ≡ drop b xs = drop-drop (b - a) a xs ∙ ap (λ (n : ℕ). drop n xs) whole in
-    ap (λ (n : ℕ). take n ys) count ∙ take-add (b - a) ((c - b) + (d - c)) ys
-    ∙ ap (λ (l : List X). take (b - a) ys ++ l) (take-add (c - b) (d - c) (drop (b - a) ys))
-    ∙ ap (λ (l : List X). take (b - a) ys ++ (take (c - b) l ++ take (d - c) (drop (c - b) l))) behind
+    let behind : drop (b - a) ys ≡ drop b xs = cc (drop-drop (b - a) a xs) in
+    ap (λ n. take n ys) count ∙ take-add (b - a) ((c - b) + (d - c)) ys
+    ∙ ap (λ l. take (b - a) ys ++ l) (take-add (c - b) (d - c) (drop (b - a) ys))
+    ∙ ap (λ l. take (b - a) ys ++ (take (c - b) l ++ take (d - c) (drop (c - b) l))) behind
 
 part_within : (steps : List Step) (earliest earliest_behind latest latest_behind : ℕ) (outer : Option (Vec Piece)) (inner : Vec Piece)
     → earliest ≤ latest → earliest_behind ≤ latest_behind → IsPartBetween steps earliest earliest_behind outer
@@ -37,7 +37,7 @@ part_within steps e f l m (Some part) inner one other out is =
     let before : List Step = take (l - e) (drop e steps) in
     let behind : List Step = take (n - f - (n - m)) (drop (n - m - l) (drop l steps)) in
     let cut = range_within steps e l (n - m) (n - f) one (omega (arith, is.0)) (omega (arith, other)) in
-    let same = out.1.steps_are ∙ cut ∙ ap (λ (steps : List Step). before ++ (steps ++ behind)) (sym is.1.steps_are) in
+    let same = out.1.steps_are ∙ cut ∙ ap (λ steps. before ++ (steps ++ behind)) (cc) in
     (part, before, behind, refl, same ∙ sym (append_assoc before (steps_of inner.items) behind))
 
 pub inner_within : InnerLiesWithinOuter

@@ -1,8 +1,7 @@
-use Rattle.std.proofs.Common.{◌+◌, ◌-◌, ◌∙◌, Some, drop, ℕ, ap, refl, subst, sym, arith}
-use Rattle.olr_map.specs.declared.place.Place.{Place}
+use Rattle.std.proofs.Common.{◌∙◌, Some, ap, refl, arith}
 use Rattle.olr_route.specs.declared.piece.Piece.{Piece}
 use Rattle.olr_report.specs.Steps.{place_at, steps_of}
-use Rattle.olr_report.proofs.PlacesOnSteps.{IsAlongRest, place_found, place_further, place_inside}
+use Rattle.olr_report.proofs.PlacesOnSteps.{place_found, place_further, place_inside}
 use Rattle.olr_report.proofs.along.place_on.Goals as goal
 
 pub loop-piece-init : goal.loop-piece-init
@@ -14,15 +13,14 @@ returns-then-left-length c =
     place_found (place_at (steps_of c.args.pieces.now) c.args.distance) c.args.pieces.now c.requires.not_empty c.loop-piece.piece-index
     c.loop-piece.left d c.loop-piece.invariant
     c.loop-piece-test.true (omega (arith, c.if-left-length.true, c.length_of-length.ensures))
-    ∙ ap (λ (place : Place). Some place) (sym c.place_in.ensures)
+    ∙ ap Some (cc)
 
 pub loop-piece-preserved : goal.loop-piece-preserved
 loop-piece-preserved c =
     let d : Piece = record { line = 0; from = 0; to = 0 } in
     let sought = place_at (steps_of c.args.pieces.now) c.args.distance in
     let i = c.loop-piece.piece-index in
-    subst (λ (length : ℕ). IsAlongRest sought (drop (i + 1) c.args.pieces.now) (c.loop-piece.left - length)) (sym c.length_of-length.ensures)
-    (place_further sought c.args.pieces.now c.requires.not_empty i c.loop-piece.left d c.loop-piece.invariant c.loop-piece-test.true
+    rw c.length_of-length.ensures (place_further sought c.args.pieces.now c.requires.not_empty i c.loop-piece.left d c.loop-piece.invariant c.loop-piece-test.true
     (omega (arith, c.if-left-length.false, c.length_of-length.ensures)))
 
 pub unreachable-requires : goal.unreachable-requires

@@ -1,9 +1,6 @@
-use Rattle.std.proofs.Common.{List, length, ap, refl, subst, arith}
-use Rattle.std.specs.Prelude.{All}
+use Rattle.std.proofs.Common.{length, ap, refl, arith}
 use Rattle.std.proofs.lemmas.List.{take_all}
 use Rattle.std.proofs.lemmas.List.Elements.{All-more}
-use Rattle.olr_binary.specs.declared.point.Point.{Point}
-use Rattle.olr_matching.specs.declared.matched.Leg.{Leg}
 use Rattle.olr_report.specs.Location.{IsMeasured}
 use Rattle.olr_report.proofs.conditions.are_legs_of.Goals as goal
 
@@ -11,14 +8,13 @@ pub loop-leg-preserved : goal.loop-leg-preserved
 loop-leg-preserved c =
     let leg = c.leg-item.result in
     All-more IsMeasured c.args.legs.now c.loop-leg.leg-index leg c.loop-leg-test.true c.loop-leg.invariant
-    (subst IsMeasured c.leg-item.is (c.is_measured.ensures.0 cc))
+    (rw (← c.leg-item.is) (c.is_measured.ensures.0 cc))
 
 pub returns : goal.returns
 returns c = (
   λ _. record {
-    count = omega (arith, ap (λ (points : List Point). length points) c.points.ensures);
-    measured = subst (λ (legs : List Leg). All IsMeasured legs) (take_all c.loop-leg.leg-index c.args.legs.now c.loop-leg-test.false)
-        c.loop-leg.invariant;
+    count = omega (arith, ap length c.points.ensures);
+    measured = rw (← (take_all c.loop-leg.leg-index c.args.legs.now c.loop-leg-test.false)) c.loop-leg.invariant;
     forwards = c.are_forwards.ensures.0 cc;
   },
   λ _. refl,

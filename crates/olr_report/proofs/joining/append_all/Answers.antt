@@ -1,14 +1,13 @@
-use Rattle.std.proofs.Common.{◌+◌, ◌++◌, get_or, take, List, subst, sym}
+use Rattle.std.proofs.Common.{◌+◌, ◌++◌, get_or, take}
 use Rattle.std.proofs.lemmas.List.{append-nil, take_all}
 use Rattle.olr_route.specs.declared.piece.Piece.{Piece}
-use Rattle.olr_report.specs.Joined.{IsRouteOver}
-use Rattle.olr_report.specs.Steps.{Step, steps_in, steps_of}
+use Rattle.olr_report.specs.Steps.{steps_in, steps_of}
 use Rattle.olr_report.proofs.Appending.{route_of_itself, steps_more, steps_taken}
 use Rattle.olr_report.proofs.joining.append_all.Goals as goal
 
 pub loop-piece-init : goal.loop-piece-init
 loop-piece-init c =
-    subst (λ (steps : List Step). IsRouteOver steps c.args.route.now.items) (sym (append-nil (steps_of c.args.route.now.items))) c.requires.route
+    rw (append-nil (steps_of c.args.route.now.items)) c.requires.route
 
 pub append-requires-clause-route : goal.append-requires-clause-route
 append-requires-clause-route c =
@@ -27,5 +26,4 @@ loop-piece-preserved c =
 
 pub returns : goal.returns
 returns c =
-    subst (λ (taken : List Piece). IsRouteOver (steps_of c.args.route.now.items ++ steps_of taken) c.loop-piece.route.items)
-    (take_all c.loop-piece.piece-index c.args.pieces.now c.loop-piece-test.false) c.loop-piece.invariant
+    rw (← (take_all c.loop-piece.piece-index c.args.pieces.now c.loop-piece-test.false)) c.loop-piece.invariant

@@ -1,10 +1,9 @@
-use Rattle.std.proofs.Common.{◌+◌, ◌++◌, ◌≡◌, ◌∙◌, [], ap, get_or, List, subst, sym, take}
+use Rattle.std.proofs.Common.{◌+◌, ◌≡◌, [], get_or, take}
 use Rattle.std.proofs.lemmas.List.{take_all}
 use Rattle.std.proofs.lemmas.List.Elements.{All-get_or}
 use Rattle.std.specs.Prelude.{All}
 use Rattle.olr_matching.specs.declared.matched.Leg.{Leg}
-use Rattle.olr_route.specs.declared.piece.Piece.{Piece}
-use Rattle.olr_report.specs.Joined.{IsForwards, IsRouteOver}
+use Rattle.olr_report.specs.Joined.{IsForwards}
 use Rattle.olr_report.specs.Steps.{steps_of, steps_of_legs}
 use Rattle.olr_report.proofs.Appending.{no_pieces, route_of_itself, steps_more, steps_taken}
 use Rattle.olr_report.proofs.joining.join.Goals as goal
@@ -19,23 +18,19 @@ append_all-requires-clause-route c = route_of_itself (steps_of_legs (take c.loop
 pub append_all-requires-clause-forwards : goal.append_all-requires-clause-forwards
 append_all-requires-clause-forwards c =
     let leg = c.leg-item.result in
-    subst (λ (pieces : List Piece). All IsForwards pieces) (sym c.deref.ensures.value)
-    (subst (λ (l : Leg). All IsForwards l.route.items) (sym c.leg-item.is)
-    (All-get_or (λ (l : Leg). All IsForwards l.route.items) c.args.legs.now c.loop-leg.leg-index leg c.loop-leg-test.true c.requires))
+    rw c.deref.ensures.value (rw c.leg-item.is (All-get_or (λ l. All IsForwards l.route.items) c.args.legs.now c.loop-leg.leg-index leg c.loop-leg-test.true c.requires))
 
 pub loop-leg-preserved : goal.loop-leg-preserved
 loop-leg-preserved c =
     let i = c.loop-leg.leg-index in
     let legs = c.args.legs.now in
     let leg = c.leg-item.result in
-    let here : c.deref.result.now ≡ (get_or legs i leg).route.items = c.deref.ensures.value ∙ ap (λ (l : Leg). l.route.items) c.leg-item.is in
+    let here : c.deref.result.now ≡ (get_or legs i leg).route.items = cc in
     steps_more (steps_of_legs (take i legs)) (steps_of c.deref.result.now) (steps_of_legs (take (i + 1) legs)) c.loop-leg.route.items
     c.append_all.new.route.items c.loop-leg.invariant
-    (ap (λ (pieces : List Piece). steps_of_legs (take i legs) ++ steps_of pieces) here
-    ∙ steps_taken (λ (l : Leg). steps_of l.route.items) [] legs i leg c.loop-leg-test.true)
+    (cc (steps_taken (λ (l : Leg). steps_of l.route.items) [] legs i leg c.loop-leg-test.true))
     c.in_ok-append_all.ensures
 
 pub returns : goal.returns
 returns c =
-    subst (λ (taken : List Leg). IsRouteOver (steps_of_legs taken) c.loop-leg.route.items)
-    (take_all c.loop-leg.leg-index c.args.legs.now c.loop-leg-test.false) c.loop-leg.invariant
+    rw (← (take_all c.loop-leg.leg-index c.args.legs.now c.loop-leg-test.false)) c.loop-leg.invariant

@@ -13,7 +13,7 @@ loop-key-preserved c =
     let entry = c.in_ok-entry.entry in
     with_entry c.args.reference.now keys c.args.matched.now c.loop-key.entries.items (length c.loop-key.yielded) c.push.new.self.items entry _
     turn.0 turn.1 (length_push c.loop-key.yielded (c.in-Some.key, c.in-Some.matched)) (done.key ∙ turn.2 entry.key.now)
-    (done.matched ∙ turn.3 entry.matched.now) done.entry c.in_ok-push.ensures.items c.loop-key.invariant
+    (cc (turn.3 entry.matched.now)) done.entry c.in_ok-push.ensures.items c.loop-key.invariant
 
 pub returns : goal.returns
 returns c =

@@ -1,6 +1,4 @@
-use Rattle.std.proofs.Common.{arith, map, string_bytes, subst}
-use Rattle.serde_json.specs.Data.{Data}
-use Rattle.olr_binary.specs.JsonValues.{IsJsonLine}
+use Rattle.std.proofs.Common.{arith, map}
 use Rattle.olr_report.specs.Entries.{entry_of}
 use Rattle.olr_report.proofs.ShownPage.{plain_page, same_page}
 use Rattle.olr_report.proofs.page_json.json_page.Goals as goal
@@ -19,6 +17,5 @@ returns c =
     let list = c.in_ok-matchings.matchings.items in record {
       entries = map entry_of list;
       are_entries = c.in_ok-matchings.ensures;
-      json = subst (λ (value : Data). IsJsonLine value (string_bytes c.in_ok-line.line))
-          (same_page c.args.map.now list _ _ _ _ _ c.next_cursor-next.ensures c.next_after.ensures) c.in_ok-line.ensures;
+      json = rw (← (same_page c.args.map.now list _ _ _ _ _ c.next_cursor-next.ensures c.next_after.ensures)) c.in_ok-line.ensures;
     }

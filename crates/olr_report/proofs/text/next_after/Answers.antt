@@ -1,4 +1,4 @@
-use Rattle.std.proofs.Common.{◌≡◌, ◌-◌, List, [], ◌∷◌, length, Bool, true, false, if◌then◌else◌, Bor, Option, None, Some, refl, ap, ◌∙◌, arith}
+use Rattle.std.proofs.Common.{◌≡◌, ◌-◌, List, [], ◌∷◌, length, Bool, true, false, if◌then◌else◌, Bor, Option, None, Some, refl, arith}
 use Rattle.std.specs.Prelude.{slice_get, option_copied, option_map}
 use Rattle.olr_keys.specs.Key.{KeyValue}
 use Rattle.olr_keys.specs.Page.{last_of}
@@ -13,9 +13,8 @@ last_is : (keys : List KeyValue) → slice_get keys (length keys - 1) ≡ last_o
 last_is [] = refl
 last_is (first ∷ keys) = let count : length (first ∷ keys) - 1 ≡ length keys = omega arith in rw count (last_behind None first keys)
 
-copied : (found : Option (Bor KeyValue)) → option_map (λ (key : Bor KeyValue). key.now) found ≡ option_copied found
-copied None = refl
-copied (Some key) = refl
+copied : (found : Option (Bor KeyValue)) → option_map (λ key. key.now) found ≡ option_copied found
+copied _ = refl
 
 chosen : (more : Bool) (key : Option KeyValue) → more ≡ true → key ≡ (if more then key else None)
 chosen true key is = refl
@@ -23,5 +22,8 @@ chosen false key is = absurd cc
 
 pub returns-then-page : goal.returns-then-page
 returns-then-page c =
-    copied c.last.result ∙ c.last.ensures.value ∙ ap (λ (keys : List KeyValue). slice_get keys (length keys - 1)) c.deref.ensures.value
-    ∙ last_is c.args.page.now.keys.items ∙ chosen c.args.page.now.more (last_of None c.args.page.now.keys.items) c.if-page.true
+    cc (
+      copied c.last.result,
+      last_is c.args.page.now.keys.items,
+      chosen c.args.page.now.more (last_of None c.args.page.now.keys.items) c.if-page.true,
+    )

@@ -1,4 +1,4 @@
-use Rattle.std.proofs.Common.{◌≡◌, ℕ, List, [], ◌++◌, map, Bor, Option, option_map, refl}
+use Rattle.std.proofs.Common.{◌≡◌, ℕ, List, [], ◌++◌, map, Bor, Option, option_map}
 use Rattle.olr_keys.specs.Key.{KeyValue}
 use Rattle.olr_keys.specs.declared.mark.Mark.{Mark}
 use Rattle.olr_map.specs.RoadMap.{RoadMap}
@@ -14,12 +14,13 @@ push_entries-requires c = rw c.deref.ensures.value (entries_on_map _ _ _ _ _ c.i
 
 -- the mark in the cursor at the end, if there is one
 abbrev mark_of : Option (Bor Mark) → Option Mark
-mark_of mark = option_map (λ (mark : Bor Mark). mark.now) mark
+mark_of mark = option_map (λ mark. mark.now) mark
 
 page_is : (road : RoadMap) (list shown : List Entry) (empty rows text : List ℕ) (found last : Option KeyValue) (mark : Option Mark) → shown ≡ list → empty ≡ []
     → rows ≡ empty ++ entries_rows road (map entry_of shown) → found ≡ last → text ≡ rows ++ end_row found mark
     → text ≡ entries_rows road (map entry_of list) ++ end_row last mark
-page_is road list shown empty rows text found last mark shown_is none rows_are found_is text_is = rw (text_is, rows_are, none, shown_is, found_is) refl
+page_is road list shown empty rows text found last mark shown_is none rows_are found_is text_is =
+    rw (text_is, rows_are, none, shown_is, found_is)
 
 pub returns : goal.returns
 returns c = record {

@@ -1,10 +1,10 @@
-use Rattle.std.proofs.Common.{◌≡◌, ◌+◌, ◌-◌, ℕ, drop, get_or, refl, subst, sym, arith}
+use Rattle.std.proofs.Common.{◌≡◌, ◌+◌, ◌-◌, drop, get_or, refl, arith}
 use Rattle.std.specs.Prelude.{slice_range}
 use Rattle.olr_route.specs.declared.piece.Piece.{Piece}
 use Rattle.olr_route.specs.Walk.{piece_length}
 use Rattle.olr_report.specs.Steps.{steps_of}
 use Rattle.olr_report.proofs.Appending.{no_pieces}
-use Rattle.olr_report.proofs.Parts.{IsPartSoFar, clipped_within, part_all, part_more, part_none}
+use Rattle.olr_report.proofs.Parts.{clipped_within, part_all, part_more, part_none}
 use Rattle.olr_report.proofs.trimming.trim.Goals as goal
 
 pub loop-piece-init : goal.loop-piece-init
@@ -23,10 +23,7 @@ loop-piece-preserved c =
     let i = c.loop-piece.piece-index in
     let rest = drop (i + 1) c.args.pieces.now in
     let skipped : c.saturating_sub-skip.result ≡ c.loop-piece.skip - piece_length (get_or c.args.pieces.now i d) = omega arith in
-    subst (λ (skip : ℕ). IsPartSoFar sought c.append.new.route.items rest skip (c.loop-piece.left - c.length_of-left.result)) (sym skipped)
-    (subst (λ (taken : ℕ). IsPartSoFar sought c.append.new.route.items rest (c.loop-piece.skip - piece_length (get_or c.args.pieces.now i d))
-    (c.loop-piece.left - taken))
-    (sym c.length_of-left.ensures)
+    rw skipped (rw c.length_of-left.ensures
     (part_more sought c.loop-piece.part.items c.append.new.route.items c.args.pieces.now c.clip-clipped.result d i c.loop-piece.skip
     c.loop-piece.left c.loop-piece-test.true
     c.loop-piece.invariant c.clip-clipped.ensures.steps c.in_ok-append.ensures))
