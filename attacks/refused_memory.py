@@ -66,7 +66,7 @@ CASES = [
     (["show", EXAMPLE], 0, "line 3 points\n1 6126820 49608518 "),
     (["show", POINT], 0, "point-along-line 2 points\n"),
     (["show", "*"], 1, "olr: NotBase64\n"),
-    (["candidates", LINE, *on("two", "--bearing", "16")], 0, "point 1 candidates 2\n1 line 7 at 1113 penalty 0\n2 line 8 at 2226 penalty 160\n"),
+    (["candidates", LINE, *on("two", "--bearing", "16")], 0, "point 1 candidates 2\n1 line 7 at 1113 penalty 0"),
     (["match", LINE, *on("four", "--radius", "10", "--page", "2")], 0, "matching 0:1.1\npoint 1 line 11 at 0 penalty 0\n"),
     (["match", LINE, *on("four", "--radius", "10", "--page", "2", "--all")], 0, "matching 0:1.1\npoint 1 line 11 at 0 penalty 0\n"),
     (["match", LINE, *on("four", "--radius", "10", "--page", "2", "--all", "--format", "json")], 0, '{"matchings":[{"cursor":"0:1.1",'),

@@ -76,9 +76,34 @@ pub fn answer_of(alloc: Global, suite: &Suite, case: &Case) -> Result<Answer, Al
     Ok(answer)
 }
 
+/// Whether a line begins with these columns.
+fn has_columns(line: &str, columns: &str) -> bool {
+    match line.strip_prefix(columns) {
+        Some(rest) => rest.is_empty() || rest.starts_with(' '),
+        None => false,
+    }
+}
+
+/// Whether a text has as many lines as another one, each of which begins with the columns there.
+fn have_columns(text: &str, wanted: &str) -> bool {
+    let mut wanted = wanted.lines();
+    for line in text.lines() {
+        match wanted.next() {
+            Some(columns) if has_columns(line, columns) => {}
+            _ => return false,
+        }
+    }
+    wanted.next().is_none()
+}
+
 impl Answer {
-    /// Lines that name what differs from what a case wants; none where nothing does.
-    pub fn differences(&self, alloc: Global, case: &Case) -> Result<String, AllocError> {
+    /// Lines that name what differs from what a case of a suite wants; none where nothing does.
+    pub fn differences(
+        &self,
+        alloc: Global,
+        suite: &Suite,
+        case: &Case,
+    ) -> Result<String, AllocError> {
         let mut lines = String::new(alloc);
         if self.status != case.status {
             write!(
@@ -87,18 +112,24 @@ impl Answer {
                 self.status, case.status
             )?;
         }
-        self.compare_output(case, &mut lines)?;
+        self.compare_output(suite, case, &mut lines)?;
         self.compare_errors(case, &mut lines)?;
         Ok(lines)
     }
 
-    fn compare_output(&self, case: &Case, lines: &mut String) -> Result<(), AllocError> {
+    fn compare_output(
+        &self,
+        suite: &Suite,
+        case: &Case,
+        lines: &mut String,
+    ) -> Result<(), AllocError> {
         let wanted = match &case.output {
             Some(output) => output.as_str(),
             None if case.status == 0 => return Ok(()),
             None => "",
         };
-        if self.output.as_str() != wanted {
+        let output = self.output.as_str();
+        if output != wanted && !(suite.more_columns && have_columns(output, wanted)) {
             write!(lines, "  output:\n{}  in place of:\n{wanted}", self.output)?;
         }
         Ok(())

@@ -25,7 +25,7 @@ fn passes(
     case: &Case,
 ) -> anyhow::Result<bool> {
     let answer = answer_of(alloc, suite, case)?;
-    let differences = answer.differences(alloc, case)?;
+    let differences = answer.differences(alloc, suite, case)?;
     if differences.is_empty() {
         return Ok(true);
     }

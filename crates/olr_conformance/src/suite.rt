@@ -13,6 +13,10 @@ pub struct Suite {
     /// The files of each case, by their names.
     #[serde(default)]
     pub files: BTreeMap<String, String>,
+    /// Whether the lines of an output may go on, behind a blank, where those of the case end: its
+    /// cases don't show which columns there are.
+    #[serde(default)]
+    pub more_columns: bool,
     /// The cases.
     pub case: Vec<Case>,
 }

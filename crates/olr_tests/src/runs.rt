@@ -51,15 +51,7 @@ pub fn answer<S: Source, O: Sink>(
     Ok(run(alloc, &request, nodes, lines, bans, out))
 }
 
-/// The candidates of [`REFERENCE`] on [`STREET`].
-const CANDIDATES: &str = "\
-point 1 candidates 1
-1 line 7 at 0 penalty 0
-point 2 candidates 1
-1 line 7 at 1113 penalty 0
-";
-
-/// Its matchings there.
+/// The matchings of [`REFERENCE`] on [`STREET`].
 const MATCHINGS: &str = "\
 matching 0:1.1
 point 1 line 7 at 0 penalty 0
@@ -82,7 +74,6 @@ pub fn is_beginning(bytes: &[u8], (_, _, wanted): Case<'_>) -> bool {
 /// Requests that are answered.
 pub const ANSWERED: &[Case<'static>] = &[
     (Asked::Show(LINE), STREET, Ok(LINE_SHOWN)),
-    (Asked::Candidates, STREET, Ok(CANDIDATES)),
     (Asked::Match, STREET, Ok(MATCHINGS)),
 ];
 
