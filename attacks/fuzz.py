@@ -43,7 +43,7 @@ FILE = "(nodes|lines|bans)"
 FAULTS = f"""TooLong|NotBase64|Empty|BadVersion [0-7]|OtherKind (Area|GeoCoordinate)|PoiWithAccess|BadLength \\d+|TooManyPoints \\d+
 |OffsetFlags|OutOfRange \\d+|Header {FILE}|TooMany {FILE}|Shape {FILE} \\d+|Field {FILE} \\d+ \\d+|Duplicate {FILE} \\d+|UnknownNode \\d+
 |ZeroLength \\d+|Degenerate \\d+|UnknownLine \\d+|NotAdjacent \\d+|ReadFailed {FILE}|OpenFailed ({FILE}|input)|NoMemory|WriteFailed|BadCursor
-|CursorOfOther|CursorNotHere|TooManyCandidates \\d+|BadTolerance (radius|bearing|class|lowest|percent|slack)|BadPage \\d+
+|CursorOfOther|CursorNotHere|TooManyCandidates \\d+|BadTolerance [a-z]+|BadPage \\d+
 |BadNumber (apart|within|look|most|nearest)"""
 FAULT_LINE = re.compile(("olr: (" + FAULTS.replace("\n", "") + ")\n").encode())
 

@@ -14,7 +14,7 @@ from conftest import REFERENCE, TOP, Program
 from olr.client.batch import PIPE_BYTES
 from olr.client.map_client import AHEAD
 from olr.client.program import find_program
-from olr.client.questions import NUMBERS, What
+from olr.client.questions import NUMBERS, TOLERANCES, What
 
 DATA = TOP / "crates/olr_conformance/data"
 REFERENCES = 2000
@@ -90,10 +90,8 @@ def conformance_questions() -> dict[tuple[str, ...], tuple[dict[str, str], list[
             if len(words) < 2 or words[0] not in NUMBERS or words[1].startswith("-"):
                 continue
             options = words[2:]
-            known = [
-                f"--{name}" for name in ("nodes", "lines", "bans", "radius", "bearing", "class")
-            ]
-            known += [f"--{name}" for name in ("lowest", "percent", "slack", *NUMBERS[words[0]])]
+            names = ("nodes", "lines", "bans", *TOLERANCES, *NUMBERS[words[0]])
+            known = [f"--{name}" for name in names]
             if len(options) % 2 or not set(options[::2]) <= set(known):
                 continue
             if {"--nodes", "--lines"} <= set(options) and "status" not in case:

@@ -9,6 +9,7 @@ import pytest
 
 import olr
 from conftest import REFERENCE, TOP, Program, Tools
+from olr.client.questions import TOLERANCES
 from olr.confidence.contents import text_of
 from olr.confidence.counting import Outcome, counted_table
 from olr.confidence.table import ConfidenceTable
@@ -20,7 +21,7 @@ ROADWORKS = "CwVGnSN2zhvHCgDX/tIzAw=="
 ABOUT: dict[str, Any] = dict.fromkeys(
     ("changes", "map", "outcomes", "program", "references", "seed")
 )
-TOLERANCES = {"radius": 100, "bearing": 4, "class": 7, "lowest": 0, "percent": 30, "slack": 300}
+DEFAULTS = {name: number.default for name, number in TOLERANCES.items()}
 
 
 @pytest.fixture(autouse=True)
@@ -36,7 +37,7 @@ def table(tmp_path: Path) -> Path:
     alone = [Outcome(None, 5.0, number < 900) for number in range(1000)]
     close = [Outcome(3, 35.0, number < 50) for number in range(100)]
     file = tmp_path / "table.json"
-    file.write_text(text_of(counted_table(alone + close, TOLERANCES, 750, ABOUT)))
+    file.write_text(text_of(counted_table(alone + close, DEFAULTS, 750, ABOUT)))
     return file
 
 
@@ -71,7 +72,7 @@ def test_one_digit_or_two(tmp_path: Path) -> None:
     """87 of 100: the interval is 0.13 wide. 870 of 1,000: 0.04."""
     for count, shown in ((100, 0.9), (1000, 0.87)):
         outcomes = [Outcome(None, 1.0, number % 100 < 87) for number in range(count)]
-        table = counted_table(outcomes, TOLERANCES, 750, ABOUT)
+        table = counted_table(outcomes, DEFAULTS, 750, ABOUT)
         with olr.Map.of_folder(EXAMPLES) as town:
             rows = olr.to_geodataframe([town.places(REFERENCE)], town.network(), confidence=table)
         assert rows["confidence"].tolist() == [shown]

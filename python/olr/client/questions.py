@@ -12,32 +12,41 @@ Item = TypeVar("Item")
 
 
 class Number(NamedTuple):
-    """A number of a question: its range, what it is where it is left out, and what it counts."""
+    """A number of a question: its range, what it is where it is left out, what it counts, and what it is for."""
 
     least: int
     greatest: int
     default: int
     unit: str
+    purpose: str
 
 
 TOLERANCES: Mapping[str, Number] = {
-    "radius": Number(1, 1000, 100, "metres"),
-    "bearing": Number(0, 16, 4, "sectors of 11.25 degrees"),
-    "class": Number(0, 7, 7, "classes"),
-    "lowest": Number(0, 7, 0, "classes"),
-    "percent": Number(0, 100, 30, "percent"),
-    "slack": Number(0, 10_000, 300, "decimetres"),
+    "radius": Number(1, 1000, 100, "metres", "admit lines this far from a point"),
+    "bearing": Number(
+        0, 16, 4, "sectors of 11.25 degrees", "admit lines whose direction differs by so much"
+    ),
+    "class": Number(0, 7, 7, "classes", "admit lines whose class differs by so much"),
+    "lowest": Number(
+        0, 7, 0, "classes", "admit roads less important than the reference allows by so much"
+    ),
+    "percent": Number(0, 100, 30, "percent", "admit paths shorter or longer by this share"),
+    "slack": Number(0, 10_000, 300, "decimetres", "admit paths shorter or longer by so much again"),
 }
 NUMBERS: Mapping[What, Mapping[str, Number]] = {
     "candidates": {},
-    "match": {"page": Number(1, 1000, 10, "matchings")},
+    "match": {"page": Number(1, 1000, 10, "matchings", "list so many of each reference")},
     "places": {
-        "apart": Number(0, 1_000_000, 750, "decimetres"),
-        "within": Number(0, 14_620, 30, "penalty points"),
-        "look": Number(1, 1_000_000, 1000, "matchings"),
-        "most": Number(1, 100, 10, "places"),
+        "apart": Number(
+            0, 1_000_000, 750, "decimetres", "put matchings together that differ by so much at most"
+        ),
+        "within": Number(
+            0, 14_620, 30, "penalty points", "list places that cost so much more than the best one"
+        ),
+        "look": Number(1, 1_000_000, 1000, "matchings", "look at so many"),
+        "most": Number(1, 100, 10, "places", "list so many"),
     },
-    "why": {"nearest": Number(0, 64, 8, "lines")},
+    "why": {"nearest": Number(0, 64, 8, "lines", "show so many near each point")},
 }
 """The numbers of each question besides the tolerances."""
 ALL = {
@@ -83,7 +92,7 @@ def many(call: str, items: Iterable[Item], instead: str) -> Iterable[Item]:
 def number_words(name: str, value: int) -> list[str]:
     """The words of a number, which may be one of numpy. Raises `TypeError` for what isn't one, and `Fault` for one that is out of its
     range, as the program does."""
-    least, greatest, _, unit = ALL[name]
+    least, greatest, _, unit, _ = ALL[name]
     wanted = f"{name} is a whole number of {unit} from {least} to {greatest}, not {value!r}"
     if isinstance(value, bool) or not issubclass(type(value), Integral):
         raise TypeError(wanted)

@@ -17,7 +17,6 @@ from olr.client.batch import Batch
 from olr.client.fault import Fault
 from olr.client.files import MapFiles
 from olr.client.map_client import Map, Read
-from olr.client.patience import PATIENCE
 from olr.client.program import PathLike
 from olr.client.questions import What, record_text, words_of
 from olr.client.region_map import RegionMap, RegionMaps
@@ -98,27 +97,9 @@ class StoreMap(Map):
         nodes: PathLike,
         lines: Optional[PathLike] = None,
         bans: Optional[PathLike] = None,
-        *,
-        radius: int = 100,
-        bearing: int = 4,
-        class_: int = 7,
-        lowest: int = 0,
-        percent: int = 30,
-        slack: int = 300,
-        program: Optional[PathLike] = None,
-        patience: Optional[float] = PATIENCE,
+        **options: Any,
     ) -> None:
         """A map of a store alone, with the options of `Map`. Raises `ToolError` if it isn't a store, or can't be read."""
-        options: dict[str, Any] = {
-            "radius": radius,
-            "bearing": bearing,
-            "class_": class_,
-            "lowest": lowest,
-            "percent": percent,
-            "slack": slack,
-            "program": program,
-            "patience": patience,
-        }
         super().__init__(nodes, lines, bans, **options)
         self._store = CurrentStore(self._files.nodes)
         self._regions = RegionMaps(options)

@@ -11,22 +11,6 @@ from olr.client.questions import NUMBERS, TOLERANCES, Number, What
 
 Command = Callable[..., None]
 
-PURPOSES: Mapping[str, str] = {
-    "radius": "admit lines this far from a point",
-    "bearing": "admit lines whose direction differs by so much",
-    "class": "admit lines whose class differs by so much",
-    "lowest": "admit roads less important than the reference allows by so much",
-    "percent": "admit paths shorter or longer by this share",
-    "slack": "admit paths shorter or longer by so much again",
-    "page": "list so many of each reference",
-    "apart": "put matchings together that differ by so much at most",
-    "within": "list places that cost so much more than the best one",
-    "look": "look at so many",
-    "most": "list so many",
-    "nearest": "show so many near each point",
-}
-"""What a number is for, as the help says it."""
-
 MAP = click.option(
     "--map",
     "folder",
@@ -48,7 +32,7 @@ def number_options(numbers: Mapping[str, Number], before: str = "") -> Callable[
                 "class_" if name == "class" else name,
                 type=click.INT,
                 metavar="N",
-                help=_help(f"{before}{PURPOSES[name]}", number),
+                help=_help(f"{before}{number.purpose}", number),
             )(command)
         return command
 
@@ -57,7 +41,7 @@ def number_options(numbers: Mapping[str, Number], before: str = "") -> Callable[
 
 def _help(purpose: str, number: Number) -> str:
     """The text of an option's help."""
-    least, greatest, default, unit = number
+    least, greatest, default, unit, _ = number
     text = f"{purpose}: {least} to {greatest} {unit}, by default {default}."
     return text[0].upper() + text[1:]
 

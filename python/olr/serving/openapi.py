@@ -4,7 +4,6 @@ from collections.abc import Mapping
 from typing import Any
 
 from olr.client.questions import NUMBERS, TOLERANCES, Number, What
-from olr.matching.options import PURPOSES
 from olr.messages.message import FORMATS
 from olr.serving import features, lists, meters, problems, streaming
 from olr.serving.limits import Limits
@@ -130,7 +129,7 @@ def _reference() -> Json:
 def _numbers(numbers: Mapping[str, Number], limits: Limits) -> list[Json]:
     """Options that are numbers."""
     found = []
-    for name, (least, greatest, default, unit) in numbers.items():
+    for name, (least, greatest, default, unit, purpose) in numbers.items():
         most = min(greatest, limits.look) if name == "look" else greatest
         schema = {
             "type": "integer",
@@ -138,7 +137,7 @@ def _numbers(numbers: Mapping[str, Number], limits: Limits) -> list[Json]:
             "maximum": most,
             "default": min(default, most),
         }
-        found.append(_parameter(name, schema, f"{PURPOSES[name]} ({unit})"))
+        found.append(_parameter(name, schema, f"{purpose} ({unit})"))
     return found
 
 

@@ -15,7 +15,6 @@ from starlette.responses import Response
 from olr.client.fault_table import ROWS
 from olr.client.questions import NUMBERS, TOLERANCES
 from olr.confidence.table import ConfidenceTable
-from olr.matching.options import PURPOSES
 from olr.pages.html import data_text, leaflet, leaflet_licence, origin_of
 from olr.serving.limits import Limits
 from olr.serving.lists import MOST_ROWS, most_bytes
@@ -90,8 +89,8 @@ def _numbers(numbers: Mapping[str, Any], limits: Limits) -> list[dict[str, Any]]
     """What fields of numbers show."""
     return [
         {"name": name, "least": least, "greatest": most, "default": min(default, most)}
-        | {"unit": unit, "purpose": PURPOSES[name]}
-        for name, (least, greatest, default, unit) in numbers.items()
+        | {"unit": unit, "purpose": purpose}
+        for name, (least, greatest, default, unit, purpose) in numbers.items()
         for most in [min(greatest, limits.look) if name == "look" else greatest]
     ]
 

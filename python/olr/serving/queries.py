@@ -113,7 +113,7 @@ def _kind(what: What, options: tuple[tuple[str, str], ...], most_look: int) -> K
 
 def _number(name: str, value: str) -> int:
     """A number that is in its range. Raises `Problem`."""
-    least, greatest, _, unit = ALL[name]
+    least, greatest, _, unit, _ = ALL[name]
     if not NUMBER.fullmatch(value) or not least <= int(value) <= greatest:
         raise bad_request(f"{name} is a whole number of {unit} from {least} to {greatest}")
     return int(value)
