@@ -138,7 +138,7 @@ pub fn run<S1: Source, S2: Source, S3: Source, O: Sink>(
     bans: &mut S3,
     out: &mut O,
 ) -> Result<(), Fault>
-    // The sink took the whole output, and was told once to pass it on.
+    // The sink took the whole output, and was flushed once.
     ensures answered { OnOk result (IsAnswered O.taken O.failed O.put_gives O.flush_gives
         (texts_of (S1.left nodes.old) (S2.left lines.old) (S3.left bans.old))
         request.now out.old out.new) }

@@ -69,16 +69,15 @@ pub enum Fault {
     TooMany(File),
     /// The point of this number, from 1, is the first that has more than 64 candidates.
     TooManyCandidates(usize),
-    /// The tolerance of this name is the first out of its range. [`run`](crate::run) is given none
-    /// such.
+    /// The tolerance of this name is the first out of its range. [`run`](crate::run) never answers
+    /// this, since its request can't hold such a number.
     BadTolerance(Name),
     /// The number of this name, which is one of those for places, is the first out of its range.
-    /// [`run`](crate::run) is given none such.
+    /// [`run`](crate::run) never answers this, nor the next two.
     BadNumber(Number),
-    /// The number of lines nearest to a point isn't from 0 to 64. [`run`](crate::run) is given none
-    /// such.
+    /// The number of lines nearest to a point isn't from 0 to 64.
     BadNearest,
-    /// This number isn't a page size, which is 1 to 1000. [`run`](crate::run) is given none such.
+    /// This number isn't a page size, which is 1 to 1000.
     BadPage(u32),
     /// A cursor and all pages are asked for. [`run`](crate::run) isn't asked for both.
     AfterWithAll,

@@ -32,7 +32,7 @@ pub struct BatchRequest {
     pub tolerances: Tolerances,
 }
 
-/// What is asked of each record, on a map.
+/// A request for many records, with the map that it is answered on.
 #[derive(Drop)]
 pub(crate) struct AskedOnMap<'a> {
     /// The map.

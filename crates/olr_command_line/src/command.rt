@@ -234,14 +234,14 @@ const BATCH_SUBCOMMANDS: &[Subcommand] = &[
     },
 ];
 
-/// An option by its name and its help, before it is said what it takes.
+/// An option with its name and its help, without what it takes.
 fn named<'a>(alloc: Global, option: &CommandOption) -> Arg<'a> {
     Arg::new(alloc, option.name)
         .long(option.name)
         .help(option.help)
 }
 
-/// The folder of a map, which no file of a map stands beside.
+/// The option of a map's folder. It excludes those of single files.
 fn folder<'a>(option: Arg<'a>) -> Result<Arg<'a>, Error> {
     let option = option.conflicts_with("nodes")?;
     let option = option.conflicts_with("lines")?;

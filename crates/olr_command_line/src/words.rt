@@ -108,8 +108,9 @@ impl GivenNumbers {
 }
 
 /// What the words give to a subcommand, in range or not: the radius in metres, the bearing in
-/// sectors, class and lowest as differences of class numbers, the slack in decimetres, how many
-/// matchings a page has, the numbers for places, and how many lines near a point are printed.
+/// sectors, class and lowest as differences of class numbers, the percent of a length, the slack in
+/// decimetres, how many matchings a page has, the numbers for places, and how many lines near a
+/// point are printed.
 /// `None` where an option is left out, or where the subcommand has no such option.
 #[derive(Clone, Copy)]
 struct Given<'a> {

@@ -209,13 +209,13 @@ fn with_scales(
     })
 }
 
-/// What an axis of a scale and with these deficits tells of two nodes that are a leg apart: how many
-/// decimetres they are apart at least.
-fn told(scale: u32, deficits: u64) -> u64 {
+/// How far two nodes a leg apart are at least on an axis of this scale and with these deficits, in
+/// decimetres.
+fn least_apart(scale: u32, deficits: u64) -> u64 {
     (LEG * u64::from(scale)).saturating_sub(deficits)
 }
 
-/// The scale of each axis that tells most.
+/// The scale of each axis on which two nodes a leg apart are the furthest at least.
 fn best_scales(
     alloc: Global,
     nodes: &[Node],
@@ -236,12 +236,12 @@ fn best_scales(
             east: scale,
         };
         let deficits = deficits_of(entries, &positions_of(alloc, nodes, share, same)?);
-        if told(scale, deficits.north) > north {
-            north = told(scale, deficits.north);
+        if least_apart(scale, deficits.north) > north {
+            north = least_apart(scale, deficits.north);
             best.north = scale;
         }
-        if told(scale, deficits.east) > east {
-            east = told(scale, deficits.east);
+        if least_apart(scale, deficits.east) > east {
+            east = least_apart(scale, deficits.east);
             best.east = scale;
         }
     }

@@ -109,7 +109,7 @@ fn read_line(
         Ok(numbers) => numbers,
         Err(error) => return Ok(Err(error)),
     };
-    // Looked up before the shape is read: memory answers meanwhile.
+    // Looked up before the shape is parsed, so that the processor fetches the nodes meanwhile.
     let ends = ends_of(nodes, &numbers);
     if shape_at(row, 6, shape)? {
         Ok(Ok((numbers, ends)))

@@ -185,7 +185,7 @@ impl Map {
     }
 
     /// Whether a vehicle that reaches the end of the line `from` may not go on to the line `to`, by
-    /// their ranks. No turn between numbers that are no ranks is banned.
+    /// their ranks. Numbers that are no rank of a line have no ban.
     pub fn banned(&self, from: u32, to: u32) -> bool
         ensures { MatchBool result
             (Contains self.now.bans (ban_of from to))
@@ -206,7 +206,7 @@ impl Map {
     }
 
     /// The bans on turns from the end of a line, by the rising ranks of the lines that may not
-    /// follow. There are none from a number that is no rank. It takes constant time.
+    /// follow. A number that is no line's rank has none. It takes constant time.
     pub fn bans_from(&self, line: u32) -> &[Ban]
         ensures { AreBansFrom self.now.bans line result.now }
     {

@@ -21,7 +21,7 @@ pub struct Extent {
     pub(crate) ghost is_cover: { IsCoverOf (outer_of (ground_of located)) cover },
 }
 
-/// The pieces of a part; one that is none has no pieces.
+/// The pieces of a part; no pieces for `None`.
 fn pieces_of(part: &Option<Vec<Piece>>) -> &[Piece]
     ensures { result.now ≡ pieces_of part.now }
 {
