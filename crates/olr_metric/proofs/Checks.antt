@@ -1,6 +1,6 @@
 -- Of checks that are made one after the other, the first one that fails is one, or all pass.
 use Rattle.std.proofs.Common.{◌≡◌, List, [], ◌∷◌, ◌++◌, inl, inr, refl, sym, ◌∙◌}
-use Rattle.olr_metric.specs.Checks.{Check, needs, forbids, Passes, Fails, AllPass, Refuses, EachFault}
+use Rattle.olr_metric.specs.Checks.{Check, needs, forbids, Passes, Fails, Each, AllPass, Refuses, EachFault}
 
 -- no check both passes and fails
 apart : {Fault : Type 0} (check : Check Fault) → Passes check → Fails check → ⊥
@@ -36,6 +36,23 @@ decided (check ∷ rest) none not_all =
     either check (λ fails. none _ (inl (fails, refl)))
     (λ passes. decided rest (λ fault later. none fault (inr (passes, later)))
     (λ all. not_all (passes, all)))
+
+-- what is so of some checks and of those behind them is so of all, and the other way round
+pub each_of_both : {Fault : Type 0} (Is : Check Fault → Type 0) (front rest : List (Check Fault))
+    → Each Is front → Each Is rest → Each Is (front ++ rest)
+each_of_both Is [] rest first second = second
+each_of_both Is (check ∷ front) rest first second =
+    (first.0, each_of_both Is front rest first.1 second)
+
+pub each_in_front : {Fault : Type 0} (Is : Check Fault → Type 0) (front rest : List (Check Fault))
+    → Each Is (front ++ rest) → Each Is front
+each_in_front Is [] rest each = tt
+each_in_front Is (check ∷ front) rest each = (each.0, each_in_front Is front rest each.1)
+
+pub each_behind : {Fault : Type 0} (Is : Check Fault → Type 0) (front rest : List (Check Fault))
+    → Each Is (front ++ rest) → Each Is rest
+each_behind Is [] rest each = each
+each_behind Is (check ∷ front) rest each = each_behind Is front rest each.1
 
 -- where some checks pass, those behind them decide
 pub refuses_behind : {Fault : Type 0} (front rest : List (Check Fault)) (fault : Fault)

@@ -22,17 +22,20 @@ abbrev pub fault_of : {Fault : Type 0} → Check Fault → Fault
 fault_of (needs Holds fault) = fault
 fault_of (forbids Holds fault) = fault
 
+-- this is so of each check
+abbrev pub Each : {Fault : Type 0} → (Check Fault → Type 0) → List (Check Fault) → Type 0
+Each Is [] = ⊤
+Each Is (check ∷ rest) = Is check × Each Is rest
+
 -- all checks pass
 abbrev pub AllPass : {Fault : Type 0} → List (Check Fault) → Type 0
-AllPass [] = ⊤
-AllPass (check ∷ rest) = Passes check × AllPass rest
+AllPass checks = Each Passes checks
+
+-- this holds of the fault of each check
+abbrev pub EachFault : {Fault : Type 0} → (Fault → Type 0) → List (Check Fault) → Type 0
+EachFault Is checks = Each (λ check. Is (fault_of check)) checks
 
 -- this is the fault of the first check that fails: all before it pass
 abbrev pub Refuses : {Fault : Type 0} → List (Check Fault) → Fault → Type 0
 Refuses [] fault = ⊥
 Refuses (check ∷ rest) fault = (Fails check × (fault ≡ fault_of check)) ⊎ (Passes check × Refuses rest fault)
-
--- this holds of the fault of each check
-abbrev pub EachFault : {Fault : Type 0} → (Fault → Type 0) → List (Check Fault) → Type 0
-EachFault Is [] = ⊤
-EachFault Is (check ∷ rest) = Is (fault_of check) × EachFault Is rest
