@@ -17,7 +17,7 @@ pub mod Rising
 pub mod OneShape
 pub mod OneRow
 pub mod Splits
-pub mod Conditions
+pub mod Checked
 pub mod OneTable
 pub mod Settled
 pub mod OneMap

@@ -1,101 +1,143 @@
--- The records of a table spell one list of rows, or have one first fault, and not both; and so it is with a text.
-use Rattle.std.proofs.Common.{◌≡◌, ℕ, suc, ◌+◌, ◌<◌, List, ◌∷◌, ◌++◌, length, sym, ◌∙◌, subst, inl, inr, arith}
+-- The records of a table spell one list of rows, or have one first fault, and not both; and so it
+-- is with a text.
+use Rattle.std.proofs.Common.{◌≡◌, ℕ, suc, ◌+◌, List, ◌∷◌, ◌++◌, length, sym, ◌∙◌, subst, inl, inr, arith}
 use Rattle.std.specs.Prelude.{Contains}
 use Rattle.std.specs.List.{AllZip}
 use Rattle.std.specs.List.Sorted.{IsPermutation}
-use Rattle.std.proofs.lemmas.List.{length-append, length-map, map-append}
+use Rattle.std.proofs.lemmas.List.{length-append, map-append}
 use Rattle.std.proofs.lemmas.List.Sorted.{IsPermutation-sym, IsPermutation-trans}
+use Rattle.olr_metric.specs.Checks.{AllPass, Refuses}
+use Rattle.olr_metric.proofs.Checks.{fault_once as first_once, none_refuses, each_of_both}
 use Rattle.olr_map.specs.declared.fault.MapFault.{MapFault}
 use Rattle.olr_index.specs.Repeats.{AllDiffer}
 use Rattle.olr_index.proofs.Permuted.{rising_differ}
-use Rattle.olr_map.specs.Faults.{order_of, Refuses}
-use Rattle.olr_map.specs.Table.{Table, keys_of, AreRows, IsTableOf, RefusesRecord, IsFaultOfTable}
+use Rattle.olr_map.specs.Settling.{IsSettled}
+use Rattle.olr_map.specs.Table.{Table, keys_of, fields_of, others_of, checks_of, AreRows, IsTableOf, RefusesRecord, IsFaultOfTable}
+use Rattle.olr_map.proofs.Checked.{keys_length, new_id}
 use Rattle.olr_map.proofs.Rising.{same_rising}
 use Rattle.olr_map.proofs.Splits.{two_splits, one, before, behind, zip_split, zip_once}
-use Rattle.olr_map.proofs.Conditions.{first_once, new_id}
 
--- What makes the laws of a table hold: a record spells one row at most; no condition holds of a record that spells a row with a
--- new key and for which there is room; and conditions of one place in the order are one.
+-- What makes the laws of a table hold: a record spells one row at most; and one that spells a row
+-- repeats an earlier one only where that has its key, and passes the checks of its file.
 pub record IsLawful {Row : Type 0} (table : Table Row) : Type 0 where
-  pub row_once : (fields : List (List ℕ)) (a b : Row) → table.IsRow fields a → table.IsRow fields b → a ≡ b
-  pub sound : (before : List ℕ) (fields : List (List ℕ)) (row : Row) → table.IsRow fields row → length before < table.most
-      → (Contains before (table.key row) → ⊥) → (why : MapFault) → table.Condition before fields why → ⊥
-  pub condition_once : (before : List ℕ) (fields : List (List ℕ)) (a b : MapFault) → order_of a ≡ order_of b
-      → table.Condition before fields a → table.Condition before fields b → a ≡ b
+  pub row_once : (fields : List (List ℕ)) (a b : Row) → table.IsRow fields a → table.IsRow fields b
+      → a ≡ b
+  pub settled : IsSettled table
+  pub new : (before : List ℕ) (fields : List (List ℕ)) (row : Row) → table.IsRow fields row
+      → table.Repeats before fields → Contains before (table.key row)
+  pub later : (n : ℕ) (fields : List (List ℕ)) (row : Row) → table.IsRow fields row
+      → AllPass (table.later n fields)
 
 -- ---- records
 
-pub keys_length : {Row : Type 0} (table : Table Row) (rows : List Row) → length (keys_of table rows) ≡ length rows
-keys_length table rows = length-map rows table.key
-
 -- records spell one list of rows
-rows_once : {Row : Type 0} (table : Table Row) → IsLawful table → (records : List (List (List ℕ))) (a b : List Row)
+rows_once : {Row : Type 0} (table : Table Row) → IsLawful table
+    → (records : List (List (List ℕ))) (a b : List Row)
     → AllZip table.IsRow records a → AllZip table.IsRow records b → a ≡ b
 rows_once table lawful records a b is other = zip_once _ lawful.row_once _ a b is other
 
--- no condition holds of a record among accepted ones
-inside_sound : {Row : Type 0} (table : Table Row) → IsLawful table → (good : List (List (List ℕ))) (bad : List (List ℕ)) (rest : List (List (List ℕ))) (rows front : List Row)
-    → AreRows table (good ++ bad ∷ rest) rows → AllZip table.IsRow good front → (why : MapFault) → table.Condition (keys_of table front) bad why → ⊥
-inside_sound {Row} table lawful good bad rest rows front are each why holds =
+-- a record among accepted ones passes all checks
+inside_sound : {Row : Type 0} (table : Table Row) → IsLawful table
+    → (good : List (List (List ℕ))) (bad : List (List ℕ)) (rest : List (List (List ℕ)))
+    (rows front : List Row)
+    → AreRows table (good ++ bad ∷ rest) rows → AllZip table.IsRow good front
+    → AllPass (checks_of table (keys_of table front) bad)
+inside_sound {Row} table lawful good bad rest rows front are each =
     let found = zip_split _ _ _ _ _ are.each in
     let same : found.before ≡ front = rows_once _ lawful _ _ _ found.each each in
     let split : rows ≡ front ++ found.at ∷ found.after = cc in
-    let size : length rows ≡ length front + suc (length found.after) = cc (length-append front (found.at ∷ found.after)) in
-    let keys : keys_of table rows ≡ keys_of table front ++ table.key found.at ∷ keys_of table found.after =
+    let size : length rows ≡ length front + suc (length found.after) =
+    cc (length-append front (found.at ∷ found.after)) in
+    let keys : keys_of table rows ≡ keys_of table front ++ table.key found.at
+    ∷ keys_of table found.after =
     cc (map-append table.key front (found.at ∷ found.after)) in
-    lawful.sound (keys_of table front) bad found.at found.holds (omega (arith, keys_length table front))
-    (new_id _ _ _ (subst (λ (l : List ℕ). AllDiffer l) keys are.differ)) why holds
+    let before = keys_of table front in (
+      omega (arith, keys_length table front),
+      each_of_both _ (fields_of table (length before + 1) bad) (others_of table before bad)
+          (lawful.settled.pass bad found.at found.holds _) (
+            λ repeat. new_id _ _ _ (subst (λ (l : List ℕ). AllDiffer l) keys are.differ)
+                (lawful.new before bad found.at found.holds repeat),
+            lawful.later _ bad found.at found.holds,
+          ),
+    )
 
 -- accepted records have no fault
-rows_or_fault : {Row : Type 0} (table : Table Row) → IsLawful table → {records : List (List (List ℕ))} (rows : List Row) {why : MapFault}
+rows_or_fault : {Row : Type 0} (table : Table Row) → IsLawful table
+    → {records : List (List (List ℕ))} (rows : List Row) {why : MapFault}
     → AreRows table records rows → RefusesRecord table records why → ⊥
 rows_or_fault table lawful rows are refuses =
-    inside_sound _ lawful _ _ _ _ _ (subst (λ (l : List (List (List ℕ))). AreRows table l rows) refuses.split are)
-    refuses.accepted.each _ refuses.refused.holds
+    none_refuses (checks_of table (keys_of table refuses.rows) refuses.bad) _
+    (inside_sound _ lawful _ _ _ _ _
+    (subst (λ (l : List (List (List ℕ))). AreRows table l rows) refuses.split are)
+    refuses.accepted.each) refuses.refused
 
 -- one faulty record isn't accepted before another
-in_front : {Row : Type 0} (table : Table Row) → IsLawful table → (records : List (List (List ℕ))) (a b : MapFault) → (p : RefusesRecord table records a) (q : RefusesRecord table records b)
+in_front : {Row : Type 0} (table : Table Row) → IsLawful table
+    → (records : List (List (List ℕ))) (a b : MapFault)
+    → (p : RefusesRecord table records a) (q : RefusesRecord table records b)
     → (more : List (List (List ℕ))) → q.good ≡ p.good ++ p.bad ∷ more → ⊥
 in_front table lawful records a b p q more e =
-    inside_sound _ lawful _ _ _ _ _ (subst (λ (l : List (List (List ℕ))). AreRows table l q.rows) e q.accepted) p.accepted.each a p.refused.holds
+    none_refuses (checks_of table (keys_of table p.rows) p.bad) a (inside_sound _ lawful _ _ _ _ _
+    (subst (λ (l : List (List (List ℕ))). AreRows table l q.rows) e q.accepted) p.accepted.each)
+    p.refused
 
 -- records have one first fault
-fault_once : {Row : Type 0} (table : Table Row) → IsLawful table → (records : List (List (List ℕ))) (a b : MapFault) → RefusesRecord table records a → RefusesRecord table records b → a ≡ b
-fault_once {Row} table lawful records a b p q = elim (two_splits _ _ _ _ _ _ (sym p.split ∙ q.split)) [
-  | one good bad ↦
-      let rows = rows_once _ lawful _ _ _ (subst (λ (l : List (List (List ℕ))). AllZip table.IsRow l p.rows) good p.accepted.each) q.accepted.each in
-      let refused = subst (λ (l : List Row). Refuses (table.Condition (keys_of table l) q.bad) a) rows
-      (subst (λ (fields : List (List ℕ)). Refuses (table.Condition (keys_of table p.rows) fields) a) bad p.refused) in
-      first_once _ (lawful.condition_once (keys_of table q.rows) q.bad) a b refused q.refused
-  | before more e ↦ absurd (in_front _ lawful _ a b p q _ e)
-  | behind more e ↦ absurd (in_front _ lawful _ b a q p _ e)
-]
+fault_once : {Row : Type 0} (table : Table Row) → IsLawful table
+    → (records : List (List (List ℕ))) (a b : MapFault) → RefusesRecord table records a
+    → RefusesRecord table records b → a ≡ b
+fault_once {Row} table lawful records a b p q =
+    elim (two_splits _ _ _ _ _ _ (sym p.split ∙ q.split)) [
+      | one good bad ↦
+          let rows = rows_once _ lawful _ _ _
+          (subst (λ (l : List (List (List ℕ))). AllZip table.IsRow l p.rows) good p.accepted.each)
+          q.accepted.each in
+          let refused =
+          subst (λ (l : List Row). Refuses (checks_of table (keys_of table l) q.bad) a)
+          rows
+          (subst (λ (fields : List (List ℕ)). Refuses
+          (checks_of table (keys_of table p.rows) fields) a)
+          bad p.refused) in
+          first_once (checks_of table (keys_of table q.rows) q.bad) a b refused q.refused
+      | before more e ↦ absurd (in_front _ lawful _ a b p q _ e)
+      | behind more e ↦ absurd (in_front _ lawful _ b a q p _ e)
+    ]
 
 -- ---- a text
 
 -- the records after a header are one list
-records_once : (header : List (List ℕ)) (all a b : List (List (List ℕ))) → all ≡ header ∷ a → all ≡ header ∷ b → a ≡ b
+records_once : (header : List (List ℕ)) (all a b : List (List (List ℕ))) → all ≡ header ∷ a
+    → all ≡ header ∷ b → a ≡ b
 records_once header all a b is other = cc
 
-pub keys_differ : {Row : Type 0} (table : Table Row) (text : List ℕ) (rows : List Row) → IsTableOf table text rows → AllDiffer (keys_of table rows)
+pub keys_differ : {Row : Type 0} (table : Table Row) (text : List ℕ) (rows : List Row)
+    → IsTableOf table text rows → AllDiffer (keys_of table rows)
 keys_differ table text rows is = rising_differ (keys_of table rows) is.2.rise
 
-pub table_once : {Row : Type 0} {table : Table Row} → IsLawful table → {text : List ℕ} (a b : List Row) → IsTableOf table text a → IsTableOf table text b → a ≡ b
+pub table_once : {Row : Type 0} {table : Table Row} → IsLawful table
+    → {text : List ℕ} (a b : List Row) → IsTableOf table text a → IsTableOf table text b → a ≡ b
 table_once {Row} {table} lawful a b is other =
     let records = records_once _ _ _ _ is.1.file other.1.file in
-    let rows = rows_once _ lawful _ _ _ (subst (λ (l : List (List (List ℕ))). AreRows table l is.0) records is.1.accepted).each other.1.accepted.each in
+    let rows = rows_once _ lawful _ _ _
+    (subst (λ (l : List (List (List ℕ))). AreRows table l is.0) records is.1.accepted).each
+    other.1.accepted.each in
     let moved = subst (λ (l : List Row). IsPermutation l a) rows is.2.same in
-    same_rising _ a b (IsPermutation-trans a _ b (IsPermutation-sym other.0 a moved) other.2.same) is.2.rise other.2.rise
+    same_rising _ a b (IsPermutation-trans a _ b (IsPermutation-sym other.0 a moved) other.2.same)
+    is.2.rise other.2.rise
 
-pub table_or_fault : {Row : Type 0} {table : Table Row} → IsLawful table → {text : List ℕ} {rows : List Row} {why : MapFault} → IsTableOf table text rows → IsFaultOfTable table text why → ⊥
+pub table_or_fault : {Row : Type 0} {table : Table Row} → IsLawful table
+    → {text : List ℕ} {rows : List Row} {why : MapFault} → IsTableOf table text rows
+    → IsFaultOfTable table text why → ⊥
 table_or_fault {table} lawful {why} is fault = elim fault [
   | inl header ↦ header.1 is.1.records is.1.file
   | inr refused ↦
       let records = records_once _ _ _ _ refused.1 is.1.file in
-      rows_or_fault _ lawful _ is.1.accepted (subst (λ (l : List (List (List ℕ))). RefusesRecord table l why) records refused.2)
+      rows_or_fault _ lawful _ is.1.accepted
+      (subst (λ (l : List (List (List ℕ))). RefusesRecord table l why) records refused.2)
 ]
 
-pub table_fault_once : {Row : Type 0} (table : Table Row) → IsLawful table → (text : List ℕ) (a b : MapFault) → IsFaultOfTable table text a → IsFaultOfTable table text b → a ≡ b
+pub table_fault_once : {Row : Type 0} (table : Table Row) → IsLawful table
+    → (text : List ℕ) (a b : MapFault) → IsFaultOfTable table text a → IsFaultOfTable table text b
+    → a ≡ b
 table_fault_once table lawful text a b is other = elim is [
   | inl header ↦ elim other [
     | inl lacks ↦ header.0 ∙ sym lacks.0

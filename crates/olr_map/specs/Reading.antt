@@ -1,11 +1,12 @@
--- What sources and single records are found to be while they are read. This serves the readers' own contracts alone: the
--- rules stand in the other files.
+-- What sources and single records are found to be while they are read. This serves the readers' own
+-- contracts alone: the rules stand in the other files.
 use Rattle.std.specs.List.Sorted.{IsStrictlyIncreasing}
-use Rattle.std.specs.Prelude.{◌≡◌, ◌≢◌, ℕ, ◌<◌, ◌≤◌, ◌⊎◌, ⊤, MatchOption, Option, Some, None, IfSome, slice_get, Contains, List, length, map, slice_range, All, ◌*◌}
+use Rattle.std.specs.Prelude.{◌≡◌, ℕ, ◌<◌, ◌≤◌, ◌⊎◌, ⊤, MatchOption, Option, Some, None, IfSome, slice_get, Contains, List, length, map, slice_range, All, ◌*◌}
 use Rattle.olr_records.specs.declared.file.File.{File}
-use Rattle.olr_records.specs.declared.file.File.TheVariants.{Bans}
+use Rattle.olr_records.specs.declared.file.File.TheVariants.{Nodes, Lines, Bans}
 use Rattle.olr_map.specs.declared.fault.MapFault.{MapFault}
 use Rattle.olr_map.specs.declared.fault.MapFault.TheVariants as fault
+use Rattle.olr_metric.specs.Checks.{Refuses}
 use Rattle.olr_metric.specs.Coordinates.{Coordinates, coordinates_of}
 use Rattle.olr_metric.specs.Counting.{one_more}
 use Rattle.olr_metric.specs.declared.degrees.Degrees.{Degrees}
@@ -22,8 +23,9 @@ use Rattle.olr_map.specs.declared.rows.RowError.TheVariants.{Shape, Column}
 use Rattle.olr_index.specs.Window.{IsExtent}
 use Rattle.olr_records.specs.Fields.{IsId, IsKind, IsLength}
 use Rattle.olr_records.specs.Shape.{IsShape}
-use Rattle.olr_map.specs.Rows.{node_header, line_header, ban_header, SpellsAt, Node, node_ids, IsNodeAt, HasNodeColumn, RoadLine, line_ids, ArePoints, HasEqualNeighbours, HasLineColumn, HasBanColumn, ban_key, NamesLines, IsAdjacent}
-use Rattle.olr_map.specs.Faults.{IsFirstLacking, IsUnknown, IsUnknownLine}
+use Rattle.olr_map.specs.Rows.{node_header, line_header, ban_header, SpellsAt, Node, node_ids, IsNodeAt, RoadLine, line_ids, ban_key, NamesLines, IsAdjacent}
+use Rattle.olr_map.specs.Faults.{node_columns, line_columns, ban_columns, line_checks, NamesUnknownLine}
+use Rattle.olr_map.specs.Table.{field_checks}
 use Rattle.olr_map.specs.RoadMap.{node_of}
 
 -- ---- any file
@@ -45,18 +47,26 @@ HasText left Is = (text : List ℕ) × IfSome left (λ given. text ≡ given) ×
 
 -- ---- the records of each file, one by one
 
--- the error of a record of the file of nodes, of lines, or of bans
+-- the fault for which a record with an error is refused
+abbrev pub fault_of : RowError → File → ℕ → MapFault
+fault_of Shape file n = fault.Shape file n
+fault_of (Column column) file n = fault.Field file n column
+
+-- the error of a record of the file of nodes, of lines, or of bans: that of the first check that
+-- its fields fail
 abbrev pub IsNodeError : List (List ℕ) → RowError → Type 0
-IsNodeError fields Shape = length fields ≢ length node_header
-IsNodeError fields (Column column) = (length fields ≡ length node_header) × IsFirstLacking (HasNodeColumn fields) column
+IsNodeError fields error = (n : ℕ)
+    → Refuses (field_checks Nodes node_header (node_columns fields) n fields)
+    (fault_of error Nodes n)
 
 abbrev pub IsLineError : List (List ℕ) → RowError → Type 0
-IsLineError fields Shape = length fields ≢ length line_header
-IsLineError fields (Column column) = (length fields ≡ length line_header) × IsFirstLacking (HasLineColumn fields) column
+IsLineError fields error = (n : ℕ)
+    → Refuses (field_checks Lines line_header (line_columns fields) n fields)
+    (fault_of error Lines n)
 
 abbrev pub IsBanError : List (List ℕ) → RowError → Type 0
-IsBanError fields Shape = length fields ≢ length ban_header
-IsBanError fields (Column column) = (length fields ≡ length ban_header) × IsFirstLacking (HasBanColumn fields) column
+IsBanError fields error = (n : ℕ)
+    → Refuses (field_checks Bans ban_header (ban_columns fields) n fields) (fault_of error Bans n)
 
 -- the numbers of a line that a record spells
 pub record SpellsNumbers (fields : List (List ℕ)) (row : LineRow) : Type 0 where
@@ -69,9 +79,10 @@ pub record SpellsNumbers (fields : List (List ℕ)) (row : LineRow) : Type 0 whe
   pub size : SpellsAt IsLength fields 5 row.length
 
 -- and its shape
-pub record SpellsLine (fields : List (List ℕ)) (shape : List Coordinates) (row : LineRow) : Type 0 where
-  pub numbers : SpellsNumbers fields row
-  pub between : SpellsAt IsShape fields 6 shape
+pub record SpellsLine (fields : List (List ℕ)) (shape : List Coordinates) (row : LineRow) : Type 0
+  where
+    pub numbers : SpellsNumbers fields row
+    pub between : SpellsAt IsShape fields 6 shape
 
 -- the nodes at which a row's line starts and ends
 pub record AreEnds (nodes : List Node) (row : LineRow) (ends : Ends) : Type 0 where
@@ -80,18 +91,14 @@ pub record AreEnds (nodes : List Node) (row : LineRow) (ends : Ends) : Type 0 wh
 
 -- these are they, or one of them is no node
 abbrev pub HasEnds : List Node → LineRow → Option Ends → Type 0
-HasEnds nodes row ends = MatchOption ends ((Contains (node_ids nodes) row.from → ⊥) ⊎ (Contains (node_ids nodes) row.to → ⊥)) (AreEnds nodes row)
+HasEnds nodes row ends = MatchOption ends ((Contains (node_ids nodes) row.from → ⊥)
+    ⊎ (Contains (node_ids nodes) row.to → ⊥)) (AreEnds nodes row)
 
 -- the ids of the two lines of a ban that a record spells
 pub record SpellsIds (fields : List (List ℕ)) (first second : ℕ) : Type 0 where
   pub two : length fields ≡ length ban_header
   pub from : SpellsAt IsId fields 0 first
   pub to : SpellsAt IsId fields 1 second
-
--- the fault for which a record with a error is refused
-abbrev pub fault_of : RowError → File → ℕ → MapFault
-fault_of Shape file n = fault.Shape file n
-fault_of (Column column) file n = fault.Field file n column
 
 -- ---- the rows of the file of nodes
 
@@ -142,18 +149,9 @@ pub record AreSound (rows : LineSet) : Type 0 where
   pub within : All (IsWithin rows.points.items) rows.entries.items
   pub room : length rows.points.items ≤ 66 * length rows.entries.items
 
--- both ends of a record are nodes
-pub record KnowsEnds (nodes : List Node) (fields : List (List ℕ)) : Type 0 where
-  pub from : IsUnknown nodes fields 1 → ⊥
-  pub to : IsUnknown nodes fields 2 → ⊥
-
 -- the fault of record n for which its row is no line on these nodes
 abbrev pub IsLateFault : List Node → List (List ℕ) → ℕ → MapFault → Type 0
-IsLateFault nodes fields n (fault.UnknownNode other) = (other ≡ n) × (IsUnknown nodes fields 1 ⊎ IsUnknown nodes fields 2)
-IsLateFault nodes fields n (fault.ZeroLength other) = (other ≡ n) × KnowsEnds nodes fields × SpellsAt IsLength fields 5 0
-IsLateFault nodes fields n (fault.Degenerate other) = (other ≡ n) × KnowsEnds nodes fields × (SpellsAt IsLength fields 5 0 → ⊥)
-    × (from to : ℕ) × (points : List Coordinates) × ArePoints nodes fields from to points × HasEqualNeighbours points
-IsLateFault nodes fields n _ = ⊥
+IsLateFault nodes fields n why = Refuses (line_checks nodes n fields) why
 
 -- ---- the rows of the file of bans
 
@@ -172,11 +170,14 @@ IsRankOf lines id found = MatchOption found
 abbrev pub stop_at : MapFault → Option ℕ → Stop
 stop_at why key = record { fault = why; key = key }
 
--- Why record n is no ban, and what its reader answers: it has a error, it names a line that isn't there, or the lines that it
--- names don't meet.
-pub data StopsBan (lines : List RoadLine) (fields : List (List ℕ)) (n : ℕ) (stop : Stop) : Type 0 where
-  wrong_row : (error : RowError) → IsBanError fields error → stop ≡ stop_at (fault_of error Bans n) None → StopsBan lines fields n stop
-  unknown : (first second : ℕ) → SpellsIds fields first second → IsUnknownLine lines fields 0 ⊎ IsUnknownLine lines fields 1
-      → stop ≡ stop_at (fault.UnknownLine n) None → StopsBan lines fields n stop
-  apart : (ban : Ban) → length fields ≡ length ban_header → NamesLines lines fields ban → (IsAdjacent lines ban → ⊥)
-      → stop ≡ stop_at (fault.NotAdjacent n) (Some (ban_key ban)) → StopsBan lines fields n stop
+-- Why record n is no ban, and what its reader answers: it has an error, it names a line that isn't
+-- there, or the lines that it names don't meet.
+pub data StopsBan (lines : List RoadLine) (fields : List (List ℕ)) (n : ℕ) (stop : Stop) : Type 0
+  where
+    wrong_row : (error : RowError) → IsBanError fields error
+        → stop ≡ stop_at (fault_of error Bans n) None → StopsBan lines fields n stop
+    unknown : (first second : ℕ) → SpellsIds fields first second → NamesUnknownLine lines fields
+        → stop ≡ stop_at (fault.UnknownLine n) None → StopsBan lines fields n stop
+    apart : (ban : Ban) → length fields ≡ length ban_header → NamesLines lines fields ban
+        → (IsAdjacent lines ban → ⊥)
+        → stop ≡ stop_at (fault.NotAdjacent n) (Some (ban_key ban)) → StopsBan lines fields n stop

@@ -9,11 +9,12 @@ use Rattle.olr_map.specs.declared.fault.MapFault.{MapFault}
 use Rattle.olr_index.specs.declared.window.Extent.{Extent}
 use Rattle.olr_metric.specs.Coordinates.{Coordinates, coordinates_of, IsInRange}
 use Rattle.olr_map.specs.Rows.{most_nodes, most_lines, most_bans, Node, node_ids, RoadLine, line_ids, node_header, line_header, ban_header, IsNode, IsLine, HasEqualNeighbours, ban_key, ban_keys, IsAdjacent, IsBan}
-use Rattle.olr_map.specs.Faults.{NodeCondition, LineCondition, BanCondition}
+use Rattle.olr_map.specs.Faults.{node_columns, line_columns, ban_columns, IsRepeated, IsRepeatedBan, line_checks, ban_checks}
 use Rattle.olr_map.specs.Table.{Table, IsTableOf, IsFaultOfTable}
 
--- A map: nodes and lines, each by rising id, so that the rank of a node or a line, the number of those with a lesser id, is
--- its place in the list; and bans on turns from one line to another, by the rising ranks of their lines.
+-- A map: nodes and lines, each by rising id, so that the rank of a node or a line, the number of
+-- those with a lesser id, is its place in the list; and bans on turns from one line to another, by
+-- the rising ranks of their lines.
 pub record RoadMap : Type 0 where
   pub nodes : List Node
   pub lines : List RoadLine
@@ -29,7 +30,9 @@ nodes_table = record {
   most = most_nodes;
   key = λ (node : Node). node.id;
   IsRow = IsNode;
-  Condition = NodeCondition;
+  columns = node_columns;
+  Repeats = IsRepeated;
+  later = λ n fields. [];
 }
 
 -- the file of lines, on nodes by rising id
@@ -40,7 +43,9 @@ lines_table nodes = record {
   most = most_lines;
   key = λ (line : RoadLine). line.id;
   IsRow = IsLine nodes;
-  Condition = LineCondition nodes;
+  columns = line_columns;
+  Repeats = IsRepeated;
+  later = line_checks nodes;
 }
 
 -- the file of bans, on lines by rising id
@@ -51,7 +56,9 @@ bans_table lines = record {
   most = most_bans;
   key = ban_key;
   IsRow = IsBan lines;
-  Condition = BanCondition lines;
+  columns = ban_columns;
+  Repeats = IsRepeatedBan lines;
+  later = ban_checks lines;
 }
 
 -- the nodes of a text, by rising id
@@ -92,8 +99,9 @@ pub record AreSoundNodes (nodes : List Node) : Type 0 where
   pub at_most : length nodes ≤ most_nodes
   pub each : All IsSoundNode nodes
 
--- A line of a map of so many nodes: its id, class and form are in their ranges, it starts and ends at two of the nodes, it
--- is 1 to 10,000,000 decimetres long, and it has 2 to 66 points in range, of which no two neighbours are equal.
+-- A line of a map of so many nodes: its id, class and form are in their ranges, it starts and ends
+-- at two of the nodes, it is 1 to 10,000,000 decimetres long, and it has 2 to 66 points in range,
+-- of which no two neighbours are equal.
 pub record IsSoundLine (nodes : ℕ) (line : RoadLine) : Type 0 where
   pub named : 1 ≤ line.id
   pub id : line.id ≤ 9007199254740992
@@ -108,8 +116,8 @@ pub record IsSoundLine (nodes : ℕ) (line : RoadLine) : Type 0 where
   pub inside : All IsInRange line.points
   pub apart : HasEqualNeighbours line.points → ⊥
 
--- A line joins its nodes: its points begin at the place of the node at which it starts, and end at the place of the node at
--- which it ends.
+-- A line joins its nodes: its points begin at the place of the node at which it starts, and end at
+-- the place of the node at which it ends.
 pub record JoinsNodes (nodes : List Node) (line : RoadLine) : Type 0 where
   pub first : Node
   pub last : Node
@@ -118,14 +126,16 @@ pub record JoinsNodes (nodes : List Node) (line : RoadLine) : Type 0 where
   pub end : slice_get nodes line.to ≡ Some last
   pub joined : line.points ≡ first.place ∷ between ++ last.place ∷ []
 
--- the lines of a map of these nodes: within the limit, sound ones by rising id, each of which joins two of the nodes
+-- the lines of a map of these nodes: within the limit, sound ones by rising id, each of which joins
+-- two of the nodes
 pub record AreSoundLines (nodes : List Node) (lines : List RoadLine) : Type 0 where
   pub rise : IsStrictlyIncreasing (line_ids lines)
   pub at_most : length lines ≤ most_lines
   pub each : All (IsSoundLine (length nodes)) lines
   pub joined : All (JoinsNodes nodes) lines
 
--- the bans of a map of these lines: within the limit, by rising key, each of them between two lines that meet
+-- the bans of a map of these lines: within the limit, by rising key, each of them between two lines
+-- that meet
 pub record AreSoundBans (lines : List RoadLine) (bans : List Ban) : Type 0 where
   pub rise : IsStrictlyIncreasing (ban_keys bans)
   pub at_most : length bans ≤ most_bans
@@ -143,7 +153,15 @@ node_of node = record { id = node.id; place = coordinates_of node.place }
 
 -- a line, but for its points
 abbrev pub head_of : RoadLine → Line
-head_of line = record { id = line.id; from = line.from; to = line.to; class = line.class; form = line.form; length = line.length }
+head_of line = record {
+  id = line.id;
+  from = line.from;
+  to = line.to;
+  class = line.class;
+  form =
+      line.form;
+  length = line.length;
+}
 
 -- the ban on the turn from one line to another, by rank
 abbrev pub ban_of : ℕ → ℕ → Ban
@@ -159,8 +177,9 @@ origins_of lines = map (λ (line : RoadLine). line.from) lines
 abbrev pub destinations_of : List RoadLine → List ℕ
 destinations_of lines = map (λ (line : RoadLine). line.to) lines
 
--- The span of a line's latitudes meets the band from `low` to `high`, in microdegrees and both included: one of its points
--- lies not north of the band, and one not south of it. A band that ends before it begins meets nothing.
+-- The span of a line's latitudes meets the band from `low` to `high`, in microdegrees and both
+-- included: one of its points lies not north of the band, and one not south of it. A band that ends
+-- before it begins meets nothing.
 pub record MeetsBand (low high : ℤ) (line : RoadLine) : Type 0 where
   pub band : low ≤ℤ high
   pub southern : Coordinates
@@ -172,7 +191,8 @@ pub record MeetsBand (low high : ℤ) (line : RoadLine) : Type 0 where
 
 -- there is a line of this rank, and it meets the band
 abbrev pub RankMeetsBand : List RoadLine → ℤ → ℤ → ℕ → Type 0
-RankMeetsBand lines low high rank = (line : RoadLine) × (slice_get lines rank ≡ Some line) × MeetsBand low high line
+RankMeetsBand lines low high rank = (line : RoadLine) × (slice_get lines rank ≡ Some line)
+    × MeetsBand low high line
 
 -- just the lines that meet a band, by rank, each once
 pub record IsBandOf (lines : List RoadLine) (low high : ℤ) (ranks : List ℕ) : Type 0 where
@@ -180,7 +200,8 @@ pub record IsBandOf (lines : List RoadLine) (low high : ℤ) (ranks : List ℕ) 
   pub only : All (RankMeetsBand lines low high) ranks
   pub each : (rank : ℕ) → RankMeetsBand lines low high rank → Contains ranks rank
 
--- The same of longitudes, from `west` to `east`: one of a line's points lies not east of them, and one not west of them.
+-- The same of longitudes, from `west` to `east`: one of a line's points lies not east of them, and
+-- one not west of them.
 pub record MeetsLongitudes (west east : ℤ) (line : RoadLine) : Type 0 where
   pub band : west ≤ℤ east
   pub western : Coordinates
@@ -190,15 +211,17 @@ pub record MeetsLongitudes (west east : ℤ) (line : RoadLine) : Type 0 where
   pub not_east : western.lon ≤ℤ east
   pub not_west : west ≤ℤ eastern.lon
 
--- The extent of a line meets a window: the span of its latitudes meets that of the window's, and so does the span of its longitudes. The
--- line itself may pass beside the window. A window that ends before it begins, in either direction, meets nothing.
+-- The extent of a line meets a window: the span of its latitudes meets that of the window's, and so
+-- does the span of its longitudes. The line itself may pass beside the window. A window that ends
+-- before it begins, in either direction, meets nothing.
 pub record MeetsWindow (window : Extent) (line : RoadLine) : Type 0 where
   pub lats : MeetsBand window.south window.north line
   pub lons : MeetsLongitudes window.west window.east line
 
 -- there is a line of this rank, and it meets the window
 abbrev pub RankMeetsWindow : List RoadLine → Extent → ℕ → Type 0
-RankMeetsWindow lines window rank = (line : RoadLine) × (slice_get lines rank ≡ Some line) × MeetsWindow window line
+RankMeetsWindow lines window rank = (line : RoadLine) × (slice_get lines rank ≡ Some line)
+    × MeetsWindow window line
 
 -- just the lines that meet a window, by rank, each once
 pub record IsWindowOf (lines : List RoadLine) (window : Extent) (ranks : List ℕ) : Type 0 where

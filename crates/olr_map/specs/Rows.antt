@@ -1,4 +1,5 @@
--- What the records of the three files spell. The fields of a record are counted from 0, its columns from 1.
+-- What the records of the three files spell. The fields of a record are counted from 0, its columns
+-- from 1.
 use Rattle.std.specs.Prelude.{◌≡◌, ℕ, ◌+◌, ◌*◌, ◌<◌, ◌≤◌, ⊤, List, [], ◌∷◌, ◌++◌, length, map, Option, Some, slice_get, codes}
 use Rattle.olr_records.specs.Records.{field_at}
 use Rattle.olr_metric.specs.Coordinates.{Coordinates}
@@ -7,7 +8,8 @@ use Rattle.olr_records.specs.Shape.{IsShape}
 use Rattle.olr_map.specs.declared.ban.Ban.{Ban}
 
 -- this field of a record spells this value
-pub record SpellsAt {A : Type 0} (Spells : List ℕ → A → Type 0) (fields : List (List ℕ)) (index : ℕ) (value : A) : Type 0 where
+pub record SpellsAt {A : Type 0} (Spells : List ℕ → A → Type 0) (fields : List (List ℕ)) (index : ℕ)
+    (value : A) : Type 0 where
   pub text : List ℕ
   pub field : field_at fields index ≡ Some text
   pub spells : Spells text value
@@ -42,12 +44,6 @@ pub record IsNode (fields : List (List ℕ)) (node : Node) : Type 0 where
   pub lon : SpellsAt SpellsLongitude fields 1 node.place.lon
   pub lat : SpellsAt SpellsLatitude fields 2 node.place.lat
 
--- a column of a record of the file of nodes has a value; any column beyond these counts as having one
-pub record HasNodeColumn (fields : List (List ℕ)) (column : ℕ) : Type 0 where
-  pub id : column ≡ 1 → HasValue IsId fields 0
-  pub lon : column ≡ 2 → HasValue SpellsLongitude fields 1
-  pub lat : column ≡ 3 → HasValue SpellsLatitude fields 2
-
 -- ---- lines
 
 -- the most of them
@@ -56,10 +52,11 @@ most_lines = 200000
 
 -- the first record of the file of lines
 abbrev pub line_header : List (List ℕ)
-line_header = codes "id" ∷ codes "from" ∷ codes "to" ∷ codes "class" ∷ codes "form" ∷ codes "length" ∷ codes "shape" ∷ []
+line_header = codes "id" ∷ codes "from" ∷ codes "to" ∷ codes "class" ∷ codes "form" ∷ codes "length"
+    ∷ codes "shape" ∷ []
 
--- A line: its id; the ranks of the nodes at which it starts and ends; its class, its form of way, its length in
--- decimetres; and its points, both ends among them.
+-- A line: its id; the ranks of the nodes at which it starts and ends; its class, its form of way,
+-- its length in decimetres; and its points, both ends among them.
 pub record RoadLine : Type 0 where
   pub id : ℕ
   pub from : ℕ
@@ -73,28 +70,21 @@ pub record RoadLine : Type 0 where
 abbrev pub line_ids : List RoadLine → List ℕ
 line_ids lines = map (λ (line : RoadLine). line.id) lines
 
--- a column of a record of the file of lines has a value; any column beyond these counts as having one
-pub record HasLineColumn (fields : List (List ℕ)) (column : ℕ) : Type 0 where
-  pub id : column ≡ 1 → HasValue IsId fields 0
-  pub from : column ≡ 2 → HasValue IsId fields 1
-  pub to : column ≡ 3 → HasValue IsId fields 2
-  pub class : column ≡ 4 → HasValue IsKind fields 3
-  pub form : column ≡ 5 → HasValue IsKind fields 4
-  pub length : column ≡ 6 → HasValue IsLength fields 5
-  pub shape : column ≡ 7 → HasValue IsShape fields 6
-
 -- of nodes by rising id, the one of this rank has this id and lies here
 abbrev pub IsNodeAt : List Node → ℕ → ℕ → Coordinates → Type 0
 IsNodeAt nodes id rank place = slice_get nodes rank ≡ Some (record { id = id; place = place })
 
 -- this field of a record spells the id of the node of this rank, which lies here
-pub record IsEnd (nodes : List Node) (fields : List (List ℕ)) (index rank : ℕ) (place : Coordinates) : Type 0 where
+pub record IsEnd (nodes : List Node) (fields : List (List ℕ)) (index rank : ℕ)
+    (place : Coordinates) : Type 0 where
   pub id : ℕ
   pub spelled : SpellsAt IsId fields index id
   pub node : IsNodeAt nodes id rank place
 
--- the points that a record gives a line: the node at which it starts, its shape, the node at which it ends
-pub record ArePoints (nodes : List Node) (fields : List (List ℕ)) (from to : ℕ) (points : List Coordinates) : Type 0 where
+-- the points that a record gives a line: the node at which it starts, its shape, the node at which
+-- it ends
+pub record ArePoints (nodes : List Node) (fields : List (List ℕ)) (from to : ℕ)
+    (points : List Coordinates) : Type 0 where
   pub first : Coordinates
   pub last : Coordinates
   pub shape : List Coordinates
@@ -131,8 +121,9 @@ most_bans = 200000
 abbrev pub ban_header : List (List ℕ)
 ban_header = codes "from" ∷ codes "to" ∷ []
 
--- The key of a ban: the ranks of its two lines, packed into one number. No map has 2 ^ 32 lines, so bans are by rising key if
--- they are by the rising rank of the line that they lead from, and those from one line by the rising rank of the other.
+-- The key of a ban: the ranks of its two lines, packed into one number. No map has 2 ^ 32 lines, so
+-- bans are by rising key if they are by the rising rank of the line that they lead from, and those
+-- from one line by the rising rank of the other.
 abbrev pub ban_key : Ban → ℕ
 ban_key ban = ban.from * 4294967296 + ban.to
 
@@ -140,16 +131,12 @@ ban_key ban = ban.from * 4294967296 + ban.to
 abbrev pub ban_keys : List Ban → List ℕ
 ban_keys bans = map ban_key bans
 
--- a column of a record of the file of bans has a value; any column beyond these counts as having one
-pub record HasBanColumn (fields : List (List ℕ)) (column : ℕ) : Type 0 where
-  pub from : column ≡ 1 → HasValue IsId fields 0
-  pub to : column ≡ 2 → HasValue IsId fields 1
-
 -- this field of a record spells the id of the line of this rank
-pub record IsLineNamed (lines : List RoadLine) (fields : List (List ℕ)) (index rank : ℕ) : Type 0 where
-  pub id : ℕ
-  pub spelled : SpellsAt IsId fields index id
-  pub line : slice_get (line_ids lines) rank ≡ Some id
+pub record IsLineNamed (lines : List RoadLine) (fields : List (List ℕ)) (index rank : ℕ) : Type 0
+  where
+    pub id : ℕ
+    pub spelled : SpellsAt IsId fields index id
+    pub line : slice_get (line_ids lines) rank ≡ Some id
 
 -- a record names the two lines of a ban
 pub record NamesLines (lines : List RoadLine) (fields : List (List ℕ)) (ban : Ban) : Type 0 where

@@ -1,6 +1,6 @@
 //! What each record of the three files means by itself.
 
-ghost use Rattle.std.specs.Prelude.{◌≡◌, ℕ, ℤ, List, map, IfOk, IfErr, MatchBool, MatchOption, MatchResult};
+ghost use Rattle.std.specs.Prelude.{◌≡◌, List, map, IfOk, IfErr, MatchBool, MatchOption, MatchResult};
 ghost use Rattle.olr_metric.specs.Coordinates.{coordinates_of};
 ghost use Rattle.olr_records.specs.Fields.{IsId, IsKind, IsLength, SpellsLongitude, SpellsLatitude};
 ghost use Rattle.olr_records.specs.Shape.{IsShape};
@@ -50,35 +50,40 @@ impl RowError {
 
 /// The id that the field at a place spells.
 fn id_at(row: &Record, place: usize) -> Option<u64>
-    ensures { MatchOption result ((id : ℕ) → ¬ (SpellsAt IsId row.now place id)) (SpellsAt IsId row.now place) }
+    ensures { MatchOption result
+        (HasValue IsId row.now place → ⊥) (SpellsAt IsId row.now place) }
 {
     id_of(row.field(place)?)
 }
 
 /// The class or form of way that the field at a place spells.
 fn kind_at(row: &Record, place: usize) -> Option<u8>
-    ensures { MatchOption result ((kind : ℕ) → ¬ (SpellsAt IsKind row.now place kind)) (SpellsAt IsKind row.now place) }
+    ensures { MatchOption result
+        (HasValue IsKind row.now place → ⊥) (SpellsAt IsKind row.now place) }
 {
     kind_of(row.field(place)?)
 }
 
 /// The length in decimetres that the field at a place spells.
 fn length_at(row: &Record, place: usize) -> Option<u32>
-    ensures { MatchOption result ((size : ℕ) → ¬ (SpellsAt IsLength row.now place size)) (SpellsAt IsLength row.now place) }
+    ensures { MatchOption result
+        (HasValue IsLength row.now place → ⊥) (SpellsAt IsLength row.now place) }
 {
     length_of(row.field(place)?)
 }
 
 /// The longitude in microdegrees that the field at a place spells.
 fn longitude_at(row: &Record, place: usize) -> Option<i32>
-    ensures { MatchOption result ((lon : ℤ) → ¬ (SpellsAt SpellsLongitude row.now place lon)) (SpellsAt SpellsLongitude row.now place) }
+    ensures { MatchOption result
+        (HasValue SpellsLongitude row.now place → ⊥) (SpellsAt SpellsLongitude row.now place) }
 {
     longitude_of(row.field(place)?)
 }
 
 /// The latitude in microdegrees that the field at a place spells.
 fn latitude_at(row: &Record, place: usize) -> Option<i32>
-    ensures { MatchOption result ((lat : ℤ) → ¬ (SpellsAt SpellsLatitude row.now place lat)) (SpellsAt SpellsLatitude row.now place) }
+    ensures { MatchOption result
+        (HasValue SpellsLatitude row.now place → ⊥) (SpellsAt SpellsLatitude row.now place) }
 {
     latitude_of(row.field(place)?)
 }
@@ -148,7 +153,9 @@ pub(crate) fn shape_at(
     place: usize,
     shape: &mut Vec<Degrees>,
 ) -> Result<bool, NoMemory>
-    ensures { IfOk result (λ is_shape. MatchBool is_shape (SpellsAt IsShape row.now place (map coordinates_of shape.new.items)) (HasValue IsShape row.now place → ⊥)) }
+    ensures { IfOk result (λ is_shape. MatchBool is_shape
+        (SpellsAt IsShape row.now place (map coordinates_of shape.new.items))
+        (HasValue IsShape row.now place → ⊥)) }
 {
     let Some(text) = row.field(place) else {
         return Ok(false);

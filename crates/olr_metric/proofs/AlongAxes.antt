@@ -29,7 +29,7 @@ root_beside x y = elim (cases_lt (root (x * x + y * y)) x) [
 ]
 
 pub east_within : (a b : Spot) → nat_abs (a.x -ℤ b.x) ≤ distance a b
-east_within a b = root_beside (nat_abs (a.x -ℤ b.x)) (nat_abs (a.y -ℤ b.y))
+east_within a b = root_beside _ _
 
 pub north_within : (a b : Spot) → nat_abs (a.y -ℤ b.y) ≤ distance a b
-north_within a b = root_within (nat_abs (a.x -ℤ b.x)) (nat_abs (a.y -ℤ b.y))
+north_within a b = root_within _ _

@@ -32,7 +32,7 @@ segment_at spots s i a b before reaches start end = record {
 
 -- and s lies no further on it than its end
 pub ends_behind : (spots : List Spot) (s i : ℕ) (a b : Spot) → IsSegmentAt spots s i a b → s - arc_at spots i ≤ distance a b
-ends_behind spots s i a b is = omega (arith, is.reaches, arc_segment spots i a b is.segment.start is.segment.end)
+ends_behind spots s i a b is = omega (arith, is.reaches, arc_segment _ i a b is.segment.start is.segment.end)
 
 -- what the segment of a number is when its spots are read
 abbrev pub IsAt : List Spot → ℕ → ℕ → Type 0
@@ -45,14 +45,14 @@ read : (spots : List Spot) (s i : ℕ) → i + 1 < length spots → IsAt spots s
 read spots s i within is =
     let one : i + 1 ≡ suc i = omega arith in
     rw one (is (spot_at spots i) (spot_at spots (suc i))
-    (slice_get-get_or spots i (record { x = pos 0; y = pos 0 }) (omega (arith, within)))
+    (slice_get-get_or _ i _ (omega (arith, within)))
     (slice_get-get_or spots (suc i) (record { x = pos 0; y = pos 0 }) (omega (arith, within))))
 
 pub is_at : (spots : List Spot) (s i : ℕ) → i + 1 < length spots → IsAt spots s i → IsPolyline spots
     → (spot_at spots i ≢ spot_at spots (i + 1)) × (s - arc_at spots i ≤ distance (spot_at spots i) (spot_at spots (i + 1)))
 is_at spots s i within is polyline =
-    let at = read spots s i within is in
-    (polyline.apart i (spot_at spots i) (spot_at spots (i + 1)) at.segment, ends_behind spots s i (spot_at spots i) (spot_at spots (i + 1)) at)
+    let at = read _ s i within is in
+    (polyline.apart i (spot_at spots i) (spot_at spots (i + 1)) at.segment, ends_behind _ s i _ _ at)
 
 pub is_along : (spots : List Spot) (s i start : ℕ) (spot : Spot) → i + 1 < length spots → IsAt spots s i → start ≡ arc_at spots i
     → spot ≡ spot_between (spot_at spots i) (spot_at spots (i + 1)) (s - start) (distance (spot_at spots i) (spot_at spots (i + 1))) → IsAlong spots s spot
@@ -60,6 +60,6 @@ is_along spots s i start spot within is same spot_is = record {
   i = i;
   a = spot_at spots i;
   b = spot_at spots (i + 1);
-  at_arc = read spots s i within is;
+  at_arc = read _ s i within is;
   spot_of = rw (sym same) spot_is;
 }

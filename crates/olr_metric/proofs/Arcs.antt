@@ -16,13 +16,13 @@ arc_segment (x ∷ y ∷ rest) zero a b start end = rw (sym (same_Some x a start
 arc_segment (x ∷ y ∷ rest) (suc i) a b start end = omega (arith, arc_segment (y ∷ rest) i a b start end)
 
 arc_step : (spots : List Spot) (i : ℕ) (d : Spot) → suc i < length spots → arc_at spots (suc i) ≡ arc_at spots i + distance (get_or spots i d) (get_or spots (suc i) d)
-arc_step spots i d within = arc_segment spots i (get_or spots i d) (get_or spots (suc i) d) (slice_get-get_or spots i d (omega (arith, within))) (slice_get-get_or spots (suc i) d within)
+arc_step spots i d within = arc_segment _ i _ _ (slice_get-get_or _ i d (omega (arith, within))) (slice_get-get_or _ _ d within)
 
 -- one segment more
 pub arc_more : (spots : List Spot) (i : ℕ) (d : Spot) → i + 1 < length spots → arc_at spots (i + 1) ≡ arc_at spots i + distance (get_or spots i d) (get_or spots (i + 1) d)
 arc_more spots i d within =
     let one : i + 1 ≡ suc i = omega arith in
-    rw one (arc_step spots i d (omega (arith, within)))
+    rw one (arc_step _ i d (omega (arith, within)))
 
 -- all segments
 pub arc_all : (spots : List Spot) → 0 < length spots → arc_at spots (length spots - 1) ≡ arc spots

@@ -39,7 +39,7 @@ clockwise_of x y x' y' less = omega (arith, ints)
 clockwise_first : (s : ℕ) → s < 8 → cross (ray s) (ray (suc s)) <ℤ pos 0
 clockwise_first s inside =
     let it = step s inside in
-    rw (it.this, it.next) (clockwise_of it.x it.y it.x' it.y' it.clockwise)
+    rw (it.this, it.next) (clockwise_of _ _ _ _ it.clockwise)
 
 clockwise_behind : (k s : ℕ) → s < 8 → cross (ray (s + 8 * k)) (ray (suc s + 8 * k)) <ℤ pos 0
 clockwise_behind zero s inside =
@@ -49,7 +49,7 @@ clockwise_behind zero s inside =
 clockwise_behind (suc k) s inside =
     let here : s + 8 * suc k ≡ (s + 8 * k) + 8 = omega arith in
     let next : suc s + 8 * suc k ≡ (suc s + 8 * k) + 8 = omega arith in
-    rw (here, next, ray_turned (s + 8 * k), ray_turned (suc s + 8 * k), cross_turned (ray (s + 8 * k)) (ray (suc s + 8 * k)))
+    rw (here, next, ray_turned _, ray_turned _, cross_turned _ _)
     (clockwise_behind k s inside)
 
 clockwise_at : (s k r : ℕ) → r < 8 → s ≡ r + 8 * k → cross (ray s) (ray (s + 1)) <ℤ pos 0
@@ -67,7 +67,7 @@ rises_of x y x' y' a b east north = omega (arith, ints, mul-le x b x' b east (om
 rises : (s a b : ℕ) → s < 8 → cross (ray s) (ray_to a b) ≤ℤ cross (ray (suc s)) (ray_to a b)
 rises s a b inside =
     let it = step s inside in
-    rw (it.this, it.next) (rises_of it.x it.y it.x' it.y' a b it.east it.north)
+    rw (it.this, it.next) (rises_of _ _ _ _ a b it.east it.north)
 
 rises_by : (s k a b : ℕ) → s + k ≤ 8 → cross (ray s) (ray_to a b) ≤ℤ cross (ray (s + k)) (ray_to a b)
 rises_by s zero a b inside = let same : s + 0 ≡ s = omega arith in rw same (omega (arith, ints))
@@ -82,13 +82,13 @@ cross_second : (x y a b : ℕ) → cross (turned (ray_to x y)) (ray_to a b) ≡ 
 cross_second x y a b = rw (negative_times (pos x) (pos a), neg_ℤ-neg_ℤ (pos (x * a))) refl
 
 cross_third : (r d : Direction) → cross (turned (turned r)) d ≡ neg_ℤ (cross r d)
-cross_third r d = rw (negative_times r.east d.north, negative_times r.north d.east) (omega (arith, ints))
+cross_third r d = rw (negative_times _ _, negative_times _ _) (omega (arith, ints))
 
 in_second : (s a b : ℕ) → s < 8 → 0 < b → pos 0 <ℤ cross (ray (s + 8)) (ray_to a b)
 in_second s a b inside up =
     let it = step s inside in
     let some = mul-le 1 1 it.y b it.up up in
-    rw (ray_turned s, it.this, cross_second it.x it.y a b) (omega (arith, ints, some))
+    rw (ray_turned s, it.this, cross_second _ _ a b) (omega (arith, ints, some))
 
 in_third : (s a b : ℕ) → s < 8 → cross (ray (s + 16)) (ray_to a b) ≤ℤ pos 0 → pos 0 <ℤ cross (ray (suc s + 16)) (ray_to a b) → ⊥
 in_third s a b inside begins ends =
@@ -100,7 +100,7 @@ in_third s a b inside begins ends =
 in_fourth : (s a b : ℕ) → s < 8 → cross (ray (suc s + 24)) (ray_to a b) ≤ℤ pos 0
 in_fourth s a b inside =
     let it = step s inside in
-    rw (ray_turned_thrice (suc s), cross_third (turned (ray (suc s))) (ray_to a b), it.next, cross_second it.x' it.y' a b) (omega (arith, ints))
+    rw (ray_turned_thrice _, cross_third _ (ray_to a b), it.next, cross_second it.x' it.y' a b) (omega (arith, ints))
 
 -- a direction of the first quarter lies in a sector of that quarter
 pub in_quarter : (a b s : ℕ) → 0 < b → IsSector (ray_to a b) s → s < 8
@@ -128,7 +128,7 @@ in_quarter a b s up is = elim (cases_lt s 8) [
 no_earlier : (a b s t : ℕ) → t < 8 → s < t → IsSector (ray_to a b) s → IsSector (ray_to a b) t → ⊥
 no_earlier a b s t inside earlier is_s is_t =
     let at : t ≡ (s + 1) + (t - (s + 1)) = omega arith in
-    let more = rises_by (s + 1) (t - (s + 1)) a b (omega arith) in
+    let more = rises_by _ _ a b (omega arith) in
     let more' : cross (ray (s + 1)) (ray_to a b) ≤ℤ cross (ray t) (ray_to a b) = rw at more in
     omega (arith, ints, more', is_s.ends, is_t.begins)
 
@@ -163,7 +163,7 @@ in_last a b s up last passed = record {
 -- a direction lies in a sector that begins before a ray which it hasn't passed
 before_ray : (a b k : ℕ) → k ≤ 8 → pos 0 <ℤ cross (ray k) (ray_to a b) → (s : ℕ) × IsSector (ray_to a b) s
 before_ray a b zero inside ahead = absurd (omega (arith, ints, ahead, passes_first a b))
-before_ray a b (suc k) inside ahead = by_lt_z (pos 0) (cross (ray k) (ray_to a b))
+before_ray a b (suc k) inside ahead = by_lt_z _ _
     (λ ahead'. before_ray a b k (omega (arith, inside)) ahead')
     (λ passed. (k, record { in_range = omega (arith, inside); begins = passed; ends = ends_of a b k ahead }))
 

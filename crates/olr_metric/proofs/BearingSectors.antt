@@ -29,12 +29,12 @@ some_turned : (k : ℕ) (d : Direction) → (s : ℕ) × IsSector d s → (s : �
 some_turned zero d some = some
 some_turned (suc k) d some =
     let here = some_turned k d some in
-    ((here.0 + 8) % 32, sector_turned (turns k d) here.0 here.1)
+    ((here.0 + 8) % 32, sector_turned _ _ here.1)
 
 pub some_sector : (d : Direction) → d ≢ zero_direction → (s : ℕ) × IsSector d s
 some_sector d there =
-    let q = quarter d.east d.north there in
-    subst (λ e. (s : ℕ) × IsSector e s) (sym q.is) (some_turned q.turn (ray_to q.a q.b) (some_in_quarter q.a q.b q.up))
+    let q = quarter _ _ there in
+    subst (λ e. (s : ℕ) × IsSector e s) (sym q.is) (some_turned q.turn _ (some_in_quarter q.a _ q.up))
 
 -- a direction lies in one sector at most
 IsInOne : Direction → Type 0
@@ -42,20 +42,20 @@ IsInOne d = (s t : ℕ) → IsSector d s → IsSector d t → s ≡ t
 
 turned_on : (d : Direction) (s : ℕ) → IsSector (turned d) s → IsSector d ((((s + 8) % 32 + 8) % 32 + 8) % 32)
 turned_on d s is =
-    let twice = sector_turned (turned d) s is in
-    let thrice = sector_turned (turned (turned d)) ((s + 8) % 32) twice in
-    rw (← turned_round d) (sector_turned (turned (turned (turned d))) (((s + 8) % 32 + 8) % 32) thrice)
+    let twice = sector_turned _ s is in
+    let thrice = sector_turned _ _ twice in
+    rw (← turned_round d) (sector_turned _ _ thrice)
 
 one_turned : (k : ℕ) (d : Direction) → IsInOne d → IsInOne (turns k d)
 unfolding IsInOne
 one_turned zero d one = one
 one_turned (suc k) d one = λ s t is_s is_t.
-    let same = one_turned k d one _ _ (turned_on (turns k d) s is_s) (turned_on (turns k d) t is_t) in
+    let same = one_turned k d one _ _ (turned_on _ s is_s) (turned_on _ t is_t) in
     omega (arith, same, is_s.in_range, is_t.in_range)
 
 one_of_quarter : (d : Direction) → Quarter d → IsInOne d
 unfolding IsInOne
-one_of_quarter d q = subst IsInOne (sym q.is) (one_turned q.turn (ray_to q.a q.b) (λ s t is_s is_t. one_in_quarter q.a q.b s t q.up is_s is_t))
+one_of_quarter d q = subst IsInOne (sym q.is) (one_turned q.turn (ray_to q.a q.b) (λ s t is_s is_t. one_in_quarter q.a _ s t q.up is_s is_t))
 
 -- the zero direction lies in none
 none_of : (r : Direction) → pos 0 <ℤ cross r zero_direction → ⊥
@@ -66,7 +66,7 @@ no_sector s is = none_of (ray (s + 1)) is.ends
 
 pub one_sector : (d : Direction) (s t : ℕ) → IsSector d s → IsSector d t → s ≡ t
 unfolding IsInOne
-one_sector d s t is_s is_t = one_of_quarter d (quarter d.east d.north (λ same. no_sector s (subst (λ e. IsSector e s) same is_s))) s t is_s is_t
+one_sector d s t is_s is_t = one_of_quarter d (quarter _ _ (λ same. no_sector s (subst (λ e. IsSector e s) same is_s))) s t is_s is_t
 
 -- The sector of a direction by that of the direction of the first quarter that it is turned back to. In each it goes so far
 -- along the axes.
@@ -88,18 +88,18 @@ pub from_east : (east north : ℤ) (x y s : ℕ) → pos 0 <ℤ east → north �
 from_east east north x y s some none x_is y_is first is =
     let east_is : east ≡ pos x = omega (arith, ints, some, x_is) in
     let north_is : north ≡ neg_ℤ (pos y) = omega (arith, ints, none, y_is) in
-    rw (east_is, north_is) (turned_once (ray_to y x) s first is)
+    rw (east_is, north_is) (turned_once _ s first is)
 
 pub from_south : (east north : ℤ) (x y s : ℕ) → east ≤ℤ pos 0 → north <ℤ pos 0 → x ≡ nat_abs east → y ≡ nat_abs north
     → s < 8 → IsSector (ray_to x y) s → IsSector (towards east north) (16 + s)
 from_south east north x y s none some x_is y_is first is =
     let east_is : east ≡ neg_ℤ (pos x) = omega (arith, ints, none, x_is) in
     let north_is : north ≡ neg_ℤ (pos y) = omega (arith, ints, some, y_is) in
-    rw (east_is, north_is) (turned_twice (ray_to x y) s first is)
+    rw (east_is, north_is) (turned_twice _ s first is)
 
 pub from_west : (east north : ℤ) (x y s : ℕ) → east <ℤ pos 0 → pos 0 ≤ℤ north → x ≡ nat_abs east → y ≡ nat_abs north
     → s < 8 → IsSector (ray_to y x) s → IsSector (towards east north) (24 + s)
 from_west east north x y s some none x_is y_is first is =
     let east_is : east ≡ neg_ℤ (pos x) = omega (arith, ints, some, x_is) in
     let north_is : north ≡ neg_ℤ (neg_ℤ (pos y)) = omega (arith, ints, none, y_is) in
-    rw (east_is, north_is) (turned_thrice (ray_to y x) s first is)
+    rw (east_is, north_is) (turned_thrice _ s first is)

@@ -16,12 +16,12 @@ ray_turned s =
 pub ray_turned_twice : (s : ℕ) → ray (s + 16) ≡ turned (turned (ray s))
 ray_turned_twice s =
     let parts : s + 16 ≡ (s + 8) + 8 = omega arith in
-    rw (parts, ray_turned (s + 8), ray_turned s) refl
+    rw (parts, ray_turned _, ray_turned s) refl
 
 pub ray_turned_thrice : (s : ℕ) → ray (s + 24) ≡ turned (turned (turned (ray s)))
 ray_turned_thrice s =
     let parts : s + 24 ≡ (s + 16) + 8 = omega arith in
-    rw (parts, ray_turned (s + 16), ray_turned_twice s) refl
+    rw (parts, ray_turned _, ray_turned_twice s) refl
 
 -- four quarter turns lead back
 pub turned_round : (d : Direction) → turned (turned (turned (turned d))) ≡ d
@@ -31,7 +31,7 @@ turned_round d = rw (neg_ℤ-neg_ℤ d.east, neg_ℤ-neg_ℤ d.north) refl
 pub ray_round : (s : ℕ) → ray (s + 32) ≡ ray s
 ray_round s =
     let parts : s + 32 ≡ (s + 24) + 8 = omega arith in
-    rw (parts, ray_turned (s + 24), ray_turned_thrice s) (turned_round (ray s))
+    rw (parts, ray_turned _, ray_turned_thrice s) (turned_round _)
 
 -- the ray of a sector that lies eight further, going round
 ray_further : (s t k i j : ℕ) → s < 32 → t ≡ (s + 8) % 32 → i ≡ s + k → j ≡ t + k → ray j ≡ turned (ray i)
@@ -62,9 +62,9 @@ pub sector_turned : (d : Direction) (s : ℕ) → IsSector d s → IsSector (tur
 sector_turned d s is =
     let t : ℕ = (s + 8) % 32 in
     let begin : ray t ≡ turned (ray s) = ray_further s t 0 s t is.in_range refl (omega arith) (omega arith) in
-    let end : ray (t + 1) ≡ turned (ray (s + 1)) = ray_further s t 1 (s + 1) (t + 1) is.in_range refl refl refl in
+    let end : ray (t + 1) ≡ turned (ray (s + 1)) = ray_further s t 1 _ _ is.in_range refl refl refl in
     record {
       in_range = omega arith;
-      begins = rw (begin, cross_turned (ray s) d) is.begins;
-      ends = rw (end, cross_turned (ray (s + 1)) d) is.ends;
+      begins = rw (begin, cross_turned _ d) is.begins;
+      ends = rw (end, cross_turned _ d) is.ends;
     }

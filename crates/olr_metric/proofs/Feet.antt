@@ -20,9 +20,9 @@ parts u v above below = (grind (arith, ints), grind (arith, ints))
 pub foot_between : (axis : Spot → ℤ) → ((a b : Spot) (s e : ℕ) → axis (spot_between a b s e) ≡ between (axis a) (axis b) s e) → (p a b : Spot) → IsBetween (axis a) (axis b) (axis (foot p a b))
 foot_between axis axis_is p a b =
     cond_both (int_le (dot_product a p b) (pos 0)) a _ (λ s. IsBetween (axis a) (axis b) (axis s))
-    (λ before. at_start (axis a) (axis b))
+    (λ before. at_start _ _)
     (λ above. cond_both (int_le (dot_product a b b) (dot_product a p b)) b _ (λ s. IsBetween (axis a) (axis b) (axis s))
-    (λ behind. at_end (axis a) (axis b))
+    (λ behind. at_end _ _)
     (λ below. let is = parts (dot_product a p b) (dot_product a b b) above below in
     rw (axis_is a b (nat_abs (dot_product a p b)) (nat_abs (dot_product a b b)))
-    (lies_between (axis a) (axis b) (nat_abs (dot_product a p b)) (nat_abs (dot_product a b b)) is.0 is.1)))
+    (lies_between _ _ _ _ is.0 is.1)))

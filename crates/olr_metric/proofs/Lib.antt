@@ -1,3 +1,4 @@
+pub mod Checks
 mod Roots
 mod Apart
 mod Floors

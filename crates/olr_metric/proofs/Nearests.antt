@@ -24,7 +24,7 @@ pub foot_read : (spots : List Spot) (p : Spot) (i : ℕ) (spot d : Spot) → spo
 foot_read spots p i spot d is a b start end =
     let one : i + 1 ≡ suc i = omega arith in
     is ∙ ap (λ (k : ℕ). foot p (get_or spots i d) (get_or spots k d)) one
-    ∙ ap (λ (s : Spot). foot p s (get_or spots (suc i) d)) (get_or_from_slice_get spots i a d start)
+    ∙ ap (λ (s : Spot). foot p s (get_or spots (suc i) d)) (get_or_from_slice_get _ i a d start)
     ∙ ap (λ (s : Spot). foot p a s) (get_or_from_slice_get spots (suc i) b d end)
 
 -- and a segment is no nearer than a number whose square is at most that of the distance of the foot
@@ -33,8 +33,8 @@ pub no_nearer_read : (spots : List Spot) (p : Spot) (i : ℕ) (d : Spot) (least 
     → (a b : Spot) → slice_get spots i ≡ Some a → slice_get spots (suc i) ≡ Some b → least ≤ distance p (foot p a b)
 no_nearer_read spots p i d least low a b start end =
     let at : Spot = foot p (get_or spots i d) (get_or spots (i + 1) d) in
-    subst (λ (s : Spot). least ≤ distance p s) (foot_read spots p i at d refl a b start end)
-    (root_at_least (square (p.x -ℤ at.x) + square (p.y -ℤ at.y)) least low)
+    subst (λ (s : Spot). least ≤ distance p s) (foot_read _ p i _ d refl a b start end)
+    (root_at_least _ _ low)
 
 -- the distance to that foot is the distance from that segment
 pub gap_of_foot : (spots : List Spot) (p : Spot) (i : ℕ) (spot : Spot) (gap : ℕ) → IsFoot spots p i spot → gap ≡ distance p spot → IsGap spots p i gap
@@ -101,7 +101,7 @@ abbrev pub spot_at : List Spot → ℕ → Spot
 spot_at spots i = get_or spots i (record { x = pos 0; y = pos 0 })
 
 start_at : (spots : List Spot) (i : ℕ) → i + 1 < length spots → slice_get spots i ≡ Some (spot_at spots i)
-start_at spots i within = slice_get-get_or spots i (record { x = pos 0; y = pos 0 }) (omega (arith, within))
+start_at spots i within = slice_get-get_or _ i _ (omega (arith, within))
 
 end_at : (spots : List Spot) (i : ℕ) → i + 1 < length spots → slice_get spots (suc i) ≡ Some (spot_at spots (i + 1))
 end_at spots i within =
@@ -117,17 +117,17 @@ is_nearest spots p i near within is is_foot distance_is arc_is = record {
   i = i;
   a = spot_at spots i;
   b = spot_at spots (i + 1);
-  nearest = is (spot_at spots i) (spot_at spots (i + 1)) (start_at spots i within) (end_at spots i within);
-  foot_of = is_foot (spot_at spots i) (spot_at spots (i + 1)) (start_at spots i within) (end_at spots i within);
+  nearest = is (spot_at spots i) (spot_at spots (i + 1)) (start_at _ i within) (end_at _ i within);
+  foot_of = is_foot (spot_at spots i) (spot_at spots (i + 1)) (start_at _ i within) (end_at _ i within);
   distance_of = distance_is;
   arc_of = arc_is;
 }
 
 pub arc_is_within : (spots : List Spot) (i beyond : ℕ) → i + 1 < length spots → beyond ≤ distance (spot_at spots i) (spot_at spots (i + 1)) → arc_at spots i + beyond ≤ arc spots
-arc_is_within spots i beyond within small = end_within spots i (spot_at spots i) (spot_at spots (i + 1)) beyond (start_at spots i within) (end_at spots i within) small
+arc_is_within spots i beyond within small = end_within _ i _ _ _ (start_at _ i within) (end_at _ i within) small
 
 -- no place that is nearest lies further than the end
 pub nearest_within : (spots : List Spot) (p : Spot) (near : Near) → IsNearest spots p near → near.arc ≤ arc spots
 nearest_within spots p near is =
     let beyond : min (distance is.a near.spot) (distance is.a is.b) ≤ distance is.a is.b = omega arith in
-    rw is.arc_of (end_within spots is.i is.a is.b (min (distance is.a near.spot) (distance is.a is.b)) is.nearest.segment.start is.nearest.segment.end beyond)
+    rw is.arc_of (end_within _ _ _ _ _ is.nearest.segment.start is.nearest.segment.end beyond)

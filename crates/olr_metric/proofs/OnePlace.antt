@@ -16,7 +16,7 @@ scale_at_least : (lat : ℤ) → IsLatitude lat → 1752 ≤ scale_of lat
 scale_at_least lat is =
     let small : nat_abs lat ≤ 80000000 = omega (arith, ints, is.south, is.north) in
     let square_small : square lat ≤ 6400000000000000 = omega (arith, mul-le (nat_abs lat) (nat_abs lat) 80000000 80000000 small small) in
-    le-div 1752 (10000 * (32400000000000000 - 4 * square lat)) (32400000000000000 + square lat) (omega arith) (omega (arith, square_small))
+    le-div _ _ _ (omega arith) (omega (arith, square_small))
 
 pos_is : {a b : ℕ} → pos a ≡ pos b → a ≡ b
 pos_is same = ap nat_abs same
@@ -36,16 +36,16 @@ one_part m n d some far same =
 
 one_multiple : (a b f d : ℕ) → 0 < d → d ≤ f → a * f / d ≡ b * f / d → a ≡ b
 one_multiple a b f d some long same = elim (cases_lt a b) [
-  | inl less ↦ absurd (one_part (a * f) (b * f) d some (omega (arith, apart a b f less, long)) same)
+  | inl less ↦ absurd (one_part _ _ d some (omega (arith, apart a b f less, long)) same)
   | inr no_less ↦ elim (cases_lt b a) [
-    | inl more ↦ absurd (one_part (b * f) (a * f) d some (omega (arith, apart b a f more, long)) (sym same))
+    | inl more ↦ absurd (one_part _ _ d some (omega (arith, apart b a f more, long)) (sym same))
     | inr no_more ↦ omega (arith, no_less, no_more)
   ]
 ]
 
 one_multiple_below : (a b f d : ℕ) → 0 < d → d ≤ f → (suc a * f - 1) / d ≡ (suc b * f - 1) / d → a ≡ b
 one_multiple_below a b f d some long same = elim (cases_lt a b) [
-  | inl less ↦ absurd (one_part (suc a * f - 1) (suc b * f - 1) d some (omega (arith, apart (suc a) (suc b) f (omega (arith, less)), apart 0 (suc a) f (omega arith), some, long)) same)
+  | inl less ↦ absurd (one_part _ _ d some (omega (arith, apart (suc a) (suc b) f (omega (arith, less)), apart 0 (suc a) f (omega arith), some, long)) same)
   | inr no_less ↦ elim (cases_lt b a) [
     | inl more ↦ absurd (one_part (suc b * f - 1) (suc a * f - 1) d some (omega (arith, apart (suc b) (suc a) f (omega (arith, more)), apart 0 (suc b) f (omega arith), some, long)) (sym same))
     | inr no_more ↦ omega (arith, no_less, no_more)
@@ -75,7 +75,7 @@ same_place a b lon lat = ap (λ (x : ℤ). let place : Coordinates = record { lo
 
 pub one_place : (origin a b : Coordinates) → IsLatitude origin.lat → spot_of origin a ≡ spot_of origin b → a ≡ b
 one_place origin a b is same =
-    let long : 10000000 ≤ 11132 * scale_of origin.lat = omega (arith, scale_at_least origin.lat is) in
+    let long : 10000000 ≤ 11132 * scale_of origin.lat = omega (arith, scale_at_least _ is) in
     same_place a b
-    (same_displacement a.lon b.lon origin.lon (same_part (a.lon -ℤ origin.lon) (b.lon -ℤ origin.lon) (11132 * scale_of origin.lat) 10000000 (omega arith) long (ap (λ (s : Spot). s.x) same)))
-    (same_displacement a.lat b.lat origin.lat (same_part (a.lat -ℤ origin.lat) (b.lat -ℤ origin.lat) 11132 1000 (omega arith) (omega arith) (ap (λ (s : Spot). s.y) same)))
+    (same_displacement _ _ origin.lon (same_part _ _ _ _ (omega arith) long (ap (λ (s : Spot). s.x) same)))
+    (same_displacement _ _ _ (same_part _ _ _ _ (omega arith) (omega arith) (ap (λ (s : Spot). s.y) same)))

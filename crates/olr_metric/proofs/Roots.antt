@@ -34,12 +34,12 @@ less_than_next n = omega (arith, mul-le 1 (n + 1) (n + 1) (n + 1))
 
 next_square : (n r : ℕ) → r ≡ root n → n < (r + 1) * (r + 1)
 next_square n r same = elim (cases_lt r n) [
-  | inl under ↦ within_next n n (r + 1) (omega (arith, same)) (omega (arith, under))
+  | inl under ↦ within_next n n _ (omega (arith, same)) (omega (arith, under))
   | inr over ↦ let all : r ≡ n = omega (arith, over, same, within_at_most n n) in rw all (less_than_next n)
 ]
 
 pub root_is : (n : ℕ) → IsRoot n (root n)
-root_is n = record { square = within_square n n; next = next_square n (root n) refl }
+root_is n = record { square = within_square n n; next = next_square n _ refl }
 
 -- a number has one root
 pub one_root : (n a b : ℕ) → a * a ≤ n → n < (a + 1) * (a + 1) → b * b ≤ n → n < (b + 1) * (b + 1) → a ≡ b
@@ -53,7 +53,7 @@ one_root n a b low_a high_a low_b high_b = elim (cases_lt a b) [
 
 -- what has the square and the next square of the root is the root
 pub is_root : (n r : ℕ) → r * r ≤ n → n < (r + 1) * (r + 1) → r ≡ root n
-is_root n r low high = one_root n r (root n) low high (root_is n).square (root_is n).next
+is_root n r low high = one_root n r _ low high (root_is n).square (root_is n).next
 
 -- a number below a square has a root below its side
 pub root_below : (n r k : ℕ) → r * r ≤ n → n < k * k → r < k
@@ -71,19 +71,19 @@ root_at_least n k low = elim (cases_lt (root n) k) [
 
 -- and one whose square is greater is greater
 pub root_less : (n k : ℕ) → n < k * k → root n < k
-root_less n k high = root_below n (root n) k (root_is n).square high
+root_less n k high = root_below n _ k (root_is n).square high
 
 -- the root of the lesser of two numbers is the lesser of their roots
 pub root_min : (n m : ℕ) → root (min n m) ≡ min (root n) (root m)
 root_min n m = elim (cases_lt n m) [
   | inl under ↦
       let least : min n m ≡ n = omega (arith, under) in
-      let roots : root n ≤ root m = root_at_least m (root n) (omega (arith, (root_is n).square, under)) in
+      let roots : root n ≤ root m = root_at_least m _ (omega (arith, (root_is n).square, under)) in
       let least_root : root n ≡ min (root n) (root m) = omega (arith, roots) in
       rw least least_root
   | inr over ↦
       let least : min n m ≡ m = omega (arith, over) in
-      let roots : root m ≤ root n = root_at_least n (root m) (omega (arith, (root_is m).square, over)) in
+      let roots : root m ≤ root n = root_at_least n _ (omega (arith, (root_is m).square, over)) in
       let least_root : root m ≡ min (root n) (root m) = omega (arith, roots) in
       rw least least_root
 ]

@@ -30,20 +30,20 @@ turned_number x y = omega (arith, ints)
 -- only a spot itself is at distance 0
 pub distance_zero : (a b : Spot) → distance a b ≡ 0 → a ≡ b
 distance_zero a b none =
-    let squares : square (a.x -ℤ b.x) + square (a.y -ℤ b.y) ≡ 0 = zero_root (square (a.x -ℤ b.x) + square (a.y -ℤ b.y)) none in
-    same_spot a b (same_number a.x b.x (zero_square (nat_abs (a.x -ℤ b.x)) (omega (arith, squares))))
-    (same_number a.y b.y (zero_square (nat_abs (a.y -ℤ b.y)) (omega (arith, squares))))
+    let squares : square (a.x -ℤ b.x) + square (a.y -ℤ b.y) ≡ 0 = zero_root _ none in
+    same_spot a b (same_number _ _ (zero_square _ (omega (arith, squares))))
+    (same_number _ _ (zero_square _ (omega (arith, squares))))
 
 no_displacement : (x : ℤ) → nat_abs (x -ℤ x) ≡ 0
 no_displacement x = omega (arith, ints)
 
 pub distance_self : (a : Spot) → distance a a ≡ 0
 unfolding root_within
-distance_self a = rw (no_displacement a.x, no_displacement a.y) refl
+distance_self a = rw (no_displacement _, no_displacement _) refl
 
 -- it is the same from both ends
 pub distance_turned : (a b : Spot) → distance a b ≡ distance b a
-distance_turned a b = rw (turned_number a.x b.x, turned_number a.y b.y) refl
+distance_turned a b = rw (turned_number _ _, turned_number a.y b.y) refl
 
 pub distance_positive : (a b : Spot) → a ≢ b → 0 < distance a b
 distance_positive a b apart = elim (cases_eq (distance a b) 0) [

@@ -1,5 +1,6 @@
 pub mod Range
 pub mod Coordinates
+pub mod Checks
 pub mod Counting
 pub mod Floor
 pub mod Root

@@ -6,24 +6,39 @@ use Rattle.olr_map.specs.Reading.{nodes_of, lines_of}
 use Rattle.olr_map.specs.Files.{texts_of}
 use Rattle.std.proofs.lemmas.List.{length-map}
 use Rattle.olr_map.proofs.Soundness.{nodes_are_sound}
-use Rattle.olr_map.proofs.Reported.{lines_fault, lines_accepted}
+use Rattle.olr_map.proofs.Reported.{lines_fault, not_of_bans, lines_accepted}
 use Rattle.olr_map.proofs.files.read_network.Goals as goal
 
 pub returns-in_err-lines-clause-fault : goal.returns-in_err-lines-clause-fault
 returns-in_err-lines-clause-fault g c =
-    let p = err_from_is_err_and c.from_residual-in_err-lines.result c.from_residual-in_err-lines.ensures.1 in
+    let p = err_from_is_err_and c.from_residual-in_err-lines.result
+    c.from_residual-in_err-lines.ensures.1 in
     let read = c.in_ok-rows.ensures.nodes in
-    let set = subst (λ (l : List NodeByRank). IsNodeSet read.0 (nodes_of l)) (sym c.in_ok-index.ensures) read.2 in
-    rw (p.1, p.2) (λ bans_left. lines_fault g.S2.Source.left g.S2.Source.failed c.args.lines.now c.read_lines.new.source (g.S1.Source.left c.args.nodes.now) bans_left (nodes_of c.in_ok-index.index)
+    let set = subst (λ (l : List NodeByRank). IsNodeSet read.0 (nodes_of l))
+    (sym c.in_ok-index.ensures) read.2 in
+    rw (p.1, p.2) (λ bans_left. lines_fault g.S2.Source.left g.S2.Source.failed c.args.lines.now
+    c.read_lines.new.source (g.S1.Source.left c.args.nodes.now) bans_left
+    (nodes_of c.in_ok-index.index)
     c.in_err-lines.field-0.0 (read.0, read.1, set) c.in_err-lines.ensures.fault)
+
+pub returns-in_err-lines-clause-of_two : goal.returns-in_err-lines-clause-of_two
+returns-in_err-lines-clause-of_two g c =
+    let p = err_from_is_err_and c.from_residual-in_err-lines.result
+    c.from_residual-in_err-lines.ensures.1 in
+    rw (p.1, p.2) (not_of_bans g.S2.Source.left g.S2.Source.failed c.args.lines.now
+    c.read_lines.new.source (nodes_of c.in_ok-index.index)
+    c.in_err-lines.field-0.0 c.in_err-lines.ensures.fault)
 
 pub returns-clause-accepted : goal.returns-clause-accepted
 returns-clause-accepted g c =
     let rows = c.in_ok-rows.ensures.nodes in
     let read = c.in_ok-lines.ensures.lines in
-    let nodes = subst (λ (l : List NodeByRank). IsNodeSet rows.0 (nodes_of l)) (sym (c.into_items.ensures ∙ c.in_ok-index.ensures)) rows.2 in
-    let lines = subst (λ (l : List NodeByRank). IsLineSet (nodes_of l) read.0 (lines_of c.in_ok-lines.lines)) (sym c.into_items.ensures) read.2 in
-    lines_accepted (texts_of (g.S1.Source.left c.args.nodes.now) (g.S2.Source.left c.args.lines.now) None) _ _ _ _
+    let nodes = subst (λ (l : List NodeByRank). IsNodeSet rows.0 (nodes_of l))
+    (sym (c.into_items.ensures ∙ c.in_ok-index.ensures)) rows.2 in
+    let lines = subst (λ (l : List NodeByRank). IsLineSet (nodes_of l) read.0
+    (lines_of c.in_ok-lines.lines)) (sym c.into_items.ensures) read.2 in
+    lines_accepted (texts_of (g.S1.Source.left c.args.nodes.now) (g.S2.Source.left c.args.lines.now)
+    None) _ _ _ _
     rows.1 read.1 nodes lines
 
 pub index_nodes-requires-clause-at_most : goal.index_nodes-requires-clause-at_most

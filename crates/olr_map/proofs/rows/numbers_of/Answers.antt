@@ -1,62 +1,11 @@
-use Rattle.std.proofs.Common.{refl, arith, rules}
+use Rattle.std.proofs.Common.{rules}
 use Rattle.olr_map.proofs.rows.numbers_of.Goals as goal
 
-pub returns-in_default-clause-error : goal.returns-in_default-clause-error
-returns-in_default-clause-error c = (
-  grind (arith),
-  record {
-    counted = omega arith;
-    lacks = λ has. let value = has.id refl in c.in_default.ensures value.0 value.1;
-    before = search rules;
-  },
-)
-
-pub returns-in_default-id_at-clause-error : goal.returns-in_default-id_at-clause-error
-returns-in_default-id_at-clause-error c = (
-  grind (arith),
-  record {
-    counted = omega arith;
-    lacks = λ has. let value = has.from refl in c.in_default-id_at.ensures value.0 value.1;
-    before = search rules;
-  },
-)
-
-pub returns-in_default-id_at-2-clause-error : goal.returns-in_default-id_at-2-clause-error
-returns-in_default-id_at-2-clause-error c = (
-  grind (arith),
-  record {
-    counted = omega arith;
-    lacks = λ has. let value = has.to refl in c.in_default-id_at-2.ensures value.0 value.1;
-    before = search rules;
-  },
-)
-
 pub returns-in_default-kind_at-clause-error : goal.returns-in_default-kind_at-clause-error
-returns-in_default-kind_at-clause-error c = (
-  grind (arith),
-  record {
-    counted = omega arith;
-    lacks = λ has. let value = has.class refl in c.in_default-kind_at.ensures value.0 value.1;
-    before = search rules;
-  },
-)
+returns-in_default-kind_at-clause-error c = search rules depth 12
 
 pub returns-in_default-kind_at-2-clause-error : goal.returns-in_default-kind_at-2-clause-error
-returns-in_default-kind_at-2-clause-error c = (
-  grind (arith),
-  record {
-    counted = omega arith;
-    lacks = λ has. let value = has.form refl in c.in_default-kind_at-2.ensures value.0 value.1;
-    before = search rules;
-  },
-)
+returns-in_default-kind_at-2-clause-error c = search rules depth 12
 
 pub returns-in_default-length_at-clause-error : goal.returns-in_default-length_at-clause-error
-returns-in_default-length_at-clause-error c = (
-  grind (arith),
-  record {
-    counted = omega arith;
-    lacks = λ has. let value = has.length refl in c.in_default-length_at.ensures value.0 value.1;
-    before = search rules;
-  },
-)
+returns-in_default-length_at-clause-error c = search rules depth 12

@@ -2,4 +2,4 @@ use Rattle.olr_metric.proofs.BearingTable.{passed}
 use Rattle.olr_metric.proofs.bearing.has_passed.Goals as goal
 
 pub returns : goal.returns
-returns c = rw c.from.ensures (passed c.args.sector c.args.east c.args.north c.requires.sector)
+returns c = rw c.from.ensures (passed _ _ _ c.requires.sector)

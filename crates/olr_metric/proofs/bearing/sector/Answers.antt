@@ -10,4 +10,4 @@ pub returns : goal.returns
 returns c =
     let from = c.requires.from in
     let to = c.requires.to in
-    rw (way_is c.args.to.x c.args.from.x to.x from.x, way_is c.args.to.y c.args.from.y to.y from.y) at c.sector_towards.ensures
+    rw (way_is _ _ to.x from.x, way_is _ _ to.y from.y) at c.sector_towards.ensures

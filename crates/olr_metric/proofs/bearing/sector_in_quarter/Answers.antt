@@ -4,10 +4,10 @@ use Rattle.olr_metric.proofs.bearing.sector_in_quarter.Goals as goal
 
 -- src/bearing.rt:44:5
 pub loop-sector-init : goal.loop-sector-init
-loop-sector-init c = record { in_range = omega arith; begins = passes_first c.args.east c.args.north }
+loop-sector-init c = record { in_range = omega arith; begins = passes_first _ _ }
 
 -- src/bearing.rt:36:1
 pub returns-after-loop-sector-clause-sector : goal.returns-after-loop-sector-clause-sector
 returns-after-loop-sector-clause-sector c =
     let inv = c.loop-sector.invariant in
-    in_last c.args.east c.args.north c.loop-sector.sector c.requires.north_positive (omega (arith, c.loop-sector-test.false, inv.in_range)) inv.begins
+    in_last _ _ _ c.requires.north_positive (omega (arith, c.loop-sector-test.false, inv.in_range)) inv.begins

@@ -17,11 +17,11 @@ returns-then-east-gt0 c =
     let y = rw (to_z-of_z w64 c.args.north c.ranges.north) at c.unsigned_abs-along_y.ensures.value in
     let some : pos 0 <ℤ c.args.east = grind (arith, ints) in
     let none : c.args.north ≤ℤ pos 0 = elim c.else-east-ge0.branch [
-      | else-east-ge0-via-then-east-ge0+else-north-gt0 w ↦ not_north c.args.north c.ranges.north w.if-north-gt0.false
-      | else-east-ge0-via-else-east-ge0 w ↦ absurd (not_both c.args.east c.ranges.east w.if-east-ge0.false some)
+      | else-east-ge0-via-then-east-ge0+else-north-gt0 w ↦ not_north _ c.ranges.north w.if-north-gt0.false
+      | else-east-ge0-via-else-east-ge0 w ↦ absurd (not_both _ c.ranges.east w.if-east-ge0.false some)
     ] in
     let is = c.sector_in_quarter-then-east-gt0.ensures in
-    from_east c.args.east c.args.north _ _ _ some none x y is.quarter is.sector
+    from_east _ _ _ _ _ some none x y is.quarter is.sector
 
 pub returns-then-north-lt0 : goal.returns-then-north-lt0
 returns-then-north-lt0 c =
@@ -30,7 +30,7 @@ returns-then-north-lt0 c =
     let none : c.args.east ≤ℤ pos 0 = grind (arith, ints) in
     let some : c.args.north <ℤ pos 0 = grind (arith, ints) in
     let is = c.sector_in_quarter-then-north-lt0.ensures in
-    from_south c.args.east c.args.north _ _ _ none some x y is.quarter is.sector
+    from_south _ _ _ _ _ none some x y is.quarter is.sector
 
 pub returns-then-east-lt0 : goal.returns-then-east-lt0
 returns-then-east-lt0 c =
@@ -39,4 +39,4 @@ returns-then-east-lt0 c =
     let some : c.args.east <ℤ pos 0 = grind (arith, ints) in
     let none : pos 0 ≤ℤ c.args.north = grind (arith, ints) in
     let is = c.sector_in_quarter-then-east-lt0.ensures in
-    from_west c.args.east c.args.north _ _ _ some none x y is.quarter is.sector
+    from_west _ _ _ _ _ some none x y is.quarter is.sector

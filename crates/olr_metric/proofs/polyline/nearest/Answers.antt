@@ -6,12 +6,8 @@ use Rattle.olr_metric.proofs.polyline.nearest.Goals as goal
 -- src/polyline.rt:122:1
 pub returns-clause-nearest : goal.returns-clause-nearest
 returns-clause-nearest c =
-    is_nearest c.args.spots.now c.args.p c.nearest_segment-segment.result.segment
-    (record {
-      distance = c.nearest_segment-segment.result.distance;
-      arc = c.arc_to.result + c.lesser_distance-beyond_start.result;
-      spot = c.nearest_segment-segment.result.foot;
-    })
+    is_nearest _ _ _
+    _
     c.nearest_segment-segment.ensures.within c.nearest_segment-segment.ensures.nearest c.nearest_segment-segment.ensures.foot c.nearest_segment-segment.ensures.distance
     (ap (λ (n : ℕ). n + c.lesser_distance-beyond_start.result) c.arc_to.ensures.arc
     ∙ ap (λ (n : ℕ). arc_at c.args.spots.now c.nearest_segment-segment.result.segment + n) c.lesser_distance-beyond_start.ensures.lesser)
@@ -19,5 +15,5 @@ returns-clause-nearest c =
 -- src/polyline.rt:122:1
 pub returns-clause-within : goal.returns-clause-within
 returns-clause-within c =
-    rw c.arc_to.ensures.arc (arc_is_within c.args.spots.now c.nearest_segment-segment.result.segment c.lesser_distance-beyond_start.result
+    rw c.arc_to.ensures.arc (arc_is_within _ _ _
     c.nearest_segment-segment.ensures.within (omega (arith, c.lesser_distance-beyond_start.ensures.lesser)))

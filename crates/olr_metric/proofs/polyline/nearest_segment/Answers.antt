@@ -7,7 +7,7 @@ use Rattle.olr_metric.proofs.polyline.nearest_segment.Goals as goal
 
 pub loop-segment-preserved-then-not-may_be_nearer : goal.loop-segment-preserved-then-not-may_be_nearer
 loop-segment-preserved-then-not-may_be_nearer c = record {
-  nearest = nearest_still c.args.spots.now c.args.p c.loop-segment.segment c.loop-segment.nearest c.loop-segment.least c.loop-segment.invariant.nearest
+  nearest = nearest_still _ _ _ _ _ c.loop-segment.invariant.nearest
       (c.if-not-may_be_nearer.ensures refl);
   foot = c.loop-segment.invariant.foot;
   distance = c.loop-segment.invariant.distance;
@@ -19,11 +19,11 @@ pub loop-segment-preserved-then-square-squared : goal.loop-segment-preserved-the
 loop-segment-preserved-then-square-squared c =
     let gap_is : root c.square_distance-square.result ≡ distance c.args.p c.foot_on-found.result = ap (λ (n : ℕ). root n) c.square_distance-square.ensures.square in
     let gap : IsGap c.args.spots.now c.args.p c.loop-segment.segment (root c.square_distance-square.result) =
-    gap_of_foot c.args.spots.now c.args.p c.loop-segment.segment c.foot_on-found.result (root c.square_distance-square.result) c.foot_on-found.ensures.foot gap_is in
+    gap_of_foot c.args.spots.now _ c.loop-segment.segment _ _ c.foot_on-found.ensures.foot gap_is in
     let no_nearer : c.loop-segment.least ≤ root c.square_distance-square.result =
-    root_at_least c.square_distance-square.result c.loop-segment.least (omega (arith, c.squared.ensures, c.if-square-squared.true)) in
+    root_at_least _ _ (omega (arith, c.squared.ensures, c.if-square-squared.true)) in
     record {
-      nearest = nearest_still c.args.spots.now c.args.p c.loop-segment.segment c.loop-segment.nearest c.loop-segment.least c.loop-segment.invariant.nearest
+      nearest = nearest_still _ _ _ _ _ c.loop-segment.invariant.nearest
           (λ a b start end. omega (arith, no_nearer, gap a b start end));
       foot = c.loop-segment.invariant.foot;
       distance = c.loop-segment.invariant.distance;
@@ -35,10 +35,10 @@ pub loop-segment-preserved : goal.loop-segment-preserved
 loop-segment-preserved c =
     let gap_is : c.root_of-least.result ≡ distance c.args.p c.foot_on-found.result = c.root_of-least.ensures.root ∙ ap (λ (n : ℕ). root n) c.square_distance-square.ensures.square in
     let nearer : root c.square_distance-square.result < c.loop-segment.least =
-    root_less c.square_distance-square.result c.loop-segment.least (omega (arith, c.squared.ensures, c.if-square-squared.false)) in
+    root_less _ _ (omega (arith, c.squared.ensures, c.if-square-squared.false)) in
     record {
-      nearest = nearest_next c.args.spots.now c.args.p c.loop-segment.segment c.loop-segment.nearest c.loop-segment.least c.root_of-least.result c.loop-segment.invariant.nearest
-          (gap_of_foot c.args.spots.now c.args.p c.loop-segment.segment c.foot_on-found.result c.root_of-least.result c.foot_on-found.ensures.foot gap_is)
+      nearest = nearest_next _ _ _ _ _ _ c.loop-segment.invariant.nearest
+          (gap_of_foot c.args.spots.now _ c.loop-segment.segment _ _ c.foot_on-found.ensures.foot gap_is)
           (omega (arith, c.root_of-least.ensures.root, nearer));
       foot = c.foot_on-found.ensures.foot;
       distance = gap_is;
@@ -49,4 +49,4 @@ loop-segment-preserved c =
 pub returns-clause-nearest : goal.returns-clause-nearest
 returns-clause-nearest c a b start end =
     let all : c.loop-segment.segment + 1 ≡ length c.args.spots.now = omega (arith, c.loop-segment-test.false, c.requires.at_least) in
-    nearest_of_all c.args.spots.now c.args.p c.loop-segment.segment c.loop-segment.nearest c.loop-segment.least a b all c.loop-segment.invariant.nearest start end
+    nearest_of_all _ _ _ _ _ a b all c.loop-segment.invariant.nearest start end
