@@ -20,7 +20,7 @@ one_way byte [] b [] y fa fx e = (refl, ap behind_first e)
 one_way byte [] b (d ∷ x) y fa fx e = absurd (fx 0 (omega arith) (sym (ap (λ (l : List ℕ). get_or l 0 0) e)))
 one_way byte (c ∷ a) b [] y fa fx e = absurd (fa 0 (omega arith) (ap (λ (l : List ℕ). get_or l 0 0) e))
 one_way byte (c ∷ a) b (d ∷ x) y fa fx e =
-    let rest = one_way byte a b x y (later byte c a fa) (later byte d x fx) (ap behind_first e) in
+    let rest = one_way _ a b x y (later _ c a fa) (later _ d x fx) (ap behind_first e) in
     let first = ap (λ (l : List ℕ). get_or l 0 0) e in
     (ap (λ (h : ℕ). h ∷ a) first ∙ ap (λ (l : List ℕ). d ∷ l) rest.0, rest.1)
 

@@ -22,7 +22,7 @@ small text i k inside short digits =
 pub value_after : (text : List ℕ) (i value : ℕ) → i < length text → IsAsciiDigit (get_or text i 0) → value ≡ digits_value 10 (take i text)
     → 10 * value + (get_or text i 0 - 48) ≡ digits_value 10 (take (i + 1) text)
 value_after text i value inside digit same =
-    let d = digit_value_digit (get_or text i 0) digit in
+    let d = digit_value_digit _ digit in
     let more = digits_value_more 10 text i inside in
     omega (arith, d, more, same)
 
@@ -47,17 +47,17 @@ pub all_digits : (text : List ℕ) (count : ℕ) (byte n : ℕ) (rest : Option (
     → (begins : Begins (λ front. IsNumber front n) byte text rest) → length begins.front ≡ count
 all_digits text count byte n rest separates are begins =
     let front = begins.front in
-    let tail = behind byte rest in
+    let tail = behind _ _ in
     let size = ap (λ (l : List ℕ). length l) begins.whole ∙ length-append front tail in
     let fewer : length front < count → ⊥ = λ less.
     let there = get_or-take count text (length front) 0 less ∙ ap (λ (l : List ℕ). get_or l (length front) 0) begins.whole
     ∙ ap (λ (k : ℕ). get_or (front ++ tail) k 0) (omega arith) ∙ get_or-append-add front tail 0 0 in
-    not_both (get_or tail 0 0)
+    not_both _
     (subst IsAsciiDigit there (digit_at (take count text) (length front) are.digits (omega (arith, less, length-take-le count text are.within))))
-    (no_digit_behind byte rest separates (omega (arith, less, size, are.within))) in
+    (no_digit_behind _ _ separates (omega (arith, less, size, are.within))) in
     let more : count < length front → ⊥ = λ less.
-    let there = ap (λ (l : List ℕ). get_or l count 0) begins.whole ∙ get_or-append front tail 0 count less in
-    not_both (get_or front count 0) (digit_at front count begins.spelled.digits.1 less)
+    let there = ap (λ (l : List ℕ). get_or l count 0) begins.whole ∙ get_or-append front tail 0 _ less in
+    not_both _ (digit_at front count begins.spelled.digits.1 less)
     (subst IsNotAsciiDigit there (are.all (omega (arith, less, begins.spelled.short)) (omega (arith, less, size)))) in
     elim (cases_lt (length front) count) [
       | inl less ↦ absurd (fewer less)
@@ -70,4 +70,4 @@ pub behind_digits : (text : List ℕ) (count : ℕ) (byte n : ℕ) (rest : Optio
 behind_digits text count byte n rest separates are begins =
     let count_is = all_digits text count byte n rest separates are begins in
     ap (λ (k : ℕ). take k (drop count text)) (sym (length-drop count text)) ∙ take-length (drop count text)
-    ∙ ap (λ (k : ℕ). drop k text) (sym count_is) ∙ ap (λ (l : List ℕ). drop (length begins.front) l) begins.whole ∙ drop-append_seam begins.front (behind byte rest)
+    ∙ ap (λ (k : ℕ). drop k text) (sym count_is) ∙ ap (λ (l : List ℕ). drop (length begins.front) l) begins.whole ∙ drop-append_seam begins.front (behind _ _)

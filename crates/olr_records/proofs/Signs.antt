@@ -26,7 +26,7 @@ pub none_negative : (text digits : List ℕ) (byte : ℕ) → text ≡ 45 ∷ di
     → ((n : ℕ) (rest : Option (List ℕ)) → ¬ (Begins (λ front. IsNumber front n) byte digits rest)) → (z : ℤ) (rest : Option (List ℕ)) → Begins (λ front. IsSignedNumber front z) byte text rest → ⊥
 none_negative text digits byte whole none z rest begins = elim begins.spelled [
   | inl plain ↦
-      let first = ap (λ (l : List ℕ). get_or l 0 0) (sym whole ∙ begins.whole) ∙ get_or-append begins.front (behind byte rest) 0 0 plain.1.digits.0 in
+      let first = ap (λ (l : List ℕ). get_or l 0 0) (sym whole ∙ begins.whole) ∙ get_or-append begins.front (behind _ _) 0 0 plain.1.digits.0 in
       omega (arith, first, (digit_at begins.front 0 plain.1.digits.1 plain.1.digits.0).0)
   | inr negative ↦ none negative.n rest (record {
     front = negative.digits;
@@ -70,13 +70,13 @@ number_avoids byte text n separates is k inside e =
 
 negative_avoids : (byte : ℕ) (digits : List ℕ) (n : ℕ) → IsSeparator byte → IsNumber digits n → Avoids byte (45 ∷ digits)
 negative_avoids byte digits n separates is zero inside e = elim separates [ inl low ↦ omega (arith, e, low) | inr high ↦ omega (arith, e, high) ]
-negative_avoids byte digits n separates is (suc k) inside e = number_avoids byte digits n separates is k (omega (arith, inside)) e
+negative_avoids byte digits n separates is (suc k) inside e = number_avoids _ _ n separates is k (omega (arith, inside)) e
 
 -- a signed number has no separator
 pub signed_avoids : (byte : ℕ) (text : List ℕ) (z : ℤ) → IsSeparator byte → IsSignedNumber text z → Avoids byte text
 signed_avoids byte text z separates is = elim is [
-  | inl plain ↦ number_avoids byte text plain.0 separates plain.1
-  | inr negative ↦ subst (λ (l : List ℕ). Avoids byte l) (sym negative.minus) (negative_avoids byte negative.digits negative.n separates negative.number)
+  | inl plain ↦ number_avoids _ _ _ separates plain.1
+  | inr negative ↦ subst (λ (l : List ℕ). Avoids byte l) (sym negative.minus) (negative_avoids _ _ _ separates negative.number)
 ]
 
 plain_or_not : (text : List ℕ) (n : ℕ) (digits : List ℕ) → IsNumber text n → text ≡ 45 ∷ digits → ⊥
@@ -90,10 +90,10 @@ pub signed_once : (text : List ℕ) (y z : ℤ) → IsSignedNumber text y → Is
 signed_once text y z a b = elim a [
   | inl p ↦ elim b [
     | inl q ↦ p.2 ∙ ap (λ (n : ℕ). pos n) (p.1.value ∙ sym q.1.value) ∙ sym q.2
-    | inr q ↦ absurd (plain_or_not text p.0 q.digits p.1 q.minus)
+    | inr q ↦ absurd (plain_or_not _ _ _ p.1 q.minus)
   ]
   | inr p ↦ elim b [
-    | inl q ↦ absurd (plain_or_not text q.0 p.digits q.1 p.minus)
+    | inl q ↦ absurd (plain_or_not _ _ _ q.1 p.minus)
     | inr q ↦
         let same = ap behind_first (sym p.minus ∙ q.minus) in
         p.value ∙ ap (λ (n : ℕ). neg_ℤ (pos n)) (p.number.value ∙ ap (λ (l : List ℕ). digits_value 10 l) same ∙ sym q.number.value) ∙ sym q.value
@@ -102,18 +102,18 @@ signed_once text y z a b = elim a [
 
 front_once : (byte : ℕ) (a x : List ℕ) (b y : Option (List ℕ)) → Avoids byte a → Avoids byte x → a ++ behind byte b ≡ x ++ behind byte y → (a ≡ x) × (behind byte b ≡ behind byte y)
 front_once byte a x None None fa fx e = (sym (append-nil a) ∙ e ∙ append-nil x, refl)
-front_once byte a x None (Some y) fa fx e = absurd (not_avoided byte a x y (sym (append-nil a) ∙ e) fa)
-front_once byte a x (Some b) None fa fx e = absurd (not_avoided byte x a b (sym (append-nil x) ∙ sym e) fx)
+front_once byte a x None (Some y) fa fx e = absurd (not_avoided _ a x y (sym (append-nil a) ∙ e) fa)
+front_once byte a x (Some b) None fa fx e = absurd (not_avoided _ x a b (sym (append-nil x) ∙ sym e) fx)
 front_once byte a x (Some b) (Some y) fa fx e =
-    let same = one_way byte a b x y fa fx e in
+    let same = one_way _ a b x y fa fx e in
     (same.0, ap (λ (l : List ℕ). byte ∷ l) same.1)
 
 -- and begins with one, before the same text
 pub begins_once : (text : List ℕ) (byte : ℕ) (y z : ℤ) (r s : Option (List ℕ)) → IsSeparator byte
     → Begins (λ front. IsSignedNumber front y) byte text r → Begins (λ front. IsSignedNumber front z) byte text s → (y ≡ z) × (behind byte r ≡ behind byte s)
 begins_once text byte y z r s separates a b =
-    let same = front_once byte a.front b.front r s (signed_avoids byte a.front y separates a.spelled) (signed_avoids byte b.front z separates b.spelled) (sym a.whole ∙ b.whole) in
-    (signed_once b.front y z (subst (λ (l : List ℕ). IsSignedNumber l y) same.0 a.spelled) b.spelled, same.1)
+    let same = front_once _ _ _ r s (signed_avoids _ _ y separates a.spelled) (signed_avoids _ _ z separates b.spelled) (sym a.whole ∙ b.whole) in
+    (signed_once _ y z (subst (λ (l : List ℕ). IsSignedNumber l y) same.0 a.spelled) b.spelled, same.1)
 
 -- ---- a whole text
 
@@ -126,4 +126,4 @@ pub none_with_more : (Spells : List ℕ → Type 0) (text : List ℕ) (byte : �
     → Begins Spells byte text (option_map (λ part. part.now) rest) → IsSignedNumber text z → ⊥
 none_with_more Spells text byte rest more z is_more separates begins is =
     let there = subst (λ (part : Option (Bor (List ℕ))). Begins Spells byte text (option_map (λ part. part.now) part)) is_more begins in
-    not_avoided byte text there.front more.now there.whole (signed_avoids byte text z separates is)
+    not_avoided _ _ there.front more.now there.whole (signed_avoids _ _ z separates is)
