@@ -31,20 +31,20 @@ condition_from_bytes text bytes OffsetFlags b h = (bytes, b, h)
 condition_from_bytes text bytes (OutOfRange p) b h = (bytes, b, h)
 
 on_bytes : (text bytes : List ℕ) (refused : Refused) → IsBase64 text bytes → (others : List ℕ) × IsBase64 text others × BytesCondition others refused → BytesCondition bytes refused
-on_bytes text bytes refused b (others, c, h) = subst (λ (bs : List ℕ). BytesCondition bs refused) (base64_is_one text others bytes c b) h
+on_bytes text bytes refused b (others, c, h) = subst (λ (bs : List ℕ). BytesCondition bs refused) (base64_is_one _ _ _ c b) h
 
 -- and back, where it is one of bytes
 bytes_condition : (text bytes : List ℕ) (refused : Refused) → 2 < order_of refused → IsBase64 text bytes → Condition text refused → BytesCondition bytes refused
 bytes_condition text bytes TooLong late b h = absurd (omega (arith, late))
 bytes_condition text bytes NotBase64 late b h = absurd (omega (arith, late))
-bytes_condition text bytes Empty late b h = on_bytes text bytes Empty b h
-bytes_condition text bytes (BadVersion v) late b h = on_bytes text bytes (BadVersion v) b h
-bytes_condition text bytes (OtherKind k) late b h = on_bytes text bytes (OtherKind k) b h
-bytes_condition text bytes PoiWithAccess late b h = on_bytes text bytes PoiWithAccess b h
-bytes_condition text bytes (BadLength n) late b h = on_bytes text bytes (BadLength n) b h
-bytes_condition text bytes (TooManyPoints c) late b h = on_bytes text bytes (TooManyPoints c) b h
-bytes_condition text bytes OffsetFlags late b h = on_bytes text bytes OffsetFlags b h
-bytes_condition text bytes (OutOfRange p) late b h = on_bytes text bytes (OutOfRange p) b h
+bytes_condition text bytes Empty late b h = on_bytes _ _ Empty b h
+bytes_condition text bytes (BadVersion v) late b h = on_bytes _ _ (BadVersion v) b h
+bytes_condition text bytes (OtherKind k) late b h = on_bytes _ _ (OtherKind k) b h
+bytes_condition text bytes PoiWithAccess late b h = on_bytes _ _ PoiWithAccess b h
+bytes_condition text bytes (BadLength n) late b h = on_bytes _ _ (BadLength n) b h
+bytes_condition text bytes (TooManyPoints c) late b h = on_bytes _ _ (TooManyPoints c) b h
+bytes_condition text bytes OffsetFlags late b h = on_bytes _ _ OffsetFlags b h
+bytes_condition text bytes (OutOfRange p) late b h = on_bytes _ _ (OutOfRange p) b h
 
 some_bytes : (text : List ℕ) (refused : Refused) → 2 < order_of refused → Condition text refused → (bytes : List ℕ) × IsBase64 text bytes
 some_bytes text TooLong late h = absurd (omega (arith, late))
@@ -68,10 +68,10 @@ not_early text bytes refused early short b h = omega (arith, early)
 pub outcome_from_bytes : (text bytes : List ℕ) (r : Result Reference Refused) → length (trimmed text) ≤ 344 → IsBase64 (trimmed text) bytes → IsBytesOutcome bytes r → IsOutcome text r
 outcome_from_bytes text bytes (Ok reference) short b h = record { bytes = bytes; base64 = b; is_reference = h }
 outcome_from_bytes text bytes (Err refused) short b h = record {
-  holds = condition_from_bytes (trimmed text) bytes refused b h.holds;
+  holds = condition_from_bytes _ _ _ b h.holds;
   first = λ earlier below condition. elim (cases_lt 2 (order_of earlier)) [
     | inl late ↦ h.first earlier below (bytes_condition (trimmed text) bytes earlier late b condition)
-    | inr early ↦ not_early (trimmed text) bytes earlier early short b condition
+    | inr early ↦ not_early _ _ _ early short b condition
   ];
 }
 
@@ -86,15 +86,15 @@ first_place_is_one bytes a b p q =
 -- an earlier point beyond the ranges is before no other first one
 beyond_not_before : (bytes : List ℕ) (i j : ℕ) → IsFirstOutOfRange bytes i → IsFirstOutOfRange bytes j → i < j → ⊥
 beyond_not_before bytes i j p q lt =
-    let same = first_place_is_one bytes q.first p.first q.place p.place in
+    let same = first_place_is_one _ _ _ q.place p.place in
     p.beyond (subst (λ (first : Coordinates). IsInRange (place_of bytes first i)) same (q.before i lt))
 
 beyond_is_one : (bytes : List ℕ) (i j : ℕ) → IsFirstOutOfRange bytes i → IsFirstOutOfRange bytes j → i ≡ j
 beyond_is_one bytes i j p q =
     elim (cases_lt i j) [
-      | inl lt ↦ absurd (beyond_not_before bytes i j p q lt)
+      | inl lt ↦ absurd (beyond_not_before _ i j p q lt)
       | inr le ↦ elim (cases_lt j i) [
-        | inl lt ↦ absurd (beyond_not_before bytes j i q p lt)
+        | inl lt ↦ absurd (beyond_not_before _ j i q p lt)
         | inr ge ↦ omega (arith, le, ge)
       ]
     ]
@@ -113,10 +113,10 @@ same_order bytes (OtherKind GeoCoordinate) (OtherKind Area) r p (inl area) = abs
 same_order bytes (OtherKind GeoCoordinate) (OtherKind Area) r p (inr neither) = absurd (omega (arith, neither.0, p.1))
 same_order bytes PoiWithAccess PoiWithAccess r p q = refl
 same_order bytes (BadLength m) (BadLength n) r p q = ap BadLength (p.0 ∙ sym q.0)
-same_order bytes (TooManyPoints c) (TooManyPoints d) r (pl, o, p, pm) (ql, s, q, qm) = ap TooManyPoints (layout_is_one (length bytes) c o d s p q).0
+same_order bytes (TooManyPoints c) (TooManyPoints d) r (pl, o, p, pm) (ql, s, q, qm) = ap TooManyPoints (layout_is_one _ c o d s p q).0
 same_order bytes OffsetFlags OffsetFlags r p q = refl
 same_order bytes (OutOfRange m) (OutOfRange n) r (i, mi, c, o, pl, pi, p) (j, nj, d, s, ql, qi, q) =
-    ap OutOfRange (mi ∙ ap (λ (k : ℕ). k + 1) (beyond_is_one bytes i j p q) ∙ sym nj)
+    ap OutOfRange (mi ∙ ap (λ (k : ℕ). k + 1) (beyond_is_one _ i j p q) ∙ sym nj)
 same_order bytes e f r p q = absurd (omega (arith, r))
 
 same_early : (e f : Refused) → order_of e ≡ order_of f → order_of e ≤ 2 → e ≡ f
@@ -128,9 +128,9 @@ same_condition : (text : List ℕ) (e f : Refused) → order_of e ≡ order_of f
 same_condition text e f r p q =
     elim (cases_lt 2 (order_of e)) [
       | inl late ↦
-          let bytes = some_bytes text e late p in
+          let bytes = some_bytes _ e late p in
           let late_too : 2 < order_of f = omega (arith, late, r) in
-          same_order bytes.0 e f r (bytes_condition text bytes.0 e late bytes.1 p) (bytes_condition text bytes.0 f late_too bytes.1 q)
+          same_order _ e f r (bytes_condition _ _ e late bytes.1 p) (bytes_condition _ _ f late_too bytes.1 q)
       | inr early ↦ same_early e f r early
     ]
 
@@ -141,7 +141,7 @@ refusal_is_one text e f p q =
       | inl lt ↦ absurd (q.first e lt p.holds)
       | inr le ↦ elim (cases_lt (order_of f) (order_of e)) [
         | inl lt ↦ absurd (p.first f lt q.holds)
-        | inr ge ↦ let r : order_of e ≡ order_of f = omega (arith, le, ge) in same_condition text e f r p.holds q.holds
+        | inr ge ↦ let r : order_of e ≡ order_of f = omega (arith, le, ge) in same_condition _ e f r p.holds q.holds
       ]
     ]
 
@@ -149,6 +149,6 @@ refusal_is_one text e f p q =
 pub not_both : (text : List ℕ) (e : Refused) → length text ≤ 344 → (bytes : List ℕ) → IsBase64 text bytes → (BytesCondition bytes e → ⊥) → Condition text e → ⊥
 not_both text e short bytes b none h =
     elim (cases_lt 2 (order_of e)) [
-      | inl late ↦ none (bytes_condition text bytes e late b h)
-      | inr early ↦ not_early text bytes e early short b h
+      | inl late ↦ none (bytes_condition _ _ e late b h)
+      | inr early ↦ not_early _ _ e early short b h
     ]

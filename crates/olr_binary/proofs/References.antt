@@ -36,15 +36,15 @@ next_is_one bytes count i (Some x) (Some y) p q = ap Some (same_next x y (p.1.lo
 
 point_is_one : (bytes : List ℕ) (first : Coordinates) (count i : ℕ) (a b : Point) → IsPoint bytes first count i a → IsPoint bytes first count i b → a ≡ b
 point_is_one bytes first count i a b p q =
-    same_point a b (same_degrees a.at b.at (p.lon ∙ sym q.lon) (p.lat ∙ sym q.lat)) (p.attributes.class ∙ sym q.attributes.class)
+    same_point a b (same_degrees _ _ (p.lon ∙ sym q.lon) (p.lat ∙ sym q.lat)) (p.attributes.class ∙ sym q.attributes.class)
     (p.attributes.form ∙ sym q.attributes.form) (p.attributes.sector ∙ sym q.attributes.sector)
-    (next_is_one bytes count i a.next b.next p.attributes.next q.attributes.next)
+    (next_is_one _ _ i _ _ p.attributes.next q.attributes.next)
 
 points_are_one : (bytes : List ℕ) (xs ys : List Point) → length xs ≡ length ys → ArePoints bytes xs → ArePoints bytes ys → xs ≡ ys
 points_are_one bytes xs ys len p q =
-    let same = first_place_is_one bytes q.first p.first q.place p.place in
-    same_points xs ys len (λ i x y at_x at_y.
-    point_is_one bytes p.first (length xs) i x y (p.each i x at_x)
+    let same = first_place_is_one _ _ _ q.place p.place in
+    same_points _ _ len (λ i x y at_x at_y.
+    point_is_one _ _ _ i x y (p.each i x at_x)
     (subst (λ (first : Coordinates). IsPoint bytes first (length xs) i y) same (subst (λ (n : ℕ). IsPoint bytes q.first n i y) (sym len) (q.each i y at_y))))
 
 linked : (bytes : List ℕ) (points : List Point) → ArePoints bytes points → AreLinked points
@@ -69,8 +69,8 @@ inside bytes points p i lt =
 
 none_beyond : (bytes : List ℕ) (points : List Point) → ArePoints bytes points → (i : ℕ) → i < length points → IsFirstOutOfRange bytes i → ⊥
 none_beyond bytes points p i lt beyond =
-    let same = first_place_is_one bytes p.first beyond.first p.place beyond.place in
-    beyond.beyond (subst (λ (first : Coordinates). IsInRange (place_of bytes first i)) same (inside bytes points p i lt))
+    let same = first_place_is_one _ _ _ p.place beyond.place in
+    beyond.beyond (subst (λ (first : Coordinates). IsInRange (place_of bytes first i)) same (inside _ _ p i lt))
 
 -- ---- references
 
@@ -91,14 +91,14 @@ is_reference bytes (Line points positive negative) fits h =
     record {
       at_least = omega (arith, h.layout.with_ends);
       at_most = h.at_most;
-      linked = linked bytes points.items h.each_point;
+      linked = linked _ _ h.each_point;
       positive_in_range = rw h.positive_offset (offset_in_range _ _ (fits (2 + 7 * length points.items)));
-      negative_in_range = rw h.negative_offset (offset_in_range _ _ (either (positive_flag_of (last_attribute_of bytes (length points.items)) == 1) _ _ (fits (3 + 7 * length points.items)) (fits (2 + 7 * length points.items))));
+      negative_in_range = rw h.negative_offset (offset_in_range _ _ (either _ _ _ (fits (3 + 7 * length points.items)) (fits (2 + 7 * length points.items))));
     }
 is_reference bytes (PointAlong points orientation side positive) fits h =
     record {
       two = h.two;
-      linked = linked bytes points.items h.each_point;
+      linked = linked _ _ h.each_point;
       orientation_in_range = omega (arith, h.orientation_bits);
       side_in_range = omega (arith, h.side_bits);
       positive_in_range = rw h.positive_offset (offset_in_range _ _ (fits 16));
@@ -112,13 +112,13 @@ pub reference_is_one : (bytes : List ℕ) (r s : Reference) → IsReferenceOf by
 reference_is_one bytes (Line xs p n) (PointAlong ys o s q) a b = absurd (omega (arith, a.status.point, b.status.point))
 reference_is_one bytes (PointAlong ys o s q) (Line xs p n) a b = absurd (omega (arith, a.status.point, b.status.point))
 reference_is_one bytes (Line xs p n) (Line ys q m) a b =
-    let counts = layout_is_one (length bytes) (length xs.items) a.offsets (length ys.items) b.offsets a.layout b.layout in
-    let points : xs ≡ ys = same_items xs ys (points_are_one bytes xs.items ys.items counts.0 a.each_point b.each_point) in
+    let counts = layout_is_one _ _ _ _ _ a.layout b.layout in
+    let points : xs ≡ ys = same_items _ _ (points_are_one _ _ _ counts.0 a.each_point b.each_point) in
     let positive : p ≡ q = a.positive_offset ∙ ap (λ (k : ℕ). offset_of (positive_flag_of (last_attribute_of bytes k)) (first_offset_of bytes k)) counts.0 ∙ sym b.positive_offset in
     let negative : n ≡ m = rw (a.negative_offset, b.negative_offset, counts.0) refl in
     cc
 reference_is_one bytes (PointAlong xs o s p) (PointAlong ys o' s' q) a b =
-    let points : xs ≡ ys = same_items xs ys (points_are_one bytes xs.items ys.items (a.two ∙ sym b.two) a.each_point b.each_point) in
+    let points : xs ≡ ys = same_items _ _ (points_are_one _ _ _ (a.two ∙ sym b.two) a.each_point b.each_point) in
     let orientation : o ≡ o' = a.orientation_bits ∙ sym b.orientation_bits in
     let side : s ≡ s' = a.side_bits ∙ sym b.side_bits in
     let positive : p ≡ q = a.positive_offset ∙ sym b.positive_offset in
@@ -132,7 +132,7 @@ not_empty bytes long e = omega (arith, long, ap length e)
 line_refused : (bytes : List ℕ) (points : List Point) (p n : Option ℕ) → IsLine bytes points p n → (e : Refused) → BytesCondition bytes e → ⊥
 line_refused bytes points p n r TooLong h = h
 line_refused bytes points p n r NotBase64 h = h
-line_refused bytes points p n r Empty h = not_empty bytes (omega (arith, r.layout.whole)) h
+line_refused bytes points p n r Empty h = not_empty _ (omega (arith, r.layout.whole)) h
 line_refused bytes points p n r (BadVersion v) h = h.1 (h.0 ∙ r.status.version)
 line_refused bytes points p n r (OtherKind Area) (inl area) = omega (arith, area, r.status.area)
 line_refused bytes points p n r (OtherKind Area) (inr neither) = omega (arith, neither.1, r.status.attributes)
@@ -140,14 +140,14 @@ line_refused bytes points p n r (OtherKind GeoCoordinate) h = omega (arith, h.1,
 line_refused bytes points p n r PoiWithAccess h = omega (arith, h.0, r.status.point)
 line_refused bytes points p n r (BadLength size) h = h.1 (rw (r.status.point, h.0) (length points, r.offsets, r.layout))
 line_refused bytes points p n r (TooManyPoints count) (line, o, layout, many) =
-    let same = layout_is_one (length bytes) (length points) r.offsets count o r.layout layout in omega (arith, same.0, many, r.at_most)
+    let same = layout_is_one _ _ _ _ o r.layout layout in omega (arith, same.0, many, r.at_most)
 line_refused bytes points p n r OffsetFlags (count, o, layout, differ) =
-    let same = layout_is_one (length bytes) (length points) r.offsets count o r.layout layout in
+    let same = layout_is_one _ _ _ _ o r.layout layout in
     let flags : flags_set (status_of bytes) (last_attribute_of bytes (length points)) ≡ r.offsets = rw r.status.point (sym r.flags) in
     differ (sym same.1 ∙ sym flags ∙ ap (λ (k : ℕ). flags_set (status_of bytes) (last_attribute_of bytes k)) same.0)
 line_refused bytes points p n r (OutOfRange point) (i, at, count, o, layout, lt, beyond) =
-    let same = layout_is_one (length bytes) (length points) r.offsets count o r.layout layout in
-    none_beyond bytes points r.each_point i (omega (arith, lt, same.0)) beyond
+    let same = layout_is_one _ _ _ _ o r.layout layout in
+    none_beyond _ _ r.each_point i (omega (arith, lt, same.0)) beyond
 
 one_or_none : (n : ℕ) → n < 2 → IsPointAlongSize (16 + n)
 one_or_none zero lt = inl refl
@@ -157,7 +157,7 @@ one_or_none (suc (suc n)) lt = absurd (omega (arith, lt))
 along_refused : (bytes : List ℕ) (points : List Point) (o s : ℕ) (p : Option ℕ) → IsPointAlong bytes points o s p → (e : Refused) → BytesCondition bytes e → ⊥
 along_refused bytes points o s p r TooLong h = h
 along_refused bytes points o s p r NotBase64 h = h
-along_refused bytes points o s p r Empty h = not_empty bytes (omega (arith, r.size)) h
+along_refused bytes points o s p r Empty h = not_empty _ (omega (arith, r.size)) h
 along_refused bytes points o s p r (BadVersion v) h = h.1 (h.0 ∙ r.status.version)
 along_refused bytes points o s p r (OtherKind Area) (inl area) = omega (arith, area, r.status.area)
 along_refused bytes points o s p r (OtherKind Area) (inr neither) = omega (arith, neither.1, r.status.attributes)
@@ -165,21 +165,21 @@ along_refused bytes points o s p r (OtherKind GeoCoordinate) h = omega (arith, h
 along_refused bytes points o s p r PoiWithAccess (point, attributes, inl e) = omega (arith, e, r.size)
 along_refused bytes points o s p r PoiWithAccess (point, attributes, inr e) = omega (arith, e, r.size)
 along_refused bytes points o s p r (BadLength size) h =
-    let sized : IsPointAlongSize (length bytes) = rw r.size (one_or_none (positive_flag_of (last_attribute_of bytes 2)) (omega arith)) in
+    let sized : IsPointAlongSize (length bytes) = rw r.size (one_or_none _ (omega arith)) in
     h.1 (rw (r.status.point, h.0) sized)
 along_refused bytes points o s p r (TooManyPoints count) (line, f, layout, many) = omega (arith, line, r.status.point)
 along_refused bytes points o s p r OffsetFlags (count, f, layout, differ) =
-    let same = layout_is_one (length bytes) 2 _ count f (along_layout bytes points o s p r) layout in
+    let same = layout_is_one _ 2 _ _ f (along_layout _ _ o s p r) layout in
     let flags : flags_set (status_of bytes) (last_attribute_of bytes 2) ≡ positive_flag_of (last_attribute_of bytes 2) = rw r.status.point refl in
     differ (sym same.1 ∙ sym flags ∙ ap (λ (k : ℕ). flags_set (status_of bytes) (last_attribute_of bytes k)) same.0)
 along_refused bytes points o s p r (OutOfRange point) (i, at, count, f, layout, lt, beyond) =
-    let same = layout_is_one (length bytes) 2 _ count f (along_layout bytes points o s p r) layout in
-    none_beyond bytes points r.each_point i (omega (arith, lt, same.0, r.two)) beyond
+    let same = layout_is_one _ 2 _ _ f (along_layout _ _ o s p r) layout in
+    none_beyond _ _ r.each_point i (omega (arith, lt, same.0, r.two)) beyond
 
 -- no refusal holds of the bytes of a reference
 pub reference_refused : (bytes : List ℕ) (r : Reference) → IsReferenceOf bytes r → (e : Refused) → BytesCondition bytes e → ⊥
-reference_refused bytes (Line points p n) r e h = line_refused bytes points.items p n r e h
-reference_refused bytes (PointAlong points o s p) r e h = along_refused bytes points.items o s p r e h
+reference_refused bytes (Line points p n) r e h = line_refused _ _ p n r e h
+reference_refused bytes (PointAlong points o s p) r e h = along_refused _ _ o s p r e h
 
 -- ---- the length of its text
 
@@ -189,7 +189,7 @@ size_of_reference bytes (PointAlong points o s p) r = omega (arith, r.size)
 
 pub text_of_reference : (text bytes : List ℕ) (r : Reference) → IsBase64 text bytes → IsReferenceOf bytes r → length text ≤ 344
 text_of_reference text bytes r b h =
-    let size = size_of_reference bytes r h in
+    let size = size_of_reference _ r h in
     let symbols : List ℕ = encode_symbols standard.encode_table bytes in
     let padding : List ℕ = replicate (padding_len (length bytes)) 61 in
     omega (

@@ -18,12 +18,12 @@ pub same_degrees : (a b : Degrees) → a.lon ≡ b.lon → a.lat ≡ b.lat → a
 same_degrees a b e f =
     made_same {A = ℤ × ℤ} (λ z. IsLongitude z.0 × IsLatitude z.1) (λ z. hlevel props)
     (λ z h. record { lon = z.0; lat = z.1; lon_in_range = h.0; lat_in_range = h.1 })
-    (a.lon, a.lat) (b.lon, b.lat) (a.lon_in_range, a.lat_in_range) (b.lon_in_range, b.lat_in_range) (pair_same a.lon b.lon a.lat b.lat e f)
+    _ _ (a.lon_in_range, a.lat_in_range) (b.lon_in_range, b.lat_in_range) (pair_same _ _ _ _ e f)
 
 pub same_next : (a b : Next) → a.lowest ≡ b.lowest → a.interval ≡ b.interval → a ≡ b
 same_next a b e f =
     made_same {A = ℕ × ℕ} (λ z. (z.0 < 8) × (z.1 < 256)) (λ z. hlevel props) (λ z h. record { lowest = z.0; interval = z.1; lowest_in_range = h.0; interval_in_range = h.1 })
-    (a.lowest, a.interval) (b.lowest, b.interval) (a.lowest_in_range, a.interval_in_range) (b.lowest_in_range, b.interval_in_range) (pair_same a.lowest b.lowest a.interval b.interval e f)
+    _ _ _ _ (pair_same _ _ _ _ e f)
 
 record Fields : Type 0 where
   at : Degrees
@@ -43,8 +43,8 @@ unfolding fields_of
 same_point a b at class form sector next =
     made_same {A = Fields} (λ f. (f.class < 8) × (f.form < 8) × (f.sector < 32)) (λ f. hlevel props)
     (λ f h. record { at = f.at; class = f.class; form = f.form; sector = f.sector; next = f.next; class_in_range = h.0; form_in_range = h.1; sector_in_range = h.2 })
-    (fields_of a) (fields_of b) (a.class_in_range, a.form_in_range, a.sector_in_range) (b.class_in_range, b.form_in_range, b.sector_in_range)
-    (fields_same (fields_of a) (fields_of b) at class form sector next)
+    _ _ (a.class_in_range, a.form_in_range, a.sector_in_range) (b.class_in_range, b.form_in_range, b.sector_in_range)
+    (fields_same _ _ at class form sector next)
 
 -- lists are equal where they are so at each index
 pub same_points : (xs ys : List Point) → length xs ≡ length ys
@@ -55,5 +55,5 @@ same_points (x ∷ xs) [] len same = absurd (omega (arith, len))
 same_points (x ∷ xs) (y ∷ ys) len same =
     let rest : length xs ≡ length ys = omega (arith, len) in
     let first : x ≡ y = same 0 x y refl refl in
-    let others : xs ≡ ys = same_points xs ys rest (λ i. same (suc i)) in
+    let others : xs ≡ ys = same_points _ _ rest (λ i. same (suc i)) in
     cc

@@ -35,8 +35,8 @@ loop-index-preserved c =
       count_so_far = omega (arith, c.push.ensures.len, c.loop-index.invariant.count_so_far);
       place = rw again here;
       passed = below_more _ _ c.loop-index.invariant.passed (subst IsInRange here c.in-Some.ensures.found.0);
-      each = rw c.push.ensures.items (each-push c.args.bytes.now c.first-place.result c.args.count c.loop-index.index c.loop-index.points.items
-          c.point_at.result c.loop-index.invariant.count_so_far c.loop-index.invariant.each point);
+      each = rw c.push.ensures.items (each-push _ _ _ _ _
+          _ c.loop-index.invariant.count_so_far c.loop-index.invariant.each point);
     }
 
 pub returns : goal.returns
