@@ -19,9 +19,9 @@ small text i k inside short digits =
     digits_value_short (numerals_by_value (AllDigits 10) tells_digits) (take i text) k digits (omega (arith, size, short))
 
 -- the value of one digit more
-pub value_after : (text : List ℕ) (i value : ℕ) → i < length text → IsAsciiDigit (get_or text i 0) → value ≡ digits_value 10 (take i text)
+pub value_after : (text : List ℕ) (i : ℕ) {value : ℕ} → i < length text → IsAsciiDigit (get_or text i 0) → value ≡ digits_value 10 (take i text)
     → 10 * value + (get_or text i 0 - 48) ≡ digits_value 10 (take (i + 1) text)
-value_after text i value inside digit same =
+value_after text i inside digit same =
     let d = digit_value_digit _ digit in
     let more = digits_value_more 10 text i inside in
     omega (arith, d, more, same)
@@ -38,9 +38,9 @@ not_both : (byte : ℕ) → IsAsciiDigit byte → IsNotAsciiDigit byte → ⊥
 not_both byte digit other = elim other [ inl low ↦ omega (arith, digit.0, low) | inr high ↦ omega (arith, digit.1, high) ]
 
 -- what follows the part that a number spells begins with no digit
-no_digit_behind : (byte : ℕ) (rest : Option (List ℕ)) → IsSeparator byte → 0 < length (behind byte rest) → IsNotAsciiDigit (get_or (behind byte rest) 0 0)
-no_digit_behind byte None separates some = absurd (omega (arith, some))
-no_digit_behind byte (Some rest) separates some = elim separates [ inl low ↦ inl (omega (arith, low)) | inr high ↦ inr (omega (arith, high)) ]
+no_digit_behind : {byte : ℕ} (rest : Option (List ℕ)) → IsSeparator byte → 0 < length (behind byte rest) → IsNotAsciiDigit (get_or (behind byte rest) 0 0)
+no_digit_behind None separates some = absurd (omega (arith, some))
+no_digit_behind (Some rest) separates some = elim separates [ inl low ↦ inl (omega (arith, low)) | inr high ↦ inr (omega (arith, high)) ]
 
 -- a number in front of a text has all of these digits
 pub all_digits : (text : List ℕ) (count : ℕ) (byte n : ℕ) (rest : Option (List ℕ)) → IsSeparator byte → AreFirstDigits text count
@@ -54,7 +54,7 @@ all_digits text count byte n rest separates are begins =
     ∙ ap (λ (k : ℕ). get_or (front ++ tail) k 0) (omega arith) ∙ get_or-append-add front tail 0 0 in
     not_both _
     (subst IsAsciiDigit there (digit_at (take count text) (length front) are.digits (omega (arith, less, length-take-le count text are.within))))
-    (no_digit_behind _ _ separates (omega (arith, less, size, are.within))) in
+    (no_digit_behind _ separates (omega (arith, less, size, are.within))) in
     let more : count < length front → ⊥ = λ less.
     let there = ap (λ (l : List ℕ). get_or l count 0) begins.whole ∙ get_or-append front tail 0 _ less in
     not_both _ (digit_at front count begins.spelled.digits.1 less)

@@ -8,10 +8,10 @@ use Rattle.olr_records.proofs.Cuts.{Avoids, behind_first, one_way, not_avoided, 
 use Rattle.olr_records.proofs.Signs.{signed_avoids, begins_once, whole_begins}
 
 -- an item has no ';'
-item_avoids : (text : List ℕ) (place : Coordinates) → IsItem text place → Avoids 59 text
-item_avoids text place is = subst (λ (l : List ℕ). Avoids 59 l) (sym is.spaced)
-    (avoids_parts _ _ _ _ (signed_avoids _ _ _ (inr (omega arith)) is.longitude.number) (λ e. omega (arith, e))
-    (signed_avoids _ _ _ (inr (omega arith)) is.latitude.number))
+item_avoids : (text : List ℕ) {place : Coordinates} → IsItem text place → Avoids 59 text
+item_avoids text is = subst (λ (l : List ℕ). Avoids 59 l) (sym is.spaced)
+    (avoids_parts _ _ _ _ (signed_avoids _ (inr (omega arith)) is.longitude.number) (λ e. omega (arith, e))
+    (signed_avoids _ (inr (omega arith)) is.latitude.number))
 
 -- ---- the two numbers of an item in front of a text
 
@@ -30,9 +30,9 @@ number_of : {text : List ℕ} {rest : Option (List ℕ)} {lon : ℤ} → Begins 
 number_of begins = record { front = begins.front; whole = begins.whole; spelled = begins.spelled.number }
 
 -- behind that longitude there is a space
-pub spaced : (text : List ℕ) (lon : ℤ) (place : Coordinates) (rest : Option (List ℕ)) → Begins (λ front. SpellsLongitude front lon) 32 text None
+pub spaced : (text : List ℕ) {lon : ℤ} (place : Coordinates) (rest : Option (List ℕ)) → Begins (λ front. SpellsLongitude front lon) 32 text None
     → Begins (λ front. IsItem front place) 59 text rest → ⊥
-spaced text lon place rest first begins =
+spaced text place rest first begins =
     let same = begins_once _ _ _ _ None _ (inl (omega arith)) (number_of first) (number_of (longitude_of_item text place rest begins)) in
     absurd cc
 
@@ -45,9 +45,9 @@ latitude_of_item text lon after place rest first begins =
     record { front = begins.spelled.lat; whole = ap behind_first same.1; spelled = begins.spelled.latitude }
 
 -- both are an item
-pub item_of_both : (text : List ℕ) (place : Coordinates) (after : List ℕ) (rest : Option (List ℕ)) → Begins (λ front. SpellsLongitude front place.lon) 32 text (Some after)
+pub item_of_both : {text : List ℕ} (place : Coordinates) {after : List ℕ} {rest : Option (List ℕ)} → Begins (λ front. SpellsLongitude front place.lon) 32 text (Some after)
     → Begins (λ front. SpellsLatitude front place.lat) 59 after rest → Begins (λ front. IsItem front place) 59 text rest
-item_of_both text place after rest first second = record {
+item_of_both place first second = record {
   front = first.front ++ 32 ∷ second.front;
   whole = first.whole ∙ ap (λ (l : List ℕ). first.front ++ 32 ∷ l) second.whole ∙ sym (append_assoc first.front (32 ∷ second.front) (behind _ _));
   spelled = record { lon = first.front; lat = second.front; spaced = refl; longitude = first.spelled; latitude = second.spelled };
@@ -71,21 +71,21 @@ pub record Continues (text : List ℕ) (front : List Coordinates) (rest : List �
   pub back : (places : List Coordinates) → AreItems text places
       → (place : Coordinates) × (others : List Coordinates) × (places ≡ front ++ place ∷ others) × AreItems rest (place ∷ others)
 
-some_place : (text : List ℕ) (places : List Coordinates) → AreItems text places
+some_place : {text : List ℕ} (places : List Coordinates) → AreItems text places
     → (place : Coordinates) × (others : List Coordinates) × (places ≡ place ∷ others) × AreItems text (place ∷ others)
-some_place text [] are = absurd are
-some_place text (place ∷ others) are = (place, others, refl, are)
+some_place [] are = absurd are
+some_place (place ∷ others) are = (place, others, refl, are)
 
-pub at_start : (text : List ℕ) → Continues text [] text
-at_start text = record { forth = λ place others are. are; back = some_place _ }
+pub at_start : {text : List ℕ} → Continues text [] text
+at_start = record { forth = λ place others are. are; back = some_place }
 
 -- what a rest spells begins with what its first item spells
 pub rest_of_item : (rest others : List ℕ) (place next : Coordinates) (places : List Coordinates) → Begins (λ front. IsItem front place) 59 rest (Some others)
     → AreItems rest (next ∷ places)
     → (next ≡ place) × (q : Coordinates) × (qs : List Coordinates) × (places ≡ q ∷ qs) × AreItems others (q ∷ qs)
-rest_of_item rest others place next [] begins are = absurd (not_avoided _ _ _ _ begins.whole (item_avoids _ _ are))
+rest_of_item rest others place next [] begins are = absurd (not_avoided _ _ _ _ begins.whole (item_avoids _ are))
 rest_of_item rest others place next (q ∷ qs) begins are =
-    let same = one_way _ _ _ _ _ (item_avoids _ _ begins.spelled) (item_avoids _ _ are.3) (sym begins.whole ∙ are.2) in (
+    let same = one_way _ _ _ _ _ (item_avoids _ begins.spelled) (item_avoids _ are.3) (sym begins.whole ∙ are.2) in (
       item_once _ _ _ (subst (λ (l : List ℕ). IsItem l next) (sym same.0) are.3) begins.spelled,
       q,
       qs,
@@ -111,10 +111,10 @@ one_more_item text front rest others place continues begins = record {
 }
 
 -- a rest that begins with no item
-pub no_item : (text : List ℕ) (front : List Coordinates) (rest : List ℕ) → Continues text front rest
+pub no_item : {text : List ℕ} (front : List Coordinates) (rest : List ℕ) → Continues text front rest
     → ((place : Coordinates) (others : Option (List ℕ)) → ¬ (Begins (λ front. IsItem front place) 59 rest others))
     → (places : List Coordinates) → AreItems text places → ⊥
-no_item text front rest continues none places are =
+no_item front rest continues none places are =
     let found = continues.back places are in
     first rest found.0 found.1 none found.3
   where

@@ -17,10 +17,10 @@ unfolding records_left records_of
 records_at_start reader text state source = rw (state, source) refl
 
 -- the records from a state on are what the next read gives, and those after it
-opened : (s : State) (xs : List ℕ) (r : Option Read) → next_record default_config s [] [] xs ≡ r
+opened : (s : State) (xs : List ℕ) {r : Option Read} → next_record default_config s [] [] xs ≡ r
     → records_from default_config (length xs + 1) s xs ≡ records_next (records_from default_config (length xs)) r
 unfolding records_from
-opened s xs r e = rw add-one (ap (records_next (records_from default_config (length xs))) e)
+opened s xs e = rw add-one (ap (records_next (records_from default_config (length xs))) e)
 
 -- what one read from a state on gives of the records from there on
 abbrev IsOneRead : State → State → List ℕ → List ℕ → Bool → List (List ℕ) → Type 0
@@ -30,23 +30,23 @@ IsOneRead s s2 xs ys found fields = (found ≡ true → ends_at_end s2 ≡ false
 read_none : (s s2 : State) (xs ys : List ℕ) (found : Bool) (fields : List (List ℕ)) → next_record default_config s [] [] xs ≡ None → found ≡ false
     → IsOneRead s s2 xs ys found fields
 read_none s s2 xs ys true fields e none = absurd cc
-read_none s s2 xs ys false fields e none = (λ h. absurd cc, opened s _ _ e)
+read_none s s2 xs ys false fields e none = (λ h. absurd cc, opened s _ e)
 
-read_some : (s s2 : State) (xs ys : List ℕ) (found : Bool) (fields : List (List ℕ)) (p : Read) → ends_at_end s ≡ false → next_record default_config s [] [] xs ≡ Some p
+read_some : (s : State) {s2 : State} (xs : List ℕ) {ys : List ℕ} (found : Bool) {fields : List (List ℕ)} (p : Read) → ends_at_end s ≡ false → next_record default_config s [] [] xs ≡ Some p
     → found ≡ true → fields ≡ p.0 → s2 ≡ p.1 → ys ≡ p.2 → IsOneRead s s2 xs ys found fields
-read_some s s2 xs ys false fields p state e some first second third = absurd cc
-read_some s s2 xs ys true fields p state e some first second third =
+read_some s xs false p state e some first second third = absurd cc
+read_some s xs true p state e some first second third =
     let left = left_after s _ p state e in
     let same : records_from default_config (length xs) p.1 p.2 ≡ records_from default_config (length p.2 + 1) p.1 p.2 =
     same_records _ _ _ _ left.state left.shorter (omega arith) in
-    (λ h. rw second left.state, rw (first, second, third) (opened s _ _ e ∙ ap (λ (rs : List (List (List ℕ))). p.0 ∷ rs) same))
+    (λ h. rw second left.state, rw (first, second, third) (opened s _ e ∙ ap (λ (rs : List (List (List ℕ))). p.0 ∷ rs) same))
 
 one_read : (s s2 : State) (xs ys : List ℕ) (found : Bool) (fields : List (List ℕ)) → ends_at_end s ≡ false
     → NextIs (next_record default_config s [] [] xs) found fields s2 ys → IsOneRead s s2 xs ys found fields
 one_read s s2 xs ys found fields state next =
     elim (next_record default_config s [] [] xs) as (λ r. next_record default_config s [] [] xs ≡ r → NextIs r found fields s2 ys → IsOneRead s s2 xs ys found fields) [
       | None ↦ λ e h. read_none s _ _ _ _ _ e h
-      | Some p ↦ λ e h. read_some s _ _ _ _ _ p state e h.0 h.1 h.2 h.3
+      | Some p ↦ λ e h. read_some s _ _ p state e h.0 h.1 h.2 h.3
     ] refl next
 
 -- ---- readers
@@ -101,9 +101,9 @@ pub plain_ready : (reader : Reader (Bor (List ℕ))) → IsPlain reader → Read
 plain_ready reader plain = elim (by_first _ _ plain.headers) [ inl taken ↦ inl taken | inr none ↦ inr (inr none) ]
 
 -- the same records, of what is over where none was found
-pub after_read : (found over : Bool) (value : List (List (List ℕ))) (fields : List (List ℕ)) (old new : Reader (Bor (List ℕ))) → over ≡ false → records_until over old ≡ value
+pub after_read : (found over : Bool) {value : List (List (List ℕ))} (fields : List (List ℕ)) (old new : Reader (Bor (List ℕ))) → over ≡ false → records_until over old ≡ value
     → MatchBool found (records_left old ≡ fields ∷ records_left new) (records_left old ≡ [])
     → MatchBool found (value ≡ fields ∷ records_until (not found) new) ((value ≡ []) × (records_until (not found) new ≡ []))
-after_read found true value fields old new e view step = absurd cc
-after_read true false value fields old new e view step = sym view ∙ step
-after_read false false value fields old new e view step = (sym view ∙ step, refl)
+after_read found true fields old new e view step = absurd cc
+after_read true false fields old new e view step = sym view ∙ step
+after_read false false fields old new e view step = (sym view ∙ step, refl)

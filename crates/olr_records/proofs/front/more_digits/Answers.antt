@@ -24,5 +24,5 @@ loop-place-preserved c =
     let inside : i < length text = omega (arith, c.loop-place-test.true, c.requires.end) in
     record {
       digits = digits_more 10 text i inside c.loop-place.invariant.digits ensured.bound;
-      value = ap (λ (d : ℕ). 10 * c.loop-place.value + d) c.from.ensures ∙ value_after _ i _ inside ensured.cases c.loop-place.invariant.value;
+      value = ap (λ (d : ℕ). 10 * c.loop-place.value + d) c.from.ensures ∙ value_after _ i inside ensured.cases c.loop-place.invariant.value;
     }

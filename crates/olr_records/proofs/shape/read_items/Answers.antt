@@ -7,10 +7,10 @@ use Rattle.olr_records.proofs.Items.{Continues, at_start, one_more_item, no_item
 use Rattle.olr_records.proofs.shape.read_items.Goals as goal
 
 pub loop-init : goal.loop-init
-loop-init c = rw c.requires.empty (refl, at_start _)
+loop-init c = rw c.requires.empty (refl, at_start)
 
 pub returns-in_default : goal.returns-in_default
-returns-in_default c = λ places are. no_item _ _ _ c.loop.invariant.1 c.in_default.ensures _ are.0
+returns-in_default c = λ places are. no_item _ _ c.loop.invariant.1 c.in_default.ensures _ are.0
 
 pub loop-preserved : goal.loop-preserved
 loop-preserved c =

@@ -22,5 +22,5 @@ returns-clause-found c =
     let h = c.in-Ok.ensures in
     let step = read_one _ _ _ _ plain
     (h.reads plain.untrimmed (plain_ready c.self.inside.reader plain)) (h.ready plain.untrimmed) h.goes h.flexible in
-    after_read _ _ _ _ _
+    after_read _ _ _ _
     _ c.if-self.false c.self.view_is step.1
