@@ -31,12 +31,12 @@ no_lf_before hand k first =
     (λ i before lf. first.before i (at_least_zero i) (omega (arith, size, before)) (eq-eqb (get_or hand i 0) 10 (sym (get_or-take k hand i 0 (omega (arith, size, before))) ∙ lf)))
 
 -- whether an LF is found
-pub holds_lf : (hand : List ℕ) (r : Option ℕ) (b : Bool) → IsFirstByte (is_byte 10) hand r → b ≡ is_some r → IsTrue b ↔ Contains hand 10
-holds_lf hand None b first is = (
+pub holds_lf : (hand : List ℕ) (r : Option ℕ) {b : Bool} → IsFirstByte (is_byte 10) hand r → b ≡ is_some r → IsTrue b ↔ Contains hand 10
+holds_lf hand None first is = (
   λ yes. absurd cc,
-  λ has. absurd (All-contains (λ byte. byte ≢ 10) hand 10 (no_lf_found hand first) has refl),
+  λ has. absurd (All-contains (λ byte. byte ≢ 10) hand 10 (no_lf_found _ first) has refl),
 )
-holds_lf hand (Some k) b first is = (
+holds_lf hand (Some k) first is = (
   λ yes. (k, first.0.high, get_or_default hand k 10 0 first.0.high ∙ eqb-true (get_or hand k 0) 10 first.1),
   λ has. is,
 )
@@ -46,8 +46,8 @@ hand_length chunk start stop ordered inside =
     let rest = length-drop start chunk in length-take-le (stop - start) (drop start chunk) (omega (arith, rest, ordered, inside))
 
 -- an LF at hand, and what stands behind it
-pub behind_lf : (chunk : List ℕ) (start stop k : ℕ) → start ≤ stop → stop ≤ length chunk → k < length (slice_range chunk start stop) → start + (k + 1) ≤ stop
-behind_lf chunk start stop k ordered inside before = let size = hand_length chunk start stop ordered inside in omega (arith, size, before, ordered)
+pub behind_lf : (chunk : List ℕ) {start stop k : ℕ} → start ≤ stop → stop ≤ length chunk → k < length (slice_range chunk start stop) → start + (k + 1) ≤ stop
+behind_lf chunk ordered inside before = let size = hand_length _ _ _ ordered inside in omega (arith, size, before, ordered)
 
 pub none_at_hand : (chunk : List ℕ) (stop : ℕ) → slice_range chunk stop stop ≡ []
 none_at_hand chunk stop = let none : stop - stop ≡ 0 = omega arith in ap (λ (n : ℕ). take n (drop stop chunk)) none

@@ -33,12 +33,12 @@ unfolding front_of
 held_front line part held =
     let room = take-append-add line part (65538 - length line) in
     let whole : length line + (65538 - length line) ≡ 65538 = omega (arith, held) in
-    ap (λ (l : List ℕ). line ++ l) (take-min (65538 - length line) part) ∙ sym room ∙ ap (λ (k : ℕ). take k (line ++ part)) whole
+    ap (λ (l : List ℕ). line ++ l) (take-min _ _) ∙ sym room ∙ ap (λ (k : ℕ). take k (line ++ part)) whole
 
 -- the front of a front is that front
 pub front_again : (line : List ℕ) → front_of (front_of line) ≡ front_of line
 front_again line =
-    ap (λ (l : List ℕ). front_of l) (sym (append-nil (front_of line))) ∙ front_of-front_of line [] ∙ ap (λ (l : List ℕ). front_of l) (append-nil line)
+    ap (λ (l : List ℕ). front_of l) (sym (append-nil (front_of line))) ∙ front_of-front_of _ _ ∙ ap (λ (l : List ℕ). front_of l) (append-nil line)
 
 pub front_short : (line : List ℕ) → length (front_of line) ≤ 65538
 unfolding front_of
@@ -59,7 +59,7 @@ front_some byte line none = elim (cases_lt 65538 (length (byte ∷ line))) [
 pub front_none : (line : List ℕ) → front_of line ≡ [] → line ≡ []
 unfolding front_of
 front_none [] none = refl
-front_none (byte ∷ line) none = absurd (front_some byte line none)
+front_none (byte ∷ line) none = absurd (front_some _ _ none)
 
 -- ---- the message of a line
 
@@ -92,7 +92,7 @@ unfolding front_of
 message_of_front line message is = elim (cases_lt 65538 (length line)) [
   | inl short ↦
       let size = length-take-le 65538 line (omega (arith, short)) in
-      only_long (record_of (take 65538 line)) (record_of line) message
+      only_long _ _ _
       (omega (arith, size, record_short (take 65538 line))) (omega (arith, short, record_short line)) is
   | inr all ↦ subst (λ (l : List ℕ). IsMessage (record_of l) message) (take_all 65538 line all) is
 ]

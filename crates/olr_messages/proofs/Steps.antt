@@ -24,10 +24,10 @@ no_front = refl
 
 -- ---- what the bytes at hand, or those that a source gives, are of all that is left
 
-hand_to_lf : (hand part rest : List ℕ) (left : Option (List ℕ)) → hand ≡ part ++ 10 ∷ rest
+hand_to_lf : {hand : List ℕ} (part rest : List ℕ) (left : Option (List ℕ)) → hand ≡ part ++ 10 ∷ rest
     → Consumes (prepend_known hand left) (prepend_known rest left) (part ++ 10 ∷ [])
-hand_to_lf hand part rest None split = tt
-hand_to_lf hand part rest (Some xs) split =
+hand_to_lf part rest None split = tt
+hand_to_lf part rest (Some xs) split =
     ap (λ (l : List ℕ). l ++ xs) split ∙ append_assoc part (10 ∷ rest) xs
     ∙ sym (append_assoc part (10 ∷ []) (rest ++ xs))
 
@@ -63,10 +63,10 @@ by_length (x ∷ xs) some none = elim (eqb_tells (length (x ∷ xs)) 0) [
 
 -- ---- the steps
 
-pub none_read : {hand : List ℕ} (left : Option (List ℕ)) (now : Reading) → now.at_hand ≡ hand
+pub none_read : {hand : List ℕ} {left : Option (List ℕ)} {now : Reading} → now.at_hand ≡ hand
     → now.front ≡ []
     → HasRead (prepend_known hand left) left now 0
-none_read left now same empty = record {
+none_read same empty = record {
   part = [];
   consumed = rw same (Consumes-nil _);
   no_lf = All-nil (λ b. b ≢ 10);
@@ -88,7 +88,7 @@ module _ {a left : Option (List ℕ)} {now : Reading} {calls : ℕ} (has : HasRe
         record {
           line = has.part ++ reads.part;
           is_next = next_of_lf _ _ _ free (rw (append_assoc has.part reads.part (10 ∷ []))
-              (Consumes-trans _ _ _ _ _ has.consumed (hand_to_lf _ _ _ left reads.split)));
+              (Consumes-trans _ _ _ _ _ has.consumed (hand_to_lf _ _ left reads.split)));
           is_front = front_after reads.part reads.front;
         }
 
@@ -136,7 +136,7 @@ module _ {a left : Option (List ℕ)} {now : Reading} {calls : ℕ} (has : HasRe
           rw is (by_length new.front
           (λ some. record {
             line = has.part;
-            is_next = next_of_end _ _ _ has.no_lf
+            is_next = next_of_end _ _ has.no_lf
                 (λ none. some (whole ∙ ap front_of none ∙ no_front)) consumed at_end;
             is_front = whole;
           })

@@ -9,7 +9,7 @@ use Rattle.olr_messages.proofs.messages.Messages.next.Goals as goal
 pub loop-call-init : goal.loop-call-init
 loop-call-init g c = record {
   none_failed = refl;
-  has_read = none_read _ _ c.begin.ensures.at_hand c.begin.ensures.front;
+  has_read = none_read c.begin.ensures.at_hand c.begin.ensures.front;
   same_bytes = λ _. c.begin.ensures.at_hand;
   same_front = λ _. c.begin.ensures.front;
   same_source = λ _. refl;
