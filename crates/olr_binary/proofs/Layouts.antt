@@ -27,14 +27,14 @@ layout_is_one p q = (omega arith, omega arith)
 
 -- no line has fewer than 16 bytes, nor more than two after its points
 pub no_short_line : (size : ℕ) → size < 16 → IsLineSize size → ⊥
-no_short_line size short (count, offsets, layout) = omega (arith, layout.whole)
+no_short_line size short (count, offsets, layout) = omega arith
 
 pub no_other_line : (size : ℕ) → 2 < (size - 2) % 7 → IsLineSize size → ⊥
-no_other_line size many (count, offsets, layout) = omega (arith, layout.whole, layout.at_most_two)
+no_other_line size many (count, offsets, layout) = omega arith
 
 -- a location has at least sixteen bytes
 pub long_enough : (location : LocationType) (size : ℕ) → IsSizeOf location size → 16 ≤ size
-long_enough Line size (count, offsets, layout) = omega (arith, layout.whole)
+long_enough Line size (count, offsets, layout) = omega arith
 long_enough PointAlong size (inl e) = omega arith
 long_enough PointAlong size (inr e) = omega arith
 
@@ -42,7 +42,7 @@ long_enough PointAlong size (inr e) = omega arith
 pub laid_out : (location : LocationType) (size : ℕ) → IsSizeOf location size
     → IsLayout size ((size - 2) / 7) ((size - 2) % 7) × HasTwoPoints location ((size - 2) / 7)
 laid_out Line size (count, offsets, layout) = (
-  layout_from _ (omega (arith, layout.whole)) (omega (arith, layout.whole, layout.at_most_two)),
+  layout_from _ (omega arith) (omega arith),
   tt,
 )
 laid_out PointAlong size (inl e) = (layout_from _ (omega arith) (omega arith), omega arith)

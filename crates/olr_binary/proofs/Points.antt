@@ -38,9 +38,9 @@ each-push bytes first count n points next len each here i point e =
     elim (cases_lt i (length points)) [
       | inl lt ↦ each i _ (sym (slice_get-append _ _ i lt) ∙ e)
       | inr le ↦
-          let within : i < length (points ++ next ∷ []) = slice_get_within (points ++ next ∷ []) i point e in
-          let last : i ≡ length points = omega (arith, within, le, length-append points (next ∷ [])) in
+          let within = slice_get_within (points ++ next ∷ []) i point e in
+          let last : i ≡ length points = omega (arith, length-append points (next ∷ [])) in
           let is_next : next ≡ point = same_item _ _ (sym (slice_get-seam points _) ∙ ap (slice_get (points ++ next ∷ [])) (sym last) ∙ e) in
-          let at : n ≡ i = sym len ∙ sym last in
-          subst (λ (p : Point). IsPoint bytes first count i p) is_next (subst (λ (k : ℕ). IsPoint bytes first count k next) at here)
+          let at : n ≡ i = cc in
+          rw (← is_next) (subst (λ (k : ℕ). IsPoint bytes first count k next) at here)
     ]

@@ -90,7 +90,7 @@ pub is_reference : (bytes : List ℕ) (r : Reference) → AreBytes bytes → IsR
     → IsReference r
 is_reference bytes (Line points positive negative) fits h =
     record {
-      at_least = omega (arith, h.layout.with_ends);
+      at_least = omega arith;
       at_most = h.at_most;
       linked = linked _ _ h.each_point;
       positive_in_range = rw h.positive_offset
@@ -103,8 +103,8 @@ is_reference bytes (PointAlong points orientation side positive) fits h =
     record {
       two = h.two;
       linked = linked _ _ h.each_point;
-      orientation_in_range = omega (arith, h.orientation_bits);
-      side_in_range = omega (arith, h.side_bits);
+      orientation_in_range = omega arith;
+      side_in_range = omega arith;
       positive_in_range = rw h.positive_offset (offset_in_range _ _ (fits 16));
     }
 
@@ -119,8 +119,8 @@ reference_is_one bytes (PointAlong ys o s q) (Line xs p n) a b = absurd (omega a
 reference_is_one bytes (Line xs p n) (Line ys q m) a b =
     let counts = layout_is_one a.layout b.layout in
     let points : xs ≡ ys = same_items _ _ (points_are_one counts.0 a.each_point b.each_point) in
-    let positive : p ≡ q = rw (a.positive_offset, b.positive_offset, counts.0) refl in
-    let negative : n ≡ m = rw (a.negative_offset, b.negative_offset, counts.0) refl in
+    let positive : p ≡ q = cc in
+    let negative : n ≡ m = cc in
     cc
 reference_is_one bytes (PointAlong xs o s p) (PointAlong ys o' s' q) a b =
     cc (same_items _ _ (points_are_one (cc) a.each_point b.each_point))

@@ -55,7 +55,7 @@ same_points [] [] len same = refl
 same_points [] (y ∷ ys) len same = absurd (omega arith)
 same_points (x ∷ xs) [] len same = absurd (omega arith)
 same_points (x ∷ xs) (y ∷ ys) len same =
-    let rest : length xs ≡ length ys = omega (arith, len) in
+    let rest : length xs ≡ length ys = omega arith in
     let first : x ≡ y = same 0 x y refl refl in
     let others : xs ≡ ys = same_points _ _ rest (λ i. same (suc i)) in
     cc

@@ -22,7 +22,7 @@ pub outcome_is_one : (text : List ℕ) (a b : Result Reference Refused) → IsOu
     → IsOutcome text b → a ≡ b
 outcome_is_one text (Ok r) (Ok s) a b =
     let bytes = base64_is_one _ _ _ a.base64 b.base64 in
-    ap Ok (reference_is_one _ r s (subst (λ (bs : List ℕ). IsReferenceOf bs r) bytes a.is_reference)
+    ap Ok (reference_is_one _ r s (rw (← bytes) a.is_reference)
     b.is_reference)
 outcome_is_one text (Ok r) (Err e) a b = absurd (no_refusal text r e a b)
 outcome_is_one text (Err e) (Ok r) a b = absurd (no_refusal text r e b a)
