@@ -9,8 +9,7 @@ use Rattle.olr_records.proofs.Signs.{signed_avoids, begins_once, whole_begins}
 
 -- an item has no ';'
 item_avoids : (text : List ℕ) {place : Coordinates} → IsItem text place → Avoids 59 text
-item_avoids text is = subst (λ (l : List ℕ). Avoids 59 l) (sym is.spaced)
-    (avoids_parts _ _ _ _ (signed_avoids _ (inr (omega arith)) is.longitude.number) (λ e. omega (arith, e))
+item_avoids text is = rw is.spaced (avoids_parts _ _ _ _ (signed_avoids _ (inr (omega arith)) is.longitude.number) (λ e. omega (arith, e))
     (signed_avoids _ (inr (omega arith)) is.latitude.number))
 
 -- ---- the two numbers of an item in front of a text
@@ -86,19 +85,18 @@ pub rest_of_item : (rest others : List ℕ) (place next : Coordinates) (places :
 rest_of_item rest others place next [] begins are = absurd (not_avoided _ _ _ _ begins.whole (item_avoids _ are))
 rest_of_item rest others place next (q ∷ qs) begins are =
     let same = one_way _ _ _ _ _ (item_avoids _ begins.spelled) (item_avoids _ are.3) (sym begins.whole ∙ are.2) in (
-      item_once _ _ _ (subst (λ (l : List ℕ). IsItem l next) (sym same.0) are.3) begins.spelled,
+      item_once _ _ _ (rw same.0 are.3) begins.spelled,
       q,
       qs,
       refl,
-      subst (λ (l : List ℕ). AreItems l (q ∷ qs)) (sym same.1) are.4,
+      rw same.1 are.4,
     )
 
 pub one_more_item : (text : List ℕ) (front : List Coordinates) (rest others : List ℕ) (place : Coordinates)
     → Continues text front rest → Begins (λ front. IsItem front place) 59 rest (Some others) → Continues text (front ++ place ∷ []) others
 one_more_item text front rest others place continues begins = record {
   forth = λ next places are.
-      subst (λ (l : List Coordinates). AreItems text l) (sym (append_assoc front (place ∷ []) (next ∷ places)))
-      (continues.forth place (next ∷ places) (begins.front, others, begins.whole, begins.spelled, are));
+      rw (append_assoc front (place ∷ []) (next ∷ places)) (continues.forth place (next ∷ places) (begins.front, others, begins.whole, begins.spelled, are));
   back = λ places are.
       let found = continues.back places are in
       let step = rest_of_item _ _ _ _ _ begins found.3 in (

@@ -78,7 +78,7 @@ pub read_one : (old new : Reader (Bor (List ℕ))) (found : Bool) (fields : List
 read_one old new found fields plain read first works flexible =
     let before = source_known old plain.works in
     let after = source_known new (works ∙ plain.works) in
-    let pending : pending_of (known new.rdr) new ≡ Some after.0 = sym (source_after new read.1) ∙ after.1 in
+    let pending : pending_of (known new.rdr) new ≡ Some after.0 = cc in
     let next = rw (plain.defaults, before.1, pending) at read.0 in
     let step = one_read (reader_state old) (reader_state new) before.0 after.0 found fields plain.between next in (
       λ h. record {

@@ -27,7 +27,7 @@ at_end : (text : List ℕ) (fields : List (List ℕ)) (s : State) (rest : List �
     → ◌≡◌ {A = Option Read} (Some (fields, s, rest)) (Some p) → BytesLeft text p
 at_end text fields s rest p short state e =
     let same : ◌≡◌ {A = Read} (fields, s, rest) p = cc in
-    subst (λ (q : Read). BytesLeft text q) same (record { shorter = short; state = state })
+    rw (← same) (record { shorter = short; state = state })
 
 -- what is read where the text ends
 at_text_end : (text : List ℕ) (fields : List (List ℕ)) (b : Bool) (p : Read) → 0 < length text → cond b (Some (fields, st.StartRecord, [])) None ≡ Some p → BytesLeft text p
@@ -41,7 +41,7 @@ after_byte text fields s rest more true p short state goes e = at_end _ _ s _ p 
 after_byte text fields s rest more false p short state goes e = goes e
 
 longer : (c : ℕ) (rest : List ℕ) (p : Read) → BytesLeft rest p → BytesLeft (c ∷ rest) p
-longer c rest p left = record { shorter = omega (arith, left.shorter); state = left.state }
+longer c rest p left = record { shorter = omega arith; state = left.state }
 
 next_shorter : (rest : List ℕ) (c : ℕ) (s : State) (fields : List (List ℕ)) (field : List ℕ) (p : Read) → next_record default_config s fields field (c ∷ rest) ≡ Some p → BytesLeft (c ∷ rest) p
 unfolding next_record
@@ -75,5 +75,5 @@ same_records (suc m) (suc n) s text state a b =
       | Some p ↦ λ e.
           let left = left_after s _ p state e in
           ap (λ (rs : List (List (List ℕ))). p.0 ∷ rs)
-          (same_records m n _ _ left.state (omega (arith, left.shorter)) (omega (arith, left.shorter)))
+          (same_records m n _ _ left.state (omega arith) (omega arith))
     ] refl

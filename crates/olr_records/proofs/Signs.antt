@@ -27,7 +27,7 @@ pub none_negative : {text digits : List ℕ} (byte : ℕ) → text ≡ 45 ∷ di
 none_negative byte whole none z rest begins = elim begins.spelled [
   | inl plain ↦
       let first = ap (λ (l : List ℕ). get_or l 0 0) (sym whole ∙ begins.whole) ∙ get_or-append begins.front (behind _ _) 0 0 plain.1.digits.0 in
-      omega (arith, first, (digit_at begins.front 0 plain.1.digits.1 plain.1.digits.0).0)
+      omega (arith, (digit_at begins.front 0 plain.1.digits.1 plain.1.digits.0).0)
   | inr negative ↦ none negative.n rest (record {
     front = negative.digits;
     whole = ap behind_first (sym whole ∙ begins.whole ∙ ap (λ (l : List ℕ). l ++ behind byte rest) negative.minus);
@@ -38,11 +38,11 @@ none_negative byte whole none z rest begins = elim begins.spelled [
 -- ---- what is one
 
 plain : (n : ℕ) → n < 10 ^ 16 → to_z w64 n ≡ pos n
-plain n small = to_z_pos w64 (omega (arith, small))
+plain n small = to_z_pos w64 (omega arith)
 
 negative_fits : (n : ℕ) → n < 10 ^ 16 → FitsSigned w64 (neg_ℤ (pos n))
 negative_fits zero small = record { sfits = omega arith }
-negative_fits (suc k) small = record { sfits = omega (arith, small) }
+negative_fits (suc k) small = record { sfits = omega arith }
 
 negated : (n : ℕ) → n < 10 ^ 16 → to_z w64 (of_z w64 (pos 0 -ℤ to_z w64 n)) ≡ neg_ℤ (pos n)
 negated n small = rw (plain n small, +ℤ_idl (neg_ℤ (pos n))) (to_z-of_z (negative_fits n small))
@@ -66,24 +66,24 @@ is_negative digits n whole begins small = record {
 number_avoids : {byte : ℕ} (text : List ℕ) (n : ℕ) → IsSeparator byte → IsNumber text n → Avoids byte text
 number_avoids text n separates is k inside e =
     let range = digit_at text k is.digits.1 inside in
-    elim separates [ inl low ↦ omega (arith, range.0, e, low) | inr high ↦ omega (arith, range.1, e, high) ]
+    elim separates [ inl low ↦ omega arith | inr high ↦ omega arith ]
 
 negative_avoids : {byte : ℕ} {digits : List ℕ} (n : ℕ) → IsSeparator byte → IsNumber digits n → Avoids byte (45 ∷ digits)
-negative_avoids n separates is zero inside e = elim separates [ inl low ↦ omega (arith, e, low) | inr high ↦ omega (arith, e, high) ]
-negative_avoids n separates is (suc k) inside e = number_avoids _ n separates is k (omega (arith, inside)) e
+negative_avoids n separates is zero inside e = elim separates [ inl low ↦ omega arith | inr high ↦ omega arith ]
+negative_avoids n separates is (suc k) inside e = number_avoids _ n separates is k (omega arith) e
 
 -- a signed number has no separator
 pub signed_avoids : {byte : ℕ} {text : List ℕ} (z : ℤ) → IsSeparator byte → IsSignedNumber text z → Avoids byte text
 signed_avoids {byte = byte} z separates is = elim is [
   | inl plain ↦ number_avoids _ _ separates plain.1
-  | inr negative ↦ subst (λ (l : List ℕ). Avoids byte l) (sym negative.minus) (negative_avoids _ separates negative.number)
+  | inr negative ↦ rw negative.minus (negative_avoids _ separates negative.number)
 ]
 
 plain_or_not : (text : List ℕ) {n : ℕ} {digits : List ℕ} → IsNumber text n → text ≡ 45 ∷ digits → ⊥
 plain_or_not text is minus =
     let range = digit_at text 0 is.digits.1 is.digits.0 in
     let first = ap (λ (l : List ℕ). get_or l 0 0) minus in
-    omega (arith, range.0, first)
+    omega arith
 
 -- a text spells one signed number
 pub signed_once : (text : List ℕ) (y z : ℤ) → IsSignedNumber text y → IsSignedNumber text z → y ≡ z
@@ -113,7 +113,7 @@ pub begins_once : (text : List ℕ) (byte : ℕ) (y z : ℤ) (r s : Option (List
     → Begins (λ front. IsSignedNumber front y) byte text r → Begins (λ front. IsSignedNumber front z) byte text s → (y ≡ z) × (behind byte r ≡ behind byte s)
 begins_once text byte y z r s separates a b =
     let same = front_once _ _ r s (signed_avoids y separates a.spelled) (signed_avoids z separates b.spelled) (sym a.whole ∙ b.whole) in
-    (signed_once _ y z (subst (λ (l : List ℕ). IsSignedNumber l y) same.0 a.spelled) b.spelled, same.1)
+    (signed_once _ y z (rw (← same.0) a.spelled) b.spelled, same.1)
 
 -- ---- a whole text
 

@@ -6,7 +6,7 @@ pub returns-then-digits-gt-DIGITS-clause-spelled : goal.returns-then-digits-gt-D
 returns-then-digits-gt-DIGITS-clause-spelled c = λ n rest begins.
     let ensured = c.digits_of-digits.ensures in
     let count = all_digits _ _ _ n rest c.requires (record { within = ensured.within; digits = ensured.digits; all = ensured.all }) begins in
-    omega (arith, count, begins.spelled.short, c.if-digits-gt-DIGITS.true)
+    omega arith
 
 pub returns-in_default-clause-spelled : goal.returns-in_default-clause-spelled
 returns-in_default-clause-spelled c = λ n rest begins.
@@ -16,5 +16,5 @@ returns-in_default-clause-spelled c = λ n rest begins.
 pub returns-clause-small : goal.returns-clause-small
 returns-clause-small c =
     let ensured = c.digits_of-digits.ensures in
-    let less = small c.args.text.now c.digits_of-digits.result.count 16 ensured.within (omega (arith, c.if-digits-gt-DIGITS.false)) ensured.digits in
-    omega (arith, less, ensured.value)
+    let less = small c.args.text.now c.digits_of-digits.result.count 16 ensured.within (omega arith) ensured.digits in
+    omega arith

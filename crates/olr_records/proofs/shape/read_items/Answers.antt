@@ -18,4 +18,4 @@ loop-preserved c =
     let begins = subst (λ (part : Option (Bor (List ℕ))). Begins (λ front. IsItem front (coordinates_of c.in-Some.place)) 59 c.loop.rest.now (option_map (λ part. part.now) part))
     c.in-Some-others.is c.in-Some.ensures in
     let more = one_more_item _ _ _ _ _ c.loop.invariant.1 begins in
-    rw items (omega (arith, length-append c.loop.shape.items (c.in-Some.place ∷ []), c.loop.invariant.0), subst (λ (l : List Coordinates). Continues c.args.text.now l c.in-Some-others.others.now) (sym (map-append coordinates_of c.loop.shape.items (c.in-Some.place ∷ []))) more)
+    rw items (omega (arith, length-append c.loop.shape.items (c.in-Some.place ∷ [])), rw (map-append coordinates_of c.loop.shape.items (c.in-Some.place ∷ [])) more)
