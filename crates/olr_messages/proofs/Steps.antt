@@ -57,7 +57,7 @@ by_length : (xs : List ℕ) {P Q : Type 0} → (xs ≢ [] → P) → (xs ≡ [] 
     → MatchBool (not (length xs == 0)) P Q
 by_length [] some none = none refl
 by_length (x ∷ xs) some none = elim (eqb_tells (length (x ∷ xs)) 0) [
-  | inl same ↦ absurd (omega (arith, same.1))
+  | inl same ↦ absurd (omega arith)
   | inr differs ↦ rw differs.0 (some (λ e. absurd cc))
 ]
 

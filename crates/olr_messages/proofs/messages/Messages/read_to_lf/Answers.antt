@@ -25,7 +25,7 @@ returns-in_default c =
     let old_front = ap (λ (r : Reading). r.front) c.self.view_is in
     record {
       none_at_hand = none_at_hand it.chunk.items it.to;
-      no_lf = subst (λ (l : List ℕ). HasNoLf l) old_hand (no_lf_found _ c.in_default.ensures);
+      no_lf = rw (← old_hand) (no_lf_found _ c.in_default.ensures);
       front = c.hold.ensures.front ∙ ap (λ (l : List ℕ). front_of (it.line.items ++ l)) old_hand
           ∙ ap (λ (l : List ℕ). front_of (l ++ c.args.self.now.at_hand)) old_front;
     }
