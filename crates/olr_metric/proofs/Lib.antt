@@ -1,3 +1,5 @@
+pub mod Contained
+pub mod Rising
 mod Roots
 mod Apart
 mod Floors
