@@ -22,11 +22,11 @@ decoded_from_base64 text bytes h = ap (decode_of standard) h.spelling ∙ decode
 
 -- what doesn't decode is the base64 of nothing
 pub not_base64 : (text bytes : List ℕ) (e : DecodeError) → decode_of standard text ≡ Err e → IsBase64 text bytes → ⊥
-not_base64 text bytes e failed h = let decoded : decode_of standard text ≡ Ok bytes = decoded_from_base64 text bytes h in cc
+not_base64 text bytes e failed h = let decoded : decode_of standard text ≡ Ok bytes = decoded_from_base64 _ _ h in cc
 
 -- a text is the base64 of one byte list at most
 pub base64_is_one : (text a b : List ℕ) → IsBase64 text a → IsBase64 text b → a ≡ b
 base64_is_one text a b p q =
-    let left : decode_of standard text ≡ Ok a = decoded_from_base64 text a p in
-    let right : decode_of standard text ≡ Ok b = decoded_from_base64 text b q in
+    let left : decode_of standard text ≡ Ok a = decoded_from_base64 _ a p in
+    let right : decode_of standard text ≡ Ok b = decoded_from_base64 _ b q in
     cc

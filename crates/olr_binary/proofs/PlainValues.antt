@@ -30,4 +30,4 @@ module _ {A : Type 0} (most : ℕ) (value : A → Data) (each : (a : A) → IsPl
 -- a value that is the same as such a value
 pub plain_same : (most more : ℕ) (value other : Data) → most ≤ more → value ≡ other → IsPlain most other → IsPlain more value
 plain_same most more value other within is plain =
-    record { no_float = rw is plain.no_float; shallow = rw is (omega (arith, plain.shallow)) }
+    record { no_float = rw is plain.no_float; shallow = rw is (omega arith) }

@@ -36,11 +36,11 @@ pub each-push : (bytes : List ℕ) (first : Coordinates) (count n : ℕ) (points
     → (i : ℕ) (point : Point) → slice_get (points ++ next ∷ []) i ≡ Some point → IsPoint bytes first count i point
 each-push bytes first count n points next len each here i point e =
     elim (cases_lt i (length points)) [
-      | inl lt ↦ each i point (sym (slice_get-append points (next ∷ []) i lt) ∙ e)
+      | inl lt ↦ each i _ (sym (slice_get-append _ _ i lt) ∙ e)
       | inr le ↦
-          let within : i < length (points ++ next ∷ []) = slice_get_within (points ++ next ∷ []) i point e in
-          let last : i ≡ length points = omega (arith, within, le, length-append points (next ∷ [])) in
-          let is_next : next ≡ point = same_item next point (sym (slice_get-seam points next) ∙ ap (slice_get (points ++ next ∷ [])) (sym last) ∙ e) in
-          let at : n ≡ i = sym len ∙ sym last in
-          subst (λ (p : Point). IsPoint bytes first count i p) is_next (subst (λ (k : ℕ). IsPoint bytes first count k next) at here)
+          let within = slice_get_within (points ++ next ∷ []) i point e in
+          let last : i ≡ length points = omega (arith, length-append points (next ∷ [])) in
+          let is_next : next ≡ point = same_item _ _ (sym (slice_get-seam points _) ∙ ap (slice_get (points ++ next ∷ [])) (sym last) ∙ e) in
+          let at : n ≡ i = cc in
+          rw (← is_next) (subst (λ (k : ℕ). IsPoint bytes first count k next) at here)
     ]

@@ -23,7 +23,7 @@ point_plain point =
     let lon = integer_plain point.at.lon in
     let lowest = number_plain (option_map (λ (next : Next). next.lowest) point.next) in record {
       no_float = rw (interval.no_float, lat.no_float, lon.no_float, lowest.no_float) refl;
-      shallow = omega (arith, interval.shallow, lat.shallow, lon.shallow, lowest.shallow);
+      shallow = omega arith;
     }
 
 pub reference_plain : (reference : Reference) → IsPlain 3 (reference_object reference)
@@ -32,11 +32,11 @@ reference_plain (Line points positive negative) =
     let behind = number_plain negative in
     let all = all_plain 1 point_object point_plain points.items in record {
       no_float = rw (behind.no_float, all.no_float, before.no_float) refl;
-      shallow = omega (arith, behind.shallow, all.shallow, before.shallow);
+      shallow = omega arith;
     }
 reference_plain (PointAlong points orientation side positive) =
     let before = number_plain positive in
     let all = all_plain 1 point_object point_plain points.items in record {
       no_float = rw (all.no_float, before.no_float) refl;
-      shallow = omega (arith, all.shallow, before.shallow);
+      shallow = omega arith;
     }

@@ -8,52 +8,54 @@ use Rattle.olr_binary.specs.declared.point.Next.{Next}
 use Rattle.olr_binary.specs.declared.point.Point.{Point}
 
 -- what is made of equal data, whatever the proofs are
-made_same : {A D : Type 0} (P : A → Type 0) → ((x : A) → IsProp (P x)) → (make : (x : A) → P x → D) → (x y : A) (p : P x) (q : P y) → x ≡ y → make x p ≡ make y q
-made_same P one make x y p q e = subst (λ z. (q : P z) → make x p ≡ make z q) e (λ q. ap (make x) (one x p q)) q
+made_same : {A D : Type 0} (P : A → Type 0) → ((x : A) → IsProp (P x)) → (make : (x : A) → P x → D)
+    → (x y : A) (p : P x) (q : P y) → x ≡ y → make x p ≡ make y q
+made_same P one make x y p q e =
+    subst (λ z. (q : P z) → make x p ≡ make z q) e (λ q. ap (make x) (one x p q)) q
 
-pair_same : {A B : Type 0} (a c : A) (b d : B) → a ≡ c → b ≡ d → ◌≡◌ {A = A × B} (a, b) (c, d)
-pair_same a c b d e f = λ i. (e i, f i)
-
-pub same_degrees : (a b : Degrees) → a.lon ≡ b.lon → a.lat ≡ b.lat → a ≡ b
-same_degrees a b e f =
+pub same_degrees : {a b : Degrees} → a.lon ≡ b.lon → a.lat ≡ b.lat → a ≡ b
+same_degrees {a} {b} e f =
     made_same {A = ℤ × ℤ} (λ z. IsLongitude z.0 × IsLatitude z.1) (λ z. hlevel props)
     (λ z h. record { lon = z.0; lat = z.1; lon_in_range = h.0; lat_in_range = h.1 })
-    (a.lon, a.lat) (b.lon, b.lat) (a.lon_in_range, a.lat_in_range) (b.lon_in_range, b.lat_in_range) (pair_same a.lon b.lon a.lat b.lat e f)
+    (a.lon, a.lat) (b.lon, b.lat) (a.lon_in_range, a.lat_in_range)
+    (b.lon_in_range, b.lat_in_range) (λ i. (e i, f i))
 
-pub same_next : (a b : Next) → a.lowest ≡ b.lowest → a.interval ≡ b.interval → a ≡ b
-same_next a b e f =
-    made_same {A = ℕ × ℕ} (λ z. (z.0 < 8) × (z.1 < 256)) (λ z. hlevel props) (λ z h. record { lowest = z.0; interval = z.1; lowest_in_range = h.0; interval_in_range = h.1 })
-    (a.lowest, a.interval) (b.lowest, b.interval) (a.lowest_in_range, a.interval_in_range) (b.lowest_in_range, b.interval_in_range) (pair_same a.lowest b.lowest a.interval b.interval e f)
+pub same_next : {a b : Next} → a.lowest ≡ b.lowest → a.interval ≡ b.interval → a ≡ b
+same_next {a} {b} e f =
+    made_same {A = ℕ × ℕ} (λ z. (z.0 < 8) × (z.1 < 256)) (λ z. hlevel props)
+    (λ z h. record { lowest = z.0; interval = z.1; lowest_in_range = h.0; interval_in_range = h.1 })
+    (a.lowest, a.interval) (b.lowest, b.interval) (a.lowest_in_range, a.interval_in_range)
+    (b.lowest_in_range, b.interval_in_range) (λ i. (e i, f i))
 
-record Fields : Type 0 where
-  at : Degrees
-  class : ℕ
-  form : ℕ
-  sector : ℕ
-  next : Option Next
-
-fields_of : Point → Fields
-fields_of p = record { at = p.at; class = p.class; form = p.form; sector = p.sector; next = p.next }
-
-fields_same : (a b : Fields) → a.at ≡ b.at → a.class ≡ b.class → a.form ≡ b.form → a.sector ≡ b.sector → a.next ≡ b.next → a ≡ b
-fields_same a b at class form sector next = λ i. record { at = at i; class = class i; form = form i; sector = sector i; next = next i }
-
-pub same_point : (a b : Point) → a.at ≡ b.at → a.class ≡ b.class → a.form ≡ b.form → a.sector ≡ b.sector → a.next ≡ b.next → a ≡ b
-unfolding fields_of
-same_point a b at class form sector next =
-    made_same {A = Fields} (λ f. (f.class < 8) × (f.form < 8) × (f.sector < 32)) (λ f. hlevel props)
-    (λ f h. record { at = f.at; class = f.class; form = f.form; sector = f.sector; next = f.next; class_in_range = h.0; form_in_range = h.1; sector_in_range = h.2 })
-    (fields_of a) (fields_of b) (a.class_in_range, a.form_in_range, a.sector_in_range) (b.class_in_range, b.form_in_range, b.sector_in_range)
-    (fields_same (fields_of a) (fields_of b) at class form sector next)
+pub same_point : {a b : Point} → a.at ≡ b.at → a.class ≡ b.class → a.form ≡ b.form
+    → a.sector ≡ b.sector → a.next ≡ b.next → a ≡ b
+same_point {a} {b} at class form sector next =
+    made_same {A = Degrees × ℕ × ℕ × ℕ × Option Next}
+    (λ f. (f.1 < 8) × (f.2 < 8) × (f.3 < 32)) (λ f. hlevel props)
+    (λ f h. record {
+      at = f.0;
+      class = f.1;
+      form = f.2;
+      sector = f.3;
+      next = f.4;
+      class_in_range =
+          h.0;
+      form_in_range = h.1;
+      sector_in_range = h.2;
+    })
+    (a.at, a.class, a.form, a.sector, a.next) (b.at, b.class, b.form, b.sector, b.next)
+    (a.class_in_range, a.form_in_range, a.sector_in_range)
+    (b.class_in_range, b.form_in_range, b.sector_in_range)
+    (λ i. (at i, class i, form i, sector i, next i))
 
 -- lists are equal where they are so at each index
 pub same_points : (xs ys : List Point) → length xs ≡ length ys
     → ((i : ℕ) (x y : Point) → slice_get xs i ≡ Some x → slice_get ys i ≡ Some y → x ≡ y) → xs ≡ ys
 same_points [] [] len same = refl
-same_points [] (y ∷ ys) len same = absurd (omega (arith, len))
-same_points (x ∷ xs) [] len same = absurd (omega (arith, len))
+same_points [] (y ∷ ys) len same = absurd (omega arith)
+same_points (x ∷ xs) [] len same = absurd (omega arith)
 same_points (x ∷ xs) (y ∷ ys) len same =
-    let rest : length xs ≡ length ys = omega (arith, len) in
+    let rest : length xs ≡ length ys = omega arith in
     let first : x ≡ y = same 0 x y refl refl in
-    let others : xs ≡ ys = same_points xs ys rest (λ i. same (suc i)) in
+    let others : xs ≡ ys = same_points _ _ rest (λ i. same (suc i)) in
     cc

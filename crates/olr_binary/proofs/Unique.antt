@@ -8,24 +8,28 @@ use Rattle.olr_binary.specs.Reference.{IsReferenceOf, IsReference}
 use Rattle.olr_binary.specs.Refusal.{Refuses}
 use Rattle.olr_binary.specs.Text.{trimmed}
 use Rattle.olr_binary.proofs.Base64.{base64_is_one}
-use Rattle.olr_binary.proofs.Outcomes.{refusal_is_one, not_both}
+use Rattle.olr_binary.proofs.Outcomes.{refusal_is_one, not_refused}
 use Rattle.olr_binary.proofs.References.{is_reference, reference_is_one, reference_refused, text_of_reference}
 
 -- a text of a reference is refused for nothing
-not_refused : (text : List ℕ) (r : Reference) (e : Refused) → IsTextOf text r → Refuses (trimmed text) e → ⊥
-not_refused text r e a b =
-    not_both (trimmed text) e (text_of_reference (trimmed text) a.bytes r a.base64 a.is_reference) a.bytes a.base64
-    (reference_refused a.bytes r a.is_reference e) b.holds
+no_refusal : (text : List ℕ) (r : Reference) (e : Refused) → IsTextOf text r
+    → Refuses (trimmed text) e → ⊥
+no_refusal text r e a =
+    not_refused _ _ e (text_of_reference _ _ r a.base64 a.is_reference) a.base64
+    (reference_refused _ r a.is_reference)
 
-pub outcome_is_one : (text : List ℕ) (a b : Result Reference Refused) → IsOutcome text a → IsOutcome text b → a ≡ b
+pub outcome_is_one : (text : List ℕ) (a b : Result Reference Refused) → IsOutcome text a
+    → IsOutcome text b → a ≡ b
 outcome_is_one text (Ok r) (Ok s) a b =
-    let bytes = base64_is_one (trimmed text) a.bytes b.bytes a.base64 b.base64 in
-    ap Ok (reference_is_one b.bytes r s (subst (λ (bs : List ℕ). IsReferenceOf bs r) bytes a.is_reference) b.is_reference)
-outcome_is_one text (Ok r) (Err e) a b = absurd (not_refused text r e a b)
-outcome_is_one text (Err e) (Ok r) a b = absurd (not_refused text r e b a)
-outcome_is_one text (Err e) (Err f) a b = ap Err (refusal_is_one (trimmed text) e f a b)
+    let bytes = base64_is_one _ _ _ a.base64 b.base64 in
+    ap Ok (reference_is_one _ r s (rw (← bytes) a.is_reference)
+    b.is_reference)
+outcome_is_one text (Ok r) (Err e) a b = absurd (no_refusal text r e a b)
+outcome_is_one text (Err e) (Ok r) a b = absurd (no_refusal text r e b a)
+outcome_is_one text (Err e) (Err f) a b = ap Err (refusal_is_one _ e f a b)
 
 -- what holds of a reference that is an outcome
-pub outcome_reference : (text : List ℕ) (a : Result Reference Refused) → IsOutcome text a → IfOk a IsReference
-outcome_reference text (Ok r) a = is_reference a.bytes r a.base64.each_byte a.is_reference
+pub outcome_reference : (text : List ℕ) (a : Result Reference Refused) → IsOutcome text a
+    → IfOk a IsReference
+outcome_reference text (Ok r) a = is_reference _ r a.base64.each_byte a.is_reference
 outcome_reference text (Err e) a = tt

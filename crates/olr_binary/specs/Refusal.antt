@@ -1,5 +1,5 @@
 -- The refusals of a text, as a table of conditions. The first one that holds is answered.
-use Rattle.std.specs.Prelude.{◌≡◌, ◌≢◌, ℕ, ◌+◌, ◌<◌, ◌==◌, if◌then◌else◌, ◌⊎◌, List, [], length, MatchBool}
+use Rattle.std.specs.Prelude.{◌≡◌, ◌≢◌, ℕ, ◌+◌, ◌<◌, ◌≤◌, ◌==◌, if◌then◌else◌, ◌⊎◌, List, [], length, MatchBool}
 use Rattle.olr_metric.specs.Coordinates.{Coordinates, IsInRange}
 use Rattle.olr_binary.specs.declared.refusal.Refused.{Refused}
 use Rattle.olr_binary.specs.declared.refusal.Refused.TheVariants.{TooLong, NotBase64, Empty, BadVersion, OtherKind, PoiWithAccess, BadLength, TooManyPoints, OffsetFlags, OutOfRange}
@@ -34,7 +34,8 @@ IsSize status size = MatchBool (point_flag_of status == 0) (IsLineSize size) (Is
 
 -- the number of offset bytes by the flags of the last point
 abbrev pub flags_set : ℕ → ℕ → ℕ
-flags_set status attribute = if point_flag_of status == 0 then line_offsets attribute else point_along_offsets attribute
+flags_set status attribute = if point_flag_of status == 0 then line_offsets attribute else
+    point_along_offsets attribute
 
 -- point i is the first outside the ranges of coordinates
 pub record IsFirstOutOfRange (bytes : List ℕ) (i : ℕ) : Type 0 where
@@ -52,7 +53,8 @@ BytesCondition bytes (OtherKind Area) = (0 < area_flags_of (status_of bytes))
     ⊎ ((point_flag_of (status_of bytes) ≡ 0) × (attribute_flag_of (status_of bytes) ≡ 0))
 BytesCondition bytes (OtherKind GeoCoordinate) = (area_flags_of (status_of bytes) ≡ 0)
     × (point_flag_of (status_of bytes) ≡ 1) × (attribute_flag_of (status_of bytes) ≡ 0)
-BytesCondition bytes PoiWithAccess = (point_flag_of (status_of bytes) ≡ 1) × (attribute_flag_of (status_of bytes) ≡ 1)
+BytesCondition bytes PoiWithAccess = (point_flag_of (status_of bytes) ≡ 1)
+    × (attribute_flag_of (status_of bytes) ≡ 1)
     × ((length bytes ≡ 20) ⊎ (length bytes ≡ 21))
 BytesCondition bytes (BadLength size) = (size ≡ length bytes) × (IsSize (status_of bytes) size → ⊥)
 BytesCondition bytes (TooManyPoints count) = (point_flag_of (status_of bytes) ≡ 0)
@@ -63,18 +65,15 @@ BytesCondition bytes (OutOfRange point) = (i : ℕ) × (point ≡ i + 1) × (cou
     × IsLayout (length bytes) count offsets × (i < count) × IsFirstOutOfRange bytes i
 BytesCondition bytes _ = ⊥
 
--- The condition of each refusal, on the trimmed text: the first two on the text itself, the others on its bytes.
-abbrev pub Condition : List ℕ → Refused → Type 0
-Condition text TooLong = 344 < length text
-Condition text NotBase64 = (bytes : List ℕ) → IsBase64 text bytes → ⊥
-Condition text refused = (bytes : List ℕ) × IsBase64 text bytes × BytesCondition bytes refused
-
 -- the first refusal of the bytes whose condition holds
 pub record RefusesBytes (bytes : List ℕ) (refused : Refused) : Type 0 where
   pub holds : BytesCondition bytes refused
-  pub first : (earlier : Refused) → order_of earlier < order_of refused → BytesCondition bytes earlier → ⊥
+  pub first : (earlier : Refused) → order_of earlier < order_of refused
+      → BytesCondition bytes earlier → ⊥
 
--- the first refusal of the trimmed text whose condition holds
-pub record Refuses (text : List ℕ) (refused : Refused) : Type 0 where
-  pub holds : Condition text refused
-  pub first : (earlier : Refused) → order_of earlier < order_of refused → Condition text earlier → ⊥
+-- The refusal of a trimmed text: it is too long, or else not base64, or else its bytes are refused.
+abbrev pub Refuses : List ℕ → Refused → Type 0
+Refuses text TooLong = 344 < length text
+Refuses text NotBase64 = (length text ≤ 344) × ((bytes : List ℕ) → IsBase64 text bytes → ⊥)
+Refuses text refused = (length text ≤ 344)
+    × (bytes : List ℕ) × IsBase64 text bytes × RefusesBytes bytes refused

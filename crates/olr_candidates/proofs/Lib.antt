@@ -6,8 +6,6 @@ mod Lists
 mod WindowAround
 mod OfPoints
 mod SeenLines
-mod Contained
-mod Rising
 mod OneList
 mod ByNumbers
 mod NearLines

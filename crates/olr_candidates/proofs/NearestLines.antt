@@ -20,12 +20,12 @@ use Rattle.olr_candidates.specs.Laws.{NearIsOfLines, NearestAreInOrderOfIds, Nea
 use Rattle.olr_candidates.specs.Near.{AreNearest, IsNearer, IsNearLineAt, IsOneNear}
 use Rattle.olr_candidates.specs.Nearest.{AnswersNearest, AreNearestAmong, AreNearestWithin, FindsNear, IsAmong, IsBehindLast, Keeps}
 use Rattle.olr_candidates.proofs.ByNumbers.{not_before, one_way, through}
-use Rattle.olr_candidates.proofs.Contained.{here, further, no_longer}
+use Rattle.olr_metric.proofs.Contained.{here, further, no_longer}
 use Rattle.olr_candidates.proofs.InOrder.{inserted}
 use Rattle.olr_candidates.proofs.LineCandidates.{OneProjection}
 use Rattle.olr_candidates.proofs.NearLines.{one_near}
 use Rattle.olr_candidates.proofs.PointLaws.{lesser_id}
-use Rattle.olr_candidates.proofs.Rising.{AreFirst, same_beginning}
+use Rattle.olr_metric.proofs.Rising.{AreFirst, same_beginning}
 use Rattle.olr_candidates.proofs.SeenLines.{one_seen, still_seen, now_seen}
 
 -- ---- the beginning of a list in order

@@ -10,8 +10,8 @@ use Rattle.olr_candidates.specs.declared.candidate.Candidate.{Candidate}
 use Rattle.olr_candidates.specs.declared.tolerances.Tolerances.{Tolerances}
 use Rattle.olr_candidates.specs.Candidates.{IsBefore, IsOneOf, AreCandidates, AreTooMany, is_before}
 use Rattle.olr_candidates.proofs.ByNumbers as numbers
-use Rattle.olr_candidates.proofs.Contained.{no_longer}
-use Rattle.olr_candidates.proofs.Rising.{same_list, place_counts}
+use Rattle.olr_metric.proofs.Contained.{no_longer}
+use Rattle.olr_metric.proofs.Rising.{same_list, place_counts}
 
 -- no two candidates come before each other
 one_way : (a b : Candidate) → IsBefore a b → IsBefore b a → ⊥

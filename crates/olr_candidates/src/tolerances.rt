@@ -1,8 +1,8 @@
 //! How far a line of the map may differ from its point, and a route from its leg.
 
-ghost use Rattle.std.specs.Prelude.{◌≡◌, ◌≤◌, IfErr, IfOk};
+ghost use Rattle.std.specs.Prelude.{◌≡◌, ◌≤◌, Decides, IfErr, IfOk};
 ghost use Rattle.olr_candidates.specs.declared.tolerances.Name.TheVariants.{Radius, Bearing, Class, Lowest, Percent, Slack};
-ghost use Rattle.olr_candidates.specs.Tolerances.{IsFirstOutOfRange, IsTolerance, by_name};
+ghost use Rattle.olr_candidates.specs.Tolerances.{IsFirstOutOfRange, IsTolerance, by_name, greatest_of, least_of};
 
 /// The name of a tolerance.
 #[derive(Clone, Copy, Debug, PartialEq, Eq)]
@@ -19,6 +19,39 @@ pub enum Name {
     Percent,
     /// How far it is then widened at both ends.
     Slack,
+}
+
+impl Name {
+    /// The least value of this tolerance: the radius in metres, the bearing in sectors, classes in
+    /// steps, the percent, the slack in decimetres.
+    pub fn least(self) -> u32
+        ensures { result ≡ least_of self }
+    {
+        match self {
+            Name::Radius => 1,
+            _ => 0,
+        }
+    }
+
+    /// The greatest value of this tolerance, in the same units.
+    pub fn greatest(self) -> u32
+        ensures { result ≡ greatest_of self }
+    {
+        match self {
+            Name::Radius => 1_000,
+            Name::Bearing => 16,
+            Name::Class | Name::Lowest => 7,
+            Name::Percent => 100,
+            Name::Slack => 10_000,
+        }
+    }
+
+    /// Whether this tolerance can have this value.
+    fn allows(self, value: u32) -> bool
+        ensures { Decides result (IsTolerance self value) }
+    {
+        self.least() <= value && value <= self.greatest()
+    }
 }
 
 /// A tolerance is out of its range.
@@ -95,22 +128,22 @@ impl Tolerances {
         ensures refused { IfErr result (λ bad.
             IsFirstOutOfRange (by_name radius bearing class lowest percent slack) bad.0) }
     {
-        if radius < 1 || radius > 1_000 {
+        if !Name::Radius.allows(radius) {
             return Err(BadTolerance(Name::Radius));
         }
-        if bearing > 16 {
+        if !Name::Bearing.allows(bearing) {
             return Err(BadTolerance(Name::Bearing));
         }
-        if class > 7 {
+        if !Name::Class.allows(class) {
             return Err(BadTolerance(Name::Class));
         }
-        if lowest > 7 {
+        if !Name::Lowest.allows(lowest) {
             return Err(BadTolerance(Name::Lowest));
         }
-        if percent > 100 {
+        if !Name::Percent.allows(percent) {
             return Err(BadTolerance(Name::Percent));
         }
-        if slack > 10_000 {
+        if !Name::Slack.allows(slack) {
             return Err(BadTolerance(Name::Slack));
         }
         Ok(Tolerances {

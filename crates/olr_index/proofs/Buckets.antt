@@ -1,34 +1,41 @@
 -- Ids in buckets.
-use Rattle.std.proofs.Common.{◌≡◌, ℕ, ◌+◌, ◌-◌, ◌/◌, ◌^◌, ◌<◌, ◌≤◌, List, length, drop, get_or, sym, ap, ◌∙◌, inl, inr, arith}
+use Rattle.std.proofs.Common.{◌≡◌, ℕ, ◌+◌, ◌-◌, ◌/◌, ◌^◌, ◌<◌, ◌≤◌, List, map, length, drop, get_or, Result, Ok, Err, MatchResult, sym, ap, ◌∙◌, inl, inr, arith}
 use Rattle.std.specs.Prelude.{slice_index, slice_range, slice_get, Contains, Some}
-use Rattle.std.specs.List.Sorted.{IsStrictlyIncreasing}
+use Rattle.std.specs.Ordering.{nat_cmp}
+use Rattle.std.specs.List.Sorted.{IsBinarySearchResult, IsSearchInRange, IsStrictlyIncreasing}
 use Rattle.std.proofs.Math.Nat.{div-mul-le_self}
 use Rattle.std.proofs.lemmas.Nat.{le-div, pow_pos}
 use Rattle.olr_index.specs.Buckets.{IsHead, AreHeads, IsIndex}
 use Rattle.std.proofs.lemmas.Bool.{cases_lt}
 use Rattle.std.proofs.lemmas.List.{length-take, length-drop, get_or-take, get_or-drop, get_or_default}
-use Rattle.std.proofs.lemmas.Option.{slice_get-get_or}
-use Rattle.olr_index.proofs.Finding.{rises}
+use Rattle.std.proofs.lemmas.Option.{get_or_from_slice_get, slice_get-get_or, slice_get_within}
+use Rattle.olr_index.proofs.Finding.{found_by_key, part_keys, rises}
 
 -- a greater key is in no earlier bucket
 bucket_rises : (shift a b : ℕ) → a ≤ b → a / 2 ^ shift ≤ b / 2 ^ shift
-bucket_rises shift a b le = le-div _ b _ (pow_pos shift) (omega (arith, div-mul-le_self a (2 ^ shift)))
+bucket_rises shift a b le = le-div _ b _ (pow_pos shift)
+    (omega (arith, div-mul-le_self a (2 ^ shift)))
 
 -- where the keys of a bucket begin
-pub head_here : (shift : ℕ) (keys : List ℕ) (bucket next : ℕ) → IsStrictlyIncreasing keys → next ≤ length keys → ((k : ℕ) → k < next → slice_index keys k / 2 ^ shift < bucket)
-    → (next < length keys → bucket ≤ slice_index keys next / 2 ^ shift) → IsHead shift keys bucket next
+pub head_here : (shift : ℕ) (keys : List ℕ) (bucket next : ℕ) → IsStrictlyIncreasing keys
+    → next ≤ length keys → ((k : ℕ) → k < next → slice_index keys k / 2 ^ shift < bucket)
+    → (next < length keys → bucket ≤ slice_index keys next / 2 ^ shift)
+    → IsHead shift keys bucket next
 head_here shift keys bucket next up within below here = record {
   within = within;
   below = below;
   above = λ k le inside.
       let first = here (omega arith) in
-      let more = bucket_rises shift (slice_index keys next) (slice_index keys k) (rises keys up next k le inside) in
+      let more = bucket_rises shift (slice_index keys next) (slice_index keys k)
+      (rises keys up next k le inside) in
       omega arith;
 }
 
 -- heads of each bucket up to that of the greatest id, and of one more, make an index
-pub index_of : (keys : List ℕ) (shift last : ℕ) (heads : List ℕ) → IsStrictlyIncreasing keys → length keys < 2 ^ 32 → shift < 64 → AreHeads shift keys heads
-    → length heads ≡ last / 2 ^ shift + 1 + 1 → ((k : ℕ) → k < length keys → slice_index keys k ≤ last) → IsIndex keys shift heads
+pub index_of : (keys : List ℕ) (shift last : ℕ) (heads : List ℕ) → IsStrictlyIncreasing keys
+    → length keys < 2 ^ 32 → shift < 64 → AreHeads shift keys heads
+    → length heads ≡ last / 2 ^ shift + 1 + 1
+    → ((k : ℕ) → k < length keys → slice_index keys k ≤ last) → IsIndex keys shift heads
 index_of keys shift last heads rise few small heads_of count most = record {
   rise = rise;
   at_most = few;
@@ -38,7 +45,8 @@ index_of keys shift last heads rise few small heads_of count most = record {
 }
 
 -- a bucket begins where the one before it ends, or further on
-pub heads_rise : (shift : ℕ) (keys : List ℕ) (bucket low high : ℕ) → IsHead shift keys bucket low → IsHead shift keys (bucket + 1) high → low ≤ high
+pub heads_rise : (shift : ℕ) (keys : List ℕ) (bucket low high : ℕ) → IsHead shift keys bucket low
+    → IsHead shift keys (bucket + 1) high → low ≤ high
 heads_rise shift keys bucket low high at_low at_high = elim (cases_lt high low) [
   | inl less ↦
       let early = at_low.below high less in
@@ -47,14 +55,18 @@ heads_rise shift keys bucket low high at_low at_high = elim (cases_lt high low) 
 ]
 
 -- a part of numbers that rise
-part_at : (keys : List ℕ) (low high k : ℕ) → low + k < high → high ≤ length keys → get_or (slice_range keys low high) k 0 ≡ get_or keys (low + k) 0
+part_at : (keys : List ℕ) (low high k : ℕ) → low + k < high → high ≤ length keys
+    → get_or (slice_range keys low high) k 0 ≡ get_or keys (low + k) 0
 part_at keys low high k inside within =
     get_or-take (high - low) (drop low keys) k 0 (omega arith) ∙ get_or-drop low keys k 0
 
-part_length : (keys : List ℕ) (low high : ℕ) → low ≤ high → high ≤ length keys → length (slice_range keys low high) ≡ high - low
-part_length keys low high le within = omega (arith, length-take (high - low) (drop low keys), length-drop low keys)
+part_length : (keys : List ℕ) (low high : ℕ) → low ≤ high → high ≤ length keys
+    → length (slice_range keys low high) ≡ high - low
+part_length keys low high le within =
+    omega (arith, length-take (high - low) (drop low keys), length-drop low keys)
 
-pub part_rises : (keys : List ℕ) (low high : ℕ) → low ≤ high → high ≤ length keys → IsStrictlyIncreasing keys → IsStrictlyIncreasing (slice_range keys low high)
+pub part_rises : (keys : List ℕ) (low high : ℕ) → low ≤ high → high ≤ length keys
+    → IsStrictlyIncreasing keys → IsStrictlyIncreasing (slice_range keys low high)
 part_rises keys low high le within up k inside =
     let size = part_length _ _ _ le within in
     let here = part_at keys low high k (omega arith) within in
@@ -62,15 +74,18 @@ part_rises keys low high le within up k inside =
     let same : low + k + 1 ≡ low + (k + 1) = omega arith in
     omega (arith, ap (λ (i : ℕ). get_or keys i 0) same)
 
-pub found_there : (keys : List ℕ) (low high place id : ℕ) → low ≤ high → high ≤ length keys → place < length (slice_range keys low high) → get_or (slice_range keys low high) place 0 ≡ id
-    → slice_get keys (low + place) ≡ Some id
-found_there keys low high place id le within inside is =
+found_there : (keys : List ℕ) (low high place id : ℕ) → low ≤ high → high ≤ length keys
+    → slice_get (slice_range keys low high) place ≡ Some id → slice_get keys (low + place) ≡ Some id
+found_there keys low high place id le within is =
     let size = part_length _ _ _ le within in
-    let here = part_at _ _ _ _ (omega arith) within in
-    slice_get-get_or keys (low + place) 0 (omega arith) ∙ ap Some (sym here ∙ is)
+    let inside = slice_get_within (slice_range keys low high) place id is in
+    let here = part_at keys low high place (omega arith) within in
+    let there = get_or_from_slice_get (slice_range keys low high) place id 0 is in
+    slice_get-get_or keys (low + place) 0 (omega arith) ∙ ap Some (sym here ∙ there)
 
 -- an id that isn't in its bucket is nowhere
-pub nowhere : (shift : ℕ) (keys : List ℕ) (low high id : ℕ) → IsHead shift keys (id / 2 ^ shift) low → IsHead shift keys (id / 2 ^ shift + 1) high
+nowhere : (shift : ℕ) (keys : List ℕ) (low high id : ℕ) → IsHead shift keys (id / 2 ^ shift) low
+    → IsHead shift keys (id / 2 ^ shift + 1) high
     → (Contains (slice_range keys low high) id → ⊥) → Contains keys id → ⊥
 nowhere shift keys low high id at_low at_high none has =
     let k = has.0 in
@@ -86,7 +101,36 @@ nowhere shift keys low high id at_low at_high none has =
             let at = part_at _ _ _ j (omega arith) at_high.within in
             let size = part_length _ _ _ le at_high.within in
             let below : j < length (slice_range keys low high) = omega arith in
-            none (j, below, get_or_default (slice_range keys low high) j id 0 below ∙ at ∙ ap (λ (i : ℕ). get_or keys i 0) there ∙ is)
+            none (
+              j,
+              below,
+              get_or_default (slice_range keys low high) j id 0 below ∙ at
+                  ∙ ap (λ (i : ℕ). get_or keys i 0) there ∙ is,
+            )
         | inr behind ↦ omega arith
       ]
     ]
+
+-- what a search in the bucket of an id finds among all items
+pub found_between : {X : Type 0} (f : X → ℕ) (xs : List X) (shift low high id : ℕ) (r : Result ℕ ℕ)
+    → IsHead shift (map f xs) (id / 2 ^ shift) low
+    → IsHead shift (map f xs) (id / 2 ^ shift + 1) high
+    → IsStrictlyIncreasing (map f xs) → IsSearchInRange r (length (slice_range xs low high))
+    → IsBinarySearchResult (λ (x : X). nat_cmp (f x) id) (slice_range xs low high) r
+    → MatchResult r (λ place. slice_get (map f xs) (low + place) ≡ Some id)
+    (λ _. Contains (map f xs) id → ⊥)
+found_between f xs shift low high id r at_low at_high rise within found =
+    let le = heads_rise _ _ _ _ _ at_low at_high in
+    let part = part_rises (map f xs) low high le at_high.within rise in
+    told r (rw (part_keys f xs low high) at
+    (found_by_key f (slice_range xs low high) id r (rw (part_keys f xs low high) part) within
+    found))
+  where
+    told : (r : Result ℕ ℕ)
+        → MatchResult r (λ i. slice_get (slice_range (map f xs) low high) i ≡ Some id)
+        (λ _. Contains (slice_range (map f xs) low high) id → ⊥)
+        → MatchResult r (λ i. slice_get (map f xs) (low + i) ≡ Some id) (λ _. Contains (map f xs) id
+        → ⊥)
+    told (Ok place) there = found_there (map f xs) low high place id
+        (heads_rise _ _ _ _ _ at_low at_high) at_high.within there
+    told (Err place) none = nowhere shift (map f xs) low high id at_low at_high none

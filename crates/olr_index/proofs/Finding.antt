@@ -1,27 +1,33 @@
 -- A number among numbers that rise.
-use Rattle.std.proofs.Common.{◌≡◌, ℕ, ◌-◌, ◌<◌, ◌≤◌, List, [], ◌∷◌, map, length, drop, get_or, Result, Ok, Err, MatchResult, inl, inr, ap, ◌∙◌, arith}
-use Rattle.std.specs.Prelude.{slice_range, Contains}
+use Rattle.std.proofs.Common.{◌≡◌, ℕ, ◌-◌, ◌<◌, ◌≤◌, List, [], ◌∷◌, map, length, drop, get_or, Result, Ok, Err, MatchResult, Some, inl, inr, ap, ◌∙◌, arith}
+use Rattle.std.specs.Prelude.{slice_get, slice_range, Contains}
 use Rattle.std.specs.Ordering.{nat_cmp}
 use Rattle.std.specs.List.Sorted.{IsStrictlyIncreasing, IsBinarySearchResult, IsSearchInRange}
 use Rattle.std.proofs.Math.Nat.{eq-or-lt_of_le}
 use Rattle.std.proofs.lemmas.List.{length-map, get_or-map, get_or_default, take-map, drop-map}
 use Rattle.std.proofs.lemmas.Bool.{cases_lt}
+use Rattle.std.proofs.lemmas.Option.{slice_get-get_or}
 use Rattle.std.proofs.lemmas.List.Kept.{AllPairs-from_increasing}
 use Rattle.std.proofs.lemmas.List.Sorted.{searched}
 
-pub rises : (xs : List ℕ) → IsStrictlyIncreasing xs → (i j : ℕ) → i ≤ j → j < length xs → get_or xs i 0 ≤ get_or xs j 0
+pub rises : (xs : List ℕ) → IsStrictlyIncreasing xs → (i j : ℕ) → i ≤ j → j < length xs
+    → get_or xs i 0 ≤ get_or xs j 0
 rises xs up i j le inside = elim (eq-or-lt_of_le {n = i} {m = j} le) [
   | inl same ↦ let e = ap (λ (k : ℕ). get_or xs k 0) same in omega arith
   | inr less ↦ let below = AllPairs-from_increasing _ up i j 0 less inside in omega arith
 ]
 
 -- what a search answers
-pub search_finds : (xs : List ℕ) (x : ℕ) (r : Result ℕ ℕ) → IsStrictlyIncreasing xs → IsBinarySearchResult (λ y. nat_cmp y x) xs r
-    → MatchResult r (λ i. (i < length xs) × (get_or xs i 0 ≡ x)) (λ i. (i ≤ length xs) × ((k : ℕ) → k < i → get_or xs k 0 < x) × ((k : ℕ) → i ≤ k → k < length xs → x < get_or xs k 0))
+search_finds : (xs : List ℕ) (x : ℕ) (r : Result ℕ ℕ) → IsStrictlyIncreasing xs
+    → IsBinarySearchResult (λ y. nat_cmp y x) xs r
+    → MatchResult r (λ i. (i < length xs) × (get_or xs i 0 ≡ x)) (λ i. (i ≤ length xs)
+    × ((k : ℕ) → k < i → get_or xs k 0 < x)
+    × ((k : ℕ) → i ≤ k → k < length xs → x < get_or xs k 0))
 search_finds xs x r up found = searched _ x r found (rises _ up)
 
 -- a number that isn't among them
-pub not_found : (xs : List ℕ) (x at : ℕ) → ((k : ℕ) → k < at → get_or xs k 0 < x) → ((k : ℕ) → at ≤ k → k < length xs → x < get_or xs k 0) → Contains xs x → ⊥
+not_found : (xs : List ℕ) (x at : ℕ) → ((k : ℕ) → k < at → get_or xs k 0 < x)
+    → ((k : ℕ) → at ≤ k → k < length xs → x < get_or xs k 0) → Contains xs x → ⊥
 not_found xs x at below above contains =
     let same = get_or_default xs contains.0 0 x contains.1 ∙ contains.2 in
     elim (cases_lt contains.0 at) [
@@ -30,11 +36,14 @@ not_found xs x at below above contains =
     ]
 
 -- a search by key is one among the keys
-pub search_keys : {X : Type 0} (f : X → ℕ) (xs : List X) (x : ℕ) (r : Result ℕ ℕ) → IsSearchInRange r (length xs) → IsBinarySearchResult (λ (y : X). nat_cmp (f y) x) xs r
+search_keys : {X : Type 0} (f : X → ℕ) (xs : List X) (x : ℕ) (r : Result ℕ ℕ)
+    → IsSearchInRange r (length xs) → IsBinarySearchResult (λ (y : X). nat_cmp (f y) x) xs r
     → IsBinarySearchResult (λ (y : ℕ). nat_cmp y x) (map f xs) r
 search_keys f [] x (Ok i) inside found = absurd (omega arith)
-search_keys f (e ∷ es) x (Ok i) inside found = λ d. rw (get_or-map f (e ∷ es) i e d inside) (found e)
-search_keys f [] x (Err i) inside found = λ up. (λ k d low below. absurd (omega arith), λ k d low below. absurd (omega arith))
+search_keys f (e ∷ es) x (Ok i) inside found =
+    λ d. rw (get_or-map f (e ∷ es) i e d inside) (found e)
+search_keys f [] x (Err i) inside found =
+    λ up. (λ k d low below. absurd (omega arith), λ k d low below. absurd (omega arith))
 search_keys f (e ∷ es) x (Err i) inside found = λ up.
     let all = e ∷ es in
     let size = length-map all f in
@@ -42,10 +51,25 @@ search_keys f (e ∷ es) x (Err i) inside found = λ up.
     let first = get_or-map f all a d 0 (omega arith) in
     let second = get_or-map f all b d 0 below in
     rw (← first) (rw (← second) (up a b 0 le (omega arith)))) in (
-      (λ k d low below. rw (get_or-map f all k e d (omega (arith, inside, below))) (parted.0 k e low below)),
-      (λ k d low below. rw (get_or-map f all k e d (omega (arith, size, below))) (parted.1 k e low (omega arith))),
+      (λ k d low below. rw (get_or-map f all k e d (omega (arith, inside, below)))
+          (parted.0 k e low below)),
+      (λ k d low below. rw (get_or-map f all k e d (omega (arith, size, below)))
+          (parted.1 k e low (omega arith))),
     )
 
+-- what it answers
+pub found_by_key : {X : Type 0} (f : X → ℕ) (xs : List X) (x : ℕ) (r : Result ℕ ℕ)
+    → IsStrictlyIncreasing (map f xs)
+    → IsSearchInRange r (length xs) → IsBinarySearchResult (λ (y : X). nat_cmp (f y) x) xs r
+    → MatchResult r (λ i. slice_get (map f xs) i ≡ Some x) (λ _. Contains (map f xs) x → ⊥)
+found_by_key f xs x (Ok i) up inside found =
+    let at = search_finds (map f xs) x (Ok i) up (search_keys f xs x (Ok i) inside found) in
+    slice_get-get_or (map f xs) i 0 at.0 ∙ ap Some at.1
+found_by_key f xs x (Err i) up inside found =
+    let at = search_finds (map f xs) x (Err i) up (search_keys f xs x (Err i) inside found) in
+    not_found (map f xs) x i at.1 at.2
+
 -- a part of the keys
-pub part_keys : {X : Type 0} (f : X → ℕ) (xs : List X) (low high : ℕ) → map f (slice_range xs low high) ≡ slice_range (map f xs) low high
+pub part_keys : {X : Type 0} (f : X → ℕ) (xs : List X) (low high : ℕ)
+    → map f (slice_range xs low high) ≡ slice_range (map f xs) low high
 part_keys f xs low high = cc (drop-map f low xs, take-map f (high - low) (drop low xs))

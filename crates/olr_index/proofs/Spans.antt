@@ -15,13 +15,27 @@ use Rattle.olr_index.specs.declared.window.PlacedLine.{PlacedLine}
 -- ---- numbers as the code passes them
 
 -- a bound that the code computes
-pub bound_is : (pick : ℤ → ℤ → ℤ) (bound x y : ℤ) → FitsSigned w32 bound → FitsSigned w32 x → FitsSigned w32 y
-    → bound ≡ pick (to_z w32 (of_z w32 x)) (to_z w32 (of_z w32 y)) → to_z w32 (of_z w32 bound) ≡ pick x y
-bound_is pick bound x y fits first second same = to_z-of_z w32 bound fits ∙ (rw (to_z-of_z w32 x first, to_z-of_z w32 y second) at same)
+bound_is : (pick : ℤ → ℤ → ℤ) {bound x y : ℤ} → FitsSigned w32 bound → FitsSigned w32 x
+    → FitsSigned w32 y
+    → bound ≡ pick (to_z w32 (of_z w32 x)) (to_z w32 (of_z w32 y))
+    → to_z w32 (of_z w32 bound) ≡ pick x y
+bound_is pick {bound} {x} {y} fits first second same =
+    to_z-of_z w32 bound fits ∙ (rw (to_z-of_z w32 x first, to_z-of_z w32 y second) at same)
+
+pub least_is : {bound x y : ℤ} → FitsSigned w32 bound → FitsSigned w32 x → FitsSigned w32 y
+    → bound ≡ int_min (to_z w32 (of_z w32 x)) (to_z w32 (of_z w32 y))
+    → to_z w32 (of_z w32 bound) ≡ int_min x y
+least_is = bound_is int_min
+
+pub greatest_is : {bound x y : ℤ} → FitsSigned w32 bound → FitsSigned w32 x → FitsSigned w32 y
+    → bound ≡ int_max (to_z w32 (of_z w32 x)) (to_z w32 (of_z w32 y))
+    → to_z w32 (of_z w32 bound) ≡ int_max x y
+greatest_is = bound_is int_max
 
 -- ---- extents that others lie within
 
-covers_all : (outer middle inner : Extent) → Covers outer middle → Covers middle inner → Covers outer inner
+covers_all : (outer middle inner : Extent) → Covers outer middle → Covers middle inner
+    → Covers outer inner
 covers_all outer middle inner first second =
     record {
       south = omega (arith, ints);
@@ -31,24 +45,28 @@ covers_all outer middle inner first second =
     }
 
 -- bounds that the code computes for an extent that holds two others
-pub least_covers : (bound x y : ℤ) → FitsSigned w32 bound → FitsSigned w32 x → FitsSigned w32 y → bound ≡ int_min (to_z w32 (of_z w32 x)) (to_z w32 (of_z w32 y))
+pub least_covers : {bound x y : ℤ} → FitsSigned w32 bound → FitsSigned w32 x → FitsSigned w32 y
+    → bound ≡ int_min (to_z w32 (of_z w32 x)) (to_z w32 (of_z w32 y))
     → (to_z w32 (of_z w32 bound) ≤ℤ x) × (to_z w32 (of_z w32 bound) ≤ℤ y)
-least_covers bound x y fits first second same =
-    let is = bound_is int_min bound x y fits first second same in
-    (rw is (omega (arith, ints, clamps)), rw is (omega (arith, ints, clamps)))
+least_covers fits first second same =
+    rw (least_is fits first second same) (omega (arith, ints, clamps), omega (arith, ints, clamps))
 
-pub greatest_covers : (bound x y : ℤ) → FitsSigned w32 bound → FitsSigned w32 x → FitsSigned w32 y → bound ≡ int_max (to_z w32 (of_z w32 x)) (to_z w32 (of_z w32 y))
+pub greatest_covers : {bound x y : ℤ} → FitsSigned w32 bound → FitsSigned w32 x → FitsSigned w32 y
+    → bound ≡ int_max (to_z w32 (of_z w32 x)) (to_z w32 (of_z w32 y))
     → (x ≤ℤ to_z w32 (of_z w32 bound)) × (y ≤ℤ to_z w32 (of_z w32 bound))
-greatest_covers bound x y fits first second same =
-    let is = bound_is int_max bound x y fits first second same in
-    (rw is (omega (arith, ints, clamps)), rw is (omega (arith, ints, clamps)))
+greatest_covers fits first second same =
+    rw (greatest_is fits first second same)
+    (omega (arith, ints, clamps), omega (arith, ints, clamps))
 
 -- one line more, in an extent that holds its extent and the one before
-pub cover_more : (old new : Extent) (lines : List PlacedLine) (i : ℕ) (d : PlacedLine) → i < length lines → Covers new old → Covers new (get_or lines i d).extent
-    → All (λ l. Covers old l.extent) (take i lines) → All (λ l. Covers new l.extent) (take (i + 1) lines)
+pub cover_more : (old new : Extent) (lines : List PlacedLine) (i : ℕ) (d : PlacedLine)
+    → i < length lines → Covers new old → Covers new (get_or lines i d).extent
+    → All (λ l. Covers old l.extent) (take i lines)
+    → All (λ l. Covers new l.extent) (take (i + 1) lines)
 cover_more old new lines i d inside wider holds before =
     All-more (λ (l : PlacedLine). Covers new l.extent) lines i d inside
-    (All-weaker (λ (l : PlacedLine). Covers old l.extent) (λ (l : PlacedLine). Covers new l.extent) (λ l h. covers_all new old l.extent wider h) (take i lines) before)
+    (All-weaker (λ (l : PlacedLine). Covers old l.extent) (λ (l : PlacedLine). Covers new l.extent)
+    (λ l h. covers_all new old l.extent wider h) (take i lines) before)
     holds
 
 -- ---- latitudes
@@ -56,44 +74,56 @@ cover_more old new lines i d inside wider holds before =
 abbrev pub Between : ℤ → ℤ → ℤ → Type 0
 Between least greatest lat = (least ≤ℤ lat) × (lat ≤ℤ greatest)
 
-wider : (least greatest new x : ℤ) → Between least greatest x → Between (int_min least new) (int_max greatest new) x
-wider least greatest new x h = let a = h.0 in (omega (arith, ints, clamps), omega (arith, ints, clamps))
+wider : (least greatest new x : ℤ) → Between least greatest x
+    → Between (int_min least new) (int_max greatest new) x
+wider least greatest new x h = let a = h.0 in
+    (omega (arith, ints, clamps), omega (arith, ints, clamps))
 
 itself : (least greatest new : ℤ) → Between (int_min least new) (int_max greatest new) new
 itself least greatest new = (omega (arith, ints, clamps), omega (arith, ints, clamps))
 
 -- one latitude more
-pub within_more : (least greatest : ℤ) (lats : List ℤ) (i : ℕ) (lat : ℤ) → i < length lats → get_or lats i lat ≡ lat
-    → All (Between least greatest) (take i lats) → All (Between (int_min least lat) (int_max greatest lat)) (take (i + 1) lats)
+pub within_more : (least greatest : ℤ) (lats : List ℤ) (i : ℕ) (lat : ℤ) → i < length lats
+    → get_or lats i lat ≡ lat
+    → All (Between least greatest) (take i lats)
+    → All (Between (int_min least lat) (int_max greatest lat)) (take (i + 1) lats)
 within_more least greatest lats i lat inside same before =
     All-more (Between (int_min least lat) (int_max greatest lat)) lats i lat inside
-    (All-weaker (Between least greatest) (Between (int_min least lat) (int_max greatest lat)) (wider least greatest lat) (take i lats) before)
+    (All-weaker (Between least greatest) (Between (int_min least lat) (int_max greatest lat))
+    (wider least greatest lat) (take i lats) before)
     (rw same (itself least greatest lat))
 
-contains_one : (lats : List ℤ) (b : Bool) (x y : ℤ) → Contains lats x → Contains lats y → Contains lats (cond b x y)
+contains_one : (lats : List ℤ) (b : Bool) (x y : ℤ) → Contains lats x → Contains lats y
+    → Contains lats (cond b x y)
 contains_one lats true x y first second = first
 contains_one lats false x y first second = second
 
-pub contains_min : (lats : List ℤ) (x y : ℤ) → Contains lats x → Contains lats y → Contains lats (int_min x y)
+pub contains_min : (lats : List ℤ) (x y : ℤ) → Contains lats x → Contains lats y
+    → Contains lats (int_min x y)
 contains_min lats x y first second = contains_one _ _ y x second first
 
-pub contains_max : (lats : List ℤ) (x y : ℤ) → Contains lats x → Contains lats y → Contains lats (int_max x y)
+pub contains_max : (lats : List ℤ) (x y : ℤ) → Contains lats x → Contains lats y
+    → Contains lats (int_max x y)
 contains_max lats x y first second = contains_one _ _ x y first second
 
 -- ---- points
 
 -- the span of a coordinate of the first i points, whose bounds are of some points
-pub record IsSpanSoFar (of : Degrees → ℤ) (points : List Degrees) (i : ℕ) (least greatest : ℤ) : Type 0 where
+pub record IsSpanSoFar (of : Degrees → ℤ) (points : List Degrees) (i : ℕ)
+    (least greatest : ℤ) : Type 0 where
   pub within : All (Between least greatest) (take i (map of points))
   pub least_is : Contains (map of points) least
   pub greatest_is : Contains (map of points) greatest
 
-number_at : (of : Degrees → ℤ) (points : List Degrees) (i : ℕ) (point : Degrees) → i < length points → point ≡ get_or points i point → get_or (map of points) i (of point) ≡ of point
+number_at : (of : Degrees → ℤ) (points : List Degrees) (i : ℕ) (point : Degrees) → i < length points
+    → point ≡ get_or points i point → get_or (map of points) i (of point) ≡ of point
 number_at of points i point inside same = get_or-map _ _ i _ _ inside ∙ ap of (sym same)
 
 -- one point more
-pub span_more : (of : Degrees → ℤ) (points : List Degrees) (i : ℕ) (least greatest : ℤ) (point : Degrees) → i < length points → point ≡ get_or points i point
-    → IsSpanSoFar of points i least greatest → IsSpanSoFar of points (i + 1) (int_min least (of point)) (int_max greatest (of point))
+pub span_more : (of : Degrees → ℤ) (points : List Degrees) (i : ℕ) (least greatest : ℤ)
+    (point : Degrees) → i < length points → point ≡ get_or points i point
+    → IsSpanSoFar of points i least greatest
+    → IsSpanSoFar of points (i + 1) (int_min least (of point)) (int_max greatest (of point))
 span_more of points i least greatest point inside same before =
     let here : i < length (map of points) = rw (length-map points of) inside in
     let at = number_at _ _ i _ inside same in
@@ -105,14 +135,17 @@ span_more of points i least greatest point inside same before =
     }
 
 -- no point yet
-pub span_start : (of : Degrees → ℤ) (points : List Degrees) (point : Degrees) → 0 < length points → point ≡ get_or points 0 point → IsSpanSoFar of points 0 (of point) (of point)
+pub span_start : (of : Degrees → ℤ) (points : List Degrees) (point : Degrees) → 0 < length points
+    → point ≡ get_or points 0 point → IsSpanSoFar of points 0 (of point) (of point)
 span_start of points point inside same =
     let here : 0 < length (map of points) = rw (length-map points of) inside in
     let found : Contains (map of points) (of point) = (0, here, number_at _ _ 0 _ inside same) in
     record { within = λ k d below. absurd (omega arith); least_is = found; greatest_is = found }
 
 -- all points
-pub span_whole : (of : Degrees → ℤ) (points : List Degrees) (i : ℕ) (least greatest : ℤ) → length points ≤ i → IsSpanSoFar of points i least greatest → IsSpan (map of points) least greatest
+pub span_whole : (of : Degrees → ℤ) (points : List Degrees) (i : ℕ) (least greatest : ℤ)
+    → length points ≤ i → IsSpanSoFar of points i least greatest
+    → IsSpan (map of points) least greatest
 span_whole of points i least greatest all so_far =
     let here : length (map of points) ≤ i = rw (length-map points of) all in
     record {

@@ -22,22 +22,22 @@ pub lines_of-lf : (line rest : List ℕ) → HasNoLf line → lines_of (line ++ 
 unfolding lines_of
 lines_of-lf [] rest free = refl
 lines_of-lf (byte ∷ line) rest free =
-    lines_of-other byte (line ++ 10 ∷ rest) (no_lf_head byte line free) ∙ ap (onto byte) (lines_of-lf line rest (no_lf_tail byte line free))
+    lines_of-other _ (line ++ 10 ∷ rest) (no_lf_head _ _ free) ∙ ap (onto byte) (lines_of-lf _ rest (no_lf_tail _ _ free))
 
 -- a last line, which no LF ends
 pub lines_of-last : (line : List ℕ) → HasNoLf line → line ≢ [] → lines_of line ≡ line ∷ []
 unfolding lines_of
 lines_of-last [] free some = absurd (some refl)
-lines_of-last (byte ∷ []) free some = lines_of-other byte [] (no_lf_head byte [] free)
+lines_of-last (byte ∷ []) free some = lines_of-other _ [] (no_lf_head _ [] free)
 lines_of-last (byte ∷ next ∷ line) free some =
-    lines_of-other byte (next ∷ line) (no_lf_head byte (next ∷ line) free)
-    ∙ ap (onto byte) (lines_of-last (next ∷ line) (no_lf_tail byte (next ∷ line) free) (λ e. absurd cc))
+    lines_of-other _ (next ∷ line) (no_lf_head _ (next ∷ line) free)
+    ∙ ap (onto byte) (lines_of-last _ (no_lf_tail _ (next ∷ line) free) (λ e. absurd cc))
 
 -- what is consumed up to an LF is the next line
 pub next_of_lf : (line : List ℕ) (a b : Option (List ℕ)) → HasNoLf line → Consumes a b (line ++ 10 ∷ []) → IsNext line a b
 next_of_lf line None b free consumed = tt
 next_of_lf line (Some xs) None free consumed = absurd consumed
-next_of_lf line (Some xs) (Some ys) free consumed = ap lines_of (consumed ∙ append_assoc line (10 ∷ []) ys) ∙ lines_of-lf line ys free
+next_of_lf line (Some xs) (Some ys) free consumed = ap lines_of (consumed ∙ append_assoc line (10 ∷ []) ys) ∙ lines_of-lf _ _ free
 
 -- an empty input
 pub no_more : lines_of [] ≡ []
@@ -45,9 +45,9 @@ unfolding lines_of
 no_more = refl
 
 -- what is consumed up to the end is the next line, where it isn't empty
-pub next_of_end : (line : List ℕ) (a b : Option (List ℕ)) → HasNoLf line → line ≢ [] → Consumes a b line → IsAtEnd b → IsNext line a b
-next_of_end line None b free some consumed ended = tt
-next_of_end line (Some xs) None free some consumed ended = absurd consumed
-next_of_end line (Some xs) (Some ys) free some consumed ended =
-    ap lines_of (consumed ∙ ap (λ (l : List ℕ). line ++ l) ended ∙ append-nil line) ∙ lines_of-last line free some
+pub next_of_end : {line : List ℕ} (a b : Option (List ℕ)) → HasNoLf line → line ≢ [] → Consumes a b line → IsAtEnd b → IsNext line a b
+next_of_end None b free some consumed ended = tt
+next_of_end (Some xs) None free some consumed ended = absurd consumed
+next_of_end {line = line} (Some xs) (Some ys) free some consumed ended =
+    ap lines_of (consumed ∙ ap (λ (l : List ℕ). line ++ l) ended ∙ append-nil line) ∙ lines_of-last _ free some
     ∙ ap (λ (l : List (List ℕ)). line ∷ l) (sym (ap lines_of ended ∙ no_more))

@@ -12,7 +12,7 @@ take-take-append : (n : ℕ) (xs ys : List ℕ) → take n (take n xs ++ ys) ≡
 take-take-append n xs ys = elim (cases_lt n (length xs)) [
   | inl short ↦
       let size : length (take n xs) ≡ n = length-take-le n xs (omega (arith, short)) in
-      take-append-le n (take n xs) ys (omega (arith, size)) ∙ take_all n (take n xs) (omega (arith, size)) ∙ sym (take-append-le n xs ys (omega (arith, short)))
+      take-append-le n (take n xs) ys (omega arith) ∙ take_all n (take n xs) (omega arith) ∙ sym (take-append-le n xs ys (omega arith))
   | inr all ↦ ap (λ (l : List ℕ). take n (l ++ ys)) (take_all n xs all)
 ]
 
@@ -23,8 +23,8 @@ front_of-front_of xs ys = take-take-append 65538 xs ys
 
 take-min : (n : ℕ) (xs : List ℕ) → take (min (length xs) n) xs ≡ take n xs
 take-min n xs = elim (cases_lt n (length xs)) [
-  | inl short ↦ let least : min (length xs) n ≡ n = omega (arith, short) in ap (λ (k : ℕ). take k xs) least
-  | inr all ↦ take_all (min (length xs) n) xs (omega (arith, all)) ∙ sym (take_all n xs all)
+  | inl short ↦ let least : min (length xs) n ≡ n = omega arith in ap (λ (k : ℕ). take k xs) least
+  | inr all ↦ take_all (min (length xs) n) xs (omega arith) ∙ sym (take_all n xs all)
 ]
 
 -- so much of what is appended is held
@@ -32,26 +32,26 @@ pub held_front : (line part : List ℕ) → length line ≤ 65538 → line ++ ta
 unfolding front_of
 held_front line part held =
     let room = take-append-add line part (65538 - length line) in
-    let whole : length line + (65538 - length line) ≡ 65538 = omega (arith, held) in
-    ap (λ (l : List ℕ). line ++ l) (take-min (65538 - length line) part) ∙ sym room ∙ ap (λ (k : ℕ). take k (line ++ part)) whole
+    let whole : length line + (65538 - length line) ≡ 65538 = omega arith in
+    ap (λ (l : List ℕ). line ++ l) (take-min _ _) ∙ sym room ∙ ap (λ (k : ℕ). take k (line ++ part)) whole
 
 -- the front of a front is that front
 pub front_again : (line : List ℕ) → front_of (front_of line) ≡ front_of line
 front_again line =
-    ap (λ (l : List ℕ). front_of l) (sym (append-nil (front_of line))) ∙ front_of-front_of line [] ∙ ap (λ (l : List ℕ). front_of l) (append-nil line)
+    ap (λ (l : List ℕ). front_of l) (sym (append-nil (front_of line))) ∙ front_of-front_of _ _ ∙ ap (λ (l : List ℕ). front_of l) (append-nil line)
 
 pub front_short : (line : List ℕ) → length (front_of line) ≤ 65538
 unfolding front_of
 front_short line = elim (cases_lt 65538 (length line)) [
-  | inl short ↦ let size = length-take-le 65538 line (omega (arith, short)) in omega (arith, size)
-  | inr all ↦ let same = ap (λ (l : List ℕ). length l) (take_all 65538 line all) in omega (arith, same, all)
+  | inl short ↦ let size = length-take-le 65538 line (omega arith) in omega arith
+  | inr all ↦ let same = ap (λ (l : List ℕ). length l) (take_all 65538 line all) in omega arith
 ]
 
 front_some : (byte : ℕ) (line : List ℕ) → take 65538 (byte ∷ line) ≡ [] → ⊥
 front_some byte line none = elim (cases_lt 65538 (length (byte ∷ line))) [
   | inl short ↦
-      let size = length-take-le 65538 (byte ∷ line) (omega (arith, short)) in
-      let zero = ap (λ (l : List ℕ). length l) none in omega (arith, size, zero)
+      let size = length-take-le 65538 (byte ∷ line) (omega arith) in
+      let zero = ap (λ (l : List ℕ). length l) none in omega arith
   | inr all ↦ let same = sym (take_all 65538 (byte ∷ line) all) ∙ none in absurd cc
 ]
 
@@ -59,7 +59,7 @@ front_some byte line none = elim (cases_lt 65538 (length (byte ∷ line))) [
 pub front_none : (line : List ℕ) → front_of line ≡ [] → line ≡ []
 unfolding front_of
 front_none [] none = refl
-front_none (byte ∷ line) none = absurd (front_some byte line none)
+front_none (byte ∷ line) none = absurd (front_some _ _ none)
 
 -- ---- the message of a line
 
@@ -76,23 +76,23 @@ record_of-cr bytes =
 -- a line has one byte more than its record at most
 record_short : (line : List ℕ) → length line ≤ length (record_of line) + 1
 record_short line = elim (eqb_tells (get_or line (length line - 1) 0) 13) [
-  | inl same ↦ rw same.0 (let size = length-take-le (length line - 1) line (omega arith) in omega (arith, size))
+  | inl same ↦ rw same.0 (let size = length-take-le (length line - 1) line (omega arith) in omega arith)
   | inr differs ↦ rw differs.0 (omega arith)
 ]
 
 only_long : (bytes line : List ℕ) (message : Message) → 65536 < length bytes → 65536 < length line → IsMessage bytes message → IsMessage line message
-only_long bytes line Empty long more is = absurd (let none = ap (λ (l : List ℕ). length l) is in omega (arith, long, none))
+only_long bytes line Empty long more is = absurd (let none = ap (λ (l : List ℕ). length l) is in omega arith)
 only_long bytes line Long long more is = more
-only_long bytes line NotText long more is = absurd (omega (arith, long, is.0))
-only_long bytes line (Text key text) long more is = absurd (omega (arith, long, is.0.not_long))
+only_long bytes line NotText long more is = absurd (omega arith)
+only_long bytes line (Text key text) long more is = absurd (omega arith)
 
 -- the front of a line has the message of the line
 pub message_of_front : (line : List ℕ) (message : Message) → IsMessage (record_of (front_of line)) message → IsMessage (record_of line) message
 unfolding front_of
 message_of_front line message is = elim (cases_lt 65538 (length line)) [
   | inl short ↦
-      let size = length-take-le 65538 line (omega (arith, short)) in
-      only_long (record_of (take 65538 line)) (record_of line) message
-      (omega (arith, size, record_short (take 65538 line))) (omega (arith, short, record_short line)) is
-  | inr all ↦ subst (λ (l : List ℕ). IsMessage (record_of l) message) (take_all 65538 line all) is
+      let size = length-take-le 65538 line (omega arith) in
+      only_long _ _ _
+      (omega (arith, record_short (take 65538 line))) (omega (arith, record_short line)) is
+  | inr all ↦ rw (← (take_all 65538 line all)) is
 ]

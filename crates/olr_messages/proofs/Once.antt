@@ -10,33 +10,33 @@ avoids_tab bytes free k inside = free k 0 inside
 
 same_text : (bytes : List ℕ) (k l : Option (List ℕ)) (s t : List ℕ) → IsSplitAtTab bytes k s → IsSplitAtTab bytes l t → Text k s ≡ Text l t
 same_text bytes None None s t a b = ap (λ (x : List ℕ). Text None x) (a.0 ∙ sym b.0)
-same_text bytes None (Some l) s t a b = absurd (not_avoided 9 bytes l t b.0 (avoids_tab bytes a.1))
-same_text bytes (Some k) None s t a b = absurd (not_avoided 9 bytes k s a.0 (avoids_tab bytes b.1))
+same_text bytes None (Some l) s t a b = absurd (not_avoided 9 _ l t b.0 (avoids_tab _ a.1))
+same_text bytes (Some k) None s t a b = absurd (not_avoided 9 _ k s a.0 (avoids_tab _ b.1))
 same_text bytes (Some k) (Some l) s t a b =
     let same = one_way 9 k s l t (avoids_tab k a.1) (avoids_tab l b.1) (sym a.0 ∙ b.0) in
     ap (λ (x : List ℕ). Text (Some x) s) same.0 ∙ ap (λ (x : List ℕ). Text (Some l) x) same.1
 
-not_long : (bytes : List ℕ) → bytes ≡ [] → 65536 < length bytes → ⊥
-not_long bytes none long = let size = ap (λ (l : List ℕ). length l) none in omega (arith, long, size)
+not_long : {bytes : List ℕ} → bytes ≡ [] → 65536 < length bytes → ⊥
+not_long none long = let size = ap (λ (l : List ℕ). length l) none in omega arith
 
-not_utf8_if_empty : (bytes : List ℕ) → bytes ≡ [] → ¬ (IsUtf8 bytes) → ⊥
-not_utf8_if_empty bytes none not_utf8 = not_utf8 (subst (λ (l : List ℕ). IsUtf8 l) (sym none) IsUtf8-nil)
+not_utf8_if_empty : {bytes : List ℕ} → bytes ≡ [] → ¬ (IsUtf8 bytes) → ⊥
+not_utf8_if_empty none not_utf8 = not_utf8 (rw none IsUtf8-nil)
 
 -- a record has one message
 pub message_once : (bytes : List ℕ) (m n : Message) → IsMessage bytes m → IsMessage bytes n → m ≡ n
 message_once bytes Empty Empty a b = refl
-message_once bytes Empty Long a b = absurd (not_long bytes a b)
-message_once bytes Empty NotText a b = absurd (not_utf8_if_empty bytes a b.1)
+message_once bytes Empty Long a b = absurd (not_long a b)
+message_once bytes Empty NotText a b = absurd (not_utf8_if_empty a b.1)
 message_once bytes Empty (Text l t) a b = absurd (b.0.not_empty a)
-message_once bytes Long Empty a b = absurd (not_long bytes b a)
+message_once bytes Long Empty a b = absurd (not_long b a)
 message_once bytes Long Long a b = refl
-message_once bytes Long NotText a b = absurd (omega (arith, a, b.0))
-message_once bytes Long (Text l t) a b = absurd (omega (arith, a, b.0.not_long))
-message_once bytes NotText Empty a b = absurd (not_utf8_if_empty bytes b a.1)
-message_once bytes NotText Long a b = absurd (omega (arith, b, a.0))
+message_once bytes Long NotText a b = absurd (omega arith)
+message_once bytes Long (Text l t) a b = absurd (omega arith)
+message_once bytes NotText Empty a b = absurd (not_utf8_if_empty b a.1)
+message_once bytes NotText Long a b = absurd (omega arith)
 message_once bytes NotText NotText a b = refl
 message_once bytes NotText (Text l t) a b = absurd (a.1 b.0.utf8)
 message_once bytes (Text k s) Empty a b = absurd (a.0.not_empty b)
-message_once bytes (Text k s) Long a b = absurd (omega (arith, b, a.0.not_long))
+message_once bytes (Text k s) Long a b = absurd (omega arith)
 message_once bytes (Text k s) NotText a b = absurd (b.1 a.0.utf8)
-message_once bytes (Text k s) (Text l t) a b = same_text bytes k l s t a.1 b.1
+message_once bytes (Text k s) (Text l t) a b = same_text _ k l s t a.1 b.1

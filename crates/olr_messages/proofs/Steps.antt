@@ -1,174 +1,186 @@
 -- From the parts of a step to the next line.
-use Rattle.std.proofs.Common.{◌≡◌, ◌≢◌, ℕ, ◌+◌, ◌<◌, ◌≤◌, List, [], ◌∷◌, ◌++◌, length, refl, sym, ap, ◌∙◌, subst, append_assoc, append-nil, length-append, inl, inr, arith, Option, Some, None}
-use Rattle.std.specs.Prelude.{Bool, true, false, MatchBool}
-use Rattle.std.specs.Io.KnownBytes.{Consumes, IsAtEnd, prepend_known}
+use Rattle.std.proofs.Common.{◌≡◌, ◌≢◌, ℕ, ◌+◌, ◌-◌, ◌^◌, ◌≤◌, List, [], ◌∷◌, ◌++◌, length, refl, sym, ap, ◌∙◌, append_assoc, length-append, inl, inr, arith, Option, Some, None}
+use Rattle.std.specs.Prelude.{Bool, true, false, ◌==◌, Contains, MatchBool, not}
+use Rattle.std.specs.Io.KnownBytes.{Consumes, IsAtEnd, Keeps, prepend_known}
 use Rattle.std.proofs.KnownBytes.{Consumes-nil, Consumes-trans}
-use Rattle.std.proofs.lemmas.List.Elements.{All-append, All-nil}
-use Rattle.olr_messages.specs.Messages.{HasNoLf, IsCutOff, IsOver, ReadsLine, ReadsOn, ReadsPart, ReadsRest, ReadsToEnd, IsGiven, front_of}
+use Rattle.std.proofs.lemmas.Bool.Decides.{eqb_tells}
+use Rattle.std.proofs.lemmas.List.Elements.{All-append, All-contains, All-nil}
+use Rattle.olr_metric.specs.Counting.{one_more}
+use Rattle.olr_messages.specs.Messages.{HasNoLf, IsCutOff, IsGiven, IsOver, Reading, ReadsAll, ReadsLine, ReadsToLf, front_of, left_of}
 use Rattle.olr_messages.proofs.Fronts.{front_none, front_of-front_of}
 use Rattle.olr_messages.proofs.FirstLine.{next_of_end, next_of_lf}
 
--- ---- the bytes at hand
-
--- what is read of the bytes at hand is read of what is left
-hand_to_lf : (hand part rest : List ℕ) (left : Option (List ℕ)) → hand ≡ part ++ 10 ∷ rest → Consumes (prepend_known hand left) (prepend_known rest left) (part ++ 10 ∷ [])
-hand_to_lf hand part rest None split = tt
-hand_to_lf hand part rest (Some xs) split =
-    ap (λ (l : List ℕ). l ++ xs) split ∙ append_assoc part (10 ∷ rest) xs ∙ sym (append_assoc part (10 ∷ []) (rest ++ xs))
-
--- a line that is at hand as a whole
-pub line_at_hand : (hand part rest front : List ℕ) (left : Option (List ℕ)) → hand ≡ part ++ 10 ∷ rest → HasNoLf part → front ≡ front_of part
-    → ReadsLine (prepend_known hand left) (prepend_known rest left) front
-line_at_hand hand part rest front left split free is = record {
-  line = part;
-  is_next = next_of_lf part (prepend_known hand left) (prepend_known rest left) free (hand_to_lf hand part rest left split);
-  is_front = is;
-}
-
--- the same, of the bytes at hand alone
-pub line_of_hand : (hand part rest front : List ℕ) → hand ≡ part ++ 10 ∷ rest → HasNoLf part → front ≡ front_of part → ReadsLine (Some hand) (Some rest) front
-line_of_hand hand part rest front split free is = record {
-  line = part;
-  is_next = next_of_lf part (Some hand) (Some rest) free (split ∙ sym (append_assoc part (10 ∷ []) rest));
-  is_front = is;
-}
-
--- ---- the bytes at hand and then those of the source
-
-hand_first : (hand bytes : List ℕ) (a b : Option (List ℕ)) → Consumes a b bytes → Consumes (prepend_known hand a) b (hand ++ bytes)
-hand_first hand bytes None b consumed = tt
-hand_first hand bytes (Some xs) None consumed = absurd consumed
-hand_first hand bytes (Some xs) (Some ys) consumed = ap (λ (l : List ℕ). hand ++ l) consumed ∙ sym (append_assoc hand bytes ys)
-
-no_lf_both : (xs ys : List ℕ) → HasNoLf xs → HasNoLf ys → HasNoLf (xs ++ ys)
-no_lf_both xs ys = All-append (λ b. b ≢ 10) xs ys
-
-front_over : (hand part middle front : List ℕ) → middle ≡ front_of hand → front ≡ front_of (middle ++ part) → front ≡ front_of (hand ++ part)
-front_over hand part middle front first then = then ∙ ap (λ (m : List ℕ). front_of (m ++ part)) first ∙ front_of-front_of hand part
+-- so much of a line is read, by so many calls of the source, each of which gave bytes
+pub record HasRead (old left : Option (List ℕ)) (now : Reading) (calls : ℕ) : Type 0 where
+  pub part : List ℕ
+  pub consumed : Consumes old (left_of now left) part
+  pub no_lf : HasNoLf part
+  pub front : now.front ≡ front_of part
+  pub many : calls ≤ length part + length now.at_hand
 
 no_front : front_of [] ≡ []
 unfolding front_of
 no_front = refl
 
-line_of_rest : (hand : List ℕ) (a b : Option (List ℕ)) (middle front : List ℕ) → HasNoLf hand → middle ≡ front_of hand → ReadsRest a b middle front
-    → ReadsLine (prepend_known hand a) b front
-line_of_rest hand a b middle front free is rest =
-    let line = hand ++ rest.part in
-    let consumed = subst (λ (l : List ℕ). Consumes (prepend_known hand a) b l) (sym (append_assoc hand rest.part (10 ∷ []))) (hand_first hand (rest.part ++ 10 ∷ []) a b rest.consumed) in
-    record {
-      line = line;
-      is_next = next_of_lf line (prepend_known hand a) b (no_lf_both hand rest.part free rest.no_lf) consumed;
-      is_front = front_over hand rest.part middle front is rest.front;
-    }
+-- ---- what the bytes at hand, or those that a source gives, are of all that is left
 
-line_of_end : (hand : List ℕ) (a b : Option (List ℕ)) (middle front : List ℕ) → HasNoLf hand → middle ≡ front_of hand → ReadsToEnd a b middle front → front ≢ []
-    → ReadsLine (prepend_known hand a) b front
-line_of_end hand a b middle front free is end some =
-    let line = hand ++ end.part in
-    let whole = front_over hand end.part middle front is end.reads.front in
-    record {
-      line = line;
-      is_next = next_of_end line (prepend_known hand a) b (no_lf_both hand end.part free end.reads.no_lf) (λ none. some (whole ∙ ap (λ (l : List ℕ). front_of l) none ∙ no_front))
-          (hand_first hand end.part a b end.reads.consumed) end.at_end;
-      is_front = whole;
-    }
+hand_to_lf : {hand : List ℕ} (part rest : List ℕ) (left : Option (List ℕ)) → hand ≡ part ++ 10 ∷ rest
+    → Consumes (prepend_known hand left) (prepend_known rest left) (part ++ 10 ∷ [])
+hand_to_lf part rest None split = tt
+hand_to_lf part rest (Some xs) split =
+    ap (λ (l : List ℕ). l ++ xs) split ∙ append_assoc part (10 ∷ rest) xs
+    ∙ sym (append_assoc part (10 ∷ []) (rest ++ xs))
 
-over_at_end : (hand : List ℕ) (a b : Option (List ℕ)) (middle front : List ℕ) → middle ≡ front_of hand → ReadsToEnd a b middle front → front ≡ []
-    → IsOver (prepend_known hand a) b
-over_at_end hand a b middle front is end none =
-    let whole = front_over hand end.part middle front is end.reads.front in
-    let empty = front_none (hand ++ end.part) (sym whole ∙ none) in
-    record {
-      none_left = subst (λ (l : List ℕ). Consumes (prepend_known hand a) b l) empty (hand_first hand end.part a b end.reads.consumed);
-      at_end = end.at_end;
-    }
+all_at_hand : (hand : List ℕ) (left : Option (List ℕ))
+    → Consumes (prepend_known hand left) left hand
+all_at_hand hand None = tt
+all_at_hand hand (Some xs) = refl
 
--- behind the bytes at hand, which have no LF, the rest of the line is read
-pub line_read_on : (found : Bool) (hand : List ℕ) (a b : Option (List ℕ)) (middle front : List ℕ) → HasNoLf hand → middle ≡ front_of hand → ReadsOn found a b middle front
-    → MatchBool found (ReadsLine (prepend_known hand a) b front) (IsOver (prepend_known hand a) b)
-line_read_on true hand a b middle front free is reads = elim reads [
-  | inl rest ↦ line_of_rest hand a b middle front free is rest
-  | inr last ↦ line_of_end hand a b middle front free is last.0 last.1
-]
-line_read_on false hand a b middle front free is reads = over_at_end hand a b middle front is reads.0 reads.1
+none_first : (left : Option (List ℕ)) → prepend_known [] left ≡ left
+none_first None = refl
+none_first (Some xs) = refl
 
--- or the line is cut off
-pub cut_off_behind : (hand : List ℕ) (a b : Option (List ℕ)) (at_hand : List ℕ) (old new : ℕ) → HasNoLf hand → IsCutOff a b at_hand old new
-    → IsCutOff (prepend_known hand a) b at_hand old new
-cut_off_behind hand a b at_hand old new free is = record {
-  lost = hand ++ is.lost;
-  consumed = hand_first hand is.lost a b is.consumed;
-  no_lf = no_lf_both hand is.lost free is.no_lf;
-  cause = elim is.cause [ inl failed ↦ inl failed | inr many ↦ inr (many.0, let size = length-append hand is.lost in omega (arith, size, many.1)) ];
-}
-
--- ---- the calls of the source
-
--- so many calls each gave bytes, none of which is LF, and no byte is at hand
-pub record HasRead (old new : Option (List ℕ)) (old_front new_front : List ℕ) (calls : ℕ) : Type 0 where
-  pub part : List ℕ
-  pub reads : ReadsPart old new old_front new_front part
-  pub many : calls ≤ length part
-
--- before the first call
-pub none_read : (a : Option (List ℕ)) (front : List ℕ) → front_of front ≡ front → HasRead a a front front 0
-none_read a front is = record {
-  part = [];
-  reads = record { consumed = Consumes-nil a; no_lf = All-nil (λ b. b ≢ 10); front = sym is ∙ ap (λ (l : List ℕ). front_of l) (sym (append-nil front)) };
-  many = omega arith;
-}
-
--- a source that gave something
-pub given_some : (found : Bool) (a b : Option (List ℕ)) (bytes : List ℕ) → found ≡ true → IsGiven found a b bytes → 0 < length bytes
-given_some true a b bytes some given = given.cases
-given_some false a b bytes some given = absurd cc
-
-given_first : (a b c : Option (List ℕ)) (part bytes : List ℕ) → Consumes a b part → Consumes b c bytes → Consumes a (prepend_known bytes c) part
+given_first : (a b c : Option (List ℕ)) (part bytes : List ℕ) → Consumes a b part
+    → Consumes b c bytes
+    → Consumes a (prepend_known bytes c) part
 given_first None b c part bytes p q = tt
 given_first (Some x) None c part bytes p q = absurd p
 given_first (Some x) (Some y) None part bytes p q = absurd q
 given_first (Some x) (Some y) (Some z) part bytes p q = p ∙ ap (λ (l : List ℕ). part ++ l) q
 
-none_first : (a : Option (List ℕ)) → prepend_known [] a ≡ a
-none_first None = refl
-none_first (Some xs) = refl
+keeps_nothing : (a b : Option (List ℕ)) → Keeps a b → Consumes a b []
+keeps_nothing None b kept = tt
+keeps_nothing (Some x) None kept = absurd kept
+keeps_nothing (Some x) (Some y) kept = sym kept
 
-read_over : (old_front part more front new_front : List ℕ) → front ≡ front_of (old_front ++ part) → new_front ≡ front_of (front ++ more)
-    → new_front ≡ front_of (old_front ++ (part ++ more))
-read_over old_front part more front new_front first then =
-    then ∙ ap (λ (m : List ℕ). front_of (m ++ more)) first ∙ front_of-front_of (old_front ++ part) more ∙ ap (λ (l : List ℕ). front_of l) (append_assoc old_front part more)
+by_length : (xs : List ℕ) {P Q : Type 0} → (xs ≢ [] → P) → (xs ≡ [] → Q)
+    → MatchBool (not (length xs == 0)) P Q
+by_length [] some none = none refl
+by_length (x ∷ xs) some none = elim (eqb_tells (length (x ∷ xs)) 0) [
+  | inl same ↦ absurd (omega arith)
+  | inr differs ↦ rw differs.0 (some (λ e. absurd cc))
+]
 
--- bytes are given up to an LF
-pub rest_given : (a b c : Option (List ℕ)) (old_front front new_front hand part rest : List ℕ) (calls : ℕ) → HasRead a b old_front front calls → Consumes b c hand
-    → hand ≡ part ++ 10 ∷ rest → HasNoLf part → new_front ≡ front_of (front ++ part) → ReadsRest a (prepend_known rest c) old_front new_front
-rest_given a b c old_front front new_front hand part rest calls has given split free is =
-    let before = given_first a b c has.part hand has.reads.consumed given in
-    let then = Consumes-trans a (prepend_known hand c) (prepend_known rest c) has.part (part ++ 10 ∷ []) before (hand_to_lf hand part rest c split) in
-    record {
-      part = has.part ++ part;
-      consumed = subst (λ (l : List ℕ). Consumes a (prepend_known rest c) l) (sym (append_assoc has.part part (10 ∷ []))) then;
-      no_lf = no_lf_both has.part part has.reads.no_lf free;
-      front = read_over old_front has.part part front new_front has.reads.front is;
+-- ---- the steps
+
+pub none_read : {hand : List ℕ} {left : Option (List ℕ)} {now : Reading} → now.at_hand ≡ hand
+    → now.front ≡ []
+    → HasRead (prepend_known hand left) left now 0
+none_read same empty = record {
+  part = [];
+  consumed = rw same (Consumes-nil _);
+  no_lf = All-nil (λ b. b ≢ 10);
+  front = empty ∙ sym no_front;
+  many = omega arith;
+}
+
+module _ {a left : Option (List ℕ)} {now : Reading} {calls : ℕ} (has : HasRead a left now calls)
+  where
+    front_after : {front : List ℕ} (more : List ℕ) → front ≡ front_of (now.front ++ more)
+        → front ≡ front_of (has.part ++ more)
+    front_after more is =
+        is ∙ ap (λ (m : List ℕ). front_of (m ++ more)) has.front ∙ front_of-front_of has.part more
+
+    -- the bytes at hand have an LF
+    pub line_read : {new : Reading} → ReadsToLf now new → ReadsLine a (left_of new left) new.front
+    line_read reads =
+        let free = All-append (λ b. b ≢ 10) has.part reads.part has.no_lf reads.no_lf in
+        record {
+          line = has.part ++ reads.part;
+          is_next = next_of_lf _ _ _ free (rw (append_assoc has.part reads.part (10 ∷ []))
+              (Consumes-trans _ _ _ _ _ has.consumed (hand_to_lf _ _ left reads.split)));
+          is_front = front_after reads.part reads.front;
+        }
+
+    -- they have none
+    pub all_read : {new : Reading} → ReadsAll now new → HasRead a left new calls
+    all_read reads = record {
+      part = has.part ++ now.at_hand;
+      consumed = rw (reads.none_at_hand, none_first left)
+          (Consumes-trans _ _ _ _ _ has.consumed (all_at_hand _ left));
+      no_lf = All-append (λ b. b ≢ 10) has.part now.at_hand has.no_lf reads.no_lf;
+      front = front_after now.at_hand reads.front;
+      many = omega (arith, length-append has.part now.at_hand, has.many);
     }
 
--- bytes are given with no LF among them
-pub more_given : (a b c : Option (List ℕ)) (old_front front new_front hand : List ℕ) (calls : ℕ) → HasRead a b old_front front calls → Consumes b c hand
-    → 0 < length hand → HasNoLf hand → new_front ≡ front_of (front ++ hand) → HasRead a c old_front new_front (calls + 1)
-more_given a b c old_front front new_front hand calls has given some free is = record {
-  part = has.part ++ hand;
-  reads = record {
-    consumed = Consumes-trans a b c has.part hand has.reads.consumed given;
-    no_lf = no_lf_both has.part hand has.reads.no_lf free;
-    front = read_over old_front has.part hand front new_front has.reads.front is;
-  };
-  many = let size = length-append has.part hand in omega (arith, size, some, has.many);
+    consumed_before : now.at_hand ≡ [] → Consumes a left has.part
+    consumed_before empty =
+        let same : left_of now left ≡ left = rw empty (none_first left) in
+        rw same at has.consumed
+
+    module _ (new : Reading) (empty : now.at_hand ≡ []) {next : Option (List ℕ)} where
+      -- the source gives some more
+      pub some_given : {found : Bool} → IsGiven found left next new.at_hand → found ≡ true
+          → new.front ≡ now.front → HasRead a next new (calls + 1)
+      some_given given some same =
+          let bytes = rw some at given.cases in
+          record {
+            part = has.part;
+            consumed = given_first _ _ _ _ _ (consumed_before empty) given.consumed;
+            no_lf = has.no_lf;
+            front = same ∙ has.front;
+            many = omega (arith, bytes, has.many, ap length empty);
+          }
+
+      -- it gives none
+      pub none_given : {found no_byte : Bool} → IsGiven found left next new.at_hand → found ≡ false
+          → new.front ≡ now.front → no_byte ≡ (length new.front == 0)
+          → MatchBool (not no_byte) (ReadsLine a (left_of new next) new.front)
+          (IsOver a (left_of new next))
+      none_given given none same is =
+          let ended = rw none at given.cases in
+          let consumed : Consumes a (left_of new next) has.part =
+          given_first _ _ _ _ _ (consumed_before empty) given.consumed in
+          let at_end : IsAtEnd (left_of new next) = rw (ended.0, none_first next) ended.1 in
+          let whole = same ∙ has.front in
+          rw is (by_length new.front
+          (λ some. record {
+            line = has.part;
+            is_next = next_of_end _ _ has.no_lf
+                (λ none. some (whole ∙ ap front_of none ∙ no_front)) consumed at_end;
+            is_front = whole;
+          })
+          (λ none. record {
+            none_left = rw (front_none has.part (sym whole ∙ none)) at consumed;
+            at_end = at_end;
+          }))
+
+    -- it fails
+    pub cut_off : (new : Reading) (next : Option (List ℕ)) {old_failed new_failed : ℕ}
+        → now.at_hand ≡ []
+        → new.at_hand ≡ [] → Keeps left next → new_failed ≡ one_more old_failed
+        → IsCutOff a (left_of new next) new.at_hand old_failed new_failed
+    cut_off new next empty none kept failed = record {
+      lost = has.part;
+      consumed = given_first _ _ _ _ _ (consumed_before empty) (rw none (keeps_nothing _ _ kept));
+      no_lf = has.no_lf;
+      cause = inl failed;
+    }
+
+-- no further call is made
+pub endless : {a left : Option (List ℕ)} {now : Reading} {calls old_failed new_failed : ℕ}
+    → HasRead a left now calls → 2 ^ 64 - 1 ≤ calls → new_failed ≡ old_failed
+    → IsCutOff a (left_of now left) now.at_hand old_failed new_failed
+endless has most same = record {
+  lost = has.part;
+  consumed = has.consumed;
+  no_lf = has.no_lf;
+  cause = inr (same, omega arith);
 }
 
--- no byte is given at the end
-pub end_given : (a b c : Option (List ℕ)) (old_front front : List ℕ) (calls : ℕ) → HasRead a b old_front front calls → Consumes b c [] → IsAtEnd c
-    → ReadsToEnd a (prepend_known [] c) old_front front
-end_given a b c old_front front calls has given ended = record {
-  part = has.part;
-  reads = record { consumed = given_first a b c has.part [] has.reads.consumed given; no_lf = has.reads.no_lf; front = has.reads.front };
-  at_end = subst (λ (l : Option (List ℕ)). IsAtEnd l) (sym (none_first c)) ended;
+-- ---- a line that is at hand as a whole
+
+pub line_of_hand : {hand : List ℕ} {now new : Reading} → ReadsToLf now new → now.at_hand ≡ hand
+    → now.front ≡ []
+    → ReadsLine (Some hand) (Some new.at_hand) new.front
+line_of_hand {hand} {now} {new} reads same empty = record {
+  line = reads.part;
+  is_next = next_of_lf _ (Some hand) (Some new.at_hand) reads.no_lf
+      (sym same ∙ reads.split ∙ sym (append_assoc reads.part (10 ∷ []) new.at_hand));
+  is_front = reads.front ∙ ap (λ (l : List ℕ). front_of (l ++ reads.part)) empty;
 }
+
+pub not_all : {hand : List ℕ} {now new : Reading} → ReadsAll now new → now.at_hand ≡ hand
+    → Contains hand 10 → ⊥
+not_all {hand} reads same has =
+    All-contains (λ byte. byte ≢ 10) hand 10 (rw same at reads.no_lf) has refl

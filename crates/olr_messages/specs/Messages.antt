@@ -42,11 +42,13 @@ pub record IsOver (old new : Option (List ℕ)) : Type 0 where
 
 -- Reading stops in the middle of a line: these bytes of what was left are lost, and none of them is LF. One call of the source
 -- failed, and was counted. Or none failed, and the line has 2 ^ 64 - 1 bytes at least, with those that are at hand.
-pub record IsCutOff (old new : Option (List ℕ)) (at_hand : List ℕ) (old_failed new_failed : ℕ) : Type 0 where
+pub record IsCutOff (old new : Option (List ℕ)) (at_hand : List ℕ)
+    (old_failed new_failed : ℕ) : Type 0 where
   pub lost : List ℕ
   pub consumed : Consumes old new lost
   pub no_lf : HasNoLf lost
-  pub cause : (new_failed ≡ one_more old_failed) ⊎ ((new_failed ≡ old_failed) × (2 ^ 64 - 1 ≤ length lost + length at_hand))
+  pub cause : (new_failed ≡ one_more old_failed)
+      ⊎ ((new_failed ≡ old_failed) × (2 ^ 64 - 1 ≤ length lost + length at_hand))
 
 -- ---- the parts of a step
 
@@ -75,28 +77,3 @@ pub record ReadsAll (old new : Reading) : Type 0 where
 pub record IsGiven (found : Bool) (old new : Option (List ℕ)) (bytes : List ℕ) : Type 0 where
   pub consumed : Consumes old new bytes
   pub cases : MatchBool found (0 < length bytes) ((bytes ≡ []) × IsAtEnd new)
-
--- these bytes are read behind the front of a line, and none of them is LF
-pub record ReadsPart (old new : Option (List ℕ)) (old_front new_front part : List ℕ) : Type 0 where
-  pub consumed : Consumes old new part
-  pub no_lf : HasNoLf part
-  pub front : new_front ≡ front_of (old_front ++ part)
-
--- the same, and the LF behind them
-pub record ReadsRest (old new : Option (List ℕ)) (old_front new_front : List ℕ) : Type 0 where
-  pub part : List ℕ
-  pub consumed : Consumes old new (part ++ 10 ∷ [])
-  pub no_lf : HasNoLf part
-  pub front : new_front ≡ front_of (old_front ++ part)
-
--- the same, to the end of the source
-pub record ReadsToEnd (old new : Option (List ℕ)) (old_front new_front : List ℕ) : Type 0 where
-  pub part : List ℕ
-  pub reads : ReadsPart old new old_front new_front part
-  pub at_end : IsAtEnd new
-
--- whether there was a line: its rest is read, and it isn't empty where it ends with the source
-abbrev pub ReadsOn : Bool → Option (List ℕ) → Option (List ℕ) → List ℕ → List ℕ → Type 0
-ReadsOn found old new old_front new_front =
-    MatchBool found (ReadsRest old new old_front new_front ⊎ (ReadsToEnd old new old_front new_front × (new_front ≢ [])))
-    (ReadsToEnd old new old_front new_front × (new_front ≡ []))

@@ -6,7 +6,7 @@ ghost use Rattle.std.specs.Io.KnownBytes.{Keeps};
 ghost use Rattle.olr_metric.specs.Counting.{Counts};
 ghost use Rattle.olr_messages.specs.Content.{IsMessageOfLine, message_of};
 ghost use Rattle.olr_messages.specs.Messages.{front_of, left_of, ReadsLine, IsOver, IsCutOff};
-ghost use Rattle.olr_messages.specs.Messages.{IsGiven, ReadsToLf, ReadsAll, ReadsOn};
+ghost use Rattle.olr_messages.specs.Messages.{IsGiven, ReadsToLf, ReadsAll};
 
 use crate::content::{Content, content_of_line};
 use memchr::memchr;
@@ -114,21 +114,38 @@ impl Messages {
         // A line that is at hand as a whole is answered from the bytes at hand alone.
         ensures answers { Contains self.old.at_hand LF → result ≡ Ok true }
         ensures asks_nothing { Contains self.old.at_hand LF → source.new ≡ source.old }
-        ensures at_hand { Contains self.old.at_hand LF → ReadsLine (Some self.old.at_hand) (Some self.new.at_hand) self.new.front }
+        ensures at_hand { Contains self.old.at_hand LF
+            → ReadsLine (Some self.old.at_hand) (Some self.new.at_hand) self.new.front }
     {
-        self.line.clear();
+        self.begin();
+        for _call in 0..u64::MAX {
+            if self.read_to_lf() {
+                return Ok(true);
+            }
+            if !self.refill(source)? {
+                return Ok(!self.line.is_empty());
+            }
+        }
         if self.read_to_lf() {
             return Ok(true);
         }
-        let found = self.read_on(source)?;
-        Ok(found)
+        Err(Failed)
     }
 
     /// What the record of the line says.
     pub fn content(&self) -> Content<'_>
-        ensures { (line : List ℕ) → self.now.front ≡ front_of line → IsMessageOfLine line (message_of result) }
+        ensures { (line : List ℕ) → self.now.front ≡ front_of line
+            → IsMessageOfLine line (message_of result) }
     {
         content_of_line(&self.line)
+    }
+
+    /// Begins a line: nothing of it is held.
+    fn begin(&mut self)
+        ensures at_hand { self.new.at_hand ≡ self.old.at_hand }
+        ensures front { self.new.front ≡ [] }
+    {
+        self.line.clear();
     }
 
     /// Reads the bytes at hand up to an LF, and passes that over; whether there was one.
@@ -149,7 +166,8 @@ impl Messages {
     /// Asks the source for bytes, where none is at hand; whether it gave any.
     fn refill<S: Source>(&mut self, source: &mut S) -> Result<bool, Failed>
         requires none_at_hand { self.old.at_hand ≡ [] }
-        ensures gives { IfOk result (λ found. IsGiven found (S.left source.old) (S.left source.new) self.new.at_hand) }
+        ensures gives { IfOk result (λ found.
+            IsGiven found (S.left source.old) (S.left source.new) self.new.at_hand) }
         ensures counts { Counts result (S.failed source.old) (S.failed source.new) }
         ensures err { OnErr result (Keeps (S.left source.old) (S.left source.new)) }
         ensures none_at_hand { OnErr result (self.new.at_hand ≡ []) }
@@ -159,28 +177,5 @@ impl Messages {
         self.to = 0;
         self.to = source.pull(&mut self.chunk)?;
         Ok(self.to > 0)
-    }
-
-    /// Reads the rest of a line, where no byte is at hand, up to an LF or to the end; whether there is a
-    /// line, which isn't empty where it ends with the source.
-    fn read_on<S: Source>(&mut self, source: &mut S) -> Result<bool, Failed>
-        requires none_at_hand { self.old.at_hand ≡ [] }
-        requires is_front { front_of self.old.front ≡ self.old.front }
-        ensures reads { IfOk result (λ found. ReadsOn found (S.left source.old) (left_of self.new (S.left source.new)) self.old.front self.new.front) }
-        ensures none_failed { OnOk result (S.failed source.new ≡ S.failed source.old) }
-        ensures cut_off { OnErr result (IsCutOff
-            (S.left source.old) (left_of self.new (S.left source.new)) self.new.at_hand
-            (S.failed source.old) (S.failed source.new)) }
-        ensures none_at_hand { OnErr result (self.new.at_hand ≡ []) }
-    {
-        for _call in 0..u64::MAX {
-            if !self.refill(source)? {
-                return Ok(!self.line.is_empty());
-            }
-            if self.read_to_lf() {
-                return Ok(true);
-            }
-        }
-        Err(Failed)
     }
 }

@@ -1,4 +1,6 @@
 pub mod Checks
+pub mod Contained
+pub mod Rising
 mod Roots
 mod Apart
 mod Floors

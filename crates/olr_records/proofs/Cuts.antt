@@ -12,7 +12,7 @@ behind_first [] = []
 behind_first (x ∷ xs) = xs
 
 later : (byte c : ℕ) (text : List ℕ) → Avoids byte (c ∷ text) → Avoids byte text
-later byte c text avoids = λ k inside. avoids (suc k) (omega (arith, inside))
+later byte c text avoids = λ k inside. avoids (suc k) (omega arith)
 
 -- two parts that avoid the byte behind them
 pub one_way : (byte : ℕ) (a b x y : List ℕ) → Avoids byte a → Avoids byte x → a ++ byte ∷ b ≡ x ++ byte ∷ y → (a ≡ x) × (b ≡ y)
@@ -20,7 +20,7 @@ one_way byte [] b [] y fa fx e = (refl, ap behind_first e)
 one_way byte [] b (d ∷ x) y fa fx e = absurd (fx 0 (omega arith) (sym (ap (λ (l : List ℕ). get_or l 0 0) e)))
 one_way byte (c ∷ a) b [] y fa fx e = absurd (fa 0 (omega arith) (ap (λ (l : List ℕ). get_or l 0 0) e))
 one_way byte (c ∷ a) b (d ∷ x) y fa fx e =
-    let rest = one_way byte a b x y (later byte c a fa) (later byte d x fx) (ap behind_first e) in
+    let rest = one_way _ a b x y (later _ c a fa) (later _ d x fx) (ap behind_first e) in
     let first = ap (λ (l : List ℕ). get_or l 0 0) e in
     (ap (λ (h : ℕ). h ∷ a) first ∙ ap (λ (l : List ℕ). d ∷ l) rest.0, rest.1)
 
@@ -30,7 +30,7 @@ at_end byte (c ∷ front) rest = at_end byte front rest
 
 inside_of : (byte : ℕ) (front rest : List ℕ) → length front < length (front ++ byte ∷ rest)
 inside_of byte [] rest = omega arith
-inside_of byte (c ∷ front) rest = let deeper = inside_of byte front rest in omega (arith, deeper)
+inside_of byte (c ∷ front) rest = let deeper = inside_of byte front rest in omega arith
 
 -- what is taken apart at a byte doesn't avoid it
 pub not_avoided : (byte : ℕ) (text front rest : List ℕ) → text ≡ front ++ byte ∷ rest → Avoids byte text → ⊥
@@ -40,7 +40,7 @@ not_avoided byte text front rest whole avoids =
 -- parts that avoid a byte, and another byte between them
 pub avoids_parts : (byte other : ℕ) (front rest : List ℕ) → Avoids byte front → (other ≡ byte → ⊥) → Avoids byte rest → Avoids byte (front ++ other ∷ rest)
 avoids_parts byte other [] rest ff differs fr zero inside e = differs e
-avoids_parts byte other [] rest ff differs fr (suc k) inside e = fr k (omega (arith, inside)) e
+avoids_parts byte other [] rest ff differs fr (suc k) inside e = fr k (omega arith) e
 avoids_parts byte other (c ∷ front) rest ff differs fr zero inside e = ff 0 (omega arith) e
 avoids_parts byte other (c ∷ front) rest ff differs fr (suc k) inside e =
-    avoids_parts byte other front rest (later byte c front ff) differs fr k (omega (arith, inside)) e
+    avoids_parts byte other front rest (later byte c front ff) differs fr k (omega arith) e

@@ -16,15 +16,15 @@ use Rattle.olr_records.specs.Front.{IsSeparator, behind, Begins}
 pub small : (text : List ℕ) (i k : ℕ) → i ≤ length text → i ≤ k → AllDigits 10 (take i text) → digits_value 10 (take i text) < 10 ^ k
 small text i k inside short digits =
     let size = length-take-le i text inside in
-    digits_value_short (numerals_by_value (AllDigits 10) tells_digits) (take i text) k digits (omega (arith, size, short))
+    digits_value_short (numerals_by_value (AllDigits 10) tells_digits) (take i text) k digits (omega arith)
 
 -- the value of one digit more
-pub value_after : (text : List ℕ) (i value : ℕ) → i < length text → IsAsciiDigit (get_or text i 0) → value ≡ digits_value 10 (take i text)
+pub value_after : (text : List ℕ) (i : ℕ) {value : ℕ} → i < length text → IsAsciiDigit (get_or text i 0) → value ≡ digits_value 10 (take i text)
     → 10 * value + (get_or text i 0 - 48) ≡ digits_value 10 (take (i + 1) text)
-value_after text i value inside digit same =
-    let d = digit_value_digit (get_or text i 0) digit in
+value_after text i inside digit same =
+    let d = digit_value_digit _ digit in
     let more = digits_value_more 10 text i inside in
-    omega (arith, d, more, same)
+    omega arith
 
 -- ---- the digits with which a text begins
 
@@ -35,33 +35,33 @@ pub record AreFirstDigits (text : List ℕ) (count : ℕ) : Type 0 where
   pub all : count < 17 → count < length text → IsNotAsciiDigit (get_or text count 0)
 
 not_both : (byte : ℕ) → IsAsciiDigit byte → IsNotAsciiDigit byte → ⊥
-not_both byte digit other = elim other [ inl low ↦ omega (arith, digit.0, low) | inr high ↦ omega (arith, digit.1, high) ]
+not_both byte digit other = elim other [ inl low ↦ omega arith | inr high ↦ omega arith ]
 
 -- what follows the part that a number spells begins with no digit
-no_digit_behind : (byte : ℕ) (rest : Option (List ℕ)) → IsSeparator byte → 0 < length (behind byte rest) → IsNotAsciiDigit (get_or (behind byte rest) 0 0)
-no_digit_behind byte None separates some = absurd (omega (arith, some))
-no_digit_behind byte (Some rest) separates some = elim separates [ inl low ↦ inl (omega (arith, low)) | inr high ↦ inr (omega (arith, high)) ]
+no_digit_behind : {byte : ℕ} (rest : Option (List ℕ)) → IsSeparator byte → 0 < length (behind byte rest) → IsNotAsciiDigit (get_or (behind byte rest) 0 0)
+no_digit_behind None separates some = absurd (omega arith)
+no_digit_behind (Some rest) separates some = elim separates [ inl low ↦ inl (omega arith) | inr high ↦ inr (omega arith) ]
 
 -- a number in front of a text has all of these digits
 pub all_digits : (text : List ℕ) (count : ℕ) (byte n : ℕ) (rest : Option (List ℕ)) → IsSeparator byte → AreFirstDigits text count
     → (begins : Begins (λ front. IsNumber front n) byte text rest) → length begins.front ≡ count
 all_digits text count byte n rest separates are begins =
     let front = begins.front in
-    let tail = behind byte rest in
+    let tail = behind _ _ in
     let size = ap (λ (l : List ℕ). length l) begins.whole ∙ length-append front tail in
     let fewer : length front < count → ⊥ = λ less.
     let there = get_or-take count text (length front) 0 less ∙ ap (λ (l : List ℕ). get_or l (length front) 0) begins.whole
     ∙ ap (λ (k : ℕ). get_or (front ++ tail) k 0) (omega arith) ∙ get_or-append-add front tail 0 0 in
-    not_both (get_or tail 0 0)
-    (subst IsAsciiDigit there (digit_at (take count text) (length front) are.digits (omega (arith, less, length-take-le count text are.within))))
-    (no_digit_behind byte rest separates (omega (arith, less, size, are.within))) in
+    not_both _
+    (subst IsAsciiDigit there (digit_at (take count text) (length front) are.digits (omega (arith, length-take-le count text are.within))))
+    (no_digit_behind _ separates (omega arith)) in
     let more : count < length front → ⊥ = λ less.
-    let there = ap (λ (l : List ℕ). get_or l count 0) begins.whole ∙ get_or-append front tail 0 count less in
-    not_both (get_or front count 0) (digit_at front count begins.spelled.digits.1 less)
-    (subst IsNotAsciiDigit there (are.all (omega (arith, less, begins.spelled.short)) (omega (arith, less, size)))) in
+    let there = ap (λ (l : List ℕ). get_or l count 0) begins.whole ∙ get_or-append front tail 0 _ less in
+    not_both _ (digit_at front count begins.spelled.digits.1 less)
+    (subst IsNotAsciiDigit there (are.all (omega arith) (omega arith))) in
     elim (cases_lt (length front) count) [
       | inl less ↦ absurd (fewer less)
-      | inr least ↦ elim (cases_lt count (length front)) [ inl less ↦ absurd (more less) | inr most ↦ omega (arith, least, most) ]
+      | inr least ↦ elim (cases_lt count (length front)) [ inl less ↦ absurd (more less) | inr most ↦ omega arith ]
     ]
 
 -- and what follows it follows them
@@ -70,4 +70,4 @@ pub behind_digits : (text : List ℕ) (count : ℕ) (byte n : ℕ) (rest : Optio
 behind_digits text count byte n rest separates are begins =
     let count_is = all_digits text count byte n rest separates are begins in
     ap (λ (k : ℕ). take k (drop count text)) (sym (length-drop count text)) ∙ take-length (drop count text)
-    ∙ ap (λ (k : ℕ). drop k text) (sym count_is) ∙ ap (λ (l : List ℕ). drop (length begins.front) l) begins.whole ∙ drop-append_seam begins.front (behind byte rest)
+    ∙ ap (λ (k : ℕ). drop k text) (sym count_is) ∙ ap (λ (l : List ℕ). drop (length begins.front) l) begins.whole ∙ drop-append_seam begins.front (behind _ _)

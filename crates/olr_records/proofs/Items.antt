@@ -8,10 +8,9 @@ use Rattle.olr_records.proofs.Cuts.{Avoids, behind_first, one_way, not_avoided, 
 use Rattle.olr_records.proofs.Signs.{signed_avoids, begins_once, whole_begins}
 
 -- an item has no ';'
-item_avoids : (text : List ℕ) (place : Coordinates) → IsItem text place → Avoids 59 text
-item_avoids text place is = subst (λ (l : List ℕ). Avoids 59 l) (sym is.spaced)
-    (avoids_parts 59 32 is.lon is.lat (signed_avoids 59 is.lon place.lon (inr (omega arith)) is.longitude.number) (λ e. omega (arith, e))
-    (signed_avoids 59 is.lat place.lat (inr (omega arith)) is.latitude.number))
+item_avoids : (text : List ℕ) {place : Coordinates} → IsItem text place → Avoids 59 text
+item_avoids text is = rw is.spaced (avoids_parts _ _ _ _ (signed_avoids _ (inr (omega arith)) is.longitude.number) (λ e. omega (arith, e))
+    (signed_avoids _ (inr (omega arith)) is.latitude.number))
 
 -- ---- the two numbers of an item in front of a text
 
@@ -22,7 +21,7 @@ longitude_of_item text place rest begins =
     let is = begins.spelled in
     record {
       front = is.lon;
-      whole = begins.whole ∙ ap (λ (l : List ℕ). l ++ behind 59 rest) is.spaced ∙ append_assoc is.lon (32 ∷ is.lat) (behind 59 rest);
+      whole = begins.whole ∙ ap (λ (l : List ℕ). l ++ behind _ _) is.spaced ∙ append_assoc is.lon (32 ∷ is.lat) (behind _ _);
       spelled = is.longitude;
     }
 
@@ -30,10 +29,10 @@ number_of : {text : List ℕ} {rest : Option (List ℕ)} {lon : ℤ} → Begins 
 number_of begins = record { front = begins.front; whole = begins.whole; spelled = begins.spelled.number }
 
 -- behind that longitude there is a space
-pub spaced : (text : List ℕ) (lon : ℤ) (place : Coordinates) (rest : Option (List ℕ)) → Begins (λ front. SpellsLongitude front lon) 32 text None
+pub spaced : (text : List ℕ) {lon : ℤ} (place : Coordinates) (rest : Option (List ℕ)) → Begins (λ front. SpellsLongitude front lon) 32 text None
     → Begins (λ front. IsItem front place) 59 text rest → ⊥
-spaced text lon place rest first begins =
-    let same = begins_once text 32 lon place.lon None _ (inl (omega arith)) (number_of first) (number_of (longitude_of_item text place rest begins)) in
+spaced text place rest first begins =
+    let same = begins_once _ _ _ _ None _ (inl (omega arith)) (number_of first) (number_of (longitude_of_item text place rest begins)) in
     absurd cc
 
 -- and then a latitude
@@ -45,11 +44,11 @@ latitude_of_item text lon after place rest first begins =
     record { front = begins.spelled.lat; whole = ap behind_first same.1; spelled = begins.spelled.latitude }
 
 -- both are an item
-pub item_of_both : (text : List ℕ) (place : Coordinates) (after : List ℕ) (rest : Option (List ℕ)) → Begins (λ front. SpellsLongitude front place.lon) 32 text (Some after)
+pub item_of_both : {text : List ℕ} (place : Coordinates) {after : List ℕ} {rest : Option (List ℕ)} → Begins (λ front. SpellsLongitude front place.lon) 32 text (Some after)
     → Begins (λ front. SpellsLatitude front place.lat) 59 after rest → Begins (λ front. IsItem front place) 59 text rest
-item_of_both text place after rest first second = record {
+item_of_both place first second = record {
   front = first.front ++ 32 ∷ second.front;
-  whole = first.whole ∙ ap (λ (l : List ℕ). first.front ++ 32 ∷ l) second.whole ∙ sym (append_assoc first.front (32 ∷ second.front) (behind 59 rest));
+  whole = first.whole ∙ ap (λ (l : List ℕ). first.front ++ 32 ∷ l) second.whole ∙ sym (append_assoc first.front (32 ∷ second.front) (behind _ _));
   spelled = record { lon = first.front; lat = second.front; spaced = refl; longitude = first.spelled; latitude = second.spelled };
 }
 
@@ -71,37 +70,36 @@ pub record Continues (text : List ℕ) (front : List Coordinates) (rest : List �
   pub back : (places : List Coordinates) → AreItems text places
       → (place : Coordinates) × (others : List Coordinates) × (places ≡ front ++ place ∷ others) × AreItems rest (place ∷ others)
 
-some_place : (text : List ℕ) (places : List Coordinates) → AreItems text places
+some_place : {text : List ℕ} (places : List Coordinates) → AreItems text places
     → (place : Coordinates) × (others : List Coordinates) × (places ≡ place ∷ others) × AreItems text (place ∷ others)
-some_place text [] are = absurd are
-some_place text (place ∷ others) are = (place, others, refl, are)
+some_place [] are = absurd are
+some_place (place ∷ others) are = (place, others, refl, are)
 
-pub at_start : (text : List ℕ) → Continues text [] text
-at_start text = record { forth = λ place others are. are; back = some_place text }
+pub at_start : {text : List ℕ} → Continues text [] text
+at_start = record { forth = λ place others are. are; back = some_place }
 
 -- what a rest spells begins with what its first item spells
 pub rest_of_item : (rest others : List ℕ) (place next : Coordinates) (places : List Coordinates) → Begins (λ front. IsItem front place) 59 rest (Some others)
     → AreItems rest (next ∷ places)
     → (next ≡ place) × (q : Coordinates) × (qs : List Coordinates) × (places ≡ q ∷ qs) × AreItems others (q ∷ qs)
-rest_of_item rest others place next [] begins are = absurd (not_avoided 59 rest begins.front others begins.whole (item_avoids rest next are))
+rest_of_item rest others place next [] begins are = absurd (not_avoided _ _ _ _ begins.whole (item_avoids _ are))
 rest_of_item rest others place next (q ∷ qs) begins are =
-    let same = one_way 59 begins.front others are.0 are.1 (item_avoids begins.front place begins.spelled) (item_avoids are.0 next are.3) (sym begins.whole ∙ are.2) in (
-      item_once begins.front next place (subst (λ (l : List ℕ). IsItem l next) (sym same.0) are.3) begins.spelled,
+    let same = one_way _ _ _ _ _ (item_avoids _ begins.spelled) (item_avoids _ are.3) (sym begins.whole ∙ are.2) in (
+      item_once _ _ _ (rw same.0 are.3) begins.spelled,
       q,
       qs,
       refl,
-      subst (λ (l : List ℕ). AreItems l (q ∷ qs)) (sym same.1) are.4,
+      rw same.1 are.4,
     )
 
 pub one_more_item : (text : List ℕ) (front : List Coordinates) (rest others : List ℕ) (place : Coordinates)
     → Continues text front rest → Begins (λ front. IsItem front place) 59 rest (Some others) → Continues text (front ++ place ∷ []) others
 one_more_item text front rest others place continues begins = record {
   forth = λ next places are.
-      subst (λ (l : List Coordinates). AreItems text l) (sym (append_assoc front (place ∷ []) (next ∷ places)))
-      (continues.forth place (next ∷ places) (begins.front, others, begins.whole, begins.spelled, are));
+      rw (append_assoc front (place ∷ []) (next ∷ places)) (continues.forth place (next ∷ places) (begins.front, others, begins.whole, begins.spelled, are));
   back = λ places are.
       let found = continues.back places are in
-      let step = rest_of_item rest others place found.0 found.1 begins found.3 in (
+      let step = rest_of_item _ _ _ _ _ begins found.3 in (
         step.1,
         step.2,
         found.2 ∙ ap (λ (l : List Coordinates). front ++ l) (ap (λ (p : Coordinates). p ∷ found.1) step.0 ∙ ap (λ (l : List Coordinates). place ∷ l) step.3)
@@ -111,14 +109,14 @@ one_more_item text front rest others place continues begins = record {
 }
 
 -- a rest that begins with no item
-pub no_item : (text : List ℕ) (front : List Coordinates) (rest : List ℕ) → Continues text front rest
+pub no_item : {text : List ℕ} (front : List Coordinates) (rest : List ℕ) → Continues text front rest
     → ((place : Coordinates) (others : Option (List ℕ)) → ¬ (Begins (λ front. IsItem front place) 59 rest others))
     → (places : List Coordinates) → AreItems text places → ⊥
-no_item text front rest continues none places are =
+no_item front rest continues none places are =
     let found = continues.back places are in
     first rest found.0 found.1 none found.3
   where
     first : (rest : List ℕ) (place : Coordinates) (places : List Coordinates) → ((place : Coordinates) (others : Option (List ℕ)) → ¬ (Begins (λ front. IsItem front place) 59 rest others))
         → AreItems rest (place ∷ places) → ⊥
-    first rest place [] none are = none place None (whole_begins _ 59 rest are)
+    first rest place [] none are = none place None (whole_begins _ _ _ are)
     first rest place (q ∷ qs) none are = none place (Some are.1) (record { front = are.0; whole = are.2; spelled = are.3 })

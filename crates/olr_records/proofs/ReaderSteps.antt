@@ -17,10 +17,10 @@ unfolding records_left records_of
 records_at_start reader text state source = rw (state, source) refl
 
 -- the records from a state on are what the next read gives, and those after it
-opened : (s : State) (xs : List ℕ) (r : Option Read) → next_record default_config s [] [] xs ≡ r
+opened : (s : State) (xs : List ℕ) {r : Option Read} → next_record default_config s [] [] xs ≡ r
     → records_from default_config (length xs + 1) s xs ≡ records_next (records_from default_config (length xs)) r
 unfolding records_from
-opened s xs r e = rw add-one (ap (records_next (records_from default_config (length xs))) e)
+opened s xs e = rw add-one (ap (records_next (records_from default_config (length xs))) e)
 
 -- what one read from a state on gives of the records from there on
 abbrev IsOneRead : State → State → List ℕ → List ℕ → Bool → List (List ℕ) → Type 0
@@ -30,23 +30,23 @@ IsOneRead s s2 xs ys found fields = (found ≡ true → ends_at_end s2 ≡ false
 read_none : (s s2 : State) (xs ys : List ℕ) (found : Bool) (fields : List (List ℕ)) → next_record default_config s [] [] xs ≡ None → found ≡ false
     → IsOneRead s s2 xs ys found fields
 read_none s s2 xs ys true fields e none = absurd cc
-read_none s s2 xs ys false fields e none = (λ h. absurd cc, opened s xs None e)
+read_none s s2 xs ys false fields e none = (λ h. absurd cc, opened s _ e)
 
-read_some : (s s2 : State) (xs ys : List ℕ) (found : Bool) (fields : List (List ℕ)) (p : Read) → ends_at_end s ≡ false → next_record default_config s [] [] xs ≡ Some p
+read_some : (s : State) {s2 : State} (xs : List ℕ) {ys : List ℕ} (found : Bool) {fields : List (List ℕ)} (p : Read) → ends_at_end s ≡ false → next_record default_config s [] [] xs ≡ Some p
     → found ≡ true → fields ≡ p.0 → s2 ≡ p.1 → ys ≡ p.2 → IsOneRead s s2 xs ys found fields
-read_some s s2 xs ys false fields p state e some first second third = absurd cc
-read_some s s2 xs ys true fields p state e some first second third =
-    let left = left_after s xs p state e in
+read_some s xs false p state e some first second third = absurd cc
+read_some s xs true p state e some first second third =
+    let left = left_after s _ p state e in
     let same : records_from default_config (length xs) p.1 p.2 ≡ records_from default_config (length p.2 + 1) p.1 p.2 =
-    same_records (length xs) (length p.2 + 1) p.1 p.2 left.state left.shorter (omega arith) in
-    (λ h. rw second left.state, rw (first, second, third) (opened s xs (Some p) e ∙ ap (λ (rs : List (List (List ℕ))). p.0 ∷ rs) same))
+    same_records _ _ _ _ left.state left.shorter (omega arith) in
+    (λ h. rw second left.state, rw (first, second, third) (opened s _ e ∙ ap (λ (rs : List (List (List ℕ))). p.0 ∷ rs) same))
 
 one_read : (s s2 : State) (xs ys : List ℕ) (found : Bool) (fields : List (List ℕ)) → ends_at_end s ≡ false
     → NextIs (next_record default_config s [] [] xs) found fields s2 ys → IsOneRead s s2 xs ys found fields
 one_read s s2 xs ys found fields state next =
     elim (next_record default_config s [] [] xs) as (λ r. next_record default_config s [] [] xs ≡ r → NextIs r found fields s2 ys → IsOneRead s s2 xs ys found fields) [
-      | None ↦ λ e h. read_none s s2 xs ys found fields e h
-      | Some p ↦ λ e h. read_some s s2 xs ys found fields p state e h.0 h.1 h.2 h.3
+      | None ↦ λ e h. read_none s _ _ _ _ _ e h
+      | Some p ↦ λ e h. read_some s _ _ p state e h.0 h.1 h.2 h.3
     ] refl next
 
 -- ---- readers
@@ -61,7 +61,7 @@ chosen false false x y works = (y, refl)
 
 -- what is left is known
 source_known : (reader : Reader (Bor (List ℕ))) → has_failed reader ≡ false → (text : List ℕ) × (source_of known reader ≡ Some text)
-source_known reader works = chosen reader.failed _ _ _ works
+source_known reader works = chosen _ _ _ _ works
 
 -- after a read, what is left is what is in the buffer and behind it
 source_after : (reader : Reader (Bor (List ℕ))) → reader.bom_checked ≡ true → source_of known reader ≡ pending_of (known reader.rdr) reader
@@ -78,7 +78,7 @@ pub read_one : (old new : Reader (Bor (List ℕ))) (found : Bool) (fields : List
 read_one old new found fields plain read first works flexible =
     let before = source_known old plain.works in
     let after = source_known new (works ∙ plain.works) in
-    let pending : pending_of (known new.rdr) new ≡ Some after.0 = sym (source_after new read.1) ∙ after.1 in
+    let pending : pending_of (known new.rdr) new ≡ Some after.0 = cc in
     let next = rw (plain.defaults, before.1, pending) at read.0 in
     let step = one_read (reader_state old) (reader_state new) before.0 after.0 found fields plain.between next in (
       λ h. record {
@@ -98,12 +98,12 @@ by_first false P h = inr (h refl)
 
 -- the next read of such a reader is of one record
 pub plain_ready : (reader : Reader (Bor (List ℕ))) → IsPlain reader → Ready reader
-plain_ready reader plain = elim (by_first (took_first reader) ((names_headers reader ≡ false) × (reader_headers reader ≡ None)) plain.headers) [ inl taken ↦ inl taken | inr none ↦ inr (inr none) ]
+plain_ready reader plain = elim (by_first _ _ plain.headers) [ inl taken ↦ inl taken | inr none ↦ inr (inr none) ]
 
 -- the same records, of what is over where none was found
-pub after_read : (found over : Bool) (value : List (List (List ℕ))) (fields : List (List ℕ)) (old new : Reader (Bor (List ℕ))) → over ≡ false → records_until over old ≡ value
+pub after_read : (found over : Bool) {value : List (List (List ℕ))} (fields : List (List ℕ)) (old new : Reader (Bor (List ℕ))) → over ≡ false → records_until over old ≡ value
     → MatchBool found (records_left old ≡ fields ∷ records_left new) (records_left old ≡ [])
     → MatchBool found (value ≡ fields ∷ records_until (not found) new) ((value ≡ []) × (records_until (not found) new ≡ []))
-after_read found true value fields old new e view step = absurd cc
-after_read true false value fields old new e view step = sym view ∙ step
-after_read false false value fields old new e view step = (sym view ∙ step, refl)
+after_read found true fields old new e view step = absurd cc
+after_read true false fields old new e view step = sym view ∙ step
+after_read false false fields old new e view step = (sym view ∙ step, refl)

@@ -27,21 +27,21 @@ at_end : (text : List ℕ) (fields : List (List ℕ)) (s : State) (rest : List �
     → ◌≡◌ {A = Option Read} (Some (fields, s, rest)) (Some p) → BytesLeft text p
 at_end text fields s rest p short state e =
     let same : ◌≡◌ {A = Read} (fields, s, rest) p = cc in
-    subst (λ (q : Read). BytesLeft text q) same (record { shorter = short; state = state })
+    rw (← same) (record { shorter = short; state = state })
 
 -- what is read where the text ends
 at_text_end : (text : List ℕ) (fields : List (List ℕ)) (b : Bool) (p : Read) → 0 < length text → cond b (Some (fields, st.StartRecord, [])) None ≡ Some p → BytesLeft text p
-at_text_end text fields true p some e = at_end text fields st.StartRecord [] p some refl e
+at_text_end text fields true p some e = at_end _ _ _ _ p some refl e
 at_text_end text fields false p some e = absurd cc
 
 -- what is read after one byte
 after_byte : (text : List ℕ) (fields : List (List ℕ)) (s : State) (rest : List ℕ) (more : Option Read) (b : Bool) (p : Read) → length rest < length text
     → (b ≡ true → ends_at_end s ≡ false) → (more ≡ Some p → BytesLeft text p) → cond b (Some (fields, s, rest)) more ≡ Some p → BytesLeft text p
-after_byte text fields s rest more true p short state goes e = at_end text fields s rest p short (state refl) e
+after_byte text fields s rest more true p short state goes e = at_end _ _ s _ p short (state refl) e
 after_byte text fields s rest more false p short state goes e = goes e
 
 longer : (c : ℕ) (rest : List ℕ) (p : Read) → BytesLeft rest p → BytesLeft (c ∷ rest) p
-longer c rest p left = record { shorter = omega (arith, left.shorter); state = left.state }
+longer c rest p left = record { shorter = omega arith; state = left.state }
 
 next_shorter : (rest : List ℕ) (c : ℕ) (s : State) (fields : List (List ℕ)) (field : List ℕ) (p : Read) → next_record default_config s fields field (c ∷ rest) ≡ Some p → BytesLeft (c ∷ rest) p
 unfolding next_record
@@ -59,8 +59,8 @@ none_at_end false q p state e = cc
 -- what a read of a record leaves
 pub left_after : (s : State) (text : List ℕ) (p : Read) → ends_at_end s ≡ false → next_record default_config s [] [] text ≡ Some p → BytesLeft text p
 unfolding next_record
-left_after s [] p state e = absurd (none_at_end (ends_at_end s) _ p state e)
-left_after s (c ∷ rest) p state e = next_shorter rest c s [] [] p e
+left_after s [] p state e = absurd (none_at_end _ _ p state e)
+left_after s (c ∷ rest) p state e = next_shorter _ c s _ _ p e
 
 -- more turns than bytes give the same records
 pub same_records : (m n : ℕ) (s : State) (text : List ℕ) → ends_at_end s ≡ false → length text < m → length text < n
@@ -73,7 +73,7 @@ same_records (suc m) (suc n) s text state a b =
     → records_next (records_from default_config m) r ≡ records_next (records_from default_config n) r) [
       | None ↦ λ e. refl
       | Some p ↦ λ e.
-          let left = left_after s text p state e in
+          let left = left_after s _ p state e in
           ap (λ (rs : List (List (List ℕ))). p.0 ∷ rs)
-          (same_records m n p.1 p.2 left.state (omega (arith, left.shorter)) (omega (arith, left.shorter)))
+          (same_records m n _ _ left.state (omega arith) (omega arith))
     ] refl

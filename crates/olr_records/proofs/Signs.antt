@@ -13,21 +13,21 @@ use Rattle.olr_records.proofs.Cuts.{Avoids, behind_first, one_way, not_avoided}
 -- ---- what is none
 
 -- what begins with no number and no sign
-pub none_plain : (text : List ℕ) (first : ℕ) (digits : List ℕ) (byte : ℕ) → text ≡ first ∷ digits → first ≢ 45
+pub none_plain : {text : List ℕ} {first : ℕ} {digits : List ℕ} (byte : ℕ) → text ≡ first ∷ digits → first ≢ 45
     → ((n : ℕ) (rest : Option (List ℕ)) → ¬ (Begins (λ front. IsNumber front n) byte text rest)) → (z : ℤ) (rest : Option (List ℕ)) → Begins (λ front. IsSignedNumber front z) byte text rest → ⊥
-none_plain text first digits byte whole other none z rest begins = elim begins.spelled [
+none_plain byte whole other none z rest begins = elim begins.spelled [
   | inl plain ↦ none plain.0 rest (record { front = begins.front; whole = begins.whole; spelled = plain.1 })
   | inr negative ↦
       other (ap (λ (l : List ℕ). get_or l 0 0) (sym whole ∙ begins.whole ∙ ap (λ (l : List ℕ). l ++ behind byte rest) negative.minus))
 ]
 
 -- a sign, and what begins with no number
-pub none_negative : (text digits : List ℕ) (byte : ℕ) → text ≡ 45 ∷ digits
+pub none_negative : {text digits : List ℕ} (byte : ℕ) → text ≡ 45 ∷ digits
     → ((n : ℕ) (rest : Option (List ℕ)) → ¬ (Begins (λ front. IsNumber front n) byte digits rest)) → (z : ℤ) (rest : Option (List ℕ)) → Begins (λ front. IsSignedNumber front z) byte text rest → ⊥
-none_negative text digits byte whole none z rest begins = elim begins.spelled [
+none_negative byte whole none z rest begins = elim begins.spelled [
   | inl plain ↦
-      let first = ap (λ (l : List ℕ). get_or l 0 0) (sym whole ∙ begins.whole) ∙ get_or-append begins.front (behind byte rest) 0 0 plain.1.digits.0 in
-      omega (arith, first, (digit_at begins.front 0 plain.1.digits.1 plain.1.digits.0).0)
+      let first = ap (λ (l : List ℕ). get_or l 0 0) (sym whole ∙ begins.whole) ∙ get_or-append begins.front (behind _ _) 0 0 plain.1.digits.0 in
+      omega (arith, (digit_at begins.front 0 plain.1.digits.1 plain.1.digits.0).0)
   | inr negative ↦ none negative.n rest (record {
     front = negative.digits;
     whole = ap behind_first (sym whole ∙ begins.whole ∙ ap (λ (l : List ℕ). l ++ behind byte rest) negative.minus);
@@ -38,11 +38,11 @@ none_negative text digits byte whole none z rest begins = elim begins.spelled [
 -- ---- what is one
 
 plain : (n : ℕ) → n < 10 ^ 16 → to_z w64 n ≡ pos n
-plain n small = to_z_pos w64 (omega (arith, small))
+plain n small = to_z_pos w64 (omega arith)
 
 negative_fits : (n : ℕ) → n < 10 ^ 16 → FitsSigned w64 (neg_ℤ (pos n))
 negative_fits zero small = record { sfits = omega arith }
-negative_fits (suc k) small = record { sfits = omega (arith, small) }
+negative_fits (suc k) small = record { sfits = omega arith }
 
 negated : (n : ℕ) → n < 10 ^ 16 → to_z w64 (of_z w64 (pos 0 -ℤ to_z w64 n)) ≡ neg_ℤ (pos n)
 negated n small = rw (plain n small, +ℤ_idl (neg_ℤ (pos n))) (to_z-of_z (negative_fits n small))
@@ -53,9 +53,9 @@ pub is_plain : (text : List ℕ) (byte : ℕ) (n : ℕ) (rest : Option (List ℕ
 is_plain text byte n rest begins small = record { front = begins.front; whole = begins.whole; spelled = inl (n, begins.spelled, plain n small) }
 
 -- and one behind a sign
-pub is_negative : (text digits : List ℕ) (byte : ℕ) (n : ℕ) (rest : Option (List ℕ)) → text ≡ 45 ∷ digits → Begins (λ front. IsNumber front n) byte digits rest → n < 10 ^ 16
+pub is_negative : {text : List ℕ} (digits : List ℕ) {byte : ℕ} (n : ℕ) {rest : Option (List ℕ)} → text ≡ 45 ∷ digits → Begins (λ front. IsNumber front n) byte digits rest → n < 10 ^ 16
     → Begins (λ front. IsSignedNumber front (to_z w64 (of_z w64 (pos 0 -ℤ to_z w64 n)))) byte text rest
-is_negative text digits byte n rest whole begins small = record {
+is_negative digits n whole begins small = record {
   front = 45 ∷ begins.front;
   whole = whole ∙ ap (λ (l : List ℕ). 45 ∷ l) begins.whole;
   spelled = inr (record { digits = begins.front; n = n; minus = refl; number = begins.spelled; value = negated n small });
@@ -63,57 +63,57 @@ is_negative text digits byte n rest whole begins small = record {
 
 -- ---- one value alone
 
-number_avoids : (byte : ℕ) (text : List ℕ) (n : ℕ) → IsSeparator byte → IsNumber text n → Avoids byte text
-number_avoids byte text n separates is k inside e =
+number_avoids : {byte : ℕ} (text : List ℕ) (n : ℕ) → IsSeparator byte → IsNumber text n → Avoids byte text
+number_avoids text n separates is k inside e =
     let range = digit_at text k is.digits.1 inside in
-    elim separates [ inl low ↦ omega (arith, range.0, e, low) | inr high ↦ omega (arith, range.1, e, high) ]
+    elim separates [ inl low ↦ omega arith | inr high ↦ omega arith ]
 
-negative_avoids : (byte : ℕ) (digits : List ℕ) (n : ℕ) → IsSeparator byte → IsNumber digits n → Avoids byte (45 ∷ digits)
-negative_avoids byte digits n separates is zero inside e = elim separates [ inl low ↦ omega (arith, e, low) | inr high ↦ omega (arith, e, high) ]
-negative_avoids byte digits n separates is (suc k) inside e = number_avoids byte digits n separates is k (omega (arith, inside)) e
+negative_avoids : {byte : ℕ} {digits : List ℕ} (n : ℕ) → IsSeparator byte → IsNumber digits n → Avoids byte (45 ∷ digits)
+negative_avoids n separates is zero inside e = elim separates [ inl low ↦ omega arith | inr high ↦ omega arith ]
+negative_avoids n separates is (suc k) inside e = number_avoids _ n separates is k (omega arith) e
 
 -- a signed number has no separator
-pub signed_avoids : (byte : ℕ) (text : List ℕ) (z : ℤ) → IsSeparator byte → IsSignedNumber text z → Avoids byte text
-signed_avoids byte text z separates is = elim is [
-  | inl plain ↦ number_avoids byte text plain.0 separates plain.1
-  | inr negative ↦ subst (λ (l : List ℕ). Avoids byte l) (sym negative.minus) (negative_avoids byte negative.digits negative.n separates negative.number)
+pub signed_avoids : {byte : ℕ} {text : List ℕ} (z : ℤ) → IsSeparator byte → IsSignedNumber text z → Avoids byte text
+signed_avoids {byte = byte} z separates is = elim is [
+  | inl plain ↦ number_avoids _ _ separates plain.1
+  | inr negative ↦ rw negative.minus (negative_avoids _ separates negative.number)
 ]
 
-plain_or_not : (text : List ℕ) (n : ℕ) (digits : List ℕ) → IsNumber text n → text ≡ 45 ∷ digits → ⊥
-plain_or_not text n digits is minus =
+plain_or_not : (text : List ℕ) {n : ℕ} {digits : List ℕ} → IsNumber text n → text ≡ 45 ∷ digits → ⊥
+plain_or_not text is minus =
     let range = digit_at text 0 is.digits.1 is.digits.0 in
     let first = ap (λ (l : List ℕ). get_or l 0 0) minus in
-    omega (arith, range.0, first)
+    omega arith
 
 -- a text spells one signed number
 pub signed_once : (text : List ℕ) (y z : ℤ) → IsSignedNumber text y → IsSignedNumber text z → y ≡ z
 signed_once text y z a b = elim a [
   | inl p ↦ elim b [
     | inl q ↦ p.2 ∙ ap (λ (n : ℕ). pos n) (p.1.value ∙ sym q.1.value) ∙ sym q.2
-    | inr q ↦ absurd (plain_or_not text p.0 q.digits p.1 q.minus)
+    | inr q ↦ absurd (plain_or_not _ p.1 q.minus)
   ]
   | inr p ↦ elim b [
-    | inl q ↦ absurd (plain_or_not text q.0 p.digits q.1 p.minus)
+    | inl q ↦ absurd (plain_or_not _ q.1 p.minus)
     | inr q ↦
         let same = ap behind_first (sym p.minus ∙ q.minus) in
         p.value ∙ ap (λ (n : ℕ). neg_ℤ (pos n)) (p.number.value ∙ ap (λ (l : List ℕ). digits_value 10 l) same ∙ sym q.number.value) ∙ sym q.value
   ]
 ]
 
-front_once : (byte : ℕ) (a x : List ℕ) (b y : Option (List ℕ)) → Avoids byte a → Avoids byte x → a ++ behind byte b ≡ x ++ behind byte y → (a ≡ x) × (behind byte b ≡ behind byte y)
-front_once byte a x None None fa fx e = (sym (append-nil a) ∙ e ∙ append-nil x, refl)
-front_once byte a x None (Some y) fa fx e = absurd (not_avoided byte a x y (sym (append-nil a) ∙ e) fa)
-front_once byte a x (Some b) None fa fx e = absurd (not_avoided byte x a b (sym (append-nil x) ∙ sym e) fx)
-front_once byte a x (Some b) (Some y) fa fx e =
-    let same = one_way byte a b x y fa fx e in
+front_once : {byte : ℕ} (a x : List ℕ) (b y : Option (List ℕ)) → Avoids byte a → Avoids byte x → a ++ behind byte b ≡ x ++ behind byte y → (a ≡ x) × (behind byte b ≡ behind byte y)
+front_once a x None None fa fx e = (sym (append-nil a) ∙ e ∙ append-nil x, refl)
+front_once a x None (Some y) fa fx e = absurd (not_avoided _ a x y (sym (append-nil a) ∙ e) fa)
+front_once a x (Some b) None fa fx e = absurd (not_avoided _ x a b (sym (append-nil x) ∙ sym e) fx)
+front_once {byte = byte} a x (Some b) (Some y) fa fx e =
+    let same = one_way _ a b x y fa fx e in
     (same.0, ap (λ (l : List ℕ). byte ∷ l) same.1)
 
 -- and begins with one, before the same text
 pub begins_once : (text : List ℕ) (byte : ℕ) (y z : ℤ) (r s : Option (List ℕ)) → IsSeparator byte
     → Begins (λ front. IsSignedNumber front y) byte text r → Begins (λ front. IsSignedNumber front z) byte text s → (y ≡ z) × (behind byte r ≡ behind byte s)
 begins_once text byte y z r s separates a b =
-    let same = front_once byte a.front b.front r s (signed_avoids byte a.front y separates a.spelled) (signed_avoids byte b.front z separates b.spelled) (sym a.whole ∙ b.whole) in
-    (signed_once b.front y z (subst (λ (l : List ℕ). IsSignedNumber l y) same.0 a.spelled) b.spelled, same.1)
+    let same = front_once _ _ r s (signed_avoids y separates a.spelled) (signed_avoids z separates b.spelled) (sym a.whole ∙ b.whole) in
+    (signed_once _ y z (rw (← same.0) a.spelled) b.spelled, same.1)
 
 -- ---- a whole text
 
@@ -122,8 +122,8 @@ abbrev pub whole_begins : (Spells : List ℕ → Type 0) (byte : ℕ) (text : Li
 whole_begins Spells byte text is = record { front = text; whole = sym (append-nil text); spelled = is }
 
 -- and where more is behind a byte, it spells nothing as a whole
-pub none_with_more : (Spells : List ℕ → Type 0) (text : List ℕ) (byte : ℕ) (rest : Option (Bor (List ℕ))) (more : Bor (List ℕ)) (z : ℤ) → rest ≡ Some more → IsSeparator byte
+pub none_with_more : (Spells : List ℕ → Type 0) (text : List ℕ) (byte : ℕ) {rest : Option (Bor (List ℕ))} (more : Bor (List ℕ)) (z : ℤ) → rest ≡ Some more → IsSeparator byte
     → Begins Spells byte text (option_map (λ part. part.now) rest) → IsSignedNumber text z → ⊥
-none_with_more Spells text byte rest more z is_more separates begins is =
+none_with_more Spells text byte more z is_more separates begins is =
     let there = subst (λ (part : Option (Bor (List ℕ))). Begins Spells byte text (option_map (λ part. part.now) part)) is_more begins in
-    not_avoided byte text there.front more.now there.whole (signed_avoids byte text z separates is)
+    not_avoided _ _ there.front more.now there.whole (signed_avoids z separates is)

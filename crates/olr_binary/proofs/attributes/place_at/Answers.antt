@@ -4,5 +4,5 @@ use Rattle.olr_binary.proofs.attributes.place_at.Goals as goal
 
 pub returns-else-index-eq0 : goal.returns-else-index-eq0
 returns-else-index-eq0 c = λ first before.
-    let some : 0 < c.args.index = omega (arith, c.if-index-eq0.false) in
-    c.moved.ensures ∙ place_of-next c.args.bytes.now first c.args.before c.args.index some before
+    let some : 0 < c.args.index = omega arith in
+    c.moved.ensures ∙ place_of-next c.args.bytes.now _ _ _ some before

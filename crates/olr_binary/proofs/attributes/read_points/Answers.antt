@@ -32,17 +32,17 @@ loop-index-preserved c =
       attributes = c.point_at.ensures.attributes;
     } in
     record {
-      count_so_far = omega (arith, c.push.ensures.len, c.loop-index.invariant.count_so_far);
+      count_so_far = omega arith;
       place = rw again here;
       passed = below_more _ _ c.loop-index.invariant.passed (subst IsInRange here c.in-Some.ensures.found.0);
-      each = rw c.push.ensures.items (each-push c.args.bytes.now c.first-place.result c.args.count c.loop-index.index c.loop-index.points.items
-          c.point_at.result c.loop-index.invariant.count_so_far c.loop-index.invariant.each point);
+      each = rw c.push.ensures.items (each-push _ _ _ _ _
+          _ c.loop-index.invariant.count_so_far c.loop-index.invariant.each point);
     }
 
 pub returns : goal.returns
 returns c =
     let all : c.loop-index.index ≡ c.args.count = omega arith in
-    let len : length c.loop-index.points.items ≡ c.args.count = c.loop-index.invariant.count_so_far ∙ all in (
+    let len : length c.loop-index.points.items ≡ c.args.count = cc in (
       len,
       record {
         first = c.first-place.result;

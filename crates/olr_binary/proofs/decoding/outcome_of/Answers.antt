@@ -5,7 +5,7 @@ use Rattle.olr_binary.proofs.decoding.outcome_of.Goals as goal
 
 pub returns : goal.returns
 returns c =
-    let is_trimmed : c.trim-text.result.now ≡ trimmed c.args.text.now = c.trim-text.ensures ∙ ap trimmed c.as_bytes.ensures.value in
+    let is_trimmed : c.trim-text.result.now ≡ trimmed c.args.text.now = cc in
     let short : length c.trim-text.result.now ≤ 344 = omega arith in
-    outcome_from_bytes c.args.text.now c.in-Some.bytes.now c.reference_of.result (rw is_trimmed at short)
+    outcome_from_bytes _ _ _ (rw is_trimmed at short)
     (rw is_trimmed at c.in-Some.ensures.found) c.reference_of.ensures

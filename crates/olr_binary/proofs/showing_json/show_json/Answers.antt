@@ -5,6 +5,6 @@ use Rattle.olr_binary.proofs.showing_json.show_json.Goals as goal
 
 pub json_line-requires : goal.json_line-requires
 json_line-requires c =
-    let plain = plain_same 3 3 _ _ (omega arith) c.in_ok-value.ensures (reference_plain c.args.reference.now) in
+    let plain = plain_same 3 3 _ _ (omega arith) c.in_ok-value.ensures (reference_plain _) in
     let shallow = plain.shallow in
     record { no_float = plain.no_float; shallow = omega arith }

@@ -9,7 +9,7 @@ pub returns-in-Ok-clause-found : goal.returns-in-Ok-clause-found
 returns-in-Ok-clause-found c =
     let text_fits : AreBytes c.args.text.now = λ i. omega (arith, c.type_inv.text i) in
     let decoded : decode_of standard c.args.text.now ≡ Ok c.prefix.result.now = c.in-Ok.ensures.ok.0 ∙ ap Ok (sym c.prefix.ensures.front) in
-    base64_from_decoded c.args.text.now c.prefix.result.now text_fits c.prefix.ensures.each_byte decoded
+    base64_from_decoded _ _ text_fits c.prefix.ensures.each_byte decoded
 
 pub returns-in-Err-clause-none : goal.returns-in-Err-clause-none
-returns-in-Err-clause-none c = λ bytes h. not_base64 c.args.text.now bytes _ c.in-Err.ensures.err h
+returns-in-Err-clause-none c = λ bytes h. not_base64 _ _ _ c.in-Err.ensures.err h

@@ -3,4 +3,4 @@ use Rattle.olr_messages.proofs.Once.{message_once}
 use Rattle.olr_messages.proofs.laws.one_message.Goals as goal
 
 pub returns : goal.returns
-returns c line message other = message_once (record_of line) message other
+returns c line message other = message_once _ _ _

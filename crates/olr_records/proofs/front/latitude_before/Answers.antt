@@ -8,6 +8,6 @@ returns-in_default c = λ lat rest begins. c.in_default.ensures lat rest (record
 
 pub returns-in_default-narrowed : goal.returns-in_default-narrowed
 returns-in_default-narrowed c = λ lat rest begins.
-    let same = begins_once _ c.args.byte lat _ rest _ c.requires (record { front = begins.front; whole = begins.whole; spelled = begins.spelled.number }) c.in-Some.ensures in
+    let same = begins_once _ _ _ _ _ _ c.requires (record { front = begins.front; whole = begins.whole; spelled = begins.spelled.number }) c.in-Some.ensures in
     let none : IsAmount 80000000 c.in-Some.value → ⊥ = search rules in
-    none (subst (λ (z : ℤ). IsAmount 80000000 z) same.0 (begins.spelled.range.south, begins.spelled.range.north))
+    none (rw (← same.0) (begins.spelled.range.south, begins.spelled.range.north))

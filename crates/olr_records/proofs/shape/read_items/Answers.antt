@@ -7,15 +7,15 @@ use Rattle.olr_records.proofs.Items.{Continues, at_start, one_more_item, no_item
 use Rattle.olr_records.proofs.shape.read_items.Goals as goal
 
 pub loop-init : goal.loop-init
-loop-init c = rw c.requires.empty (refl, at_start c.args.text.now)
+loop-init c = rw c.requires.empty (refl, at_start)
 
 pub returns-in_default : goal.returns-in_default
-returns-in_default c = λ places are. no_item c.args.text.now _ c.loop.rest.now c.loop.invariant.1 c.in_default.ensures places are.0
+returns-in_default c = λ places are. no_item _ _ c.loop.invariant.1 c.in_default.ensures _ are.0
 
 pub loop-preserved : goal.loop-preserved
 loop-preserved c =
     let items = c.in_ok-push.ensures.items in
     let begins = subst (λ (part : Option (Bor (List ℕ))). Begins (λ front. IsItem front (coordinates_of c.in-Some.place)) 59 c.loop.rest.now (option_map (λ part. part.now) part))
     c.in-Some-others.is c.in-Some.ensures in
-    let more = one_more_item c.args.text.now (map coordinates_of c.loop.shape.items) c.loop.rest.now c.in-Some-others.others.now (coordinates_of c.in-Some.place) c.loop.invariant.1 begins in
-    rw items (omega (arith, length-append c.loop.shape.items (c.in-Some.place ∷ []), c.loop.invariant.0), subst (λ (l : List Coordinates). Continues c.args.text.now l c.in-Some-others.others.now) (sym (map-append coordinates_of c.loop.shape.items (c.in-Some.place ∷ []))) more)
+    let more = one_more_item _ _ _ _ _ c.loop.invariant.1 begins in
+    rw items (omega (arith, length-append c.loop.shape.items (c.in-Some.place ∷ [])), rw (map-append coordinates_of c.loop.shape.items (c.in-Some.place ∷ [])) more)

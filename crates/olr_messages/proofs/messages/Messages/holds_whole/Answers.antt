@@ -8,5 +8,4 @@ pub returns : goal.returns
 returns c =
     let it = c.self.inside in
     let hand = ap (λ (l : List ℕ). slice_range l it.from it.to) c.deref.ensures.value ∙ ap (λ (r : Reading). r.at_hand) c.self.view_is in
-    subst (λ (l : List ℕ). IsTrue c.is_some.result ↔ Contains l 10) hand
-    (holds_lf (slice_range c.deref.result.now it.from it.to) c.memchr.result c.is_some.result c.memchr.ensures c.is_some.ensures)
+    rw (← hand) (holds_lf _ _ c.memchr.ensures c.is_some.ensures)

@@ -13,7 +13,7 @@ invariant_of-self c =
       ordered = omega arith;
       inside = sound.inside;
       some = sound.some;
-      held = rw c.hold.ensures.front (front_short (it.line.items ++ slice_range c.deref.result.now it.from it.to));
+      held = rw c.hold.ensures.front (front_short _);
       has_room = c.hold.ensures.room;
     }
 
@@ -25,7 +25,7 @@ returns-in_default c =
     let old_front = ap (λ (r : Reading). r.front) c.self.view_is in
     record {
       none_at_hand = none_at_hand it.chunk.items it.to;
-      no_lf = subst (λ (l : List ℕ). HasNoLf l) old_hand (no_lf_found hand c.in_default.ensures);
+      no_lf = rw (← old_hand) (no_lf_found _ c.in_default.ensures);
       front = c.hold.ensures.front ∙ ap (λ (l : List ℕ). front_of (it.line.items ++ l)) old_hand
           ∙ ap (λ (l : List ℕ). front_of (l ++ c.args.self.now.at_hand)) old_front;
     }
@@ -37,10 +37,10 @@ invariant_of-self-2 c =
     let hand = slice_range c.deref.result.now it.from it.to in
     let inside : it.to ≤ length c.deref.result.now = rw c.deref.ensures.value sound.inside in
     record {
-      ordered = behind_lf c.deref.result.now it.from it.to c.in-Some.end sound.ordered inside c.in-Some.ensures.0.high;
+      ordered = behind_lf _ sound.ordered inside c.in-Some.ensures.0.high;
       inside = sound.inside;
       some = sound.some;
-      held = rw c.hold-2.ensures.front (front_short (it.line.items ++ take c.in-Some.end hand));
+      held = rw c.hold-2.ensures.front (front_short _);
       has_room = c.hold-2.ensures.room;
     }
 
@@ -52,12 +52,12 @@ returns c =
     let old_hand = ap (λ (l : List ℕ). slice_range l it.from it.to) c.deref.ensures.value ∙ ap (λ (r : Reading). r.at_hand) c.self.view_is in
     let old_front = ap (λ (r : Reading). r.front) c.self.view_is in
     let inside : it.to ≤ length c.deref.result.now = rw c.deref.ensures.value c.self.invariant.inside in
-    let behind = behind_lf c.deref.result.now it.from it.to end c.self.invariant.ordered inside c.in-Some.ensures.0.high in
+    let behind = behind_lf _ c.self.invariant.ordered inside c.in-Some.ensures.0.high in
     let rest =
-    rest_at_hand c.deref.result.now it.from it.to (end + 1) behind ∙ ap (λ (l : List ℕ). slice_range l (it.from + (end + 1)) it.to) c.deref.ensures.value in
+    rest_at_hand _ _ _ _ behind ∙ ap (λ (l : List ℕ). slice_range l (it.from + (end + 1)) it.to) c.deref.ensures.value in
     record {
       part = take end hand;
-      split = sym old_hand ∙ lf_found hand end c.in-Some.ensures.0 c.in-Some.ensures.1 ∙ ap (λ (l : List ℕ). take end hand ++ 10 ∷ l) rest;
-      no_lf = no_lf_before hand end c.in-Some.ensures.0;
+      split = sym old_hand ∙ lf_found _ _ c.in-Some.ensures.0 c.in-Some.ensures.1 ∙ ap (λ (l : List ℕ). take end hand ++ 10 ∷ l) rest;
+      no_lf = no_lf_before _ _ c.in-Some.ensures.0;
       front = c.hold-2.ensures.front ∙ ap (λ (l : List ℕ). front_of (l ++ take end hand)) old_front;
     }

@@ -12,15 +12,15 @@ pub invariant_of-self-2 : goal.invariant_of-self-2
 invariant_of-self-2 c = λ goes.
     let plain = c.self.invariant c.if-self.false in
     let h = c.in-Ok.ensures in
-    let step = read_one c.self.inside.reader c.read_byte_record.new.self c.in-Ok.found (fields_of c.read_byte_record.new.row) plain
+    let step = read_one _ _ _ (fields_of c.read_byte_record.new.row) plain
     (h.reads plain.untrimmed (plain_ready c.self.inside.reader plain)) (h.ready plain.untrimmed) h.goes h.flexible in
-    step.0 (found_if c.in-Ok.found goes)
+    step.0 (found_if _ goes)
 
 pub returns-clause-found : goal.returns-clause-found
 returns-clause-found c =
     let plain = c.self.invariant c.if-self.false in
     let h = c.in-Ok.ensures in
-    let step = read_one c.self.inside.reader c.read_byte_record.new.self c.in-Ok.found (fields_of c.read_byte_record.new.row) plain
+    let step = read_one _ _ _ _ plain
     (h.reads plain.untrimmed (plain_ready c.self.inside.reader plain)) (h.ready plain.untrimmed) h.goes h.flexible in
-    after_read c.in-Ok.found c.self.inside.is_over c.args.self.now (fields_of c.read_byte_record.new.row) c.self.inside.reader
-    c.read_byte_record.new.self c.if-self.false c.self.view_is step.1
+    after_read _ _ _ _
+    _ c.if-self.false c.self.view_is step.1

@@ -6,7 +6,8 @@ use Rattle.std.proofs.lemmas.List.Edits.{length-remove}
 use Rattle.std.proofs.lemmas.List.Sorted.{IsPermutation-remove, Contains-permutation}
 
 -- a member is the first or one behind it
-pub member : {X : Type 0} (x : X) (xs : List X) (z : X) → Contains (x ∷ xs) z → (x ≡ z) ⊎ Contains xs z
+pub member : {X : Type 0} (x : X) (xs : List X) (z : X) → Contains (x ∷ xs) z → (x ≡ z)
+    ⊎ Contains xs z
 member x xs z (zero, inside, is) = inl is
 member x xs z (suc k, inside, is) = inr (k, omega arith, is)
 
@@ -18,7 +19,8 @@ pub further : {X : Type 0} (x : X) (xs : List X) (z : X) → Contains xs z → C
 further x xs z (k, inside, is) = (suc k, omega arith, is)
 
 -- it is still one where another is taken away
-still_contained : {X : Type 0} (ys : List X) (i : ℕ) (x z : X) → i < length ys → x ≡ get_or ys i x → x ≢ z → Contains ys z → Contains (remove ys i) z
+still_contained : {X : Type 0} (ys : List X) (i : ℕ) (x z : X) → i < length ys → x ≡ get_or ys i x
+    → x ≢ z → Contains ys z → Contains (remove ys i) z
 still_contained ys i x z inside is other contains =
     elim (member x _ z (Contains-permutation _ _ z (IsPermutation-remove _ i x inside is) contains)) [
       | inl same ↦ absurd (other same)
@@ -33,6 +35,7 @@ no_longer (x ∷ xs) ys differ within =
     let at = within 0 x (omega arith) in
     let rest = no_longer xs (remove ys at.0)
     (λ i j d below inside. differ (suc i) (suc j) d (omega arith) (omega arith))
-    (λ k d inside. still_contained _ _ x _ at.1 (sym at.2) (differ 0 (suc k) d (omega arith) (omega arith))
+    (λ k d inside. still_contained _ _ x _ at.1 (sym at.2)
+    (differ 0 (suc k) d (omega arith) (omega arith))
     (within (suc k) d (omega arith))) in
     omega (arith, length-remove _ _ at.1)
