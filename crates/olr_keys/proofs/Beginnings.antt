@@ -60,7 +60,7 @@ module _ (p : Penalties) (before : Option ℕ) (total : ℕ) (ranks : List ℕ) 
   pub step_at_most : (rank sum : ℕ) → IsTable p → IsJoined p (length ranks) before rank sum → sum ≤ 460
   step_at_most rank sum sound (leg, penalty, joined, there, is) =
       let inside = layer_inside p _ _ _ there in
-      omega (arith, step_penalty _ _ _ _ sound there, step_leg _ _ _ _ _ sound inside joined)
+      omega (arith, step_penalty _ _ sound there, step_leg _ _ sound inside joined)
 
   -- ---- the last layer
 

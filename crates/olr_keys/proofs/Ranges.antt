@@ -32,7 +32,7 @@ start_at_most p (rank ∷ ranks) total sound (leg, penalty, rest, joined, there,
     let none : leg ≡ 0 = cc in
     omega (
       arith,
-      step_penalty _ 0 _ _ sound there,
+      step_penalty 0 _ sound there,
       completion_at_most _ _ _ _ _ sound later,
       completion_length _ _ _ _ _ later,
     )

@@ -25,8 +25,8 @@ overflow_add-result c =
     record {
       fits = omega (
         arith,
-        step_penalty _ _ _ _ c.table-table.ensures.sound there,
-        step_leg _ _ _ _ _ c.table-table.ensures.sound c.requires.layer joined,
+        step_penalty _ _ c.table-table.ensures.sound there,
+        step_leg _ _ c.table-table.ensures.sound c.requires.layer joined,
       );
     }
 
@@ -42,7 +42,7 @@ overflow_add-result-2 c =
       fits = omega (
         arith,
         bound_at_most _ _ _ _ _ c.table-table.ensures.sound c.least.ensures c.in-Some.is,
-        step_leg _ _ _ _ _ c.table-table.ensures.sound c.requires.layer joined,
+        step_leg _ _ c.table-table.ensures.sound c.requires.layer joined,
       );
     }
 
@@ -76,8 +76,8 @@ returns-clause-at_most c =
       c.table-table.ensures.table,
       c.in_ok-leg.was,
     ) in
-    let leg_at_most = step_leg _ _ _ _ _ c.table-table.ensures.sound c.requires.layer joined in (
-      omega (arith, step_penalty _ _ _ _ c.table-table.ensures.sound there),
+    let leg_at_most = step_leg _ _ c.table-table.ensures.sound c.requires.layer joined in (
+      omega (arith, step_penalty _ _ c.table-table.ensures.sound there),
       omega (
         arith,
         bound_at_most _ _ _ _ _ c.table-table.ensures.sound c.least.ensures c.in-Some.is,

@@ -10,8 +10,8 @@ overflow_add-result t c =
     let inside = layer_inside p _ _ _ there in
     omega (
       arith,
-      step_penalty _ _ _ _ sound there,
-      step_leg _ _ _ _ _ sound inside (sym c.leg_to.ensures ∙ c.in_ok-leg.was),
+      step_penalty _ _ sound there,
+      step_leg _ _ sound inside (sym c.leg_to.ensures ∙ c.in_ok-leg.was),
     )
 
 pub overflow_add-result-2 : goal.overflow_add-result-2
@@ -22,8 +22,8 @@ overflow_add-result-2 t c =
     let inside = layer_inside p _ _ _ there in
     omega (
       arith,
-      step_penalty _ _ _ _ sound there,
-      step_leg _ _ _ _ _ sound inside (sym c.leg_to.ensures ∙ c.in_ok-leg.was),
+      step_penalty _ _ sound there,
+      step_leg _ _ sound inside (sym c.leg_to.ensures ∙ c.in_ok-leg.was),
       completion_at_most _ _ _ _ _ sound c.in_ok-total.ensures,
       c.in-Some.ensures,
     )

@@ -10,6 +10,6 @@ overflow_add-result c =
     let inside = layer_inside p _ _ _ there in
     omega (
       arith,
-      step_penalty _ _ _ _ sound there,
-      step_leg _ _ _ _ _ sound inside (sym c.leg_to.ensures ∙ c.in_ok-leg.was),
+      step_penalty _ _ sound there,
+      step_leg _ _ sound inside (sym c.leg_to.ensures ∙ c.in_ok-leg.was),
     )
