@@ -29,15 +29,15 @@ pub step_leg : {p : Penalties} {layer : ℕ} (before : Option ℕ) {leg : ℕ} (
 step_leg None rank sound inside is = some_at_most is (omega arith)
 step_leg (Some before) rank sound inside is = some_at_most is (leg_at_most _ _ _ _ sound inside)
 
-pub completion_at_most : (p : Penalties) (layer : ℕ) (before : Option ℕ) (ranks : List ℕ) (total : ℕ) → IsTable p → IsCompletion p layer before ranks total → total ≤ 460 * length ranks
-completion_at_most p layer before [] total sound completion = omega arith
-completion_at_most p layer before (rank ∷ ranks) total sound (leg, penalty, rest, joined, there, later, sum) =
+pub completion_at_most : (p : Penalties) (layer : ℕ) (before : Option ℕ) (ranks : List ℕ) {total : ℕ} → IsTable p → IsCompletion p layer before ranks total → total ≤ 460 * length ranks
+completion_at_most p layer before [] sound completion = omega arith
+completion_at_most p layer before (rank ∷ ranks) sound (leg, penalty, rest, joined, there, later, sum) =
     let inside = layer_inside p _ _ _ there in
     omega (
       arith,
       step_leg _ _ sound inside joined,
       step_penalty _ _ sound there,
-      completion_at_most p (layer + 1) (Some rank) ranks rest sound later,
+      completion_at_most p (layer + 1) (Some rank) ranks {total = rest} sound later,
     )
 
 -- ---- one total

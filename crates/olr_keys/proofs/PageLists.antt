@@ -36,16 +36,16 @@ position_within answers None rest is = tt
 position_within answers (Some after) rest (front, is) = rw is (Contains-append_right front (after ∷ rest) after (here after _))
 
 -- and a member has one
-split_at : (answers : List KeyValue) (index : ℕ) (key : KeyValue) → index < length answers → get_or answers index key ≡ key → (rest : List KeyValue) × IsRestAfter answers (Some key) rest
-split_at [] index key inside is = absurd (omega arith)
-split_at (first ∷ answers) zero key inside is = (answers, ([], ap (λ (k : KeyValue). k ∷ answers) is))
-split_at (first ∷ answers) (suc index) key inside is =
-    let later = split_at _ _ _ (omega arith) is in
+split_at : (answers : List KeyValue) (index : ℕ) {key : KeyValue} → index < length answers → get_or answers index key ≡ key → (rest : List KeyValue) × IsRestAfter answers (Some key) rest
+split_at [] index inside is = absurd (omega arith)
+split_at (first ∷ answers) zero inside is = (answers, ([], ap (λ (k : KeyValue). k ∷ answers) is))
+split_at (first ∷ answers) (suc index) inside is =
+    let later = split_at _ _ (omega arith) is in
     (later.0, (first ∷ later.1.0, ap (λ (l : List KeyValue). first ∷ l) later.1.1))
 
 pub rest_of : (answers : List KeyValue) (after : Option KeyValue) → IsPosition answers after → (rest : List KeyValue) × IsRestAfter answers after rest
 rest_of answers None position = (answers, refl)
-rest_of answers (Some after) (index, inside, is) = split_at _ _ _ inside is
+rest_of answers (Some after) (index, inside, is) = split_at _ _ inside is
 
 -- ---- rising lists in two parts
 
@@ -120,30 +120,30 @@ pub record AreFirst (answers : List KeyValue) (after : Option KeyValue) (keys : 
   pub left : List KeyValue
   pub rest : IsRestAfter answers after (keys ++ left)
 
-pub first_none : (answers : List KeyValue) (after : Option KeyValue) → IsPosition answers after → AreFirst answers after []
-first_none answers after position = let rest = rest_of _ _ position in record { left = rest.0; rest = rest.1 }
+pub first_none : {answers : List KeyValue} {after : Option KeyValue} → IsPosition answers after → AreFirst answers after []
+first_none position = let rest = rest_of _ _ position in record { left = rest.0; rest = rest.1 }
 
-pub first_more : (answers : List KeyValue) (after : Option KeyValue) (keys : List KeyValue) (found : Option KeyValue) (key : KeyValue) → AllPairs IsBefore answers → AreFirst answers after keys
+pub first_more : {answers : List KeyValue} {after : Option KeyValue} (keys : List KeyValue) (found : Option KeyValue) (key : KeyValue) → AllPairs IsBefore answers → AreFirst answers after keys
     → IsNext answers (last_of after keys) found → found ≡ Some key → AreFirst answers after (keys ++ key ∷ [])
-first_more answers after keys found key rise first next some =
+first_more keys found key rise first next some =
     let split = first_left _ rise _ _ found key some (after_keys _ _ keys first.left first.rest) next in
     let same : keys ++ first.left ≡ (keys ++ key ∷ []) ++ split.0 = cc (append_assoc keys (key ∷ []) split.0) in
     record { left = split.0; rest = rw (← same) first.rest }
 
-pub one_longer : (keys grown : List KeyValue) (key : KeyValue) (count : ℕ) → grown ≡ keys ++ key ∷ [] → length keys ≡ count → length grown ≡ count + 1
-one_longer keys grown key count is counted = omega (
+pub one_longer : {grown : List KeyValue} (keys : List KeyValue) (key : KeyValue) {count : ℕ} → grown ≡ keys ++ key ∷ [] → length keys ≡ count → length grown ≡ count + 1
+one_longer keys key is counted = omega (
   arith,
   ap (λ (l : List KeyValue). length l) is,
   length-append keys (key ∷ []),
 )
 
-pub position_after : (answers : List KeyValue) (after : Option KeyValue) (keys : List KeyValue) → AreFirst answers after keys → IsPosition answers (last_of after keys)
-position_after answers after keys first = position_within _ _ first.left (after_keys _ _ keys first.left first.rest)
+pub position_after : {answers : List KeyValue} {after : Option KeyValue} (keys : List KeyValue) → AreFirst answers after keys → IsPosition answers (last_of after keys)
+position_after keys first = position_within _ _ first.left (after_keys _ _ keys first.left first.rest)
 
 -- the last page: nothing is left
-pub last_page : (answers : List KeyValue) (after : Option KeyValue) (size : ℕ) (keys : List KeyValue) (found : Option KeyValue) → AllPairs IsBefore answers → AreFirst answers after keys
+pub last_page : {answers : List KeyValue} {after : Option KeyValue} {size : ℕ} {keys : List KeyValue} (found : Option KeyValue) → AllPairs IsBefore answers → AreFirst answers after keys
     → IsNext answers (last_of after keys) found → found ≡ None → length keys ≤ size → IsPageAfter answers after size (record { keys = keys; more = false })
-last_page answers after size keys found rise first next none at_most =
+last_page {keys} found rise first next none at_most =
     let nothing = none_left _ rise _ first.left found none (after_keys _ _ keys first.left first.rest) next in
     let all : keys ++ first.left ≡ keys = cc (append-nil keys) in
     record {
@@ -175,30 +175,30 @@ page_with_more answers after size keys found key rise first next some count =
 
 -- ---- the same for what calls answer
 
-same_next : (now answers : List KeyValue) (position other found : Option KeyValue) → now ≡ answers → position ≡ other → IsNext now position found → IsNext answers other found
-same_next now answers position other found same at next = rw (← same) (rw (← at) next)
+same_next : {now answers : List KeyValue} {position other : Option KeyValue} (found : Option KeyValue) → now ≡ answers → position ≡ other → IsNext now position found → IsNext answers other found
+same_next found same at next = rw (← same) (rw (← at) next)
 
 either_page : (answers : List KeyValue) (after : Option KeyValue) (size : ℕ) (keys : List KeyValue) (found : Option KeyValue) (more : Bool) → more ≡ is_some found → AllPairs IsBefore answers → AreFirst answers after keys
     → IsNext answers (last_of after keys) found → length keys ≡ size → IsPageAfter answers after size (record { keys = keys; more = more })
 either_page answers after size keys None more is rise first next count =
-    rw is (last_page _ _ _ _ None rise first next refl (omega arith))
+    rw is (last_page None rise first next refl (omega arith))
 either_page answers after size keys (Some key) more is rise first next count =
     rw is (page_with_more _ _ _ _ _ _ rise first next refl count)
 
-module _ (now answers : List KeyValue) (same : now ≡ answers) (after position : Option KeyValue) (keys items : List KeyValue) (are : items ≡ keys) (at : position ≡ last_of after items) (first : AreFirst answers after keys) where
+module _ {now answers : List KeyValue} (same : now ≡ answers) {after position : Option KeyValue} {keys items : List KeyValue} (are : items ≡ keys) (at : position ≡ last_of after items) (first : AreFirst answers after keys) where
   position_is : position ≡ last_of after keys
   position_is = cc
 
   pub position_read : IsPosition now position
-  position_read = rw position_is (rw same (position_after _ _ _ first))
+  position_read = rw position_is (rw same (position_after _ first))
 
   module _ (rise : AllPairs IsBefore answers) (found : Option KeyValue) (next : IsNext now position found) where
-    pub more_read : (key : KeyValue) (grown : List KeyValue) → found ≡ Some key → grown ≡ keys ++ key ∷ [] → AreFirst answers after grown
-    more_read key grown some is =
-        rw is (first_more _ _ _ _ _ rise first (same_next _ _ _ _ _ same position_is next) some)
+    pub more_read : {key : KeyValue} {grown : List KeyValue} → found ≡ Some key → grown ≡ keys ++ key ∷ [] → AreFirst answers after grown
+    more_read some is =
+        rw is (first_more _ _ _ rise first (same_next _ same position_is next) some)
 
-    pub last_page_read : (size : ℕ) → found ≡ None → length keys ≤ size → IsPageAfter answers after size (record { keys = keys; more = false })
-    last_page_read size none at_most = last_page _ _ _ _ _ rise first (same_next _ _ _ _ _ same position_is next) none at_most
+    pub last_page_read : {size : ℕ} → found ≡ None → length keys ≤ size → IsPageAfter answers after size (record { keys = keys; more = false })
+    last_page_read none at_most = last_page _ rise first (same_next _ same position_is next) none at_most
 
-    pub page_read : (size : ℕ) (more : Bool) → more ≡ is_some found → length keys ≡ size → IsPageAfter answers after size (record { keys = keys; more = more })
-    page_read size more is count = either_page _ _ _ _ _ _ is rise first (same_next _ _ _ _ _ same position_is next) count
+    pub page_read : {size : ℕ} {more : Bool} → more ≡ is_some found → length keys ≡ size → IsPageAfter answers after size (record { keys = keys; more = more })
+    page_read is count = either_page _ _ _ _ _ _ is rise first (same_next _ same position_is next) count

@@ -51,8 +51,8 @@ some_at_most : (leg : Option ℕ) (bound : ℕ) → IfSome leg (λ penalty. pena
 some_at_most None bound each = omega arith
 some_at_most (Some leg) bound each = each
 
-greatest_leg_at_most : (legs : List (Option ℕ)) (bound : ℕ) → All (λ (leg : Option ℕ). IfSome leg (λ penalty. penalty ≤ bound)) legs → greatest_leg legs ≤ bound
-greatest_leg_at_most legs bound each =
+greatest_leg_at_most : (legs : List (Option ℕ)) {bound : ℕ} → All (λ (leg : Option ℕ). IfSome leg (λ penalty. penalty ≤ bound)) legs → greatest_leg legs ≤ bound
+greatest_leg_at_most legs {bound} each =
     max_least greatest_leg (λ leg. unwrap_or leg 0) refl (λ _ _. refl) legs None bound
     (λ index inside. some_at_most (get_or legs index None) bound (each index None inside))
 
@@ -61,7 +61,7 @@ layer_at_most p layer sound = let it = layer_sound _ _ sound in greatest_at_most
 
 pub legs_at_most : (p : Penalties) (layer : ℕ) → IsTable p → greatest_leg (slice_index_or p.legs layer []) ≤ 100
 legs_at_most p layer sound = elim (cases_lt (layer + 1) (length p.candidates)) [
-  | inl inside ↦ let it = legs_sound _ _ sound inside in greatest_leg_at_most _ _ it.each
+  | inl inside ↦ let it = legs_sound _ _ sound inside in greatest_leg_at_most _ it.each
   | inr outside ↦
       let none : greatest_leg (slice_index_or p.legs layer []) ≡ 0 = ap greatest_leg (get_or-eq_default p.legs [] {n = layer} (omega arith)) in
       omega arith
@@ -73,12 +73,12 @@ width_at_most p sound = omega (
   arith,
   sum_by-le greatest 360 p.candidates (λ k d inside. let it = sound.layers k d inside in greatest_at_most _ _ it.each),
   sum_by-le greatest_leg 100 p.legs (λ k d inside.
-      let it = sound.legs k (get_or p.legs k d) (slice_get-get_or p.legs k d inside) in greatest_leg_at_most _ _ it.each),
+      let it = sound.legs k (get_or p.legs k d) (slice_get-get_or p.legs k d inside) in greatest_leg_at_most _ it.each),
 )
 
-pub width_is : (p : Penalties) (layers sum : ℕ) → IsTable p → layers ≡ length p.candidates → sum ≡ sum_by greatest (take layers p.candidates) + sum_by greatest_leg (take layers p.legs) + 1 → sum ≡ width_of p
+pub width_is : {p : Penalties} {layers sum : ℕ} → IsTable p → layers ≡ length p.candidates → sum ≡ sum_by greatest (take layers p.candidates) + sum_by greatest_leg (take layers p.legs) + 1 → sum ≡ width_of p
 unfolding width_of
-width_is p layers sum sound all is = omega (
+width_is {p} {layers} sound all is = omega (
   arith,
   ap (sum_by greatest) (take_all layers p.candidates (omega (arith, all))),
   ap (sum_by greatest_leg) (take_all layers p.legs (omega (arith, all, sound.between))),

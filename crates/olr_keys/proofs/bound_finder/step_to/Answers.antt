@@ -41,7 +41,7 @@ overflow_add-result-2 c =
     record {
       fits = omega (
         arith,
-        bound_at_most _ _ _ _ _ c.table-table.ensures.sound c.least.ensures c.in-Some.is,
+        bound_at_most _ _ _ _ c.table-table.ensures.sound c.least.ensures c.in-Some.is,
         step_leg _ _ c.table-table.ensures.sound c.requires.layer joined,
       );
     }
@@ -60,7 +60,7 @@ returns-clause-step c =
       c.in_ok-leg.was,
     ) in (
       (c.in_ok-leg.leg, c.in_ok-penalty.penalty, joined, there, omega arith),
-      lower_by _ _ _ _ _ _ _ _ c.in-Some.is joined (omega arith) c.least.ensures,
+      lower_by _ _ _ _ _ c.in-Some.is joined (omega arith) c.least.ensures,
     )
 
 pub returns-clause-at_most : goal.returns-clause-at_most
@@ -80,6 +80,6 @@ returns-clause-at_most c =
       omega (arith, step_penalty _ _ c.table-table.ensures.sound there),
       omega (
         arith,
-        bound_at_most _ _ _ _ _ c.table-table.ensures.sound c.least.ensures c.in-Some.is,
+        bound_at_most _ _ _ _ c.table-table.ensures.sound c.least.ensures c.in-Some.is,
       ),
     )

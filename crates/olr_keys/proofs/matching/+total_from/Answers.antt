@@ -24,6 +24,6 @@ overflow_add-result-2 t c =
       arith,
       step_penalty _ _ sound there,
       step_leg _ _ sound inside (sym c.leg_to.ensures ∙ c.in_ok-leg.was),
-      completion_at_most _ _ _ _ _ sound c.in_ok-total.ensures,
+      completion_at_most _ _ _ _ sound c.in_ok-total.ensures,
       c.in-Some.ensures,
     )

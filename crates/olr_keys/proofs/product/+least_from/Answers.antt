@@ -15,7 +15,7 @@ invariant_of-lesser t c =
 pub returns-then-layer-layers : goal.returns-then-layer-layers
 returns-then-layer-layers t c =
     let last : length c.args.ranks.items ≡ length c.args.table.now.candidates = omega arith in
-    least_at_end _ _ _ _ _ _ _ _ last refl c.lesser.ensures
+    least_at_end _ _ _ _ _ _ _ last refl c.lesser.ensures
 
 pub overflow_add-total : goal.overflow_add-total
 overflow_add-total t c =
@@ -23,7 +23,7 @@ overflow_add-total t c =
     let ranks : List ℕ = c.args.ranks.items in
     let step : IsJoined p (length ranks) c.args.before (c.loop-index.index + 1) c.in-Some.sum =
     rw (← c.len-layer.ensures.value) c.in-Some.ensures.step in
-    omega (arith, step_at_most _ _ c.args.total _ _ _ c.layers.ensures.sound step)
+    omega (arith, step_at_most _ _ c.args.total _ _ c.layers.ensures.sound step)
 
 pub least_from-least-requires : goal.least_from-least-requires
 least_from-least-requires t c =
@@ -33,14 +33,14 @@ least_from-least-requires t c =
     let longer : List ℕ = c.with_rank-longer.result.items in
     let step : IsJoined p (length ranks) c.args.before rank c.in-Some.sum =
     rw (← c.len-layer.ensures.value) c.in-Some.ensures.step in
-    let at_most = step_at_most _ _ c.args.total _ _ _ c.layers.ensures.sound step in
+    let at_most = step_at_most _ _ c.args.total _ _ c.layers.ensures.sound step in
     let count : length longer ≡ length ranks + 1 = omega (arith, subst (λ (l : List ℕ). length l ≡ length ranks + 1) (sym c.with_rank-longer.ensures) (length-append ranks (rank ∷ []))) in (
       omega arith,
       (
         omega arith,
         (
           (omega arith, omega arith),
-          (omega arith, begins_longer _ _ _ _ _ _ _ c.with_rank-longer.ensures step c.requires.keys),
+          (omega arith, begins_longer _ _ _ _ c.with_rank-longer.ensures step c.requires.keys),
         ),
       ),
     )

@@ -14,6 +14,6 @@ returns c =
       same,
       c.in_ok-penalty.was,
     ) in
-    look _ _ _ _ _ _ _ _ _ _ _ _
+    look _ _ _ _ _ _ _ _ _ _
     joined there c.layer_rows.ensures (omega arith) (omega arith)
     c.index-layer_rows-index.is c.deref.ensures.value c.left_by.ensures
