@@ -2,7 +2,7 @@
 use Rattle.std.proofs.Common.{◌≡◌, ℕ, ◌+◌, ◌≤◌, ◌⊎◌, ◌++◌, List, [], ◌∷◌, length, Option, Some, inl, inr, refl, sym, ◌∙◌, subst, append_assoc, length-append, arith}
 use Rattle.std.proofs.lemmas.Bool.{cases_lt}
 use Rattle.std.proofs.lemmas.List.{append-nil}
-use Rattle.olr_keys.specs.Table.{Penalties, IsTable, count_of}
+use Rattle.olr_keys.specs.Table.{Penalties, IsTable, count_of, max_step}
 use Rattle.olr_keys.specs.Key.{KeyValue, IsInRange}
 use Rattle.olr_keys.specs.Finder.{IsAfter, IsLeastOf}
 use Rattle.olr_keys.specs.Matching.{IsCompletion}
@@ -57,7 +57,7 @@ module _ (p : Penalties) (before : Option ℕ) (total : ℕ) (ranks : List ℕ) 
   begins_longer are step keys =
       rw are (λ key completes. keys key (through_completes _ _ (from_longer _ _ step _ completes)))
 
-  pub step_at_most : {sum : ℕ} (rank : ℕ) → IsTable p → IsJoined p (length ranks) before rank sum → sum ≤ 460
+  pub step_at_most : {sum : ℕ} (rank : ℕ) → IsTable p → IsJoined p (length ranks) before rank sum → sum ≤ max_step
   step_at_most rank sound (leg, penalty, joined, there, is) =
       let inside = layer_inside p _ _ _ there in
       omega (arith, step_penalty _ _ sound there, step_leg _ _ sound inside joined)

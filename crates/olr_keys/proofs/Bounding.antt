@@ -7,7 +7,7 @@ use Rattle.std.proofs.Math.ListN.{get_or-eq_default}
 use Rattle.std.proofs.Math.Nat.{min-le_left, min-le_right}
 use Rattle.std.proofs.lemmas.Bool.{cases_lt, cases_eq}
 use Rattle.std.proofs.lemmas.List.{length-append, length-map, map-append}
-use Rattle.olr_keys.specs.Table.{Penalties, IsTable, count_of, penalty_at, leg_at}
+use Rattle.olr_keys.specs.Table.{Penalties, IsTable, count_of, penalty_at, leg_at, max_total}
 use Rattle.olr_keys.specs.Bounds.{AreBoundsOf, AreFirstBounds, AreLastBounds, IsBound, IsLeastNumber, IsTotalThrough, lesser_of, lists_of}
 use Rattle.olr_keys.proofs.Completions.{same_some}
 use Rattle.olr_keys.proofs.Remaining.{IsTotalBy, remaining_by, by_remaining}
@@ -48,7 +48,7 @@ least_of_both R (Some a) (Some b) one other split is also = (
   ],
 )
 
-pub bound_at_most : {p : Penalties} (layer rank bound : ℕ) (found : Option ℕ) → IsTable p → IsBound p layer rank found → found ≡ Some bound → bound ≤ 14620
+pub bound_at_most : {p : Penalties} (layer rank bound : ℕ) (found : Option ℕ) → IsTable p → IsBound p layer rank found → found ≡ Some bound → bound ≤ max_total
 bound_at_most layer rank bound None sound is same = absurd cc
 bound_at_most layer rank bound (Some n) sound is same =
     let equal : n ≡ bound = cc in

@@ -4,7 +4,7 @@ use Rattle.std.specs.Prelude.{◌==◌, Decides, IfSome, slice_get}
 use Rattle.std.proofs.Math.ListN.{get_or-eq_default}
 use Rattle.std.proofs.lemmas.Bool.{cases_lt}
 use Rattle.std.proofs.lemmas.Bool.Decides.{Decides-eqb}
-use Rattle.olr_keys.specs.Table.{Penalties, IsTable, penalty_at}
+use Rattle.olr_keys.specs.Table.{Penalties, IsTable, penalty_at, max_leg, max_penalty, max_step}
 use Rattle.olr_keys.specs.Key.{KeyValue}
 use Rattle.olr_keys.specs.Matching.{leg_to, IsKey, IsCompletion}
 use Rattle.olr_keys.proofs.Bounds.{penalty_at_most, leg_at_most}
@@ -22,14 +22,14 @@ layer_inside p layer (suc index) penalty is = elim (cases_lt layer (length p.can
       absurd cc
 ]
 
-pub step_penalty : {p : Penalties} {penalty : ℕ} (layer rank : ℕ) → IsTable p → penalty_at p layer rank ≡ Some penalty → penalty ≤ 360
+pub step_penalty : {p : Penalties} {penalty : ℕ} (layer rank : ℕ) → IsTable p → penalty_at p layer rank ≡ Some penalty → penalty ≤ max_penalty
 step_penalty layer rank sound is = some_at_most is (penalty_at_most _ _ _ sound)
 
-pub step_leg : {p : Penalties} {layer : ℕ} (before : Option ℕ) {leg : ℕ} (rank : ℕ) → IsTable p → layer < length p.candidates → leg_to p layer before rank ≡ Some leg → leg ≤ 100
+pub step_leg : {p : Penalties} {layer : ℕ} (before : Option ℕ) {leg : ℕ} (rank : ℕ) → IsTable p → layer < length p.candidates → leg_to p layer before rank ≡ Some leg → leg ≤ max_leg
 step_leg None rank sound inside is = some_at_most is (omega arith)
 step_leg (Some before) rank sound inside is = some_at_most is (leg_at_most _ _ _ _ sound inside)
 
-pub completion_at_most : (p : Penalties) (layer : ℕ) (before : Option ℕ) (ranks : List ℕ) {total : ℕ} → IsTable p → IsCompletion p layer before ranks total → total ≤ 460 * length ranks
+pub completion_at_most : (p : Penalties) (layer : ℕ) (before : Option ℕ) (ranks : List ℕ) {total : ℕ} → IsTable p → IsCompletion p layer before ranks total → total ≤ max_step * length ranks
 completion_at_most p layer before [] sound completion = omega arith
 completion_at_most p layer before (rank ∷ ranks) sound (leg, penalty, rest, joined, there, later, sum) =
     let inside = layer_inside p _ _ _ there in

@@ -3,7 +3,7 @@ use Rattle.std.proofs.Common.{◌≡◌, ℕ, zero, suc, ◌+◌, ◌≤◌, Lis
 use Rattle.std.specs.Prelude.{slice_index_or}
 use Rattle.std.proofs.lemmas.List.Elements.{All-cons, All-nil}
 use Rattle.std.proofs.lemmas.Option.{slice_get_within}
-use Rattle.olr_keys.specs.Table.{Penalties, IsTable, count_of, penalty_at}
+use Rattle.olr_keys.specs.Table.{Penalties, IsTable, count_of, penalty_at, max_total}
 use Rattle.olr_keys.specs.Key.{KeyValue, IsInRange}
 use Rattle.olr_keys.specs.Matching.{IsKey, IsCompletion}
 use Rattle.olr_keys.proofs.Bounds.{count_at_most}
@@ -26,7 +26,7 @@ completion_length p layer before [] total completion = omega arith
 completion_length p layer before (rank ∷ ranks) total (leg, penalty, rest, joined, there, later, sum) = omega (arith, completion_length p (layer + 1) (Some rank) ranks rest later)
 
 -- there is no leg to the first candidate
-start_at_most : {p : Penalties} (ranks : List ℕ) {total : ℕ} → IsTable p → IsCompletion p 0 None ranks total → total ≤ 14620
+start_at_most : {p : Penalties} (ranks : List ℕ) {total : ℕ} → IsTable p → IsCompletion p 0 None ranks total → total ≤ max_total
 start_at_most [] sound completion = omega arith
 start_at_most (rank ∷ ranks) sound (leg, penalty, rest, joined, there, later, sum) =
     let none : leg ≡ 0 = cc in

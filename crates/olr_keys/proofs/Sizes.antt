@@ -10,7 +10,7 @@ use Rattle.std.proofs.lemmas.Bool.{cases_lt}
 use Rattle.std.proofs.lemmas.List.{take_all, take_more}
 use Rattle.std.proofs.lemmas.List.Recursion.{max_push, max_bounds, max_least}
 use Rattle.olr_keys.proofs.Bounds.{layer_sound, legs_sound}
-use Rattle.olr_keys.specs.Table.{Penalties, IsTable, count_of, penalty_at}
+use Rattle.olr_keys.specs.Table.{Penalties, IsTable, count_of, penalty_at, max_leg, max_penalty, max_total}
 use Rattle.olr_keys.specs.Matching.{leg_to, IsCompletion, IsRemainingTotal}
 use Rattle.olr_keys.specs.Rows.{greatest, greatest_leg, bytes_of, most_of, width_of, IsTotal}
 
@@ -56,10 +56,10 @@ greatest_leg_at_most legs {bound} each =
     max_least greatest_leg (λ leg. unwrap_or leg 0) refl (λ _ _. refl) legs None bound
     (λ index inside. some_at_most (get_or legs index None) bound (each index None inside))
 
-pub layer_at_most : (p : Penalties) (layer : ℕ) → IsTable p → greatest (slice_index_or p.candidates layer []) ≤ 360
+pub layer_at_most : (p : Penalties) (layer : ℕ) → IsTable p → greatest (slice_index_or p.candidates layer []) ≤ max_penalty
 layer_at_most p layer sound = let it = layer_sound _ _ sound in greatest_at_most _ _ it.each
 
-pub legs_at_most : (p : Penalties) (layer : ℕ) → IsTable p → greatest_leg (slice_index_or p.legs layer []) ≤ 100
+pub legs_at_most : (p : Penalties) (layer : ℕ) → IsTable p → greatest_leg (slice_index_or p.legs layer []) ≤ max_leg
 legs_at_most p layer sound = elim (cases_lt (layer + 1) (length p.candidates)) [
   | inl inside ↦ let it = legs_sound _ _ sound inside in greatest_leg_at_most _ it.each
   | inr outside ↦
@@ -67,12 +67,12 @@ legs_at_most p layer sound = elim (cases_lt (layer + 1) (length p.candidates)) [
       omega arith
 ]
 
-pub width_at_most : (p : Penalties) → IsTable p → width_of p ≤ 14621
+pub width_at_most : (p : Penalties) → IsTable p → width_of p ≤ max_total + 1
 unfolding width_of
 width_at_most p sound = omega (
   arith,
-  sum_by-le greatest 360 p.candidates (λ k d inside. let it = sound.layers k d inside in greatest_at_most _ _ it.each),
-  sum_by-le greatest_leg 100 p.legs (λ k d inside.
+  sum_by-le greatest max_penalty p.candidates (λ k d inside. let it = sound.layers k d inside in greatest_at_most _ _ it.each),
+  sum_by-le greatest_leg max_leg p.legs (λ k d inside.
       let it = sound.legs k (get_or p.legs k d) (slice_get-get_or p.legs k d inside) in greatest_leg_at_most _ it.each),
 )
 

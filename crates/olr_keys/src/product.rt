@@ -5,7 +5,7 @@ ghost use Rattle.std.specs.Prelude.{IfOk, IfSome, IsOk, MatchOption, option_map}
 ghost use Rattle.olr_keys.specs.Answers.{AreAnswers};
 ghost use Rattle.olr_keys.specs.AnswersOf.{answers_of};
 ghost use Rattle.olr_keys.specs.Finder.{IsAfter, IsNext, IsPosition, IsLeastOf};
-ghost use Rattle.olr_keys.specs.Table.{IsTable};
+ghost use Rattle.olr_keys.specs.Table.{IsTable, max_step};
 ghost use Rattle.olr_keys.specs.Product.{IsBeginning, Completes, IsHeld, IsJoined};
 
 use crate::before::is_before;
@@ -118,7 +118,7 @@ fn least_from(
 ) -> Option<Key>
     requires layers { length ranks.items ≤ length table.now.candidates }
     requires before { IfSome before (λ first. (1 ≤ length ranks.items) × (1 ≤ first)) }
-    requires total { total ≤ 460 * length ranks.items }
+    requires total { total ≤ max_step * length ranks.items }
     requires keys { IsBeginning table.now before total ranks.items }
     ensures { IsLeastOf (λ key. IsHeld held key ⊎ (Completes table.now before total ranks.items key
         × IsAfter (option_map (λ at. at.now) after.entry) key)) result }

@@ -14,7 +14,7 @@ ghost use Rattle.olr_metric.specs.Counting.{one_more};
 ghost use Rattle.olr_keys.specs.Rows.{AreRowsOf, IsStep, IsTotal, IsPredecessor, bytes_of, most_of};
 ghost use Rattle.olr_keys.specs.Rows.{rows_of, width_of};
 ghost use Rattle.olr_keys.specs.Search.{IsLeft};
-ghost use Rattle.olr_keys.specs.Table.{IsTable, count_of};
+ghost use Rattle.olr_keys.specs.Table.{IsTable, count_of, max_total};
 
 use crate::table::{Table, list_at};
 use crate::width::width;
@@ -87,10 +87,10 @@ impl<'a> Rows<'a> {
     }
 
     /// One more than the sum of the greatest penalty of each layer and of the legs between each two
-    /// neighbours, 1 to 14,621: how many bytes a row has.
+    /// neighbours: how many bytes a row has.
     pub fn width(&self) -> usize
         ensures value { result ≡ width_of self.now.penalties }
-        ensures at_most { result ≤ 14621 }
+        ensures at_most { result ≤ max_total + 1 }
     {
         self.width
     }

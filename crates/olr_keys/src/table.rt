@@ -36,8 +36,8 @@ impl Table {
     /// for each two neighbouring layers one entry for each pair of candidates, by the rank of the
     /// first and then by that of the second; `None` where no leg joins the two.
     ///
-    /// There are 2 to 32 layers of 0 to 64 penalties of at most 360, which don't fall, and the
-    /// legs' are at most 100: [`is_table`](crate::is_table) tests it.
+    /// There are 2 to 32 layers of 0 to 64 penalties that don't fall, none greater than
+    /// a candidate's or a leg's can be: [`is_table`](crate::is_table) tests it.
     ///
     /// # Errors
     ///
@@ -86,8 +86,8 @@ impl Table {
         self.layer(layer).len()
     }
 
-    /// The penalty of the candidate of this rank, from 1, in a layer, 0 to 360; `None` where there
-    /// is no such candidate.
+    /// The penalty of the candidate of this rank, from 1, in a layer; `None` where there is no
+    /// such candidate.
     pub(crate) fn penalty(&self, layer: usize, rank: u8) -> Option<u16>
         ensures { result ≡ penalty_at self.now layer rank }
     {
@@ -96,7 +96,7 @@ impl Table {
     }
 
     /// The penalty of the leg to the candidate of this rank in a layer from the candidate `before`
-    /// it in the layer before, 0 to 100; `None` where the two aren't joined. It is 0 where
+    /// it in the layer before; `None` where the two aren't joined. It is 0 where
     /// `before` is `None`.
     pub(crate) fn leg_to(&self, layer: usize, before: Option<u8>, rank: u8) -> Option<u8>
         requires before { IfSome before (λ first. (1 ≤ layer) × (1 ≤ first)) }
