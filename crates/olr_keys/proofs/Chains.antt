@@ -4,16 +4,15 @@ use Rattle.std.specs.Prelude.{AllPairs, slice_get}
 use Rattle.std.proofs.lemmas.Bool.{cases_lt}
 use Rattle.std.proofs.lemmas.List.{append-nil, map-append, take-append-drop, take_all}
 use Rattle.std.proofs.lemmas.Option.{slice_get_within}
-use Rattle.olr_keys.specs.Answers.{AreAnswers}
 use Rattle.olr_keys.specs.Finder.{IsPosition}
 use Rattle.olr_keys.specs.Headline.{AreAllPages, AreEnded, AreResumed, joined}
 use Rattle.olr_keys.specs.Key.{KeyValue, IsBefore}
 use Rattle.olr_keys.specs.Order.{asymmetric}
 use Rattle.olr_keys.specs.Page.{PageValue, IsRestAfter, IsPageOf, IsPageAfter, last_key_of, last_of, page_of}
 use Rattle.olr_keys.specs.declared.pages.Page.{Page}
-use Rattle.olr_keys.specs.Table.{Penalties}
 use Rattle.olr_keys.proofs.PageLists.{after_keys, in_answers, in_rest, position_within, rest_of, rest_rises_too}
 use Rattle.olr_keys.proofs.Rising.{same_list}
+use Rattle.olr_keys.specs.Laws.{SizesAgree}
 
 -- ---- one rest
 
@@ -219,6 +218,5 @@ module _ (now answers : List KeyValue) (same : now ≡ answers) (after position 
     fewer_left least more =
         rw grown_pages (chain_smaller answers after size (map page_of pages) (page_of page) rise so_far next_page (omega arith) more)
 
-pub sizes_agree : (penalties : Penalties) (answers : List KeyValue) (after : Option KeyValue) (size other : ℕ) (pages others : List PageValue) → AreAnswers penalties answers → AreAllPages answers after size pages
-    → AreAllPages answers after other others → joined pages ≡ joined others
+pub sizes_agree : SizesAgree
 sizes_agree penalties answers after size other pages others list one two = one_rest _ _ list.rise one.keys two.keys

@@ -1,7 +1,7 @@
 -- Texts of cursors: a key, and perhaps `@` and the digits of a mark.
 use Rattle.std.proofs.Common.{◌≡◌, ℕ, List, [], ◌∷◌, ◌++◌, Option, None, Some, refl, sym, ap, ◌∙◌, append_assoc}
-use Rattle.std.specs.Prelude.{◌≢◌, Result, Ok, Err, IfSome}
-use Rattle.olr_keys.specs.Cursor.{IsCursorOf, IsMark, IsReading, cursor_text, hexadecimal, key_text}
+use Rattle.std.specs.Prelude.{◌≢◌, Result, Ok, Err}
+use Rattle.olr_keys.specs.Cursor.{IsCursorOf, IsMark, cursor_text, hexadecimal, key_text}
 use Rattle.olr_keys.specs.Key.{KeyValue, IsInRange}
 use Rattle.olr_keys.specs.declared.cursor.BadCursor.{BadCursor}
 use Rattle.olr_keys.specs.declared.cursor.CursorRead.{CursorRead}
@@ -9,6 +9,7 @@ use Rattle.olr_keys.specs.declared.mark.Mark.{Mark}
 use Rattle.olr_keys.proofs.Lacking.{Lacks, IsCut, one_cut, not_cut}
 use Rattle.olr_keys.proofs.KeyText.{lacks_key, one_key}
 use Rattle.olr_keys.proofs.Hexadecimal.{one_bytes}
+use Rattle.olr_keys.specs.CursorLaws.{OneCursor, ReadsBack}
 
 pub at_sign : (key : KeyValue) (mark : Mark) → cursor_text key (Some mark) ≡ key_text key ++ 64 ∷ hexadecimal mark.0
 at_sign key mark = append_assoc (key_text key) (64 ∷ []) (hexadecimal mark.0)
@@ -37,7 +38,7 @@ parts_of cut (Some mark) cursor =
 same_mark : {mark mark' : Mark} → mark.0 ≡ mark'.0 → Some mark ≡ Some mark'
 same_mark same = ap (λ (bytes : List ℕ). Some (record { 0 = bytes })) same
 
-pub one_cursor : (text : List ℕ) (key key' : KeyValue) (mark mark' : Option Mark) → IsCursorOf key mark text → IsCursorOf key' mark' text → (key ≡ key') × (mark ≡ mark')
+pub one_cursor : OneCursor
 one_cursor text key key' None None one other = (one_key _ _ one.in_range other.in_range (cc), refl)
 one_cursor text key key' None (Some mark') one other =
     absurd (not_cut _ _ _ _ (lacks_key _ one.in_range) (sym one.same ∙ other.same ∙ at_sign _ _))
@@ -54,8 +55,7 @@ read_as key mark = Ok record { key = key; mark = mark }
 same_read : {key key' : KeyValue} {mark mark' : Option Mark} → key ≡ key' → mark ≡ mark' → read_as key mark ≡ read_as key' mark'
 same_read one other = cc
 
-pub reads_back : (key : KeyValue) (mark : Option Mark) (result : Result CursorRead BadCursor) → IsInRange key → IfSome mark IsMark → IsReading (cursor_text key mark) result
-    → result ≡ Ok record { key = key; mark = mark }
+pub reads_back : ReadsBack
 reads_back key mark (Ok read) in_range is_mark reading =
     let same = one_cursor _ _ _ _ _ reading (record { in_range = in_range; is_mark = is_mark; same = refl }) in
     same_read same.0 same.1

@@ -10,6 +10,10 @@ use Rattle.olr_keys.proofs.Completions.{same_some}
 
 -- ---- one step
 
+-- a candidate that isn't joined to the one before it begins no completion
+pub unjoined : (p : Penalties) (layer : ℕ) (before : Option ℕ) (rank : ℕ) → ((sum : ℕ) → IsJoined p layer before rank sum → ⊥) → HasNoCompletionBy p layer before rank
+unjoined p layer before rank none = λ ranks total (leg, penalty, rest, joined, there, later, sum). none (leg + penalty) (leg, penalty, joined, there, refl)
+
 module _ (p : Penalties) (layer : ℕ) (before : Option ℕ) (rank : ℕ) where
   pub none_by : (bound : Option ℕ) → bound ≡ None → IsBound p layer rank bound → HasNoCompletionBy p layer before rank
   none_by None is none = λ ranks total (leg, penalty, rest, joined, there, later, sum). none (penalty + rest) (ranks, (0, penalty, rest, refl, there, later, omega arith))

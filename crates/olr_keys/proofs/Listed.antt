@@ -24,13 +24,14 @@ use Rattle.olr_keys.proofs.Ranges.{rank_inside}
 use Rattle.olr_keys.specs.Rise.{answers_rise, further, here, member}
 use Rattle.olr_keys.proofs.Rising.{same_list}
 use Rattle.olr_keys.proofs.Completions.{layer_inside, same_some}
+use Rattle.olr_keys.specs.Laws.{OneList, HasList}
 
 -- ---- at most one
 
 contained : (p : Penalties) (a b : List KeyValue) → AreAnswers p a → AreAnswers p b → (key : KeyValue) → Contains a key → Contains b key
 contained p a b one other key there = other.each key (All-contains (IsKey p) a _ one.only there)
 
-pub one_list : (p : Penalties) (a b : List KeyValue) → AreAnswers p a → AreAnswers p b → a ≡ b
+pub one_list : OneList
 one_list p a b one other = same_list IsBefore asymmetric _ _ one.rise other.rise (contained _ _ _ one other) (contained _ _ _ other one)
 
 -- ---- in order
@@ -150,7 +151,7 @@ within_completions p (suc left) layer before (rank ∷ ranks) total reaches (leg
 
 -- ---- at least one
 
-pub has_list : (p : Penalties) → AreAnswers p (answers_of p)
+pub has_list : HasList
 unfolding answers_of
 has_list p =
     record {

@@ -1,12 +1,13 @@
 -- Pages of a rising list: those after one position and of one size are the same.
 use Rattle.olr_keys.proofs.Chains.{one_rest}
 use Rattle.std.proofs.Common.{◌≡◌, ℕ, Bool, true, false, List, [], ◌∷◌, Option, Some, sym, ap, ◌∙◌}
-use Rattle.std.specs.Prelude.{AllPairs, Contains}
+use Rattle.std.specs.Prelude.{AllPairs}
 use Rattle.std.proofs.lemmas.Bool.Decides.{same_from_decides}
 use Rattle.olr_keys.specs.Headline.{AreEnded, AreResumed}
 use Rattle.olr_keys.specs.Key.{KeyValue, IsBefore}
 use Rattle.olr_keys.specs.Page.{PageValue, IsPageOf, IsPageAfter, last_of}
 use Rattle.olr_keys.proofs.PageLists.{position_within}
+use Rattle.olr_keys.specs.Laws.{NoPageBehindOthers}
 
 -- ---- one page
 
@@ -54,5 +55,5 @@ module _ (answers : List KeyValue) (rise : AllPairs IsBefore answers) where
 
 -- ---- no page after a key that the list doesn't contain
 
-pub no_page_behind_others : (answers : List KeyValue) (key : KeyValue) (size : ℕ) (page : PageValue) → IsPageAfter answers (Some key) size page → Contains answers key
+pub no_page_behind_others : NoPageBehindOthers
 no_page_behind_others answers key size page is = position_within answers (Some key) is.rest is.is_rest

@@ -4,10 +4,10 @@ use Rattle.std.specs.Prelude.{slice_index_or}
 use Rattle.std.proofs.lemmas.List.Elements.{All-cons, All-nil}
 use Rattle.std.proofs.lemmas.Option.{slice_get_within}
 use Rattle.olr_keys.specs.Table.{Penalties, IsTable, count_of, penalty_at, max_total}
-use Rattle.olr_keys.specs.Key.{KeyValue, IsInRange}
-use Rattle.olr_keys.specs.Matching.{IsKey, IsCompletion}
+use Rattle.olr_keys.specs.Matching.{IsCompletion}
 use Rattle.olr_keys.proofs.Bounds.{count_at_most}
 use Rattle.olr_keys.proofs.Completions.{step_penalty, completion_at_most}
+use Rattle.olr_keys.specs.Laws.{KeysAreInRange}
 
 -- a candidate's rank is from 1 to the count of its layer
 pub rank_inside : (p : Penalties) (layer rank penalty : ℕ) → penalty_at p layer rank ≡ Some penalty → (1 ≤ rank) × (rank ≤ count_of p layer)
@@ -37,7 +37,7 @@ start_at_most (rank ∷ ranks) sound (leg, penalty, rest, joined, there, later, 
       completion_length _ _ _ _ _ later,
     )
 
-pub key_in_range : (p : Penalties) (key : KeyValue) → IsTable p → IsKey p key → IsInRange key
+pub key_in_range : KeysAreInRange
 key_in_range p key sound is = record {
   total_at_most = start_at_most _ sound is;
   ranks_at_least = omega (arith, completion_length _ 0 None _ _ is);

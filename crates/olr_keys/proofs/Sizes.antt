@@ -11,8 +11,9 @@ use Rattle.std.proofs.lemmas.List.{take_all, take_more}
 use Rattle.std.proofs.lemmas.List.Recursion.{max_push, max_bounds, max_least}
 use Rattle.olr_keys.proofs.Bounds.{layer_sound, legs_sound}
 use Rattle.olr_keys.specs.Table.{Penalties, IsTable, count_of, penalty_at, max_leg, max_penalty, max_total}
-use Rattle.olr_keys.specs.Matching.{leg_to, IsCompletion, IsRemainingTotal}
-use Rattle.olr_keys.specs.Rows.{greatest, greatest_leg, bytes_of, most_of, width_of, IsTotal}
+use Rattle.olr_keys.specs.Matching.{leg_to, IsCompletion}
+use Rattle.olr_keys.specs.Rows.{greatest, greatest_leg, bytes_of, most_of, width_of}
+use Rattle.olr_keys.specs.Laws.{RemainingAreBelow, TotalsAreBelow}
 
 empty_sum : {X : Type 0} (f : X → ℕ) (index : ℕ) → sum_by f (drop index []) ≡ 0
 empty_sum f zero = refl
@@ -158,7 +159,7 @@ no_leg_to : (p : Penalties) (layer : ℕ) → greatest_leg_to p layer None ≡ 0
 unfolding greatest_leg_to
 no_leg_to p layer = refl
 
-pub remaining_below : (p : Penalties) (layer rank total : ℕ) → IsRemainingTotal p layer rank total → total < width_of p
+pub remaining_below : RemainingAreBelow
 unfolding width_of
 remaining_below p layer rank total (ranks, completion) = omega (
   arith,
@@ -168,7 +169,7 @@ remaining_below p layer rank total (ranks, completion) = omega (
   drop_at_most greatest_leg p.legs layer,
 )
 
-pub total_below : (p : Penalties) (total : ℕ) → IsTotal p total → total < width_of p
+pub total_below : TotalsAreBelow
 unfolding width_of
 total_below p total (ranks, completion) = omega (
   arith,

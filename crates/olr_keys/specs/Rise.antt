@@ -1,7 +1,7 @@
 -- A proof that the answers of a table rise strictly. A reader of the contracts may skip this file. It is here because each finder cites it for the
 -- law of the trait Finder that its list rises, and such a law may cite only files of specs/.
 use Rattle.std.proofs.lemmas.List.Kept.{AllPairs-cons}
-use Rattle.std.proofs.Common.{◌≡◌, zero, suc, ◌⊎◌, Bool, true, false, ◌&&◌, List, [], ◌∷◌, length, map, All, inl, inr, refl, arith}
+use Rattle.std.proofs.Common.{◌≡◌, zero, suc, ◌⊎◌, Bool, true, false, ◌&&◌, List, [], ◌∷◌, map, All, inl, inr, refl, arith}
 use Rattle.std.specs.Prelude.{AllPairs, Contains, T}
 use Rattle.std.specs.FinMap.{entries_sorted}
 use Rattle.std.specs.FinMap.Entries.{below_all, is_sorted}

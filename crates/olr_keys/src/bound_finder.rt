@@ -92,15 +92,13 @@ fn step_to(bounds: &Bounds, layer: usize, before: Option<u8>, rank: u8) -> Optio
         × (step.least ≤ max_total + max_leg)) }
     ensures sound { IsTable bounds.now }
 {
-    let table = bounds.table();
-    let penalty = table.penalty(layer, rank)?;
-    let leg = table.leg_to(layer, before, rank)?;
+    let joined = bounds.table().joined(layer, before, rank)?;
     let Some(least) = bounds.least(layer, rank) else {
         return None;
     };
     Some(Step {
-        sum: u16::from(leg) + penalty,
-        least: u16::from(leg) + least,
+        sum: joined.leg + joined.penalty,
+        least: joined.leg + least,
     })
 }
 

@@ -58,20 +58,6 @@ impl<'a> Finder for ProductFinder<'a> {
     }
 }
 
-/// The sum of the penalties of a candidate and of the leg to it; `None` where there is no such
-/// candidate or leg.
-fn step(table: &Table, layer: usize, before: Option<u8>, rank: u8) -> Option<u16>
-    requires sound { IsTable table.now }
-    requires before { IfSome before (λ first. (1 ≤ layer) × (1 ≤ first)) }
-    requires rank { 1 ≤ rank }
-    ensures step { MatchOption result ((sum : ℕ) → IsJoined table.now layer before rank sum → ⊥)
-        (IsJoined table.now layer before rank) }
-{
-    let penalty = table.penalty(layer, rank)?;
-    let leg = table.leg_to(layer, before, rank)?;
-    Some(u16::from(leg) + penalty)
-}
-
 /// These ranks and one more.
 pub(crate) fn with_rank(ranks: &ArrayVec<u8, 32>, rank: u8) -> ArrayVec<u8, 32>
     requires { length ranks.now.items < 32 }
@@ -130,7 +116,8 @@ fn least_from(
     let mut least = held;
     for index in 0..table.count(layer) {
         let rank = index as u8 + 1;
-        if let Some(sum) = step(table, layer, before, rank) {
+        if let Some(joined) = table.joined(layer, before, rank) {
+            let sum = joined.leg + joined.penalty;
             let longer = with_rank(&ranks, rank);
             least = least_from(table, Some(rank), total + sum, longer, after, least);
         }

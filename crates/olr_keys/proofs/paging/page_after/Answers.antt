@@ -1,7 +1,7 @@
-use Rattle.std.proofs.Common.{List, length, refl, ◌∙◌, ap, subst, arith}
-use Rattle.std.specs.Prelude.{option_map}
+use Rattle.std.proofs.Common.{List, length, refl, sym, ◌∙◌, ap, subst, arith}
+use Rattle.std.specs.Prelude.{is_some, option_map}
 use Rattle.olr_keys.specs.Key.{KeyValue}
-use Rattle.olr_keys.proofs.PageLists.{AreFirst, first_none, last_page_read, more_read, one_longer, page_read, position_read}
+use Rattle.olr_keys.proofs.PageLists.{AreFirst, first_none, more_read, one_longer, page_read, position_read}
 use Rattle.olr_keys.proofs.paging.page_after.Goals as goal
 
 pub loop-taken-init : goal.loop-taken-init
@@ -17,8 +17,8 @@ next-requires g c =
 
 pub returns-in_default-clause-page : goal.returns-in_default-clause-page
 returns-in_default-clause-page g c =
-    last_page_read c.loop-taken.invariant.0 c.deref.ensures.value c.last_or.ensures c.loop-taken.invariant.1
-    (g.met.F.Finder.rise c.args.finder.now) _ c.in_ok-key.ensures.next c.in_default.is
+    page_read c.loop-taken.invariant.0 c.deref.ensures.value c.last_or.ensures c.loop-taken.invariant.1
+    (g.met.F.Finder.rise c.args.finder.now) _ c.in_ok-key.ensures.next (sym (ap is_some c.in_default.is)) (λ more. absurd cc)
     (omega arith)
 
 pub loop-taken-preserved : goal.loop-taken-preserved
@@ -39,5 +39,4 @@ next-requires-2 g c =
 pub returns-clause-page : goal.returns-clause-page
 returns-clause-page g c =
     page_read c.loop-taken.invariant.0 c.deref-2.ensures.value c.last_or-2.ensures c.loop-taken.invariant.1
-    (g.met.F.Finder.rise c.args.finder.now) _ c.in_ok-next.ensures.next c.is_some-more.ensures
-    (omega arith)
+    (g.met.F.Finder.rise c.args.finder.now) _ c.in_ok-next.ensures.next c.is_some-more.ensures (λ more. omega arith) (omega arith)
