@@ -2,7 +2,7 @@
 use Rattle.std.proofs.Common.{◌≡◌, ℕ, ◌+◌, ◌≤◌, ◌⊎◌, ◌++◌, List, [], ◌∷◌, length, Option, Some, inl, inr, refl, sym, ◌∙◌, subst, append_assoc, length-append, arith}
 use Rattle.std.proofs.lemmas.Bool.{cases_lt}
 use Rattle.std.proofs.lemmas.List.{append-nil}
-use Rattle.olr_keys.specs.Table.{Penalties, IsTable, count_of}
+use Rattle.olr_keys.specs.Table.{Penalties, IsTable, count_of, max_step}
 use Rattle.olr_keys.specs.Key.{KeyValue, IsInRange}
 use Rattle.olr_keys.specs.Finder.{IsAfter, IsLeastOf}
 use Rattle.olr_keys.specs.Matching.{IsCompletion}
@@ -40,8 +40,8 @@ module _ (p : Penalties) (before : Option ℕ) (total : ℕ) (ranks : List ℕ) 
         same ∙ same_key _ _ _ _ (omega arith) (append_assoc ranks (rank ∷ []) rest),
       )
 
-  pub to_longer : (rank sum : ℕ) → IsJoined p (length ranks) before rank sum → (key : KeyValue) → CompletesThrough p before total ranks rank key → Completes p (Some rank) (total + sum) (ranks ++ rank ∷ []) key
-  to_longer rank sum (leg, penalty, joined, there, is) key (rest, more, (leg', penalty', left, joined', there', later, split), same) =
+  pub to_longer : (rank sum : ℕ) → IsJoined p (length ranks) before rank sum → {key : KeyValue} → CompletesThrough p before total ranks rank key → Completes p (Some rank) (total + sum) (ranks ++ rank ∷ []) key
+  to_longer rank sum (leg, penalty, joined, there, is) (rest, more, (leg', penalty', left, joined', there', later, split), same) =
       let legs : leg' ≡ leg = cc in
       let penalties : penalty' ≡ penalty = cc in (
         rest,
@@ -53,20 +53,20 @@ module _ (p : Penalties) (before : Option ℕ) (total : ℕ) (ranks : List ℕ) 
   pub through_completes : (rank : ℕ) (key : KeyValue) → CompletesThrough p before total ranks rank key → Completes p before total ranks key
   through_completes rank key (rest, more, completion, same) = (rank ∷ rest, more, completion, same)
 
-  pub begins_longer : (rank sum : ℕ) (longer : List ℕ) → longer ≡ ranks ++ rank ∷ [] → IsJoined p (length ranks) before rank sum → IsBeginning p before total ranks → IsBeginning p (Some rank) (total + sum) longer
-  begins_longer rank sum longer are step keys =
+  pub begins_longer : {rank sum : ℕ} {longer : List ℕ} → longer ≡ ranks ++ rank ∷ [] → IsJoined p (length ranks) before rank sum → IsBeginning p before total ranks → IsBeginning p (Some rank) (total + sum) longer
+  begins_longer are step keys =
       rw are (λ key completes. keys key (through_completes _ _ (from_longer _ _ step _ completes)))
 
-  pub step_at_most : (rank sum : ℕ) → IsTable p → IsJoined p (length ranks) before rank sum → sum ≤ 460
-  step_at_most rank sum sound (leg, penalty, joined, there, is) =
+  pub step_at_most : {sum : ℕ} (rank : ℕ) → IsTable p → IsJoined p (length ranks) before rank sum → sum ≤ max_step
+  step_at_most rank sound (leg, penalty, joined, there, is) =
       let inside = layer_inside p _ _ _ there in
-      omega (arith, step_penalty _ _ _ _ sound there, step_leg _ _ _ _ _ sound inside joined)
+      omega (arith, step_penalty _ _ sound there, step_leg _ _ sound inside joined)
 
   -- ---- the last layer
 
-  pub ends_here : (key : KeyValue) → length ranks ≡ length p.candidates → Completes p before total ranks key → key ≡ record { total = total; ranks = ranks }
-  ends_here key last ([], more, completion, same) = same ∙ same_key _ _ _ _ (omega arith) (append-nil ranks)
-  ends_here key last (rank ∷ rest, more, (leg, penalty, left, joined, there, later, sum), same) = absurd (omega (
+  pub ends_here : {key : KeyValue} → length ranks ≡ length p.candidates → Completes p before total ranks key → key ≡ record { total = total; ranks = ranks }
+  ends_here last ([], more, completion, same) = same ∙ same_key _ _ _ _ (omega arith) (append-nil ranks)
+  ends_here last (rank ∷ rest, more, (leg, penalty, left, joined, there, later, sum), same) = absurd (omega (
     arith,
     layer_inside p (length ranks) rank penalty there,
   ))
@@ -78,17 +78,17 @@ module _ (p : Penalties) (before : Option ℕ) (total : ℕ) (ranks : List ℕ) 
   whole_in_range sound last keys = key_in_range _ _ sound (keys (record { total = total; ranks = ranks }) (completes_itself _ last refl))
 
   module _ (after held : Option KeyValue) where
-    pub least_at_end : (whole : KeyValue) (found : Option KeyValue) → length ranks ≡ length p.candidates → whole ≡ record { total = total; ranks = ranks }
+    pub least_at_end : {whole : KeyValue} (found : Option KeyValue) → length ranks ≡ length p.candidates → whole ≡ record { total = total; ranks = ranks }
         → IsLeastOf (λ (key : KeyValue). IsHeld held key ⊎ ((key ≡ whole) × IsAfter after key)) found
         → IsLeastOf (λ (key : KeyValue). IsHeld held key ⊎ (Completes p before total ranks key × IsAfter after key)) found
-    least_at_end whole found last is = same_least _ _
+    least_at_end found last is = same_least _ _
         (λ key there. elim there [
           | inl old ↦ inl old
           | inr new ↦ inr (completes_itself _ last (new.0 ∙ is), new.1)
         ])
         (λ key there. elim there [
           | inl old ↦ inl old
-          | inr new ↦ inr (ends_here _ last new.0 ∙ sym is, new.1)
+          | inr new ↦ inr (ends_here last new.0 ∙ sym is, new.1)
         ]) _
 
     -- ---- rank by rank
@@ -100,9 +100,9 @@ module _ (p : Penalties) (before : Option ℕ) (total : ℕ) (ranks : List ℕ) 
     more_below last key (inr ((rank, least, through), later)) = inr ((rank, omega arith, through), later)
 
     -- the keys up to the next rank are those up to this one, or of the candidate of the next rank
-    next_rank : (last rank : ℕ) → rank ≡ last + 1 → (key : KeyValue) → CompletesBelow p before total ranks (last + 1) key
+    next_rank : {last : ℕ} (rank : ℕ) → rank ≡ last + 1 → {key : KeyValue} → CompletesBelow p before total ranks (last + 1) key
         → CompletesBelow p before total ranks last key ⊎ CompletesThrough p before total ranks rank key
-    next_rank last rank next key (other, most, through) = elim (cases_lt last other) [
+    next_rank {last} rank next (other, most, through) = elim (cases_lt last other) [
       | inl above ↦
           let same : other ≡ rank = omega arith in
           inr (rw (← same) through)
@@ -116,7 +116,7 @@ module _ (p : Penalties) (before : Option ℕ) (total : ℕ) (ranks : List ℕ) 
         (more_below _) _
         (λ key there. elim there [
           | inl old ↦ inl (inl old)
-          | inr (below, later) ↦ elim (next_rank _ _ next _ below) [
+          | inr (below, later) ↦ elim (next_rank _ next below) [
             | inl earlier ↦ inl (inr (earlier, later))
             | inr (rest, more, completion, same) ↦ inr (rw same (left rest more completion))
           ]
@@ -140,10 +140,10 @@ module _ (p : Penalties) (before : Option ℕ) (total : ℕ) (ranks : List ℕ) 
         ])
         (λ key there. elim there [
           | inl old ↦ inl (inl old)
-          | inr (below, later) ↦ elim (next_rank _ _ next _ below) [
+          | inr (below, later) ↦ elim (next_rank _ next below) [
             | inl earlier ↦ inl (inr (earlier, later))
             | inr at ↦
-                let completes : Completes p (Some rank) (total + sum) longer key = rw are (to_longer _ _ step _ at) in
+                let completes : Completes p (Some rank) (total + sum) longer key = rw are (to_longer _ _ step at) in
                 inr (rw is completes, later)
           ]
         ]) _

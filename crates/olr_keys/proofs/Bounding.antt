@@ -7,7 +7,7 @@ use Rattle.std.proofs.Math.ListN.{get_or-eq_default}
 use Rattle.std.proofs.Math.Nat.{min-le_left, min-le_right}
 use Rattle.std.proofs.lemmas.Bool.{cases_lt, cases_eq}
 use Rattle.std.proofs.lemmas.List.{length-append, length-map, map-append}
-use Rattle.olr_keys.specs.Table.{Penalties, IsTable, count_of, penalty_at, leg_at}
+use Rattle.olr_keys.specs.Table.{Penalties, IsTable, count_of, penalty_at, leg_at, max_total}
 use Rattle.olr_keys.specs.Bounds.{AreBoundsOf, AreFirstBounds, AreLastBounds, IsBound, IsLeastNumber, IsTotalThrough, lesser_of, lists_of}
 use Rattle.olr_keys.proofs.Completions.{same_some}
 use Rattle.olr_keys.proofs.Remaining.{IsTotalBy, remaining_by, by_remaining}
@@ -27,20 +27,20 @@ either_min P a b one other = elim (cases_lt a b) [
 ]
 
 -- of one thing or another
-least_of_both : (P Q R : ℕ → Type 0) (a b : Option ℕ) → ((number : ℕ) → P number → R number) → ((number : ℕ) → Q number → R number) → ((number : ℕ) → R number → P number ⊎ Q number)
+least_of_both : {P Q : ℕ → Type 0} (R : ℕ → Type 0) (a b : Option ℕ) → ((number : ℕ) → P number → R number) → ((number : ℕ) → Q number → R number) → ((number : ℕ) → R number → P number ⊎ Q number)
     → IsLeastNumber P a → IsLeastNumber Q b → IsLeastNumber R (lesser_of a b)
-least_of_both P Q R None b one other split none is = same_least Q R _ other (λ number holds. elim (split number holds) [
+least_of_both {Q} R None b one other split none is = same_least Q R _ other (λ number holds. elim (split number holds) [
   | inl left ↦ absurd (none number left)
   | inr right ↦ right
 ]) is
-least_of_both P Q R (Some a) None one other split is none = (
+least_of_both R (Some a) None one other split is none = (
   one a is.0,
   λ number holds. elim (split number holds) [
     | inl left ↦ is.1 number left
     | inr right ↦ absurd (none number right)
   ],
 )
-least_of_both P Q R (Some a) (Some b) one other split is also = (
+least_of_both R (Some a) (Some b) one other split is also = (
   either_min R _ _ (one a is.0) (other b also.0),
   λ number holds. elim (split number holds) [
     | inl left ↦ omega (arith, is.1 number left, min-le_left a b)
@@ -48,23 +48,23 @@ least_of_both P Q R (Some a) (Some b) one other split is also = (
   ],
 )
 
-pub bound_at_most : (p : Penalties) (layer rank bound : ℕ) (found : Option ℕ) → IsTable p → IsBound p layer rank found → found ≡ Some bound → bound ≤ 14620
-bound_at_most p layer rank bound None sound is same = absurd cc
-bound_at_most p layer rank bound (Some n) sound is same =
+pub bound_at_most : {p : Penalties} (layer rank bound : ℕ) (found : Option ℕ) → IsTable p → IsBound p layer rank found → found ≡ Some bound → bound ≤ max_total
+bound_at_most layer rank bound None sound is same = absurd cc
+bound_at_most layer rank bound (Some n) sound is same =
     let equal : n ≡ bound = cc in
     omega (arith, remaining_below _ _ _ _ is.0, width_at_most _ sound)
 
 -- ---- one candidate of the next layer
 
-module _ (p : Penalties) (layer rank penalty second : ℕ) where
+module _ (p : Penalties) {second : ℕ} (layer rank penalty : ℕ) where
   pub through_none : (bound : Option ℕ) → bound ≡ None → IsBound p (layer + 1) second bound → IsLeastNumber (IsTotalThrough p layer rank penalty second) None
   through_none None is none = λ total (leg, rest, joined, on, sum). none rest on
   through_none (Some n) is bound = absurd cc
 
-  pub through_some : (leg further total : ℕ) (bound : Option ℕ) → bound ≡ Some further → leg_at p (layer + 1) rank second ≡ Some leg → total ≡ penalty + leg + further → IsBound p (layer + 1) second bound
+  pub through_some : {leg further total : ℕ} (bound : Option ℕ) → bound ≡ Some further → leg_at p (layer + 1) rank second ≡ Some leg → total ≡ penalty + leg + further → IsBound p (layer + 1) second bound
       → IsLeastNumber (IsTotalThrough p layer rank penalty second) (Some total)
-  through_some leg further total None same joined sum bound = absurd cc
-  through_some leg further total (Some n) same joined sum (on, least) =
+  through_some None same joined sum bound = absurd cc
+  through_some {leg} {further} (Some n) same joined sum (on, least) =
       let equal : n ≡ further = cc in (
         (leg, n, joined, on, omega arith),
         λ other (leg', rest, joined', on', sum'). omega (
@@ -79,7 +79,7 @@ module _ (p : Penalties) (layer rank penalty second : ℕ) where
 module _ (p : Penalties) (layer rank penalty count : ℕ) where
   pub least_more : (least other : Option ℕ) → IsLeastNumber (IsTotalBy p layer rank penalty count) least → IsLeastNumber (IsTotalThrough p layer rank penalty (count + 1)) other
       → IsLeastNumber (IsTotalBy p layer rank penalty (count + 1)) (lesser_of least other)
-  least_more least other = least_of_both _ _ _ _ _
+  least_more least other = least_of_both _ _ _
       (λ total (second, leg, rest, low, high, joined, on, sum). (second, leg, rest, low, omega arith, joined, on, sum))
       (λ total (leg, rest, joined, on, sum). (count + 1, leg, rest, omega arith, omega arith, joined, on, sum))
       (λ total (second, leg, rest, low, high, joined, on, sum). elim (cases_eq second (count + 1)) [
@@ -92,13 +92,13 @@ module _ (p : Penalties) (layer rank penalty count : ℕ) where
       → IsLeastNumber (IsTotalBy p layer rank penalty count) least → IsBound p layer rank least
   least_whole least inside there all = same_least _ _ _
       (λ total by. remaining_by _ _ _ _ _ _ there by)
-      (λ total on. rw all (by_remaining _ _ _ _ _ inside there on))
+      (λ total on. rw all (by_remaining _ _ _ inside there on))
 
 -- ---- the bounds of a layer
 
-pub push_bound : (p : Penalties) (layer index : ℕ) (bounds pushed : List (Option ℕ)) (bound : Option ℕ) → AreFirstBounds p layer index bounds → IsBound p layer (index + 1) bound
+pub push_bound : (p : Penalties) (layer index : ℕ) {pushed : List (Option ℕ)} (bounds : List (Option ℕ)) (bound : Option ℕ) → AreFirstBounds p layer index bounds → IsBound p layer (index + 1) bound
     → pushed ≡ bounds ++ bound ∷ [] → AreFirstBounds p layer (index + 1) pushed
-push_bound p layer index bounds pushed bound they it is = rw is (record {
+push_bound p layer index bounds bound they it is = rw is (record {
   long = omega (arith, length-append bounds (bound ∷ []));
   each = each_more (λ k. IsBound p layer (k + 1)) None index bounds bound they.long they.each it;
 })
@@ -126,9 +126,9 @@ next_bounds p later layer least bounds they inside position is =
           rw (← (sym empty ∙ sym is)) (none_later _ _ (omega arith))
     ]
 
-pub push_bounds : (p : Penalties) (later layer : ℕ) (least pushed : List (Vec (Option ℕ))) (bounds : Vec (Option ℕ)) → AreLastBounds p later (lists_of least)
+pub push_bounds : (p : Penalties) {layer : ℕ} (later : ℕ) (least pushed : List (Vec (Option ℕ))) (bounds : Vec (Option ℕ)) → AreLastBounds p later (lists_of least)
     → layer ≡ length p.candidates - 1 - later → AreBoundsOf p layer bounds.items → pushed ≡ least ++ bounds ∷ [] → AreLastBounds p (later + 1) (lists_of pushed)
-push_bounds p later layer least pushed bounds they position it is =
+push_bounds p later least pushed bounds they position it is =
     let items : Vec (Option ℕ) → List (Option ℕ) = λ v. v.items in
     let same : lists_of pushed ≡ lists_of least ++ bounds.items ∷ [] = cc (map-append items least (bounds ∷ [])) in
     rw same (record {
@@ -137,10 +137,10 @@ push_bounds p later layer least pushed bounds they position it is =
     })
 
 -- the bound of a candidate, where it is held
-pub held_bound : (p : Penalties) (least shown : List (Vec (Option ℕ))) (bounds : List (Option ℕ)) (bound : Option ℕ) (layer rank later index : ℕ) → AreLastBounds p (length p.candidates) (lists_of least)
+pub held_bound : (p : Penalties) {shown : List (Vec (Option ℕ))} (least : List (Vec (Option ℕ))) (bounds : List (Option ℕ)) {bound : Option ℕ} {rank : ℕ} (layer later index : ℕ) → AreLastBounds p (length p.candidates) (lists_of least)
     → layer < length p.candidates → 1 ≤ rank → rank ≤ count_of p layer → later ≡ length p.candidates - 1 - layer → index ≡ rank - 1 → shown ≡ least
     → bounds ≡ slice_index_or (lists_of shown) later [] → bound ≡ slice_index_or bounds index None → IsBound p layer rank bound
-held_bound p least shown bounds bound layer rank later index they inside low high later_is index_is same bounds_are bound_is =
+held_bound p least bounds layer later index they inside low high later_is index_is same bounds_are bound_is =
     let here : AreBoundsOf p layer bounds =
     rw (← (ap (λ (l : List (Vec (Option ℕ))). slice_index_or (lists_of l) later []) (sym same) ∙ sym bounds_are)) (
     subst (λ (n : ℕ). AreBoundsOf p n (slice_index_or (lists_of least) later [])) {x = length p.candidates - 1 - later} (omega arith) (they.each later (omega arith))) in

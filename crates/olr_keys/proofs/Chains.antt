@@ -4,21 +4,20 @@ use Rattle.std.specs.Prelude.{AllPairs, slice_get}
 use Rattle.std.proofs.lemmas.Bool.{cases_lt}
 use Rattle.std.proofs.lemmas.List.{append-nil, map-append, take-append-drop, take_all}
 use Rattle.std.proofs.lemmas.Option.{slice_get_within}
-use Rattle.olr_keys.specs.Answers.{AreAnswers}
 use Rattle.olr_keys.specs.Finder.{IsPosition}
 use Rattle.olr_keys.specs.Headline.{AreAllPages, AreEnded, AreResumed, joined}
 use Rattle.olr_keys.specs.Key.{KeyValue, IsBefore}
 use Rattle.olr_keys.specs.Order.{asymmetric}
 use Rattle.olr_keys.specs.Page.{PageValue, IsRestAfter, IsPageOf, IsPageAfter, last_key_of, last_of, page_of}
 use Rattle.olr_keys.specs.declared.pages.Page.{Page}
-use Rattle.olr_keys.specs.Table.{Penalties}
 use Rattle.olr_keys.proofs.PageLists.{after_keys, in_answers, in_rest, position_within, rest_of, rest_rises_too}
 use Rattle.olr_keys.proofs.Rising.{same_list}
+use Rattle.olr_keys.specs.Laws.{SizesAgree}
 
 -- ---- one rest
 
-pub one_rest : (answers : List KeyValue) (after : Option KeyValue) (a b : List KeyValue) → AllPairs IsBefore answers → IsRestAfter answers after a → IsRestAfter answers after b → a ≡ b
-one_rest answers after a b rise one other =
+pub one_rest : (answers : List KeyValue) (after : Option KeyValue) {a b : List KeyValue} → AllPairs IsBefore answers → IsRestAfter answers after a → IsRestAfter answers after b → a ≡ b
+one_rest answers after rise one other =
     same_list IsBefore asymmetric _ _ (rest_rises_too _ rise _ _ one) (rest_rises_too _ rise _ _ other)
     (λ key there. let is = in_answers _ rise _ _ _ one there in in_rest _ rise _ _ _ other is.0 is.1)
     (λ key there. let is = in_answers _ rise _ _ _ other there in in_rest _ rise _ _ _ one is.0 is.1)
@@ -64,8 +63,8 @@ short_rest rest size page is last = elim (cases_lt size (length rest)) [
   | inr at_most ↦ at_most
 ]
 
-page_and_rest : (rest : List KeyValue) (size : ℕ) (page : PageValue) → IsPageOf rest size page → page.keys ++ drop size rest ≡ rest
-page_and_rest rest size page is = ap (λ (l : List KeyValue). l ++ drop size rest) is.keys ∙ take-append-drop _ _
+page_and_rest : (rest : List KeyValue) (size : ℕ) {page : PageValue} → IsPageOf rest size page → page.keys ++ drop size rest ≡ rest
+page_and_rest rest size is = ap (λ (l : List KeyValue). l ++ drop size rest) is.keys ∙ take-append-drop _ _
 
 module _ (answers : List KeyValue) (size : ℕ) (rise : AllPairs IsBefore answers) where
   pub pages_join : (after : Option KeyValue) (pages : List PageValue) → AreResumed answers after size pages → AreEnded pages → IsRestAfter answers after (joined pages)
@@ -77,11 +76,11 @@ module _ (answers : List KeyValue) (size : ℕ) (rise : AllPairs IsBefore answer
       ) in
       rw all first.is_rest
   pages_join after (page ∷ next ∷ pages) (first, resumed) (more, ended) =
-      let parts : page.keys ++ drop size first.rest ≡ first.rest = page_and_rest _ _ _ first.is_page in
+      let parts : page.keys ++ drop size first.rest ≡ first.rest = page_and_rest _ _ first.is_page in
       let left : IsRestAfter answers (last_of after page.keys) (drop size first.rest) =
       after_keys _ _ page.keys (drop size first.rest) (rw parts first.is_rest) in
       let same : joined (next ∷ pages) ≡ drop size first.rest =
-      one_rest _ _ _ _ rise (pages_join (last_of after page.keys) (next ∷ pages) resumed ended) left in
+      one_rest _ _ rise (pages_join (last_of after page.keys) (next ∷ pages) resumed ended) left in
       rw (ap (λ (l : List KeyValue). page.keys ++ l) same ∙ parts) first.is_rest
 
 -- ---- a chain so far
@@ -99,8 +98,8 @@ pub record IsChainSoFar (answers : List KeyValue) (after : Option KeyValue) (siz
   pub have_more : AllHaveMore pages
   pub position : last_key_of after pages ≡ last_of after (joined pages)
 
-pub chain_start : (answers : List KeyValue) (after : Option KeyValue) (size : ℕ) → IsPosition answers after → IsChainSoFar answers after size []
-chain_start answers after size position = let rest = rest_of _ _ position in record { left = rest.0; rest = rest.1; resumed = tt; have_more = tt; position = refl }
+pub chain_start : {answers : List KeyValue} (after : Option KeyValue) {size : ℕ} → IsPosition answers after → IsChainSoFar answers after size []
+chain_start after position = let rest = rest_of _ _ position in record { left = rest.0; rest = rest.1; resumed = tt; have_more = tt; position = refl }
 
 pub chain_position : (answers : List KeyValue) (after : Option KeyValue) (size : ℕ) (pages : List PageValue) → IsChainSoFar answers after size pages → IsPosition answers (last_key_of after pages)
 chain_position answers after size pages so_far =
@@ -111,7 +110,7 @@ page_of_left : (answers : List KeyValue) (after : Option KeyValue) (size : ℕ) 
     → IsPageAfter answers (last_key_of after pages) size page → IsPageOf so_far.left size page
 page_of_left answers after size pages page rise so_far next =
     let later : IsRestAfter answers (last_of after (joined pages)) next.rest = rw (← so_far.position) next.is_rest in
-    let same : next.rest ≡ so_far.left = one_rest _ _ _ _ rise later (after_keys _ _ (joined pages) so_far.left so_far.rest) in
+    let same : next.rest ≡ so_far.left = one_rest _ _ rise later (after_keys _ _ (joined pages) so_far.left so_far.rest) in
     rw (← same) next.is_page
 
 -- the keys with those of the next page
@@ -219,6 +218,5 @@ module _ (now answers : List KeyValue) (same : now ≡ answers) (after position 
     fewer_left least more =
         rw grown_pages (chain_smaller answers after size (map page_of pages) (page_of page) rise so_far next_page (omega arith) more)
 
-pub sizes_agree : (penalties : Penalties) (answers : List KeyValue) (after : Option KeyValue) (size other : ℕ) (pages others : List PageValue) → AreAnswers penalties answers → AreAllPages answers after size pages
-    → AreAllPages answers after other others → joined pages ≡ joined others
-sizes_agree penalties answers after size other pages others list one two = one_rest _ _ _ _ list.rise one.keys two.keys
+pub sizes_agree : SizesAgree
+sizes_agree penalties answers after size other pages others list one two = one_rest _ _ list.rise one.keys two.keys

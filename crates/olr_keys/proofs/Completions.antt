@@ -4,13 +4,13 @@ use Rattle.std.specs.Prelude.{◌==◌, Decides, IfSome, slice_get}
 use Rattle.std.proofs.Math.ListN.{get_or-eq_default}
 use Rattle.std.proofs.lemmas.Bool.{cases_lt}
 use Rattle.std.proofs.lemmas.Bool.Decides.{Decides-eqb}
-use Rattle.olr_keys.specs.Table.{Penalties, IsTable, penalty_at}
+use Rattle.olr_keys.specs.Table.{Penalties, IsTable, penalty_at, max_leg, max_penalty, max_step}
 use Rattle.olr_keys.specs.Key.{KeyValue}
 use Rattle.olr_keys.specs.Matching.{leg_to, IsKey, IsCompletion}
 use Rattle.olr_keys.proofs.Bounds.{penalty_at_most, leg_at_most}
 
-some_at_most : (o : Option ℕ) (x bound : ℕ) → o ≡ Some x → IfSome o (λ n. n ≤ bound) → x ≤ bound
-some_at_most o x bound is at_most = subst (λ (p : Option ℕ). IfSome p (λ n. n ≤ bound)) is at_most
+some_at_most : {o : Option ℕ} {x bound : ℕ} → o ≡ Some x → IfSome o (λ n. n ≤ bound) → x ≤ bound
+some_at_most {bound} is at_most = subst (λ (p : Option ℕ). IfSome p (λ n. n ≤ bound)) is at_most
 
 -- a candidate is in one of the layers
 pub layer_inside : (p : Penalties) (layer rank penalty : ℕ) → penalty_at p layer rank ≡ Some penalty → layer < length p.candidates
@@ -22,22 +22,22 @@ layer_inside p layer (suc index) penalty is = elim (cases_lt layer (length p.can
       absurd cc
 ]
 
-pub step_penalty : (p : Penalties) (layer rank penalty : ℕ) → IsTable p → penalty_at p layer rank ≡ Some penalty → penalty ≤ 360
-step_penalty p layer rank penalty sound is = some_at_most _ _ _ is (penalty_at_most _ _ _ sound)
+pub step_penalty : {p : Penalties} {penalty : ℕ} (layer rank : ℕ) → IsTable p → penalty_at p layer rank ≡ Some penalty → penalty ≤ max_penalty
+step_penalty layer rank sound is = some_at_most is (penalty_at_most _ _ _ sound)
 
-pub step_leg : (p : Penalties) (layer : ℕ) (before : Option ℕ) (rank leg : ℕ) → IsTable p → layer < length p.candidates → leg_to p layer before rank ≡ Some leg → leg ≤ 100
-step_leg p layer None rank leg sound inside is = some_at_most _ _ _ is (omega arith)
-step_leg p layer (Some before) rank leg sound inside is = some_at_most _ _ _ is (leg_at_most _ _ _ _ sound inside)
+pub step_leg : {p : Penalties} {layer : ℕ} (before : Option ℕ) {leg : ℕ} (rank : ℕ) → IsTable p → layer < length p.candidates → leg_to p layer before rank ≡ Some leg → leg ≤ max_leg
+step_leg None rank sound inside is = some_at_most is (omega arith)
+step_leg (Some before) rank sound inside is = some_at_most is (leg_at_most _ _ _ _ sound inside)
 
-pub completion_at_most : (p : Penalties) (layer : ℕ) (before : Option ℕ) (ranks : List ℕ) (total : ℕ) → IsTable p → IsCompletion p layer before ranks total → total ≤ 460 * length ranks
-completion_at_most p layer before [] total sound completion = omega arith
-completion_at_most p layer before (rank ∷ ranks) total sound (leg, penalty, rest, joined, there, later, sum) =
+pub completion_at_most : (p : Penalties) (layer : ℕ) (before : Option ℕ) (ranks : List ℕ) {total : ℕ} → IsTable p → IsCompletion p layer before ranks total → total ≤ max_step * length ranks
+completion_at_most p layer before [] sound completion = omega arith
+completion_at_most p layer before (rank ∷ ranks) sound (leg, penalty, rest, joined, there, later, sum) =
     let inside = layer_inside p _ _ _ there in
     omega (
       arith,
-      step_leg _ _ _ _ _ sound inside joined,
-      step_penalty _ _ _ _ sound there,
-      completion_at_most p (layer + 1) (Some rank) ranks rest sound later,
+      step_leg _ _ sound inside joined,
+      step_penalty _ _ sound there,
+      completion_at_most p (layer + 1) (Some rank) ranks {total = rest} sound later,
     )
 
 -- ---- one total
@@ -55,9 +55,9 @@ one_total p layer before (rank ∷ ranks) a b (leg, penalty, rest, joined, there
 )
 
 -- ranks with this total are the key of a matching exactly where the key has it
-pub key_decides : (p : Penalties) (key : KeyValue) (ranks : List ℕ) (total known : ℕ) → ranks ≡ key.ranks → IsCompletion p 0 None ranks total → known ≡ key.total
+pub key_decides : (p : Penalties) (key : KeyValue) {ranks : List ℕ} (total known : ℕ) → ranks ≡ key.ranks → IsCompletion p 0 None ranks total → known ≡ key.total
     → Decides (total == known) (IsKey p key)
-key_decides p key ranks total known same completion is =
+key_decides p key total known same completion is =
     let here : IsCompletion p 0 None key.ranks total = rw (← same) completion in
     let equal = Decides-eqb total known in (
       λ yes. rw (← (equal.0 yes ∙ is)) here,

@@ -20,7 +20,7 @@ rows_bytes width (row ∷ rows) each = omega (
   suc-mul (length rows) width,
 )
 
-module _ (p : Penalties) (marks : List (List (List ℕ))) (they : AreLastLayers p (length p.candidates) marks) where
+module _ {p : Penalties} {marks : List (List (List ℕ))} (they : AreLastLayers p (length p.candidates) marks) where
   layer_bytes : (later left : ℕ) → later + (left + 1) ≡ length p.candidates → sum_by length (slice_index_or marks later []) ≡ count_of p left * width_of p
   layer_bytes later left all =
       let it = they.each later (omega arith) in
@@ -47,10 +47,10 @@ module _ (p : Penalties) (marks : List (List (List ℕ))) (they : AreLastLayers 
       )
 
 -- the rows that are held have so many bytes: a row of the width for each candidate, and one for the totals
-pub held_is : (p : Penalties) (marks : List (List (List ℕ))) (totals : List ℕ) → AreLastLayers p (length p.candidates) marks → IsRowOf (IsTotal p) (width_of p) totals → held_bytes marks totals ≡ bytes_of p
-held_is p marks totals they whole = omega (
+pub held_is : {p : Penalties} {marks : List (List (List ℕ))} {totals : List ℕ} → AreLastLayers p (length p.candidates) marks → IsRowOf (IsTotal p) (width_of p) totals → held_bytes marks totals ≡ bytes_of p
+held_is {p} {marks} they whole = omega (
   arith,
-  layers_bytes _ _ they (length p.candidates) 0 (omega arith),
+  layers_bytes they (length p.candidates) 0 (omega arith),
   ap (λ (l : List (List (List ℕ))). sum_by (λ (rows : List (List ℕ)). sum_by length rows) l) (take_all (length p.candidates) marks (omega (arith, they.layers))),
   suc-mul (sum_by length p.candidates) (width_of p),
 )

@@ -46,8 +46,8 @@ of_ok (Ok x) P ok holds = holds
 of_ok (Err e) P ok holds = cc ok
 
 -- the digits of a mark are read as the mark
-pub mark_read : (mark : Mark) (text : List ℕ) → IsMark mark → text ≡ hexadecimal mark.0 → decode_sized text 32 ≡ Ok mark.0
-mark_read mark text is same =
+pub mark_read : {mark : Mark} {text : List ℕ} → IsMark mark → text ≡ hexadecimal mark.0 → decode_sized text 32 ≡ Ok mark.0
+mark_read {mark} is same =
     cc (digits_are _ is.bytes, decode_sized-encode_lower mark.0 32 is.count (are_bytes _ is.bytes))
 
 -- bytes have one text

@@ -40,12 +40,12 @@ not_cut byte text front later lacks same =
 
 -- ---- what `split_once` gives at a byte
 
-lacks_each : (byte : ℕ) (text : List ℕ) → ((i : ℕ) → i < length text → get_or text i 0 ≢ byte) → Lacks byte text
-lacks_each byte text each = record { each = λ i d inside same. each i inside (get_or_default text i 0 d inside ∙ same) }
+lacks_each : {byte : ℕ} {text : List ℕ} → ((i : ℕ) → i < length text → get_or text i 0 ≢ byte) → Lacks byte text
+lacks_each {text} each = record { each = λ i d inside same. each i inside (get_or_default text i 0 d inside ∙ same) }
 
 -- a text that isn't cut lacks the byte
-pub lacks_uncut : (byte : ℕ) (text : List ℕ) (found : Option (Bor (List ℕ) × Bor (List ℕ))) → IsSplitOnceResult byte text found → byte < 128 → found ≡ None → Lacks byte text
-lacks_uncut byte text found split ascii none = lacks_each _ _ (subst (λ (o : Option (Bor (List ℕ) × Bor (List ℕ))). MatchOption o ((i : ℕ) → i < length text → get_or text i 0 ≢ byte)
+pub lacks_uncut : {byte : ℕ} {text : List ℕ} (found : Option (Bor (List ℕ) × Bor (List ℕ))) → IsSplitOnceResult byte text found → byte < 128 → found ≡ None → Lacks byte text
+lacks_uncut {byte} {text} found split ascii none = lacks_each (subst (λ (o : Option (Bor (List ℕ) × Bor (List ℕ))). MatchOption o ((i : ℕ) → i < length text → get_or text i 0 ≢ byte)
     (λ x. (text ≡ x.0.now ++ (byte ∷ x.1.now)) × ((i : ℕ) → i < length x.0.now → get_or x.0.now i 0 ≢ byte))) none (split_parts _ _ found split ascii))
 
 -- a text that is cut at its first such byte
@@ -53,9 +53,9 @@ pub record IsCut (byte : ℕ) (text front later : List ℕ) : Type 0 where
   pub whole : text ≡ front ++ byte ∷ later
   pub lacks : Lacks byte front
 
-pub cut_at : (byte : ℕ) (text : List ℕ) (found : Option (Bor (List ℕ) × Bor (List ℕ))) (parts : Bor (List ℕ) × Bor (List ℕ)) → IsSplitOnceResult byte text found → byte < 128
+pub cut_at : {byte : ℕ} {text : List ℕ} (found : Option (Bor (List ℕ) × Bor (List ℕ))) (parts : Bor (List ℕ) × Bor (List ℕ)) → IsSplitOnceResult byte text found → byte < 128
     → found ≡ Some parts → IsCut byte text parts.0.now parts.1.now
-cut_at byte text found parts split ascii some =
+cut_at {byte} {text} found parts split ascii some =
     let cut = subst (λ (o : Option (Bor (List ℕ) × Bor (List ℕ))). MatchOption o ((i : ℕ) → i < length text → get_or text i 0 ≢ byte)
     (λ x. (text ≡ x.0.now ++ (byte ∷ x.1.now)) × ((i : ℕ) → i < length x.0.now → get_or x.0.now i 0 ≢ byte))) some (split_parts _ _ found split ascii) in
-    record { whole = cut.0; lacks = lacks_each _ _ cut.1 }
+    record { whole = cut.0; lacks = lacks_each cut.1 }

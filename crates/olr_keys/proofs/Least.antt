@@ -8,10 +8,10 @@ use Rattle.olr_keys.specs.Product.{IsHeld}
 use Rattle.olr_keys.specs.Order.{transitive, compared}
 
 -- a key held that the other one doesn't come before
-pub stays_held : (after held : Option KeyValue) (key h : KeyValue) (test : Bool) → held ≡ Some h → Decides test (IsBefore key h) → test ≡ false
+pub stays_held : (after held : Option KeyValue) {key h : KeyValue} {test : Bool} → held ≡ Some h → Decides test (IsBefore key h) → test ≡ false
     → IsLeastOf (λ (other : KeyValue). IsHeld held other ⊎ ((other ≡ key) × IsAfter after other)) (Some h)
-stays_held after None key h test is decides fails = absurd cc
-stays_held after (Some g) key h test is decides fails =
+stays_held after None is decides fails = absurd cc
+stays_held after (Some g) {key} {h} is decides fails =
     let same : g ≡ h = cc in
     let not : IsBefore key h → ⊥ = λ before. let holds = decides.1 before in absurd cc in (
       inl (sym same),

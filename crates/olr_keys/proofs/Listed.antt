@@ -1,78 +1,69 @@
 -- A table has exactly one list of answers.
-use Rattle.std.proofs.Common.{◌≡◌, ℕ, zero, suc, ◌+◌, ◌≤◌, true, false, cond, List, [], ◌∷◌, length, map, Option, Some, None, inl, inr, refl, sym, subst, arith}
+use Rattle.std.proofs.Common.{◌≡◌, ℕ, zero, suc, ◌+◌, ◌≤◌, List, [], ◌∷◌, length, map, is_some, Option, Some, None, inl, inr, refl, sym, ap, ◌∙◌, subst, arith}
 use Rattle.std.specs.Prelude.{Contains}
+use Rattle.std.specs.List.{list_any}
+use Rattle.std.specs.Cmp.{IsTotalOrder}
+use Rattle.std.specs.Cmp.Lexicographic.{on_texts}
+use Rattle.std.specs.FinMap.{contains_key-keys, from_entries, get-from_entries, keys as keys_of}
+use Rattle.std.specs.FinMap.Entries.{is_some-find}
+use Rattle.std.specs.Ordering.{eq_by_cmp}
 use Rattle.std.proofs.lemmas.Bool.{cases_lt}
-use Rattle.std.proofs.lemmas.List.Elements.{All-contains, Contains-append_cases, Contains-append_left, Contains-append_right}
+use Rattle.std.proofs.lemmas.Cmp.{eq_by_cmp_equiv}
+use Rattle.std.proofs.lemmas.List.{map-id}
+use Rattle.std.proofs.lemmas.List.Elements.{All-contains, All-contains_itself, Contains-append_cases, Contains-append_left, Contains-append_right}
+use Rattle.std.proofs.lemmas.Map.Lookups.{CmpEqualImpliesEq}
+use Rattle.std.proofs.lemmas.Map.Views.{Contains-from_any, list_any-from_Contains, tells_apart}
+use Rattle.std.proofs.lemmas.Simd.{map-map}
 use Rattle.olr_keys.specs.Answers.{AreAnswers}
-use Rattle.olr_keys.specs.AnswersOf.{answers_of, in_order, is_before, completions_with, lists_up_to, completions, with_key}
+use Rattle.olr_keys.specs.AnswersOf.{answers_of, by_key, entry_of, completions_with, lists_up_to, completions}
 use Rattle.olr_keys.specs.Key.{KeyValue, IsBefore}
 use Rattle.olr_keys.specs.Matching.{IsKey, IsCompletion}
 use Rattle.olr_keys.specs.Table.{Penalties}
-use Rattle.olr_keys.specs.Order.{before_decides, compared, asymmetric}
+use Rattle.olr_keys.specs.Order.{compared_by, asymmetric}
 use Rattle.olr_keys.proofs.Ranges.{rank_inside}
-use Rattle.olr_keys.specs.Rise.{answers_rise, either, from_with, all_members, further, here, member}
+use Rattle.olr_keys.specs.Rise.{answers_rise, further, here, member}
 use Rattle.olr_keys.proofs.Rising.{same_list}
 use Rattle.olr_keys.proofs.Completions.{layer_inside, same_some}
+use Rattle.olr_keys.specs.Laws.{OneList, HasList}
 
 -- ---- at most one
 
 contained : (p : Penalties) (a b : List KeyValue) → AreAnswers p a → AreAnswers p b → (key : KeyValue) → Contains a key → Contains b key
 contained p a b one other key there = other.each key (All-contains (IsKey p) a _ one.only there)
 
-pub one_list : (p : Penalties) (a b : List KeyValue) → AreAnswers p a → AreAnswers p b → a ≡ b
+pub one_list : OneList
 one_list p a b one other = same_list IsBefore asymmetric _ _ one.rise other.rise (contained _ _ _ one other) (contained _ _ _ other one)
 
 -- ---- in order
 
-not_before : (a b : KeyValue) → is_before a b ≡ false → IsBefore a b → ⊥
-not_before a b fails before = let holds : is_before a b ≡ true = (before_decides _ _).1 before in absurd cc
+is_total : IsTotalOrder by_key
+is_total = on_texts (λ (key : KeyValue). key.total ∷ key.ranks)
 
--- of two keys of which none comes before the other
-is_same : (a b : KeyValue) → is_before a b ≡ false → is_before b a ≡ false → a ≡ b
-is_same a b one other = elim (compared _ _) [
-  | inl same ↦ same
-  | inr (inl before) ↦ absurd (not_before _ _ one before)
-  | inr (inr after) ↦ absurd (not_before _ _ other after)
-]
+one_at_most : CmpEqualImpliesEq by_key
+one_at_most a b tie = rw tie at (compared_by a b)
 
-pub key_within : (key : KeyValue) (keys : List KeyValue) → Contains (with_key key keys) key
-unfolding with_key
-key_within key [] = here key []
-key_within key (other ∷ keys) =
-    either (λ (l : List KeyValue). Contains l key) _ (key ∷ other ∷ keys) (cond (is_before other key) (other ∷ with_key key keys) (other ∷ keys))
-    (λ before. here key (other ∷ keys))
-    (λ not. either (λ (l : List KeyValue). Contains l key) _ (other ∷ with_key key keys) (other ∷ keys)
-    (λ after. further other _ key (key_within key keys))
-    (λ neither. subst (λ (y : KeyValue). Contains (other ∷ keys) y) (sym (is_same _ _ not neither)) (here other _)))
+module _ (keys : List KeyValue) where
+  abbrev entries : List (KeyValue × Unit {0})
+  entries = map entry_of keys
 
-pub others_within : (key : KeyValue) (keys : List KeyValue) (z : KeyValue) → Contains keys z → Contains (with_key key keys) z
-unfolding with_key
-others_within key [] z there = further key [] z there
-others_within key (other ∷ keys) z there =
-    either (λ (l : List KeyValue). Contains l z) _ (key ∷ other ∷ keys) (cond (is_before other key) (other ∷ with_key key keys) (other ∷ keys))
-    (λ before. further key (other ∷ keys) z there)
-    (λ not. either (λ (l : List KeyValue). Contains l z) _ (other ∷ with_key key keys) (other ∷ keys)
-    (λ after. elim (member other _ z there) [
-      | inl same ↦ rw (← same) (here other _)
-      | inr later ↦ further other _ z (others_within key keys z later)
-    ])
-    (λ neither. there))
+  abbrev ordered : List KeyValue
+  ordered = keys_of (from_entries {R = by_key} entries)
 
-from_order : (keys : List KeyValue) (z : KeyValue) → Contains (in_order keys) z → Contains keys z
-unfolding in_order
-from_order [] z there = there
-from_order (key ∷ keys) z there = elim (from_with _ _ _ there) [
-  | inl same ↦ rw (← same) (here key _)
-  | inr within ↦ further key _ z (from_order keys z within)
-]
+  -- a key is among those in order exactly if it is in the list
+  same_keys : (key : KeyValue) → list_any (eq_by_cmp by_key key) ordered ≡ list_any (eq_by_cmp by_key key) keys
+  same_keys key =
+      sym (contains_key-keys (from_entries entries) key)
+      ∙ ap is_some (get-from_entries is_total entries key)
+      ∙ is_some-find by_key key entries
+      ∙ ap (list_any (eq_by_cmp by_key key)) (map-map _ _ keys ∙ map-id keys)
 
-within_order : (keys : List KeyValue) (z : KeyValue) → Contains keys z → Contains (in_order keys) z
-unfolding in_order
-within_order [] z there = there
-within_order (key ∷ keys) z there = elim (member key _ z there) [
-  | inl same ↦ rw (← same) (key_within _ _)
-  | inr later ↦ others_within _ _ _ (within_order keys z later)
-]
+  from_order : (key : KeyValue) → Contains ordered key → Contains keys key
+  from_order key there = Contains-from_any (tells_apart one_at_most) key keys
+      (sym (same_keys key) ∙ list_any-from_Contains (eq_by_cmp_equiv is_total) key ordered there)
+
+  within_order : (key : KeyValue) → Contains keys key → Contains ordered key
+  within_order key there = Contains-from_any (tells_apart one_at_most) key ordered
+      (same_keys key ∙ list_any-from_Contains (eq_by_cmp_equiv is_total) key keys there)
 
 -- ---- joined lists
 
@@ -160,11 +151,11 @@ within_completions p (suc left) layer before (rank ∷ ranks) total reaches (leg
 
 -- ---- at least one
 
-pub has_list : (p : Penalties) → AreAnswers p (answers_of p)
+pub has_list : HasList
 unfolding answers_of
 has_list p =
     record {
-      only = all_members _ _ (λ z there. from_completions _ _ 0 None _ (omega arith) (from_order _ _ there));
+      only = λ k d inside. from_completions _ _ 0 None _ (omega arith) (from_order _ _ (All-contains_itself _ k d inside));
       each = λ key is. within_order _ _ (within_completions _ _ 0 None _ _ (omega arith) is);
       rise = answers_rise _;
     }

@@ -22,16 +22,16 @@ zero_at width number = elim (cases_lt number width) [
 ]
 
 -- a row of zeros marks nothing
-pub empty_row : (P : ℕ → Type 0) (width : ℕ) → ((number : ℕ) → P number → ⊥) → IsRowOf P width (replicate width 0)
-empty_row P width none = record {
+pub empty_row : {P : ℕ → Type 0} (width : ℕ) → ((number : ℕ) → P number → ⊥) → IsRowOf P width (replicate width 0)
+empty_row width none = record {
   wide = length-replicate {A = ℕ} width 0;
   only = λ number marked. absurd (omega (arith, zero_at width number));
   each = λ number holds. absurd (none number holds);
 }
 
 -- a row with one byte
-pub one_row : (P : ℕ → Type 0) (width one : ℕ) → one < width → P one → ((number : ℕ) → P number → number ≡ one) → IsRowOf P width (set (replicate width 0) one 1)
-one_row P width one inside holds only = record {
+pub one_row : {P : ℕ → Type 0} (width one : ℕ) → one < width → P one → ((number : ℕ) → P number → number ≡ one) → IsRowOf P width (set (replicate width 0) one 1)
+one_row width one inside holds only = record {
   wide = length-set {A = ℕ} (replicate width 0) one 1 ∙ length-replicate {A = ℕ} width 0;
   only = λ number marked. elim (cases_eq number one) [
     | inl same ↦ rw same holds
@@ -61,11 +61,11 @@ joined_some a b some = elim (cases_lt 0 a) [
 ]
 
 -- a row joined with another one
-pub row_joined : (P Q R : ℕ → Type 0) (width shift : ℕ) (row other after : List ℕ)
+pub row_joined : {P Q R : ℕ → Type 0} {width : ℕ} (shift : ℕ) {row other after : List ℕ}
     → ((number : ℕ) → P number → R number) → ((number : ℕ) → Q number → R (number + shift)) → ((number : ℕ) → R number → number < width)
     → ((number : ℕ) → R number → P number ⊎ ((rest : ℕ) × (Q rest × (number ≡ rest + shift))))
     → IsRowOf P width row → IsRowOf Q width other → IsOrShifted row other shift after → IsRowOf R width after
-row_joined P Q R width shift row other after from_row from_other below split it that joined = record {
+row_joined {R} {width} shift {row} {other} {after} from_row from_other below split it that joined = record {
   wide = cc;
   only = λ number marked. elim (cases_lt number shift) [
     | inl before ↦ from_row number (it.only number (omega (arith, joined.same number before)))
@@ -105,8 +105,8 @@ row_joined P Q R width shift row other after from_row from_other below split it 
 }
 
 -- a row of a property marks what is the same
-pub row_same : (P Q : ℕ → Type 0) (width : ℕ) (row : List ℕ) → ((number : ℕ) → P number → Q number) → ((number : ℕ) → Q number → P number) → IsRowOf P width row → IsRowOf Q width row
-row_same P Q width row to from it = record {
+pub row_same : {P Q : ℕ → Type 0} {width : ℕ} {row : List ℕ} → ((number : ℕ) → P number → Q number) → ((number : ℕ) → Q number → P number) → IsRowOf P width row → IsRowOf Q width row
+row_same to from it = record {
   wide = it.wide;
   only = λ number marked. to number (it.only number marked);
   each = λ number holds. it.each number (from number holds);
@@ -134,8 +134,8 @@ module _ (p : Penalties) (layer rank penalty count : ℕ) where
   ]
 
   -- there is no leg to the next one
-  pub row_without : (width : ℕ) (row : List ℕ) → leg_at p (layer + 1) rank (count + 1) ≡ None → IsRowOf (IsTotalBy p layer rank penalty count) width row → IsRowOf (IsTotalBy p layer rank penalty (count + 1)) width row
-  row_without width row none = row_same _ _ _ _ more (λ total holds. elim (split _ holds) [
+  pub row_without : {width : ℕ} {row : List ℕ} → leg_at p (layer + 1) rank (count + 1) ≡ None → IsRowOf (IsTotalBy p layer rank penalty count) width row → IsRowOf (IsTotalBy p layer rank penalty (count + 1)) width row
+  row_without none = row_same more (λ total holds. elim (split _ holds) [
     | inl before ↦ before
     | inr (leg, rest, joined, on, sum) ↦ absurd cc
   ])
@@ -144,7 +144,7 @@ module _ (p : Penalties) (layer rank penalty count : ℕ) where
   pub row_with : (width leg : ℕ) (row other after : List ℕ) → leg_at p (layer + 1) rank (count + 1) ≡ Some leg → ((total : ℕ) → IsTotalBy p layer rank penalty (count + 1) total → total < width)
       → IsRowOf (IsTotalBy p layer rank penalty count) width row → IsRowOf (IsRemainingTotal p (layer + 1) (count + 1)) width other → IsOrShifted row other (penalty + leg) after
       → IsRowOf (IsTotalBy p layer rank penalty (count + 1)) width after
-  row_with width leg row other after is below = row_joined _ _ _ _ _ _ _ _
+  row_with width leg row other after is below = row_joined _
       more
       (λ rest on. (count + 1, leg, rest, omega arith, omega arith, is, on, refl))
       below
@@ -156,23 +156,23 @@ module _ (p : Penalties) (layer rank penalty count : ℕ) where
 -- ---- the row of a candidate
 
 -- a candidate with a leg to none of no candidates: the row is empty
-pub start_row : (p : Penalties) (layer rank penalty width count : ℕ) → count ≡ 0 → IsRowOf (IsTotalBy p layer rank penalty count) width (replicate width 0)
-start_row p layer rank penalty width count is = empty_row _ _ (λ total (second, leg, rest, least, most, joined, on, sum). absurd (omega arith))
+pub start_row : (p : Penalties) {width : ℕ} (layer rank penalty count : ℕ) → count ≡ 0 → IsRowOf (IsTotalBy p layer rank penalty count) width (replicate width 0)
+start_row p layer rank penalty count is = empty_row _ (λ total (second, leg, rest, least, most, joined, on, sum). absurd (omega arith))
 
 -- with all candidates of the next layer
-pub whole_row : (p : Penalties) (layer rank penalty count : ℕ) (row : List ℕ) → layer + 1 < length p.candidates → penalty_at p layer rank ≡ Some penalty → count ≡ count_of p (layer + 1)
+pub whole_row : (p : Penalties) {rank penalty count : ℕ} (layer : ℕ) {row : List ℕ} → layer + 1 < length p.candidates → penalty_at p layer rank ≡ Some penalty → count ≡ count_of p (layer + 1)
     → IsRowOf (IsTotalBy p layer rank penalty count) (width_of p) row → IsRowOf (IsRemainingTotal p layer rank) (width_of p) row
-whole_row p layer rank penalty count row inside there all = row_same _ _ _ _
+whole_row p layer inside there all = row_same
     (λ total by. remaining_by _ _ _ _ _ _ there by)
-    (λ total on. rw all (by_remaining _ _ _ _ _ inside there on))
+    (λ total on. rw all (by_remaining _ _ _ inside there on))
 
 -- the row of a candidate of the last layer
 pub last_row : (p : Penalties) (layer rank penalty : ℕ) → layer + 1 ≡ length p.candidates → penalty_at p layer rank ≡ Some penalty
     → (penalty < width_of p) × IsRowOf (IsRemainingTotal p layer rank) (width_of p) (set (replicate (width_of p) 0) penalty 1)
 last_row p layer rank penalty last there =
-    let on = remaining_last _ _ _ _ last there in
+    let on = remaining_last _ _ _ last there in
     let inside = remaining_below _ _ _ _ on in
-    (inside, one_row _ _ _ inside on (λ total other. only_last _ _ _ _ _ last there other))
+    (inside, one_row _ _ inside on (λ total other. only_last _ _ _ last there other))
 
 -- ---- the rows of a layer
 
@@ -184,11 +184,11 @@ next_row p layer rows index row they inside is =
     rw (← here) (they.each index (omega (arith, length-map rows items)))
 
 -- the totals with one candidate more, where there is a leg to it
-pub row_more : (p : Penalties) (layer rank penalty count leg shift : ℕ) (row item other written after : List ℕ) → penalty_at p layer rank ≡ Some penalty
+pub row_more : (p : Penalties) {count shift : ℕ} (layer rank penalty leg : ℕ) {other after : List ℕ} (row item written : List ℕ) → penalty_at p layer rank ≡ Some penalty
     → leg_at p (layer + 1) rank (count + 1) ≡ Some leg → shift ≡ penalty + leg → other ≡ item → after ≡ written
     → IsRowOf (IsTotalBy p layer rank penalty count) (width_of p) row → IsRowOf (IsRemainingTotal p (layer + 1) (count + 1)) (width_of p) item → IsOrShifted row other shift written
     → IsRowOf (IsTotalBy p layer rank penalty (count + 1)) (width_of p) after
-row_more p layer rank penalty count leg shift row item other written after there joined moved same is it that or =
+row_more p layer rank penalty leg row item written there joined moved same is it that or =
     let moved_by : IsOrShifted row item (penalty + leg) written = rw (← moved) (rw (← same) or) in
     rw is (row_with _ _ _ _ _
     (width_of p)
@@ -223,10 +223,10 @@ push_row p layer index rows pushed row they it is =
 abbrev pub IsTotalAmong : Penalties → ℕ → ℕ → Type 0
 IsTotalAmong p count total = (rank : ℕ) × (1 ≤ rank) × (rank ≤ count) × IsRemainingTotal p 0 rank total
 
-pub total_row_more : (p : Penalties) (count : ℕ) (row item other after : List ℕ) → other ≡ item → IsRowOf (IsTotalAmong p count) (width_of p) row
+pub total_row_more : (p : Penalties) (count : ℕ) {row item other after : List ℕ} → other ≡ item → IsRowOf (IsTotalAmong p count) (width_of p) row
     → IsRowOf (IsRemainingTotal p 0 (count + 1)) (width_of p) item → IsOrShifted row other 0 after → IsRowOf (IsTotalAmong p (count + 1)) (width_of p) after
-total_row_more p count row item other after same it that or = row_joined _ _ _ _
-    0 _ _ _
+total_row_more p count same it that or = row_joined
+    0
     (λ total (rank, least, most, on). (rank, least, omega arith, on))
     (λ total on. (count + 1, omega arith, omega arith, rw (add-zero total) on))
     (λ total (rank, least, most, on). remaining_below _ 0 _ _ on)
@@ -238,12 +238,12 @@ total_row_more p count row item other after same it that or = row_joined _ _ _ _
     that
     (rw (← same) or)
 
-among_of : (p : Penalties) (count total : ℕ) (ranks : List ℕ) → IsTable p → count ≡ count_of p 0 → IsCompletion p 0 None ranks total → IsTotalAmong p count total
-among_of p count total [] sound all completion = absurd (omega arith)
-among_of p count total (rank ∷ ranks) sound all (leg, penalty, rest, joined, there, later, sum) =
+among_of : {p : Penalties} {count total : ℕ} (ranks : List ℕ) → IsTable p → count ≡ count_of p 0 → IsCompletion p 0 None ranks total → IsTotalAmong p count total
+among_of [] sound all completion = absurd (omega arith)
+among_of {p} (rank ∷ ranks) sound all (leg, penalty, rest, joined, there, later, sum) =
     let position = rank_inside p 0 rank penalty there in (rank, position.0, omega arith, (ranks, (leg, penalty, rest, joined, there, later, sum)))
 
-pub whole_totals : (p : Penalties) (count : ℕ) (row : List ℕ) → IsTable p → count ≡ count_of p 0 → IsRowOf (IsTotalAmong p count) (width_of p) row → IsRowOf (IsTotal p) (width_of p) row
-whole_totals p count row sound all = row_same _ _ _ _
+pub whole_totals : {p : Penalties} {count : ℕ} {row : List ℕ} → IsTable p → count ≡ count_of p 0 → IsRowOf (IsTotalAmong p count) (width_of p) row → IsRowOf (IsTotal p) (width_of p) row
+whole_totals sound all = row_same
     (λ total (rank, least, most, (ranks, completion)). (rank ∷ ranks, completion))
-    (λ total (ranks, completion). among_of _ _ _ _ sound all completion)
+    (λ total (ranks, completion). among_of _ sound all completion)

@@ -1,12 +1,13 @@
 -- Pages of a rising list: those after one position and of one size are the same.
 use Rattle.olr_keys.proofs.Chains.{one_rest}
 use Rattle.std.proofs.Common.{◌≡◌, ℕ, Bool, true, false, List, [], ◌∷◌, Option, Some, sym, ap, ◌∙◌}
-use Rattle.std.specs.Prelude.{AllPairs, Contains}
+use Rattle.std.specs.Prelude.{AllPairs}
 use Rattle.std.proofs.lemmas.Bool.Decides.{same_from_decides}
 use Rattle.olr_keys.specs.Headline.{AreEnded, AreResumed}
 use Rattle.olr_keys.specs.Key.{KeyValue, IsBefore}
 use Rattle.olr_keys.specs.Page.{PageValue, IsPageOf, IsPageAfter, last_of}
 use Rattle.olr_keys.proofs.PageLists.{position_within}
+use Rattle.olr_keys.specs.Laws.{NoPageBehindOthers}
 
 -- ---- one page
 
@@ -17,18 +18,18 @@ same_page : (page other : PageValue) → page.keys ≡ other.keys → page.more 
 same_page page other keys more = ap (λ (l : List KeyValue). page_with l page.more) keys ∙ ap (λ (b : Bool). page_with other.keys b) more
 
 -- a page with more is no page without more
-differ : (page other : PageValue) → page ≡ other → page.more ≡ false → other.more ≡ true → ⊥
-differ page other same none more = absurd cc
+differ : {page other : PageValue} → page ≡ other → page.more ≡ false → other.more ≡ true → ⊥
+differ same none more = absurd cc
 
 -- a rest has one page of a size
-page_of_rest : (rest : List KeyValue) (size : ℕ) (page other : PageValue) → IsPageOf rest size page → IsPageOf rest size other → page ≡ other
-page_of_rest rest size page other one two = same_page _ _ (cc) (same_from_decides page.more other.more one.more two.more)
+page_of_rest : {rest : List KeyValue} {size : ℕ} (page other : PageValue) → IsPageOf rest size page → IsPageOf rest size other → page ≡ other
+page_of_rest page other one two = same_page _ _ (cc) (same_from_decides page.more other.more one.more two.more)
 
 module _ (answers : List KeyValue) (rise : AllPairs IsBefore answers) where
   pub one_page : (after : Option KeyValue) (size : ℕ) (page other : PageValue) → IsPageAfter answers after size page → IsPageAfter answers after size other → page ≡ other
   one_page after size page other one two =
-      let same : two.rest ≡ one.rest = one_rest _ _ _ _ rise two.is_rest one.is_rest in
-      page_of_rest _ _ _ _ one.is_page (rw (← same) two.is_page)
+      let same : two.rest ≡ one.rest = one_rest _ _ rise two.is_rest one.is_rest in
+      page_of_rest _ _ one.is_page (rw (← same) two.is_page)
 
   -- ---- one list of pages
 
@@ -41,10 +42,10 @@ module _ (answers : List KeyValue) (rise : AllPairs IsBefore answers) where
     one_chain after (page ∷ []) (other ∷ []) resumed ended as_resumed as_ended = cc (one_page _ _ _ _ resumed.0 as_resumed.0)
     one_chain after (page ∷ []) (other ∷ next ∷ others) resumed ended as_resumed as_ended =
         let same : page ≡ other = one_page _ _ _ _ resumed.0 as_resumed.0 in
-        absurd (differ _ _ same ended as_ended.0)
+        absurd (differ same ended as_ended.0)
     one_chain after (page ∷ next ∷ pages) (other ∷ []) resumed ended as_resumed as_ended =
         let same : other ≡ page = one_page _ _ _ _ as_resumed.0 resumed.0 in
-        absurd (differ _ _ same as_ended ended.0)
+        absurd (differ same as_ended ended.0)
     one_chain after (page ∷ next ∷ pages) (other ∷ second ∷ others) resumed ended as_resumed as_ended =
         let same : other ≡ page = one_page _ _ _ _ as_resumed.0 resumed.0 in
         let later : AreResumed answers (last_of after page.keys) size (second ∷ others) =
@@ -54,5 +55,5 @@ module _ (answers : List KeyValue) (rise : AllPairs IsBefore answers) where
 
 -- ---- no page after a key that the list doesn't contain
 
-pub no_page_behind_others : (answers : List KeyValue) (key : KeyValue) (size : ℕ) (page : PageValue) → IsPageAfter answers (Some key) size page → Contains answers key
+pub no_page_behind_others : NoPageBehindOthers
 no_page_behind_others answers key size page is = position_within answers (Some key) is.rest is.is_rest

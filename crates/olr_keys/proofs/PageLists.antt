@@ -1,5 +1,5 @@
 -- What is left of a rising list after some of its keys.
-use Rattle.std.proofs.Common.{◌≡◌, ℕ, zero, suc, ◌+◌, ◌-◌, ◌<◌, ◌≤◌, ◌++◌, Bool, true, false, List, [], ◌∷◌, length, get_or, Option, Some, None, inl, inr, refl, sym, ap, ◌∙◌, subst, append_assoc, length-append, arith}
+use Rattle.std.proofs.Common.{◌≡◌, ℕ, zero, suc, ◌+◌, ◌-◌, ◌<◌, ◌≤◌, ◌++◌, Bool, true, List, [], ◌∷◌, length, drop, get_or, Option, Some, None, inl, inr, refl, sym, ap, ◌∙◌, subst, append_assoc, length-append, arith}
 use Rattle.std.specs.Prelude.{AllPairs, Contains, is_some, slice_get}
 use Rattle.std.proofs.lemmas.List.{append-nil, take_all, take_at}
 use Rattle.std.proofs.lemmas.List.Elements.{Contains-append_cases, Contains-append_right}
@@ -7,7 +7,7 @@ use Rattle.std.proofs.lemmas.Option.{slice_get_within}
 use Rattle.olr_keys.specs.Finder.{IsAfter, IsNext, IsPosition}
 use Rattle.olr_keys.specs.Key.{KeyValue, IsBefore}
 use Rattle.olr_keys.specs.Order.{asymmetric}
-use Rattle.olr_keys.specs.Page.{IsRestAfter, IsPageAfter, last_of}
+use Rattle.olr_keys.specs.Page.{IsRestAfter, IsPageAfter, IsPageOf, last_of}
 use Rattle.olr_keys.specs.Rise.{after_first, further, here, member, rest_rises}
 
 -- ---- the last key
@@ -36,16 +36,16 @@ position_within answers None rest is = tt
 position_within answers (Some after) rest (front, is) = rw is (Contains-append_right front (after ∷ rest) after (here after _))
 
 -- and a member has one
-split_at : (answers : List KeyValue) (index : ℕ) (key : KeyValue) → index < length answers → get_or answers index key ≡ key → (rest : List KeyValue) × IsRestAfter answers (Some key) rest
-split_at [] index key inside is = absurd (omega arith)
-split_at (first ∷ answers) zero key inside is = (answers, ([], ap (λ (k : KeyValue). k ∷ answers) is))
-split_at (first ∷ answers) (suc index) key inside is =
-    let later = split_at _ _ _ (omega arith) is in
+split_at : (answers : List KeyValue) (index : ℕ) {key : KeyValue} → index < length answers → get_or answers index key ≡ key → (rest : List KeyValue) × IsRestAfter answers (Some key) rest
+split_at [] index inside is = absurd (omega arith)
+split_at (first ∷ answers) zero inside is = (answers, ([], ap (λ (k : KeyValue). k ∷ answers) is))
+split_at (first ∷ answers) (suc index) inside is =
+    let later = split_at _ _ (omega arith) is in
     (later.0, (first ∷ later.1.0, ap (λ (l : List KeyValue). first ∷ l) later.1.1))
 
 pub rest_of : (answers : List KeyValue) (after : Option KeyValue) → IsPosition answers after → (rest : List KeyValue) × IsRestAfter answers after rest
 rest_of answers None position = (answers, refl)
-rest_of answers (Some after) (index, inside, is) = split_at _ _ _ inside is
+rest_of answers (Some after) (index, inside, is) = split_at _ _ inside is
 
 -- ---- rising lists in two parts
 
@@ -89,29 +89,17 @@ module _ (answers : List KeyValue) (rise : AllPairs IsBefore answers) where
       ]
 
   -- the least key after a position is the first of the rest
-  pub none_left : (after : Option KeyValue) (rest : List KeyValue) (found : Option KeyValue) → found ≡ None → IsRestAfter answers after rest → IsNext answers after found → rest ≡ []
-  none_left after [] found none is next = refl
-  none_left after (key ∷ rest) found none is next =
-      let nothing : (k : KeyValue) → Contains answers k × IsAfter after k → ⊥ = subst (λ (o : Option KeyValue). IsNext answers after o) none next in
-      let there = in_answers _ _ _ is (here key _) in
-      absurd (nothing key there)
-
-  pub first_left : (after : Option KeyValue) (rest : List KeyValue) (found : Option KeyValue) (key : KeyValue) → found ≡ Some key → IsRestAfter answers after rest → IsNext answers after found
-      → (others : List KeyValue) × (rest ≡ key ∷ others)
-  first_left after [] found key some is next =
-      let least = subst (λ (o : Option KeyValue). IsNext answers after o) some next in
-      let there = in_rest _ [] _ is least.0.0 least.0.1 in
-      absurd (omega arith)
-  first_left after (first ∷ others) found key some is next =
-      let least = subst (λ (o : Option KeyValue). IsNext answers after o) some next in
-      let there = in_answers _ _ _ is (here first _) in
-      elim (least.1 first there) [
-        | inl same ↦ (others, ap (λ (k : KeyValue). k ∷ others) same)
-        | inr before ↦ elim (member first _ key (in_rest _ _ _ is least.0.0 least.0.1)) [
-          | inl same ↦ (others, ap (λ (k : KeyValue). k ∷ others) same)
-          | inr later ↦ absurd (asymmetric _ _ before (after_first IsBefore first _ (rest_rises_too _ _ is) key later))
-        ]
-      ]
+  pub next_is : (after : Option KeyValue) (rest : List KeyValue) (found : Option KeyValue) → IsRestAfter answers after rest → IsNext answers after found → found ≡ slice_get rest 0
+  next_is after [] None is next = refl
+  next_is after [] (Some key) is next = let there = in_rest _ [] _ is next.0.0 next.0.1 in absurd (omega arith)
+  next_is after (first ∷ others) None is next = absurd (next first (in_answers _ _ _ is (here first _)))
+  next_is after (first ∷ others) (Some key) is next = elim (next.1 first (in_answers _ _ _ is (here first _))) [
+    | inl same ↦ ap Some (sym same)
+    | inr before ↦ elim (member first _ key (in_rest _ _ _ is next.0.0 next.0.1)) [
+      | inl same ↦ ap Some (sym same)
+      | inr later ↦ absurd (asymmetric _ _ before (after_first IsBefore first _ (rest_rises_too _ _ is) key later))
+    ]
+  ]
 
 -- ---- a page
 
@@ -120,85 +108,64 @@ pub record AreFirst (answers : List KeyValue) (after : Option KeyValue) (keys : 
   pub left : List KeyValue
   pub rest : IsRestAfter answers after (keys ++ left)
 
-pub first_none : (answers : List KeyValue) (after : Option KeyValue) → IsPosition answers after → AreFirst answers after []
-first_none answers after position = let rest = rest_of _ _ position in record { left = rest.0; rest = rest.1 }
+pub first_none : {answers : List KeyValue} {after : Option KeyValue} → IsPosition answers after → AreFirst answers after []
+first_none position = let rest = rest_of _ _ position in record { left = rest.0; rest = rest.1 }
 
-pub first_more : (answers : List KeyValue) (after : Option KeyValue) (keys : List KeyValue) (found : Option KeyValue) (key : KeyValue) → AllPairs IsBefore answers → AreFirst answers after keys
+first_and_others : {X : Type 0} {x : X} (xs : List X) → Some x ≡ slice_get xs 0 → xs ≡ x ∷ drop 1 xs
+first_and_others [] is = absurd cc
+first_and_others (y ∷ xs) is = cc
+
+pub first_more : {answers : List KeyValue} {after : Option KeyValue} (keys : List KeyValue) (found : Option KeyValue) (key : KeyValue) → AllPairs IsBefore answers → AreFirst answers after keys
     → IsNext answers (last_of after keys) found → found ≡ Some key → AreFirst answers after (keys ++ key ∷ [])
-first_more answers after keys found key rise first next some =
-    let split = first_left _ rise _ _ found key some (after_keys _ _ keys first.left first.rest) next in
-    let same : keys ++ first.left ≡ (keys ++ key ∷ []) ++ split.0 = cc (append_assoc keys (key ∷ []) split.0) in
-    record { left = split.0; rest = rw (← same) first.rest }
+first_more keys found key rise first next some =
+    let is = next_is _ rise _ first.left found (after_keys _ _ keys first.left first.rest) next in
+    let same : keys ++ first.left ≡ (keys ++ key ∷ []) ++ drop 1 first.left =
+    cc (first_and_others first.left (sym some ∙ is), append_assoc keys (key ∷ []) (drop 1 first.left)) in
+    record { left = drop 1 first.left; rest = rw (← same) first.rest }
 
-pub one_longer : (keys grown : List KeyValue) (key : KeyValue) (count : ℕ) → grown ≡ keys ++ key ∷ [] → length keys ≡ count → length grown ≡ count + 1
-one_longer keys grown key count is counted = omega (
+pub one_longer : {grown : List KeyValue} (keys : List KeyValue) (key : KeyValue) {count : ℕ} → grown ≡ keys ++ key ∷ [] → length keys ≡ count → length grown ≡ count + 1
+one_longer keys key is counted = omega (
   arith,
   ap (λ (l : List KeyValue). length l) is,
   length-append keys (key ∷ []),
 )
 
-pub position_after : (answers : List KeyValue) (after : Option KeyValue) (keys : List KeyValue) → AreFirst answers after keys → IsPosition answers (last_of after keys)
-position_after answers after keys first = position_within _ _ first.left (after_keys _ _ keys first.left first.rest)
+pub position_after : {answers : List KeyValue} {after : Option KeyValue} (keys : List KeyValue) → AreFirst answers after keys → IsPosition answers (last_of after keys)
+position_after keys first = position_within _ _ first.left (after_keys _ _ keys first.left first.rest)
 
--- the last page: nothing is left
-pub last_page : (answers : List KeyValue) (after : Option KeyValue) (size : ℕ) (keys : List KeyValue) (found : Option KeyValue) → AllPairs IsBefore answers → AreFirst answers after keys
-    → IsNext answers (last_of after keys) found → found ≡ None → length keys ≤ size → IsPageAfter answers after size (record { keys = keys; more = false })
-last_page answers after size keys found rise first next none at_most =
-    let nothing = none_left _ rise _ first.left found none (after_keys _ _ keys first.left first.rest) next in
-    let all : keys ++ first.left ≡ keys = cc (append-nil keys) in
+-- a page is the keys before what is left: all of them, or as many as its size
+page_before : {size : ℕ} (keys left : List KeyValue) {more : Bool} → more ≡ is_some (slice_get left 0) → (more ≡ true → length keys ≡ size) → length keys ≤ size
+    → IsPageOf (keys ++ left) size (record { keys = keys; more = more })
+page_before keys [] is full at_most = record {
+  keys = sym (take_all _ _ (omega (arith, length-append keys [])) ∙ append-nil keys);
+  more = (λ more. absurd cc, λ longer. absurd (omega (arith, length-append keys [])));
+}
+page_before {size} keys (key ∷ others) is full at_most =
+    let count = full is in
     record {
-      rest = keys;
-      is_rest = rw (← all) first.rest;
-      is_page = record { keys = sym (take_all _ _ at_most); more = (λ more. absurd cc, λ longer. absurd (omega arith)) };
-    }
-
--- a page after which there are further keys
-pub page_with_more : (answers : List KeyValue) (after : Option KeyValue) (size : ℕ) (keys : List KeyValue) (found : Option KeyValue) (key : KeyValue) → AllPairs IsBefore answers → AreFirst answers after keys
-    → IsNext answers (last_of after keys) found → found ≡ Some key → length keys ≡ size → IsPageAfter answers after size (record { keys = keys; more = true })
-page_with_more answers after size keys found key rise first next some count =
-    let split = first_left answers rise (last_of after keys) first.left found key some (after_keys answers after keys first.left first.rest) next in
-    record {
-      rest = keys ++ first.left;
-      is_rest = first.rest;
-      is_page = record {
-        keys = sym (take_at keys first.left size (omega arith));
-        more = (
-          λ more. omega (
-            arith,
-            length-append keys first.left,
-            ap (λ (l : List KeyValue). length l) split.1,
-          ),
-          λ longer. refl,
-        );
-      };
+      keys = sym (take_at keys (key ∷ others) size (omega arith));
+      more = (λ more. omega (arith, length-append keys (key ∷ others)), λ longer. is);
     }
 
 -- ---- the same for what calls answer
 
-same_next : (now answers : List KeyValue) (position other found : Option KeyValue) → now ≡ answers → position ≡ other → IsNext now position found → IsNext answers other found
-same_next now answers position other found same at next = rw (← same) (rw (← at) next)
+same_next : {now answers : List KeyValue} {position other : Option KeyValue} (found : Option KeyValue) → now ≡ answers → position ≡ other → IsNext now position found → IsNext answers other found
+same_next found same at next = rw (← same) (rw (← at) next)
 
-either_page : (answers : List KeyValue) (after : Option KeyValue) (size : ℕ) (keys : List KeyValue) (found : Option KeyValue) (more : Bool) → more ≡ is_some found → AllPairs IsBefore answers → AreFirst answers after keys
-    → IsNext answers (last_of after keys) found → length keys ≡ size → IsPageAfter answers after size (record { keys = keys; more = more })
-either_page answers after size keys None more is rise first next count =
-    rw is (last_page _ _ _ _ None rise first next refl (omega arith))
-either_page answers after size keys (Some key) more is rise first next count =
-    rw is (page_with_more _ _ _ _ _ _ rise first next refl count)
-
-module _ (now answers : List KeyValue) (same : now ≡ answers) (after position : Option KeyValue) (keys items : List KeyValue) (are : items ≡ keys) (at : position ≡ last_of after items) (first : AreFirst answers after keys) where
+module _ {now answers : List KeyValue} (same : now ≡ answers) {after position : Option KeyValue} {keys items : List KeyValue} (are : items ≡ keys) (at : position ≡ last_of after items) (first : AreFirst answers after keys) where
   position_is : position ≡ last_of after keys
   position_is = cc
 
   pub position_read : IsPosition now position
-  position_read = rw position_is (rw same (position_after _ _ _ first))
+  position_read = rw position_is (rw same (position_after _ first))
 
   module _ (rise : AllPairs IsBefore answers) (found : Option KeyValue) (next : IsNext now position found) where
-    pub more_read : (key : KeyValue) (grown : List KeyValue) → found ≡ Some key → grown ≡ keys ++ key ∷ [] → AreFirst answers after grown
-    more_read key grown some is =
-        rw is (first_more _ _ _ _ _ rise first (same_next _ _ _ _ _ same position_is next) some)
+    pub more_read : {key : KeyValue} {grown : List KeyValue} → found ≡ Some key → grown ≡ keys ++ key ∷ [] → AreFirst answers after grown
+    more_read some is =
+        rw is (first_more _ _ _ rise first (same_next _ same position_is next) some)
 
-    pub last_page_read : (size : ℕ) → found ≡ None → length keys ≤ size → IsPageAfter answers after size (record { keys = keys; more = false })
-    last_page_read size none at_most = last_page _ _ _ _ _ rise first (same_next _ _ _ _ _ same position_is next) none at_most
-
-    pub page_read : (size : ℕ) (more : Bool) → more ≡ is_some found → length keys ≡ size → IsPageAfter answers after size (record { keys = keys; more = more })
-    page_read size more is count = either_page _ _ _ _ _ _ is rise first (same_next _ _ _ _ _ same position_is next) count
+    pub page_read : {size : ℕ} {more : Bool} → more ≡ is_some found → (more ≡ true → length keys ≡ size) → length keys ≤ size
+        → IsPageAfter answers after size (record { keys = keys; more = more })
+    page_read is full at_most =
+        let next_here = next_is _ rise _ first.left found (after_keys _ _ keys first.left first.rest) (same_next _ same position_is next) in
+        record { rest = keys ++ first.left; is_rest = first.rest; is_page = page_before keys first.left (is ∙ ap is_some next_here) full at_most }

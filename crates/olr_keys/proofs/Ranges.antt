@@ -3,11 +3,11 @@ use Rattle.std.proofs.Common.{◌≡◌, ℕ, zero, suc, ◌+◌, ◌≤◌, Lis
 use Rattle.std.specs.Prelude.{slice_index_or}
 use Rattle.std.proofs.lemmas.List.Elements.{All-cons, All-nil}
 use Rattle.std.proofs.lemmas.Option.{slice_get_within}
-use Rattle.olr_keys.specs.Table.{Penalties, IsTable, count_of, penalty_at}
-use Rattle.olr_keys.specs.Key.{KeyValue, IsInRange}
-use Rattle.olr_keys.specs.Matching.{IsKey, IsCompletion}
+use Rattle.olr_keys.specs.Table.{Penalties, IsTable, count_of, penalty_at, max_total}
+use Rattle.olr_keys.specs.Matching.{IsCompletion}
 use Rattle.olr_keys.proofs.Bounds.{count_at_most}
 use Rattle.olr_keys.proofs.Completions.{step_penalty, completion_at_most}
+use Rattle.olr_keys.specs.Laws.{KeysAreInRange}
 
 -- a candidate's rank is from 1 to the count of its layer
 pub rank_inside : (p : Penalties) (layer rank penalty : ℕ) → penalty_at p layer rank ≡ Some penalty → (1 ≤ rank) × (rank ≤ count_of p layer)
@@ -26,20 +26,20 @@ completion_length p layer before [] total completion = omega arith
 completion_length p layer before (rank ∷ ranks) total (leg, penalty, rest, joined, there, later, sum) = omega (arith, completion_length p (layer + 1) (Some rank) ranks rest later)
 
 -- there is no leg to the first candidate
-start_at_most : (p : Penalties) (ranks : List ℕ) (total : ℕ) → IsTable p → IsCompletion p 0 None ranks total → total ≤ 14620
-start_at_most p [] total sound completion = omega arith
-start_at_most p (rank ∷ ranks) total sound (leg, penalty, rest, joined, there, later, sum) =
+start_at_most : {p : Penalties} (ranks : List ℕ) {total : ℕ} → IsTable p → IsCompletion p 0 None ranks total → total ≤ max_total
+start_at_most [] sound completion = omega arith
+start_at_most (rank ∷ ranks) sound (leg, penalty, rest, joined, there, later, sum) =
     let none : leg ≡ 0 = cc in
     omega (
       arith,
-      step_penalty _ 0 _ _ sound there,
-      completion_at_most _ _ _ _ _ sound later,
+      step_penalty 0 _ sound there,
+      completion_at_most _ _ _ _ sound later,
       completion_length _ _ _ _ _ later,
     )
 
-pub key_in_range : (p : Penalties) (key : KeyValue) → IsTable p → IsKey p key → IsInRange key
+pub key_in_range : KeysAreInRange
 key_in_range p key sound is = record {
-  total_at_most = start_at_most _ _ _ sound is;
+  total_at_most = start_at_most _ sound is;
   ranks_at_least = omega (arith, completion_length _ 0 None _ _ is);
   ranks_at_most = omega (arith, completion_length _ 0 None _ _ is);
   each = completion_ranks _ 0 None _ _ sound is;

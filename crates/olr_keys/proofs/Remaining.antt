@@ -7,13 +7,13 @@ use Rattle.olr_keys.proofs.Completions.{layer_inside, same_some}
 
 -- ---- the last layer
 
-pub remaining_last : (p : Penalties) (layer rank penalty : ℕ) → layer + 1 ≡ length p.candidates → penalty_at p layer rank ≡ Some penalty → IsRemainingTotal p layer rank penalty
-remaining_last p layer rank penalty last there = ([], (0, penalty, 0, refl, there, (last, refl), omega arith))
+pub remaining_last : (p : Penalties) {rank : ℕ} (layer penalty : ℕ) → layer + 1 ≡ length p.candidates → penalty_at p layer rank ≡ Some penalty → IsRemainingTotal p layer rank penalty
+remaining_last p layer penalty last there = ([], (0, penalty, 0, refl, there, (last, refl), omega arith))
 
-pub only_last : (p : Penalties) (layer rank penalty total : ℕ) → layer + 1 ≡ length p.candidates → penalty_at p layer rank ≡ Some penalty → IsRemainingTotal p layer rank total → total ≡ penalty
-only_last p layer rank penalty total last there ([], (leg, own, rest, joined, here, later, sum)) =
+pub only_last : (p : Penalties) {rank total : ℕ} (layer penalty : ℕ) → layer + 1 ≡ length p.candidates → penalty_at p layer rank ≡ Some penalty → IsRemainingTotal p layer rank total → total ≡ penalty
+only_last p layer penalty last there ([], (leg, own, rest, joined, here, later, sum)) =
     let none : 0 ≡ leg = cc in omega (arith, same_some _ own penalty here there)
-only_last p layer rank penalty total last there (second ∷ ranks, (leg, own, rest, joined, here, (leg', next, rest', joined', here', later, sum'), sum)) =
+only_last p layer penalty last there (second ∷ ranks, (leg, own, rest, joined, here, (leg', next, rest', joined', here', later, sum'), sum)) =
     absurd (omega (arith, layer_inside p (layer + 1) second next here'))
 
 -- ---- a layer before the last one
@@ -31,10 +31,10 @@ remaining_by p layer rank penalty count total there (second, leg, rest, least, m
       (0, penalty, leg + rest, refl, there, (leg, own, later_rest, joined, here, later, omega arith), omega arith),
     )
 
-pub by_remaining : (p : Penalties) (layer rank penalty total : ℕ) → layer + 1 < length p.candidates → penalty_at p layer rank ≡ Some penalty → IsRemainingTotal p layer rank total
+pub by_remaining : (p : Penalties) {rank total : ℕ} (layer penalty : ℕ) → layer + 1 < length p.candidates → penalty_at p layer rank ≡ Some penalty → IsRemainingTotal p layer rank total
     → IsTotalBy p layer rank penalty (count_of p (layer + 1)) total
-by_remaining p layer rank penalty total inside there ([], (leg, own, rest, joined, here, later, sum)) = absurd (omega arith)
-by_remaining p layer rank penalty total inside there (second ∷ ranks, (leg, own, rest, joined, here, (leg', next, rest', joined', here', later, sum'), sum)) =
+by_remaining p layer penalty inside there ([], (leg, own, rest, joined, here, later, sum)) = absurd (omega arith)
+by_remaining p layer penalty inside there (second ∷ ranks, (leg, own, rest, joined, here, (leg', next, rest', joined', here', later, sum'), sum)) =
     let none : 0 ≡ leg = cc in
     let position = rank_inside p (layer + 1) _ _ here' in (
       second,

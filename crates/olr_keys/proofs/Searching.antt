@@ -17,7 +17,7 @@ use Rattle.olr_keys.proofs.Completions.{layer_inside, same_some}
 abbrev pub HasNoStepTo : Penalties → ℕ → Option ℕ → ℕ → ℕ → ℕ → Type 0
 HasNoStepTo p layer before above rest last = (rank left : ℕ) → above < rank → rank ≤ last → IsStep p layer before rank rest left → ⊥
 
-module _ (p : Penalties) (layer : ℕ) (before : Option ℕ) (above rest : ℕ) where
+module _ {p : Penalties} {layer : ℕ} (before : Option ℕ) (above rest : ℕ) where
   pub none_more : (last : ℕ) → HasNoStepTo p layer before above rest last → ((left : ℕ) → IsStep p layer before (last + 1) rest left → ⊥) → HasNoStepTo p layer before above rest (last + 1)
   none_more last none here rank left later within step = elim (cases_eq rank (last + 1)) [
     | inl same ↦ here left (rw (← same) step)
@@ -27,8 +27,8 @@ module _ (p : Penalties) (layer : ℕ) (before : Option ℕ) (above rest : ℕ) 
   pub step_inside : (rank left : ℕ) → IsStep p layer before rank rest left → (1 ≤ rank) × (rank ≤ count_of p layer)
   step_inside rank left step = rank_inside p layer _ _ step.there
 
-  pub none_at_all : (last : ℕ) → count_of p layer ≤ last → HasNoStepTo p layer before above rest last → HasNoStep p layer before above rest
-  none_at_all last all none rank left later step = none rank left later (omega (arith, step_inside _ _ step)) step
+  pub none_at_all : {last : ℕ} → count_of p layer ≤ last → HasNoStepTo p layer before above rest last → HasNoStep p layer before above rest
+  none_at_all all none rank left later step = none rank left later (omega (arith, step_inside _ _ step)) step
 
 -- what is left is known from the rank
 same_left : (p : Penalties) (layer : ℕ) (before : Option ℕ) (rank rest a b : ℕ) → IsStep p layer before rank rest a → IsStep p layer before rank rest b → a ≡ b
@@ -94,7 +94,7 @@ pub some_step : (p : Penalties) (layer : ℕ) (before : Option ℕ) (rest : ℕ)
 some_step p layer before rest inside ([], completion) none = omega arith
 some_step p layer before rest inside (rank ∷ ranks, completion) none =
     let (left, step, later) = step_of_completion _ _ _ _ _ _ completion in
-    none rank left (step_inside _ _ before 0 rest rank left step).0 step
+    none rank left (step_inside before 0 rest rank left step).0 step
 
 first_of : (p : Penalties) (layer : ℕ) (before : Option ℕ) (rest rank left : ℕ) (ranks other : List ℕ) → IsFirstStep p layer before 0 rest rank left → IsFirstCompletion p (layer + 1) (Some rank) left ranks
     → IsCompletion p layer before other rest → (other ≡ rank ∷ ranks) ⊎ AreBefore (rank ∷ ranks) other
@@ -111,14 +111,14 @@ first_of p layer before rest rank left ranks (second ∷ others) step on there =
             | inl equal ↦ inl (cc)
             | inr before_it ↦ inr (inr (sym same, before_it))
           ]
-      | inr (inl lower) ↦ absurd (step.first second less (step_inside _ _ before 0 rest second less other_step).0 lower other_step)
+      | inr (inl lower) ↦ absurd (step.first second less (step_inside before 0 rest second less other_step).0 lower other_step)
       | inr (inr higher) ↦ inr (inl higher)
     ]
 
 -- the first completion: the first step, and the first completion after it
-pub first_completion : (p : Penalties) (layer : ℕ) (before : Option ℕ) (rest rank left : ℕ) (ranks : List ℕ) → IsFirstStep p layer before 0 rest rank left → IsFirstCompletion p (layer + 1) (Some rank) left ranks
+pub first_completion : {p : Penalties} {layer : ℕ} {before : Option ℕ} {rest rank left : ℕ} {ranks : List ℕ} → IsFirstStep p layer before 0 rest rank left → IsFirstCompletion p (layer + 1) (Some rank) left ranks
     → IsFirstCompletion p layer before rest (rank ∷ ranks)
-first_completion p layer before rest rank left ranks step on = record {
+first_completion step on = record {
   completion = completion_of_step _ _ _ _ _ _ _ step.step on.completion;
   first = λ other there. first_of _ _ _ _ _ _ _ _ step on there;
 }
@@ -133,42 +133,42 @@ no_next_at_end p layer before rest completion (rank ∷ ranks) there later =
     absurd (omega (arith, step_layer _ _ _ _ _ _ step))
 
 -- another completion with the same first rank has what is left after it
-pub same_later : (p : Penalties) (layer : ℕ) (before : Option ℕ) (own rank rest left : ℕ) (ranks : List ℕ) → IsStep p layer before own rest left → own ≡ rank → IsCompletion p layer before (rank ∷ ranks) rest
+pub same_later : {p : Penalties} {layer : ℕ} {before : Option ℕ} {own rank rest left : ℕ} (ranks : List ℕ) → IsStep p layer before own rest left → own ≡ rank → IsCompletion p layer before (rank ∷ ranks) rest
     → IsCompletion p (layer + 1) (Some own) ranks left
-same_later p layer before own rank rest left ranks step same there =
+same_later {p} {layer} {before} {own} {rest} ranks step same there =
     let (less, other, on) = step_of_completion _ _ _ _ _ _ there in
     let again : IsStep p layer before own rest less = subst (λ (n : ℕ). IsStep p layer before n rest less) (sym same) other in
     rw (← (same_left _ _ _ _ _ _ _ again step)) (
     rw same on)
 
 -- the next completion has the same first rank, and then the next completion after it
-deeper_first : (p : Penalties) (layer : ℕ) (before : Option ℕ) (own rest left : ℕ) (others found other : List ℕ) → IsStep p layer before own rest left → IsNextCompletion p (layer + 1) (Some own) left others found
+deeper_first : {p : Penalties} {layer : ℕ} {before : Option ℕ} {own rest left : ℕ} {others found : List ℕ} (other : List ℕ) → IsStep p layer before own rest left → IsNextCompletion p (layer + 1) (Some own) left others found
     → IsCompletion p layer before other rest → AreBefore (own ∷ others) other → (other ≡ own ∷ found) ⊎ AreBefore (own ∷ found) other
-deeper_first p layer before own rest left others found [] step next there later = absurd later
-deeper_first p layer before own rest left others found (rank ∷ ranks) step next there (inl higher) = inr (inl higher)
-deeper_first p layer before own rest left others found (rank ∷ ranks) step next there (inr (same, later)) =
-    elim (next.first ranks (same_later _ _ _ _ _ _ _ _ step same there) later) [
+deeper_first [] step next there later = absurd later
+deeper_first (rank ∷ ranks) step next there (inl higher) = inr (inl higher)
+deeper_first (rank ∷ ranks) step next there (inr (same, later)) =
+    elim (next.first ranks (same_later _ step same there) later) [
       | inl equal ↦ inl (cc)
       | inr before_it ↦ inr (inr (same, before_it))
     ]
 
-pub next_deeper : (p : Penalties) (layer : ℕ) (before : Option ℕ) (own rest left : ℕ) (others found : List ℕ) → IsStep p layer before own rest left → IsNextCompletion p (layer + 1) (Some own) left others found
+pub next_deeper : {p : Penalties} {layer : ℕ} {before : Option ℕ} {own rest left : ℕ} {others found : List ℕ} → IsStep p layer before own rest left → IsNextCompletion p (layer + 1) (Some own) left others found
     → IsNextCompletion p layer before rest (own ∷ others) (own ∷ found)
-next_deeper p layer before own rest left others found step next = record {
+next_deeper step next = record {
   completion = completion_of_step _ _ _ _ _ _ _ step next.completion;
   later = inr (refl, next.later);
-  first = λ other there later. deeper_first _ _ _ _ _ _ _ _ _ step next there later;
+  first = λ other there later. deeper_first _ step next there later;
 }
 
 -- where there is none with the same first rank, the next completion has a greater one
-above_first : (p : Penalties) (layer : ℕ) (before : Option ℕ) (own rest left rank less : ℕ) (others found other : List ℕ) → IsStep p layer before own rest left → HasNoNextCompletion p (layer + 1) (Some own) left others
+above_first : {p : Penalties} {layer : ℕ} {before : Option ℕ} {own rest left rank less : ℕ} {others found : List ℕ} (other : List ℕ) → IsStep p layer before own rest left → HasNoNextCompletion p (layer + 1) (Some own) left others
     → IsFirstStep p layer before own rest rank less → IsFirstCompletion p (layer + 1) (Some rank) less found
     → IsCompletion p layer before other rest → AreBefore (own ∷ others) other → (other ≡ rank ∷ found) ⊎ AreBefore (rank ∷ found) other
-above_first p layer before own rest left rank less others found [] step none first_above on there later = absurd later
-above_first p layer before own rest left rank less others found (second ∷ ranks) step none first_above on there (inr (same, later)) =
-    absurd (none ranks (same_later _ _ _ _ _ _ _ _ step same there) later)
-above_first p layer before own rest left rank less others found (second ∷ ranks) step none first_above on there (inl higher) = elim (cases_order second rank) [
-  | inl same ↦ elim (on.first ranks (same_later _ _ _ _ _ _ _ _ first_above.step (sym same) there)) [
+above_first [] step none first_above on there later = absurd later
+above_first (second ∷ ranks) step none first_above on there (inr (same, later)) =
+    absurd (none ranks (same_later _ step same there) later)
+above_first {rank} (second ∷ ranks) step none first_above on there (inl higher) = elim (cases_order second rank) [
+  | inl same ↦ elim (on.first ranks (same_later _ first_above.step (sym same) there)) [
     | inl equal ↦ inl (cc)
     | inr before_it ↦ inr (inr (sym same, before_it))
   ]
@@ -178,25 +178,25 @@ above_first p layer before own rest left rank less others found (second ∷ rank
   | inr (inr greater) ↦ inr (inl greater)
 ]
 
-pub next_above : (p : Penalties) (layer : ℕ) (before : Option ℕ) (own rest left rank less : ℕ) (others found : List ℕ) → IsStep p layer before own rest left → HasNoNextCompletion p (layer + 1) (Some own) left others
+pub next_above : {p : Penalties} {layer : ℕ} {before : Option ℕ} {own rest left rank less : ℕ} {others found : List ℕ} → IsStep p layer before own rest left → HasNoNextCompletion p (layer + 1) (Some own) left others
     → IsFirstStep p layer before own rest rank less → IsFirstCompletion p (layer + 1) (Some rank) less found → IsNextCompletion p layer before rest (own ∷ others) (rank ∷ found)
-next_above p layer before own rest left rank less others found step none first_above on = record {
+next_above step none first_above on = record {
   completion = completion_of_step _ _ _ _ _ _ _ first_above.step on.completion;
   later = inl first_above.greater;
-  first = λ other there later. above_first _ _ _ _ _ _ _ _ _ _ _ step none first_above on there later;
+  first = λ other there later. above_first _ step none first_above on there later;
 }
 
 -- where no greater rank has a step either, there is none
-pub none_above : (p : Penalties) (layer : ℕ) (before : Option ℕ) (own rest left : ℕ) (others : List ℕ) → IsStep p layer before own rest left → HasNoNextCompletion p (layer + 1) (Some own) left others
+pub none_above : (p : Penalties) (layer : ℕ) (before : Option ℕ) {own rest left : ℕ} {others : List ℕ} → IsStep p layer before own rest left → HasNoNextCompletion p (layer + 1) (Some own) left others
     → HasNoStep p layer before own rest → HasNoNextCompletion p layer before rest (own ∷ others)
-none_above p layer before own rest left others step none no_step [] there later = later
-none_above p layer before own rest left others step none no_step (rank ∷ ranks) there (inl higher) =
+none_above p layer before step none no_step [] there later = later
+none_above p layer before step none no_step (rank ∷ ranks) there (inl higher) =
     let (less, other, on) = step_of_completion _ _ _ _ _ _ there in no_step rank less higher other
-none_above p layer before own rest left others step none no_step (rank ∷ ranks) there (inr (same, later)) = none ranks (same_later _ _ _ _ _ _ _ _ step same there) later
+none_above p layer before step none no_step (rank ∷ ranks) there (inr (same, later)) = none ranks (same_later _ step same there) later
 
 -- a candidate to which there is a step precedes those of the next layer
-pub is_predecessor : (p : Penalties) (layer : ℕ) (before : Option ℕ) (rank rest left : ℕ) → IsStep p layer before rank rest left → IsPredecessor p (layer + 1) (Some rank)
-is_predecessor p layer before rank rest left step =
+pub is_predecessor : {p : Penalties} {layer : ℕ} {before : Option ℕ} {rank rest left : ℕ} → IsStep p layer before rank rest left → IsPredecessor p (layer + 1) (Some rank)
+is_predecessor {p} {layer} {rank} step =
     let within = rank_inside p layer _ _ step.there in
     (omega arith, within.0, subst (λ (n : ℕ). rank ≤ count_of p n) {x = layer} (omega arith) within.1)
 
@@ -209,12 +209,12 @@ appends_deeper P Q ranks pushed longer rank is more (found, longer_is, on) = (
   more found on,
 )
 
-pub appends_nothing : (P : List ℕ → Type 0) (ranks : List ℕ) → P [] → Appends ranks ranks P
-appends_nothing P ranks on = ([], sym (append-nil ranks), on)
+pub appends_nothing : {P : List ℕ → Type 0} (ranks : List ℕ) → P [] → Appends ranks ranks P
+appends_nothing ranks on = ([], sym (append-nil ranks), on)
 
 -- a rank that was pushed and popped again
-pub popped_back : (ranks pushed deeper popped : List ℕ) (rank : ℕ) → pushed ≡ ranks ++ rank ∷ [] → deeper ≡ pushed → popped ≡ take (length deeper - 1) deeper → popped ≡ ranks
-popped_back ranks pushed deeper popped rank is same taken =
+pub popped_back : {pushed popped : List ℕ} (ranks deeper : List ℕ) (rank : ℕ) → pushed ≡ ranks ++ rank ∷ [] → deeper ≡ pushed → popped ≡ take (length deeper - 1) deeper → popped ≡ ranks
+popped_back ranks deeper rank is same taken =
     let all : deeper ≡ ranks ++ rank ∷ [] = same ∙ is in
     let long : length deeper ≡ length ranks + 1 = cc (length-append ranks (rank ∷ [])) in
     taken ∙ ap (take (length deeper - 1)) all ∙ take_at ranks (rank ∷ []) (length deeper - 1) (omega arith)
@@ -222,9 +222,9 @@ popped_back ranks pushed deeper popped rank is same taken =
 -- ---- the budget of probes
 
 -- what a layer may take, and the later ones
-pub layer_budget : (old first new layers layer most count later : ℕ) → layer < layers → count ≤ most → first ≤ old + count → new ≤ first + later → later ≡ (layers - (layer + 1)) * most
+pub layer_budget : {first new count later : ℕ} (old layers layer most : ℕ) → layer < layers → count ≤ most → first ≤ old + count → new ≤ first + later → later ≡ (layers - (layer + 1)) * most
     → new ≤ old + (layers - layer) * most
-layer_budget old first new layers layer most count later inside few one rest is =
+layer_budget old layers layer most inside few one rest is =
     let split : (layers - layer) * most ≡ (layers - (layer + 1)) * most + most =
     ap (λ (n : ℕ). n * most) {x = layers - layer} {y = suc (layers - (layer + 1))} (omega arith) ∙ suc-mul (layers - (layer + 1)) most in
     omega arith

@@ -10,9 +10,10 @@ use Rattle.std.proofs.lemmas.Bool.{cases_lt}
 use Rattle.std.proofs.lemmas.List.{take_all, take_more}
 use Rattle.std.proofs.lemmas.List.Recursion.{max_push, max_bounds, max_least}
 use Rattle.olr_keys.proofs.Bounds.{layer_sound, legs_sound}
-use Rattle.olr_keys.specs.Table.{Penalties, IsTable, count_of, penalty_at}
-use Rattle.olr_keys.specs.Matching.{leg_to, IsCompletion, IsRemainingTotal}
-use Rattle.olr_keys.specs.Rows.{greatest, greatest_leg, bytes_of, most_of, width_of, IsTotal}
+use Rattle.olr_keys.specs.Table.{Penalties, IsTable, count_of, penalty_at, max_leg, max_penalty, max_total}
+use Rattle.olr_keys.specs.Matching.{leg_to, IsCompletion}
+use Rattle.olr_keys.specs.Rows.{greatest, greatest_leg, bytes_of, most_of, width_of}
+use Rattle.olr_keys.specs.Laws.{RemainingAreBelow, TotalsAreBelow}
 
 empty_sum : {X : Type 0} (f : X → ℕ) (index : ℕ) → sum_by f (drop index []) ≡ 0
 empty_sum f zero = refl
@@ -51,34 +52,34 @@ some_at_most : (leg : Option ℕ) (bound : ℕ) → IfSome leg (λ penalty. pena
 some_at_most None bound each = omega arith
 some_at_most (Some leg) bound each = each
 
-greatest_leg_at_most : (legs : List (Option ℕ)) (bound : ℕ) → All (λ (leg : Option ℕ). IfSome leg (λ penalty. penalty ≤ bound)) legs → greatest_leg legs ≤ bound
-greatest_leg_at_most legs bound each =
+greatest_leg_at_most : (legs : List (Option ℕ)) {bound : ℕ} → All (λ (leg : Option ℕ). IfSome leg (λ penalty. penalty ≤ bound)) legs → greatest_leg legs ≤ bound
+greatest_leg_at_most legs {bound} each =
     max_least greatest_leg (λ leg. unwrap_or leg 0) refl (λ _ _. refl) legs None bound
     (λ index inside. some_at_most (get_or legs index None) bound (each index None inside))
 
-pub layer_at_most : (p : Penalties) (layer : ℕ) → IsTable p → greatest (slice_index_or p.candidates layer []) ≤ 360
+pub layer_at_most : (p : Penalties) (layer : ℕ) → IsTable p → greatest (slice_index_or p.candidates layer []) ≤ max_penalty
 layer_at_most p layer sound = let it = layer_sound _ _ sound in greatest_at_most _ _ it.each
 
-pub legs_at_most : (p : Penalties) (layer : ℕ) → IsTable p → greatest_leg (slice_index_or p.legs layer []) ≤ 100
+pub legs_at_most : (p : Penalties) (layer : ℕ) → IsTable p → greatest_leg (slice_index_or p.legs layer []) ≤ max_leg
 legs_at_most p layer sound = elim (cases_lt (layer + 1) (length p.candidates)) [
-  | inl inside ↦ let it = legs_sound _ _ sound inside in greatest_leg_at_most _ _ it.each
+  | inl inside ↦ let it = legs_sound _ _ sound inside in greatest_leg_at_most _ it.each
   | inr outside ↦
       let none : greatest_leg (slice_index_or p.legs layer []) ≡ 0 = ap greatest_leg (get_or-eq_default p.legs [] {n = layer} (omega arith)) in
       omega arith
 ]
 
-pub width_at_most : (p : Penalties) → IsTable p → width_of p ≤ 14621
+pub width_at_most : (p : Penalties) → IsTable p → width_of p ≤ max_total + 1
 unfolding width_of
 width_at_most p sound = omega (
   arith,
-  sum_by-le greatest 360 p.candidates (λ k d inside. let it = sound.layers k d inside in greatest_at_most _ _ it.each),
-  sum_by-le greatest_leg 100 p.legs (λ k d inside.
-      let it = sound.legs k (get_or p.legs k d) (slice_get-get_or p.legs k d inside) in greatest_leg_at_most _ _ it.each),
+  sum_by-le greatest max_penalty p.candidates (λ k d inside. let it = sound.layers k d inside in greatest_at_most _ _ it.each),
+  sum_by-le greatest_leg max_leg p.legs (λ k d inside.
+      let it = sound.legs k (get_or p.legs k d) (slice_get-get_or p.legs k d inside) in greatest_leg_at_most _ it.each),
 )
 
-pub width_is : (p : Penalties) (layers sum : ℕ) → IsTable p → layers ≡ length p.candidates → sum ≡ sum_by greatest (take layers p.candidates) + sum_by greatest_leg (take layers p.legs) + 1 → sum ≡ width_of p
+pub width_is : {p : Penalties} {layers sum : ℕ} → IsTable p → layers ≡ length p.candidates → sum ≡ sum_by greatest (take layers p.candidates) + sum_by greatest_leg (take layers p.legs) + 1 → sum ≡ width_of p
 unfolding width_of
-width_is p layers sum sound all is = omega (
+width_is {p} {layers} sound all is = omega (
   arith,
   ap (sum_by greatest) (take_all layers p.candidates (omega (arith, all))),
   ap (sum_by greatest_leg) (take_all layers p.legs (omega (arith, all, sound.between))),
@@ -158,7 +159,7 @@ no_leg_to : (p : Penalties) (layer : ℕ) → greatest_leg_to p layer None ≡ 0
 unfolding greatest_leg_to
 no_leg_to p layer = refl
 
-pub remaining_below : (p : Penalties) (layer rank total : ℕ) → IsRemainingTotal p layer rank total → total < width_of p
+pub remaining_below : RemainingAreBelow
 unfolding width_of
 remaining_below p layer rank total (ranks, completion) = omega (
   arith,
@@ -168,7 +169,7 @@ remaining_below p layer rank total (ranks, completion) = omega (
   drop_at_most greatest_leg p.legs layer,
 )
 
-pub total_below : (p : Penalties) (total : ℕ) → IsTotal p total → total < width_of p
+pub total_below : TotalsAreBelow
 unfolding width_of
 total_below p total (ranks, completion) = omega (
   arith,

@@ -1,5 +1,9 @@
 -- The answers of a table, listed. What makes this list the right one is AreAnswers alone: these definitions only show that every table has one.
-use Rattle.std.specs.Prelude.{ℕ, zero, suc, ◌+◌, ◌==◌, Bool, true, false, ◌&&◌, ◌||◌, cond, nat_lt, List, [], ◌∷◌, ◌++◌, length, map, Option, None, Some}
+use Rattle.std.specs.Prelude.{ℕ, zero, suc, ◌+◌, List, [], ◌∷◌, ◌++◌, length, map, Option, None, Some}
+use Rattle.std.specs.Cmp.Lexicographic.{slice_cmp}
+use Rattle.std.specs.FinMap.{from_entries, keys}
+use Rattle.std.specs.Ordering.{nat_cmp}
+use Rattle.std.specs.declared.cmp.Ordering.{Ordering}
 use Rattle.olr_keys.specs.Table.{Penalties, count_of, penalty_at}
 use Rattle.olr_keys.specs.Key.{KeyValue}
 use Rattle.olr_keys.specs.Matching.{leg_to}
@@ -15,37 +19,26 @@ lists_up_to (suc last) list = lists_up_to last list ++ list (suc last)
 unfoldable pub completions_with : Option ℕ → Option ℕ → ℕ → List KeyValue → List KeyValue
 completions_with None penalty rank further = []
 completions_with (Some leg) None rank further = []
-completions_with (Some leg) (Some penalty) rank further = map (λ (key : KeyValue). record { total = leg + penalty + key.total; ranks = rank ∷ key.ranks }) further
+completions_with (Some leg) (Some penalty) rank further =
+    map (λ (key : KeyValue). record { total = leg + penalty + key.total; ranks = rank ∷ key.ranks }) further
 
 -- the ranks and the total of each completion through so many layers, from a layer on, after the candidate before it
 unfoldable pub completions : Penalties → ℕ → ℕ → Option ℕ → List KeyValue
 completions penalties zero layer before = record { total = 0; ranks = [] } ∷ []
 completions penalties (suc left) layer before =
     lists_up_to (count_of penalties layer) (λ (rank : ℕ).
-    completions_with (leg_to penalties layer before rank) (penalty_at penalties layer rank) rank (completions penalties left (layer + 1) (Some rank)))
+    completions_with (leg_to penalties layer before rank) (penalty_at penalties layer rank) rank
+    (completions penalties left (layer + 1) (Some rank)))
 
--- ---- the same in order
+-- ---- the same in order, each once
 
--- the test of the order of ranks
-unfoldable pub are_before : List ℕ → List ℕ → Bool
-are_before ranks [] = false
-are_before [] (other ∷ others) = true
-are_before (rank ∷ ranks) (other ∷ others) = nat_lt rank other || ((rank == other) && are_before ranks others)
+-- the order of keys, as a comparison
+abbrev pub by_key : KeyValue → KeyValue → Ordering
+by_key a b = slice_cmp nat_cmp (a.total ∷ a.ranks) (b.total ∷ b.ranks)
 
--- the test of the order of keys
-unfoldable pub is_before : KeyValue → KeyValue → Bool
-is_before a b = nat_lt a.total b.total || ((a.total == b.total) && are_before a.ranks b.ranks)
-
--- a rising list with a key put where it belongs, once
-unfoldable pub with_key : KeyValue → List KeyValue → List KeyValue
-with_key key [] = key ∷ []
-with_key key (other ∷ keys) = cond (is_before key other) (key ∷ other ∷ keys) (cond (is_before other key) (other ∷ with_key key keys) (other ∷ keys))
-
--- the keys of a list, rising, each once
-unfoldable pub in_order : List KeyValue → List KeyValue
-in_order [] = []
-in_order (key ∷ keys) = with_key key (in_order keys)
+abbrev pub entry_of : KeyValue → KeyValue × Unit {0}
+entry_of key = (key, tt)
 
 -- the answers of a table
 unfoldable pub answers_of : Penalties → List KeyValue
-answers_of penalties = in_order (completions penalties (length penalties.candidates) 0 None)
+answers_of penalties = keys (from_entries {R = by_key} (map entry_of (completions penalties (length penalties.candidates) 0 None)))

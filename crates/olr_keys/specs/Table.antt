@@ -4,6 +4,26 @@ use Rattle.std.specs.Prelude.{◌≡◌, ℕ, zero, suc, ◌+◌, ◌-◌, ◌*�
 use Rattle.std.specs.List.Sorted.{IsNonDecreasing}
 use Rattle.std.specs.Global.{Vec}
 
+-- ---- how great penalties are
+
+-- the greatest penalty of a candidate: 100 for its distance, 160 for its bearing, 70 for its class and 30 for its form
+abbrev pub max_penalty : ℕ
+max_penalty = 360
+
+-- the greatest penalty of a leg: 100 for its length
+abbrev pub max_leg : ℕ
+max_leg = 100
+
+-- the greatest penalty of a candidate and the leg to it
+abbrev pub max_step : ℕ
+max_step = max_penalty + max_leg
+
+-- the greatest total of a matching: 32 candidates and the 31 legs between them
+abbrev pub max_total : ℕ
+max_total = 32 * max_penalty + 31 * max_leg
+
+-- ---- tables
+
 -- The penalty of each candidate of each layer, by rank; and of each two neighbouring layers the penalties of the legs, by the rank of the first candidate
 -- and then by that of the second: none where the two aren't joined.
 pub record Penalties : Type 0 where
@@ -18,16 +38,16 @@ penalties_of candidates legs = record { candidates = map (λ (layer : Vec ℕ). 
 abbrev pub count_of : Penalties → ℕ → ℕ
 count_of penalties layer = length (slice_index_or penalties.candidates layer [])
 
--- the candidates of a layer: at most 64, with penalties of at most 360 that don't fall
+-- the candidates of a layer: at most 64, with penalties that don't fall
 pub record IsLayer (layer : List ℕ) : Type 0 where
   pub at_most : length layer ≤ 64
   pub rise : IsNonDecreasing layer
-  pub each : All (λ (penalty : ℕ). penalty ≤ 360) layer
+  pub each : All (λ (penalty : ℕ). penalty ≤ max_penalty) layer
 
--- the legs between layers of so many candidates: one entry for each pair, with a penalty of at most 100 where a leg joins the two
+-- the legs between layers of so many candidates: one entry for each pair, with a penalty where a leg joins the two
 pub record AreLegs (first second : ℕ) (legs : List (Option ℕ)) : Type 0 where
   pub pairs : length legs ≡ first * second
-  pub each : All (λ (leg : Option ℕ). IfSome leg (λ penalty. penalty ≤ 100)) legs
+  pub each : All (λ (leg : Option ℕ). IfSome leg (λ penalty. penalty ≤ max_leg)) legs
 
 -- the legs from a layer to the next one
 abbrev pub AreLegsFrom : Penalties → ℕ → Type 0

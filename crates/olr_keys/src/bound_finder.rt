@@ -8,7 +8,7 @@ ghost use Rattle.olr_keys.specs.Bounds.{HasNoCompletionBy, IsHeldBefore, IsLeft}
 ghost use Rattle.olr_keys.specs.Bounds.{IsLonger, IsLowerBound};
 ghost use Rattle.olr_keys.specs.Finder.{IsAfter, IsLeastOf, IsNext, IsPosition};
 ghost use Rattle.olr_keys.specs.Product.{Completes, IsBeginning, IsHeld, IsJoined};
-ghost use Rattle.olr_keys.specs.Table.{IsTable, count_of};
+ghost use Rattle.olr_keys.specs.Table.{IsTable, count_of, max_leg, max_step, max_total};
 
 use crate::before::comes_before;
 use crate::bound_table::Bounds;
@@ -88,18 +88,17 @@ fn step_to(bounds: &Bounds, layer: usize, before: Option<u8>, rank: u8) -> Optio
     ensures step { MatchOption result (HasNoCompletionBy bounds.now layer before rank)
         (λ step. IsJoined bounds.now layer before rank step.sum
         × IsLowerBound bounds.now layer before rank step.least) }
-    ensures at_most { IfSome result (λ step. (step.sum ≤ 460) × (step.least ≤ 14720)) }
+    ensures at_most { IfSome result (λ step. (step.sum ≤ max_step)
+        × (step.least ≤ max_total + max_leg)) }
     ensures sound { IsTable bounds.now }
 {
-    let table = bounds.table();
-    let penalty = table.penalty(layer, rank)?;
-    let leg = table.leg_to(layer, before, rank)?;
+    let joined = bounds.table().joined(layer, before, rank)?;
     let Some(least) = bounds.least(layer, rank) else {
         return None;
     };
     Some(Step {
-        sum: u16::from(leg) + penalty,
-        least: u16::from(leg) + least,
+        sum: joined.leg + joined.penalty,
+        least: joined.leg + least,
     })
 }
 
@@ -136,7 +135,7 @@ fn longer(
     requires layer { length ranks.now.items < length bounds.now.candidates }
     requires before { IfSome before (λ first. (1 ≤ length ranks.now.items) × (1 ≤ first)) }
     requires rank { (1 ≤ rank) × (rank ≤ count_of bounds.now (length ranks.now.items)) }
-    requires total { total ≤ 460 * length ranks.now.items }
+    requires total { total ≤ max_step * length ranks.now.items }
     ensures { MatchOption result
         (IsLeft bounds.now before total ranks.now.items rank held.now)
         (λ more. IsLonger bounds.now before total ranks.now.items rank
@@ -168,7 +167,7 @@ fn least_from(
 ) -> Option<Key>
     requires layers { length ranks.items ≤ length bounds.now.candidates }
     requires before { IfSome before (λ first. (1 ≤ length ranks.items) × (1 ≤ first)) }
-    requires total { total ≤ 460 * length ranks.items }
+    requires total { total ≤ max_step * length ranks.items }
     requires keys { IsBeginning bounds.now before total ranks.items }
     ensures { IsLeastOf (λ key. IsHeld held key
         ⊎ (Completes bounds.now before total ranks.items key

@@ -5,7 +5,7 @@ ghost use Rattle.std.specs.Prelude.{◌≡◌, ◌+◌, ◌-◌, ◌<◌, ◌≤
 ghost use Rattle.std.specs.Prelude.{slice_index_or, []};
 ghost use Rattle.olr_keys.specs.Bounds.{AreBoundsOf, IsBound, IsLeastNumber, IsTotalThrough};
 ghost use Rattle.olr_keys.specs.Bounds.{lesser_of};
-ghost use Rattle.olr_keys.specs.Table.{IsTable, count_of, penalty_at};
+ghost use Rattle.olr_keys.specs.Table.{IsTable, count_of, penalty_at, max_penalty};
 
 use crate::table::{Table, list_at};
 use olr_metric::NoMemory;
@@ -183,7 +183,7 @@ fn total_through(
     requires sound { IsTable table.now }
     requires layer { layer + 1 < length table.now.candidates }
     requires ranks { (1 ≤ rank) × (1 ≤ second) }
-    requires penalty { penalty ≤ 360 }
+    requires penalty { penalty ≤ max_penalty }
     requires bound { IsBound table.now (layer + 1) second bound }
     ensures { IsLeastNumber (IsTotalThrough table.now layer rank penalty second) result }
 {

@@ -7,6 +7,7 @@ ghost use Rattle.olr_keys.specs.Key.{KeyValue, IsInRange};
 
 use crate::decimal::number_of;
 use crate::key::Key;
+use crate::limits::MAX_TOTAL;
 use crate::mark::{Mark, mark_of, push_mark};
 use crate::ranks::{push_ranks, ranks_of};
 use arrayvec::ArrayString;
@@ -88,7 +89,7 @@ fn key_of(text: &str) -> Option<Key>
         (λ key. IsInRange key × (text.now ≡ key_text key)) }
 {
     let (total, ranks) = text.split_once(':')?;
-    let total = number_of(total, 14_620)?;
+    let total = number_of(total, MAX_TOTAL)?;
     let ranks = ranks_of(ranks)?;
     if ranks.len() < 2 {
         return None;

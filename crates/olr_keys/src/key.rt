@@ -8,7 +8,7 @@ use std::marker::Model;
 /// The total is at most 14,620; there are 2 to 32 ranks, each from 1 to 64.
 #[derive(Clone, Debug, Drop, PartialEq, Eq)]
 pub struct Key {
-    /// The total of the penalties, 0 to 14,620.
+    /// The total of the penalties.
     pub total: u16,
     /// The rank of the candidate in each layer, 2 to 32 ranks from 1 to 64.
     pub ranks: ArrayVec<u8, 32>,

@@ -3,8 +3,18 @@
 ghost use Rattle.std.specs.Prelude.{◌≡◌, ℕ, ◌+◌, ◌<◌, ◌≤◌, All, Decides, IfSome, length};
 ghost use Rattle.std.specs.List.Sorted.{IsNonDecreasing};
 ghost use Rattle.olr_keys.specs.Table.{AreLegs, AreLegsFrom, IsLayer, IsTable, penalties_of};
+ghost use Rattle.olr_keys.specs.Table.{max_leg, max_penalty};
 
 use crate::table::list_at;
+
+/// The greatest penalty of a candidate.
+pub(crate) const MAX_PENALTY: u16 = 360;
+
+/// The greatest penalty of a leg.
+pub(crate) const MAX_LEG: u8 = 100;
+
+/// The greatest total of a matching: 32 candidates and the 31 legs between them.
+pub(crate) const MAX_TOTAL: u16 = 32 * MAX_PENALTY + 31 * MAX_LEG as u16;
 
 /// Whether no number of a list is less than the one before it.
 fn never_falls(layer: &[u16]) -> bool
@@ -15,13 +25,12 @@ fn never_falls(layer: &[u16]) -> bool
 
 /// Whether all numbers of a list are penalties of candidates.
 fn are_penalties(layer: &[u16]) -> bool
-    ensures { Decides result (All (λ penalty. penalty ≤ 360) layer.now) }
+    ensures { Decides result (All (λ penalty. penalty ≤ max_penalty) layer.now) }
 {
-    layer.iter().all(|&penalty| penalty <= 360)
+    layer.iter().all(|&penalty| penalty <= MAX_PENALTY)
 }
 
-/// Whether a list has the penalties of the candidates of a layer: at most 64 of at most 360, which
-/// don't fall.
+/// Whether a list has the penalties of the candidates of a layer: at most 64, which don't fall.
 fn is_layer(layer: &[u16]) -> bool
     ensures { Decides result (IsLayer layer.now) }
 {
@@ -35,25 +44,25 @@ fn are_layers(layers: &[Vec<u16>]) -> bool
     layers.iter().all(|layer| is_layer(layer))
 }
 
-/// Whether a leg that joins two candidates has a penalty of at most 100.
+/// Whether a leg that joins two candidates has the penalty of a leg.
 fn is_leg(leg: Option<u8>) -> bool
-    ensures { Decides result (IfSome leg (λ penalty. penalty ≤ 100)) }
+    ensures { Decides result (IfSome leg (λ penalty. penalty ≤ max_leg)) }
 {
     let Some(penalty) = leg else {
         return true;
     };
-    penalty <= 100
+    penalty <= MAX_LEG
 }
 
-/// Whether all legs of a list that join two candidates have penalties of at most 100.
+/// Whether all legs of a list that join two candidates have the penalty of a leg.
 fn have_penalties(legs: &[Option<u8>]) -> bool
-    ensures { Decides result (All (λ leg. IfSome leg (λ penalty. penalty ≤ 100)) legs.now) }
+    ensures { Decides result (All (λ leg. IfSome leg (λ penalty. penalty ≤ max_leg)) legs.now) }
 {
     legs.iter().all(|&leg| is_leg(leg))
 }
 
 /// Whether a list has the legs between layers of so many candidates: one entry for each pair, with
-/// a penalty of at most 100 where a leg joins the two.
+/// a penalty where a leg joins the two.
 fn are_legs(first: usize, second: usize, legs: &[Option<u8>]) -> bool
     ensures { Decides result (AreLegs first second legs.now) }
 {
@@ -93,8 +102,8 @@ fn have_lengths(penalties: &[Vec<u16>], legs: &[Vec<Option<u8>>]) -> bool
 }
 
 /// Whether lists are the penalties of a table, as [`Table::new`](crate::Table::new) takes them: 2
-/// to 32 layers of 0 to 64 penalties of at most 360, which don't fall, and for each two
-/// neighbouring layers one leg for each pair of candidates, none or with a penalty of at most 100.
+/// to 32 layers of 0 to 64 penalties that don't fall, and for each two neighbouring layers one leg
+/// for each pair of candidates, or none; no penalty is greater than a candidate's or a leg's can be.
 /// It takes no memory.
 pub fn is_table(penalties: &[Vec<u16>], legs: &[Vec<Option<u8>>]) -> bool
     ensures { Decides result (IsTable (penalties_of penalties.now legs.now)) }

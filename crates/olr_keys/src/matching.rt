@@ -28,10 +28,9 @@ pub(crate) fn total_from(
         }
         return None;
     };
-    let penalty = table.penalty(layer, *rank)?;
-    let leg = table.leg_to(layer, before, *rank)?;
+    let joined = table.joined(layer, before, *rank)?;
     let total = total_from(table, layer + 1, Some(*rank), rest)?;
-    Some(u16::from(leg) + penalty + total)
+    Some(joined.leg + joined.penalty + total)
 }
 
 /// Whether a key is that of a matching: there are such candidates, each two neighbours are joined,

@@ -5,7 +5,7 @@ ghost use Rattle.std.specs.Prelude.{IfOk, IfSome, IsOk, MatchOption, option_map}
 ghost use Rattle.olr_keys.specs.Answers.{AreAnswers};
 ghost use Rattle.olr_keys.specs.AnswersOf.{answers_of};
 ghost use Rattle.olr_keys.specs.Finder.{IsAfter, IsNext, IsPosition, IsLeastOf};
-ghost use Rattle.olr_keys.specs.Table.{IsTable};
+ghost use Rattle.olr_keys.specs.Table.{IsTable, max_step};
 ghost use Rattle.olr_keys.specs.Product.{IsBeginning, Completes, IsHeld, IsJoined};
 
 use crate::before::is_before;
@@ -58,20 +58,6 @@ impl<'a> Finder for ProductFinder<'a> {
     }
 }
 
-/// The sum of the penalties of a candidate and of the leg to it; `None` where there is no such
-/// candidate or leg.
-fn step(table: &Table, layer: usize, before: Option<u8>, rank: u8) -> Option<u16>
-    requires sound { IsTable table.now }
-    requires before { IfSome before (λ first. (1 ≤ layer) × (1 ≤ first)) }
-    requires rank { 1 ≤ rank }
-    ensures step { MatchOption result ((sum : ℕ) → IsJoined table.now layer before rank sum → ⊥)
-        (IsJoined table.now layer before rank) }
-{
-    let penalty = table.penalty(layer, rank)?;
-    let leg = table.leg_to(layer, before, rank)?;
-    Some(u16::from(leg) + penalty)
-}
-
 /// These ranks and one more.
 pub(crate) fn with_rank(ranks: &ArrayVec<u8, 32>, rank: u8) -> ArrayVec<u8, 32>
     requires { length ranks.now.items < 32 }
@@ -118,7 +104,7 @@ fn least_from(
 ) -> Option<Key>
     requires layers { length ranks.items ≤ length table.now.candidates }
     requires before { IfSome before (λ first. (1 ≤ length ranks.items) × (1 ≤ first)) }
-    requires total { total ≤ 460 * length ranks.items }
+    requires total { total ≤ max_step * length ranks.items }
     requires keys { IsBeginning table.now before total ranks.items }
     ensures { IsLeastOf (λ key. IsHeld held key ⊎ (Completes table.now before total ranks.items key
         × IsAfter (option_map (λ at. at.now) after.entry) key)) result }
@@ -130,7 +116,8 @@ fn least_from(
     let mut least = held;
     for index in 0..table.count(layer) {
         let rank = index as u8 + 1;
-        if let Some(sum) = step(table, layer, before, rank) {
+        if let Some(joined) = table.joined(layer, before, rank) {
+            let sum = joined.leg + joined.penalty;
             let longer = with_rank(&ranks, rank);
             least = least_from(table, Some(rank), total + sum, longer, after, least);
         }

@@ -14,7 +14,7 @@ ghost use Rattle.olr_metric.specs.Counting.{one_more};
 ghost use Rattle.olr_keys.specs.Rows.{AreRowsOf, IsStep, IsTotal, IsPredecessor, bytes_of, most_of};
 ghost use Rattle.olr_keys.specs.Rows.{rows_of, width_of};
 ghost use Rattle.olr_keys.specs.Search.{IsLeft};
-ghost use Rattle.olr_keys.specs.Table.{IsTable, count_of};
+ghost use Rattle.olr_keys.specs.Table.{IsTable, count_of, max_total};
 
 use crate::table::{Table, list_at};
 use crate::width::width;
@@ -87,10 +87,10 @@ impl<'a> Rows<'a> {
     }
 
     /// One more than the sum of the greatest penalty of each layer and of the legs between each two
-    /// neighbours, 1 to 14,621: how many bytes a row has.
+    /// neighbours: how many bytes a row has.
     pub fn width(&self) -> usize
         ensures value { result ≡ width_of self.now.penalties }
-        ensures at_most { result ≤ 14621 }
+        ensures at_most { result ≤ max_total + 1 }
     {
         self.width
     }
@@ -164,10 +164,9 @@ impl<'a> Rows<'a> {
             ((left : ℕ) → IsStep self.now.penalties layer before rank rest left → ⊥)
             (IsStep self.now.penalties layer before rank rest) }
     {
-        let leg = self.table.leg_to(layer, before, rank)?;
-        let penalty = self.table.penalty(layer, rank)?;
+        let joined = self.table.joined(layer, before, rank)?;
         let index = usize::from(rank) - 1;
-        left_by(leg, penalty, &self.layer_rows(layer)[index], rest)
+        left_by(joined.leg, joined.penalty, &self.layer_rows(layer)[index], rest)
     }
 
     /// The rows of the candidates of a layer, by rank.
@@ -189,11 +188,11 @@ impl<'a> Rows<'a> {
 /// What is left of a total after a candidate of this penalty, where `rest` of it is to go before
 /// the leg to it, which has the penalty `leg`; `None` where the candidate's row doesn't mark what
 /// remains after the leg.
-fn left_by(leg: u8, penalty: u16, row: &[u8], rest: u16) -> Option<u16>
+fn left_by(leg: u16, penalty: u16, row: &[u8], rest: u16) -> Option<u16>
     ensures { MatchOption result ((left : ℕ) → IsLeft leg penalty row.now rest left → ⊥)
         (IsLeft leg penalty row.now rest) }
 {
-    let remaining = rest.checked_sub(u16::from(leg))?;
+    let remaining = rest.checked_sub(leg)?;
     let left = remaining.checked_sub(penalty)?;
     if is_marked(row, remaining) {
         Some(left)

@@ -1,8 +1,11 @@
 //! The penalties of candidates and legs.
 
-ghost use Rattle.std.specs.Prelude.{◌≡◌, ◌≤◌, IfOk, IfSome, None, [], length, map, slice_index_or};
-ghost use Rattle.olr_keys.specs.Table.{IsTable, count_of, penalties_of, penalty_at};
+ghost use Rattle.std.specs.Prelude.{◌≡◌, ◌≤◌, ℕ, IfOk, IfSome, MatchOption, None, Some, [], length};
+ghost use Rattle.std.specs.Prelude.{map, slice_index_or};
+ghost use Rattle.olr_keys.specs.Table.{IsTable, count_of, max_leg, max_penalty, penalties_of};
+ghost use Rattle.olr_keys.specs.Table.{penalty_at};
 ghost use Rattle.olr_keys.specs.Matching.{leg_to};
+ghost use Rattle.olr_keys.specs.Product.{IsJoined};
 
 use olr_metric::NoMemory;
 use std::alloc::Global;
@@ -31,13 +34,22 @@ impl Model for Table {
     ghost invariant = { λ t. IsTable (penalties_of t.candidates.items t.legs.items) };
 }
 
+/// A candidate that is joined to the one before it.
+#[derive(Clone, Copy)]
+pub(crate) struct Joined {
+    /// The penalty of the leg to the candidate, 0 where there is none before it.
+    pub(crate) leg: u16,
+    /// The penalty of the candidate.
+    pub(crate) penalty: u16,
+}
+
 impl Table {
     /// The table of these penalties of candidates, by layer and rank, and these penalties of legs:
     /// for each two neighbouring layers one entry for each pair of candidates, by the rank of the
     /// first and then by that of the second; `None` where no leg joins the two.
     ///
-    /// There are 2 to 32 layers of 0 to 64 penalties of at most 360, which don't fall, and the
-    /// legs' are at most 100: [`is_table`](crate::is_table) tests it.
+    /// There are 2 to 32 layers of 0 to 64 penalties that don't fall, none greater than
+    /// a candidate's or a leg's can be: [`is_table`](crate::is_table) tests it.
     ///
     /// # Errors
     ///
@@ -86,8 +98,8 @@ impl Table {
         self.layer(layer).len()
     }
 
-    /// The penalty of the candidate of this rank, from 1, in a layer, 0 to 360; `None` where there
-    /// is no such candidate.
+    /// The penalty of the candidate of this rank, from 1, in a layer; `None` where there is no
+    /// such candidate.
     pub(crate) fn penalty(&self, layer: usize, rank: u8) -> Option<u16>
         ensures { result ≡ penalty_at self.now layer rank }
     {
@@ -96,7 +108,7 @@ impl Table {
     }
 
     /// The penalty of the leg to the candidate of this rank in a layer from the candidate `before`
-    /// it in the layer before, 0 to 100; `None` where the two aren't joined. It is 0 where
+    /// it in the layer before; `None` where the two aren't joined. It is 0 where
     /// `before` is `None`.
     pub(crate) fn leg_to(&self, layer: usize, before: Option<u8>, rank: u8) -> Option<u8>
         requires before { IfSome before (λ first. (1 ≤ layer) × (1 ≤ first)) }
@@ -108,6 +120,26 @@ impl Table {
         };
         let index = usize::from(first - 1) * self.count(layer) + usize::from(rank - 1);
         leg_at(self.legs_from(layer - 1), index)
+    }
+
+    /// The candidate of this rank in a layer, joined to the candidate `before` it in the layer
+    /// before; `None` where there is no such candidate, or the two aren't joined.
+    pub(crate) fn joined(&self, layer: usize, before: Option<u8>, rank: u8) -> Option<Joined>
+        requires { IfSome before (λ first. (1 ≤ layer) × (1 ≤ first)) }
+        ensures joined { MatchOption result
+            ((sum : ℕ) → IsJoined self.now layer before rank sum → ⊥)
+            (λ joined. (leg_to self.now layer before rank ≡ Some joined.leg)
+            × (penalty_at self.now layer rank ≡ Some joined.penalty)) }
+        ensures at_most { IfSome result
+            (λ joined. (joined.leg ≤ max_leg) × (joined.penalty ≤ max_penalty)) }
+    {
+        let _layers = self.layers();
+        let penalty = self.penalty(layer, rank)?;
+        let leg = self.leg_to(layer, before, rank)?;
+        Some(Joined {
+            leg: u16::from(leg),
+            penalty,
+        })
     }
 }
 

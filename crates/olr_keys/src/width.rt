@@ -1,16 +1,16 @@
 //! How great a remaining total can be.
 
-ghost use Rattle.std.specs.Prelude.{◌≡◌, ◌≤◌};
+ghost use Rattle.std.specs.Prelude.{◌≡◌, ◌+◌, ◌≤◌};
 ghost use Rattle.olr_keys.specs.Rows.{greatest, greatest_leg, width_of};
-ghost use Rattle.olr_keys.specs.Table.{IsTable};
+ghost use Rattle.olr_keys.specs.Table.{IsTable, max_total};
 
 use crate::table::Table;
 
 /// One more than the sum of the greatest penalty of each layer and of the legs between each two
-/// neighbours, 1 to 14,621. Each remaining total is less.
+/// neighbours. Each remaining total is less.
 pub(crate) fn width(table: &Table) -> usize
     ensures value { result ≡ width_of table.now }
-    ensures at_most { result ≤ 14621 }
+    ensures at_most { result ≤ max_total + 1 }
     ensures sound { IsTable table.now }
 {
     let mut sum = 1;

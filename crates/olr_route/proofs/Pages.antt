@@ -31,13 +31,6 @@ pub none_begun : (pages lengths : List ℕ) (count : ℕ) → pages ≡ replicat
 none_begun pages lengths count first are node =
     let none : slice_index lengths (place_of pages node) ≡ 0 = ap (λ (l : List ℕ). slice_index l (place_of pages node)) are ∙ zeros 16 (place_of pages node) in grind (arith, none)
 
--- two nodes have their lengths at two places, if one of them has a page of its own
-pub places_differ : (pages lengths : List ℕ) → ArePages pages lengths → (node other : ℕ) → 0 < slice_index pages (node / 16) → other ≢ node → place_of pages other ≢ place_of pages node
-places_differ pages lengths are node other some differs = elim (cases_eq (other / 16) (node / 16)) [
-  | inl same ↦ λ at. differs (omega (arith, at, same, ap (λ (block : ℕ). slice_index pages block) same))
-  | inr apart ↦ λ at. are.apart (node / 16) (other / 16) some (λ e. apart (sym e)) (omega (arith, at))
-]
-
 -- another list with the same pages
 module _ (pages lengths more : List ℕ) (same : (block : ℕ) → slice_index more block ≡ slice_index pages block) where
   pub pages_wider : ArePages pages lengths → ArePages more lengths
@@ -47,9 +40,6 @@ module _ (pages lengths more : List ℕ) (same : (block : ℕ) → slice_index m
     apart = λ block other some differs at. are.apart block other (omega (arith, same block, some)) differs (omega (arith, same block, same other, at));
     none = are.none;
   }
-
-  pub length_wider : (node : ℕ) → slice_index lengths (place_of more node) ≡ slice_index lengths (place_of pages node)
-  length_wider node = ap (λ (page : ℕ). slice_index lengths (page * 16 + node % 16)) (same (node / 16))
 
 -- more blocks, which have no page
 pub wider : (pages : List ℕ) (count : ℕ) (more : List ℕ) → length pages ≤ count → more ≡ take count pages ++ replicate (count - length pages) 0

@@ -52,12 +52,6 @@ order_cases length node other_length other_node = grind arith
 
 -- ---- one line more
 
-cases_key : (node len other_node other_len : ℕ) → ((other_node ≡ node) × (other_len ≡ len)) ⊎ ((other_node ≡ node) × (other_len ≡ len) → ⊥)
-cases_key node len other_node other_len = grind arith
-
-keys_differ : (node length other_node other_length : ℕ) → ((other_node ≡ node) × (other_length ≡ length) → ⊥) → is_at (by_key (length, node)) (other_length, other_node) ≡ false
-keys_differ node length other_node other_length differ = grind (arith, common_steps)
-
 -- the group of the line is written, and no other one
 pub added : (node length line : ℕ) (before after : Groups) (group : Vec ℕ Global) → UpdatesBy by_key (by_key (length, node)) before.table after.table (Some group)
     → group.items ≡ group_of before node length ++ line ∷ [] → IsAdded node length line before after

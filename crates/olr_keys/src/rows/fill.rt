@@ -5,7 +5,7 @@ ghost use Rattle.std.specs.Prelude.{slice_index_or, [], ◌-◌};
 ghost use Rattle.olr_keys.specs.Matching.{IsRemainingTotal};
 ghost use Rattle.olr_keys.specs.Rows.{AreLastLayers, AreRowsOf, IsRowOf, IsTotal, bytes_of};
 ghost use Rattle.olr_keys.specs.Rows.{layers_of, rows_of, width_of};
-ghost use Rattle.olr_keys.specs.Table.{IsTable, penalty_at};
+ghost use Rattle.olr_keys.specs.Table.{IsTable, penalty_at, max_total};
 
 use crate::shifted::or_shifted;
 use crate::table::{Table, list_at};
@@ -160,7 +160,7 @@ pub(super) fn last(marks: &[Vec<Vec<u8>>]) -> &[Vec<u8>]
 /// How many bytes all rows of a table have: one row for each candidate, and one for the totals.
 pub(super) fn bytes(table: &Table, width: usize) -> usize
     requires value { width ≡ width_of table.now }
-    requires at_most { width ≤ 14621 }
+    requires at_most { width ≤ max_total + 1 }
     ensures { result ≡ bytes_of table.now }
 {
     let mut rows = 1;

@@ -12,7 +12,7 @@ invariant_of-lesser t c =
 pub returns-then-layer-layers : goal.returns-then-layer-layers
 returns-then-layer-layers t c =
     let last : length c.args.ranks.items ≡ length c.args.bounds.now.candidates = omega arith in
-    least_at_end _ _ _ _ _ _ _ _ last refl c.lesser.ensures
+    least_at_end _ _ _ _ _ _ _ last refl c.lesser.ensures
 
 pub least_from-least-requires : goal.least_from-least-requires
 least_from-least-requires t c =
@@ -21,7 +21,7 @@ least_from-least-requires t c =
     let rank : ℕ = c.loop-index.index + 1 in
     let more : List ℕ = c.in-Some.more.ranks.items in
     let (sum, step, total_is, ranks_are) = c.in-Some.ensures in
-    let at_most = step_at_most _ _ c.args.total _ _ _ c.layers.ensures.sound step in
+    let at_most = step_at_most _ _ c.args.total _ _ c.layers.ensures.sound step in
     let count : length more ≡ length ranks + 1 = omega (arith, subst (λ (l : List ℕ). length l ≡ length ranks + 1) (sym ranks_are) (length-append ranks (rank ∷ []))) in (
       omega arith,
       (
@@ -30,7 +30,7 @@ least_from-least-requires t c =
           (omega arith, omega arith),
           (
             omega arith,
-            rw total_is (begins_longer _ _ _ _ _ _ _ ranks_are step c.requires.keys),
+            rw total_is (begins_longer _ _ _ _ ranks_are step c.requires.keys),
           ),
         ),
       ),

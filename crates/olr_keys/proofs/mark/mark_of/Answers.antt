@@ -5,9 +5,9 @@ use Rattle.olr_keys.proofs.Outcomes.{differ, same_ok}
 use Rattle.olr_keys.proofs.mark.mark_of.Goals as goal
 
 pub returns-in_default : goal.returns-in_default
-returns-in_default c mark is same = c.in_default.not-Ok mark.0 (cc (mark_read _ _ is same))
+returns-in_default c mark is same = c.in_default.not-Ok mark.0 (cc (mark_read is same))
 
 pub returns-then-ne : goal.returns-then-ne
 returns-then-ne c mark is same =
-    let bytes = same_ok _ c.in-Ok.bytes mark.0 c.in-Ok.is (cc (mark_read _ _ is same)) in
-    differ _ _ (sym c.if-ne.true ∙ c.ne.ensures) (c.as_str.ensures.value ∙ c.digits_of.ensures.digits ∙ ap hexadecimal bytes ∙ sym same)
+    let bytes = same_ok c.in-Ok.bytes mark.0 c.in-Ok.is (cc (mark_read is same)) in
+    differ (sym c.if-ne.true ∙ c.ne.ensures) (c.as_str.ensures.value ∙ c.digits_of.ensures.digits ∙ ap hexadecimal bytes ∙ sym same)

@@ -1,29 +1,17 @@
-use Rattle.std.proofs.Common.{sym, ◌∙◌, arith}
-use Rattle.olr_keys.proofs.Completions.{layer_inside, step_leg, step_penalty, completion_at_most}
+use Rattle.std.proofs.Common.{arith}
+use Rattle.olr_keys.proofs.Completions.{completion_at_most}
+use Rattle.olr_keys.proofs.Leaving.{unjoined}
+use Rattle.olr_keys.proofs.Outcomes.{from_none}
 use Rattle.olr_keys.proofs.matching.+total_from.Goals as goal
 
-pub overflow_add-result : goal.overflow_add-result
-overflow_add-result t c =
-    let p = c.args.table.now in
-    let sound = c.layers-layers.ensures.sound in
-    let there = sym c.penalty.ensures ∙ c.in_ok-penalty.was in
-    let inside = layer_inside p _ _ _ there in
-    omega (
-      arith,
-      step_penalty _ _ _ _ sound there,
-      step_leg _ _ _ _ _ sound inside (sym c.leg_to.ensures ∙ c.in_ok-leg.was),
-    )
+pub returns-in_err-joined : goal.returns-in_err-joined
+returns-in_err-joined t c =
+    from_none _ c.from_residual.ensures (rw c.in-Some.ensures.cases.0 (λ total. unjoined _ _ _ _ c.in_err-joined.ensures.joined _ total))
 
 pub overflow_add-result-2 : goal.overflow_add-result-2
-overflow_add-result-2 t c =
-    let p = c.args.table.now in
-    let sound = c.layers-layers.ensures.sound in
-    let there = sym c.penalty.ensures ∙ c.in_ok-penalty.was in
-    let inside = layer_inside p _ _ _ there in
-    omega (
-      arith,
-      step_penalty _ _ _ _ sound there,
-      step_leg _ _ _ _ _ sound inside (sym c.leg_to.ensures ∙ c.in_ok-leg.was),
-      completion_at_most _ _ _ _ _ sound c.in_ok-total.ensures,
-      c.in-Some.ensures,
-    )
+overflow_add-result-2 t c = omega (
+  arith,
+  completion_at_most _ _ _ _ c.layers-layers.ensures.sound c.in_ok-total.ensures,
+  c.in-Some.ensures,
+  c.in_ok-joined.ensures.at_most,
+)

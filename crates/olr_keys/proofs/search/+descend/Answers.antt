@@ -6,7 +6,7 @@ use Rattle.olr_keys.proofs.search.+descend.Goals as goal
 
 pub returns-then-layer-layers-clause-found : goal.returns-then-layer-layers-clause-found
 returns-then-layer-layers-clause-found t c =
-    appends_nothing _ _ (empty_completion _ _ _ _ (omega arith) c.requires.completion)
+    appends_nothing _ (empty_completion _ _ _ _ (omega arith) c.requires.completion)
 
 pub descend-requires : goal.descend-requires
 descend-requires t c =
@@ -15,7 +15,7 @@ descend-requires t c =
     let step : IsFirstStep p c.args.layer c.args.before 0 c.args.rest c.in-Some.step.rank c.in-Some.step.left = c.in-Some.ensures.step in
     let rank = c.in-Some.step.rank in
     let long : length c.next_step.new.rows.penalties.candidates ≡ length p.candidates = cc in
-    let leads = is_predecessor _ _ _ _ _ _ step.step in (
+    let leads = is_predecessor step.step in (
       omega arith,
       (
         omega arith,
@@ -32,14 +32,14 @@ descend-requires t c =
 pub returns-in-Some-clause-found : goal.returns-in-Some-clause-found
 returns-in-Some-clause-found t c =
     appends_deeper _ _ _ _ _ _ c.push.ensures.items
-    (λ found on. first_completion _ _ _ _ _ _ _ c.in-Some.ensures.step (rw (← c.next_step.ensures.same) on))
+    (λ found on. first_completion c.in-Some.ensures.step (rw (← c.next_step.ensures.same) on))
     c.descend.ensures.found
 
 pub returns-in-Some-clause-probes : goal.returns-in-Some-clause-probes
 returns-in-Some-clause-probes t c =
     let p = c.args.rows.now.penalties in
     let layer = c.args.layer in
-    layer_budget _ _ _ _ _ _ _ _
+    layer_budget _ _ _ _
     (omega arith) (count_most p layer) (omega arith) c.descend.ensures.probes
     (cc)
 

@@ -14,7 +14,7 @@ descend-requires c =
     let long = ap (λ (p : Penalties). length p.candidates) same in
     record {
       layer = omega arith;
-      before = rw same (is_predecessor _ _ _ _ _ _ step.step);
+      before = rw same (is_predecessor step.step);
       completion = rw same (later_completion _ _ _ _ _ _ step.step);
       ranks = omega (
         arith,

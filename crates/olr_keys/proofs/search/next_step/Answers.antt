@@ -13,10 +13,10 @@ pub loop-index-preserved : goal.loop-index-preserved
 loop-index-preserved c = (
   c.test.ensures.same ∙ c.loop-index.invariant.0,
   omega arith,
-  none_more _ _ _ _ _ _ c.loop-index.invariant.2 (rw c.loop-index.invariant.0 at c.in_default.ensures.step),
+  none_more _ _ _ _ c.loop-index.invariant.2 (rw c.loop-index.invariant.0 at c.in_default.ensures.step),
   omega arith,
 )
 
 pub returns-clause-step : goal.returns-clause-step
 returns-clause-step c =
-    none_at_all _ _ _ _ _ _ (omega arith) c.loop-index.invariant.2
+    none_at_all _ _ _ (omega arith) c.loop-index.invariant.2

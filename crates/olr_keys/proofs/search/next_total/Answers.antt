@@ -9,9 +9,9 @@ loop-number-preserved c =
     λ is. let yes = c.total.ensures.total.1 (rw c.loop-number.invariant.0 is) in absurd cc in (
       c.total.ensures.same ∙ c.loop-number.invariant.0,
       omega arith,
-      no_more_totals _ _ _ c.loop-number.invariant.2 none,
+      no_more_totals _ _ c.loop-number.invariant.2 none,
       omega arith,
     )
 
 pub returns-clause-total : goal.returns-clause-total
-returns-clause-total c = no_totals_at_all _ _ _ (omega arith) c.loop-number.invariant.2
+returns-clause-total c = no_totals_at_all _ (omega arith) c.loop-number.invariant.2

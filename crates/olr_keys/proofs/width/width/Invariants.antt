@@ -1,8 +1,9 @@
 use Rattle.std.proofs.Common.{◌≡◌, ◌+◌, ◌*◌, ◌≤◌, take}
 use Rattle.std.specs.List.{sum_by}
 use Rattle.olr_keys.specs.Rows.{greatest, greatest_leg}
+use Rattle.olr_keys.specs.Table.{max_step}
 use Rattle.olr_keys.proofs.width.width.Given as goal
 
 abbrev pub invariant-loop-layer : goal.invariant-loop-layer
 invariant-loop-layer l =
-    (l.sum ≡ sum_by greatest (take l.layer l.table.candidates) + sum_by greatest_leg (take l.layer l.table.legs) + 1) × (l.sum ≤ 460 * l.layer + 1)
+    (l.sum ≡ sum_by greatest (take l.layer l.table.candidates) + sum_by greatest_leg (take l.layer l.table.legs) + 1) × (l.sum ≤ max_step * l.layer + 1)

@@ -3,4 +3,4 @@ use Rattle.olr_keys.proofs.NextKeys.{member_decides}
 use Rattle.olr_keys.proofs.product.ProductFinderFinder.check.Goals as goal
 
 pub returns : goal.returns
-returns c = member_decides _ _ _ _ refl c.is_key.ensures
+returns c = member_decides refl c.is_key.ensures

@@ -11,5 +11,5 @@ returns c =
     let same = ap (λ v. v.penalties) c.self.view_is in
     let many = length-map c.self.inside.marks.items (λ (rows : Vec (Vec ℕ)). rows_of rows.items) in
     rw (← same) (
-    rows_of_layer _ _ _ _ _ _ c.self.invariant.layers
+    rows_of_layer _ _ _ _ c.self.invariant.layers
     (rw same c.requires) (omega arith) c.deref.ensures.value c.list_at.ensures)

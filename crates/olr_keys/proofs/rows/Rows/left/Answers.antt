@@ -1,19 +1,18 @@
-use Rattle.std.proofs.Common.{◌≡◌, Some, arith}
-use Rattle.olr_keys.specs.Matching.{leg_to}
-use Rattle.olr_keys.specs.Table.{penalty_at}
+use Rattle.std.proofs.Common.{◌≡◌, ◌+◌, refl, arith}
 use Rattle.olr_keys.proofs.Stepping.{look}
+use Rattle.olr_keys.proofs.Outcomes.{from_none}
 use Rattle.olr_keys.proofs.rows.Rows.left.Goals as goal
+
+pub returns-in_err-joined : goal.returns-in_err-joined
+returns-in_err-joined c =
+    let same : c.self.inside.table.now ≡ c.args.self.now.penalties = cc in
+    from_none _ c.from_residual.ensures (λ left step.
+        (rw same at c.in_err-joined.ensures.joined) (step.leg + step.penalty) (step.leg, step.penalty, step.joined, step.there, refl))
 
 pub returns : goal.returns
 returns c =
-    let p = c.args.self.now.penalties in
-    let same : c.self.inside.table.now ≡ p = cc in
-    let joined : leg_to p c.args.layer c.args.before c.args.rank ≡ Some c.in_ok-leg.leg = cc (c.leg_to.ensures, same, c.in_ok-leg.was) in
-    let there : penalty_at p c.args.layer c.args.rank ≡ Some c.in_ok-penalty.penalty = cc (
-      c.penalty.ensures,
-      same,
-      c.in_ok-penalty.was,
-    ) in
-    look _ _ _ _ _ _ _ _ _ _ _ _
+    let same : c.self.inside.table.now ≡ c.args.self.now.penalties = cc in
+    let (joined, there) = rw same at c.in_ok-joined.ensures.joined in
+    look _ _ _ _ _ _ _ _ _ _
     joined there c.layer_rows.ensures (omega arith) (omega arith)
     c.index-layer_rows-index.is c.deref.ensures.value c.left_by.ensures

@@ -17,7 +17,7 @@ loop-index-preserved c =
       arith,
       length-map c.args.first.now (λ row. row.items),
     )) c.index-first-index.is in
-    total_row_more _ _ _ _ _ _ c.deref.ensures.value c.loop-index.invariant it c.or_shifted.ensures
+    total_row_more _ _ c.deref.ensures.value c.loop-index.invariant it c.or_shifted.ensures
 
 pub returns : goal.returns
-returns c = whole_totals _ _ _ c.requires.sound (omega arith) c.loop-index.invariant
+returns c = whole_totals c.requires.sound (omega arith) c.loop-index.invariant

@@ -24,7 +24,7 @@ or_shifted-requires c =
 pub loop-other-init : goal.loop-other-init
 loop-other-init c = (
   refl,
-  rw c.requires.empty (start_row _ _ _ _ _ 0 refl),
+  rw c.requires.empty (start_row _ _ _ _ 0 refl),
 )
 
 pub loop-other-preserved : goal.loop-other-preserved
@@ -36,13 +36,13 @@ loop-other-preserved c =
     rw c.loop-other.invariant.0 it in (
       omega arith,
       elim c.match-leg_to.branch [
-        | in-Some w ↦ row_more _ _ _ _ _ _ _ _ _ _ _ _ c.requires.penalty (sym c.leg_to.ensures ∙ w.in-Some.is) (omega arith) w.deref.ensures.value w.row-is c.loop-other.invariant.1 that w.or_shifted.ensures
-        | in_default w ↦ rw w.row-is (row_without _ _ _ _ _ _ _ (cc) c.loop-other.invariant.1)
+        | in-Some w ↦ row_more _ _ _ _ _ _ _ _ c.requires.penalty (sym c.leg_to.ensures ∙ w.in-Some.is) (omega arith) w.deref.ensures.value w.row-is c.loop-other.invariant.1 that w.or_shifted.ensures
+        | in_default w ↦ rw w.row-is (row_without _ _ _ _ _ (cc) c.loop-other.invariant.1)
       ],
     )
 
 pub returns : goal.returns
-returns c = whole_row _ _ _ _ _ _ c.requires.layer c.requires.penalty (omega (
+returns c = whole_row _ _ c.requires.layer c.requires.penalty (omega (
   arith,
   length-map c.args.next.now (λ row. row.items),
 )) c.loop-other.invariant.1
