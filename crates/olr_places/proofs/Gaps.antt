@@ -1,14 +1,17 @@
 -- Gaps, with one matching more behind.
 use Rattle.std.proofs.Common.{◌≡◌, ◌-◌, ◌≤◌, List, [], ◌∷◌, ◌++◌, length, refl, arith}
-use Rattle.olr_report.specs.Entries.{Entry}
+use Rattle.olr_keys.specs.Key.{KeyValue}
 use Rattle.olr_places.specs.Looking.{gap_of}
+use Rattle.olr_places.specs.Shown.{Shown}
 
 -- the gap of a matching is the same with one more behind the others
-pub gap_stays : (before : List Entry) (entry one : Entry) → 1 ≤ length before → gap_of (before ++ entry ∷ []) one ≡ gap_of before one
-gap_stays [] entry one some = absurd (omega (arith, some))
-gap_stays (first ∷ others) entry one some = refl
+pub gap_stays : (before : List Shown) (one : Shown) (key : KeyValue) → 1 ≤ length before
+    → gap_of (before ++ one ∷ []) key ≡ gap_of before key
+gap_stays [] one key some = absurd (omega (arith, some))
+gap_stays (first ∷ others) one key some = refl
 
 -- the gap of the next matching is the same with it
-pub gap_of_next : (before : List Entry) (entry : Entry) → gap_of (before ++ entry ∷ []) entry ≡ gap_of before entry
-gap_of_next [] entry = let none : entry.key.total - entry.key.total ≡ 0 = omega arith in none
-gap_of_next (first ∷ others) entry = refl
+pub gap_of_next : (before : List Shown) (one : Shown)
+    → gap_of (before ++ one ∷ []) one.key ≡ gap_of before one.key
+gap_of_next [] one = let none : one.key.total - one.key.total ≡ 0 = omega arith in none
+gap_of_next (first ∷ others) one = refl

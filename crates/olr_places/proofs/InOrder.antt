@@ -3,13 +3,12 @@ use Rattle.std.proofs.Common.{zero, suc, ◌≤◌, List, [], ◌∷◌, ◌++�
 use Rattle.std.specs.Prelude.{AllPairs}
 use Rattle.std.proofs.lemmas.List.Elements.{All-cons, All-head, All-nil, All-tail}
 use Rattle.olr_keys.specs.Key.{IsBefore, KeyValue}
-use Rattle.olr_report.specs.Entries.{Entry}
-use Rattle.olr_places.specs.Steps.{keys_of}
+use Rattle.olr_places.specs.Shown.{Shown, keys_of}
 
 -- matchings by rising totals
-abbrev pub Rise : List Entry → Type 0
+abbrev pub Rise : List Shown → Type 0
 Rise [] = Unit {0}
-Rise (entry ∷ entries) = All (λ (one : Entry). entry.key.total ≤ one.key.total) entries × Rise entries
+Rise (entry ∷ entries) = All (λ (one : Shown). entry.key.total ≤ one.key.total) entries × Rise entries
 
 -- ---- keys of matchings, and of those that are left
 
@@ -25,18 +24,18 @@ ahead key keys pairs = λ k d inside. not_above key (get_or keys k d) (pairs zer
 behind : (key : KeyValue) (keys : List KeyValue) → AllPairs IsBefore (key ∷ keys) → AllPairs IsBefore keys
 behind key keys pairs = λ i j d less inside. pairs (suc i) (suc j) d (omega (arith, less)) (omega (arith, inside))
 
-all_front : (P : KeyValue → Type 0) (entries : List Entry) (left : List KeyValue) → All P (keys_of entries ++ left)
-    → All (λ (entry : Entry). P entry.key) entries
-all_front P [] left all = All-nil (λ (entry : Entry). P entry.key)
+all_front : (P : KeyValue → Type 0) (entries : List Shown) (left : List KeyValue) → All P (keys_of entries ++ left)
+    → All (λ (entry : Shown). P entry.key) entries
+all_front P [] left all = All-nil (λ (entry : Shown). P entry.key)
 all_front P (entry ∷ entries) left all =
-    All-cons (λ (one : Entry). P one.key) entry entries (All-head P entry.key (keys_of entries ++ left) all)
+    All-cons (λ (one : Shown). P one.key) entry entries (All-head P entry.key (keys_of entries ++ left) all)
     (all_front P entries left (All-tail P entry.key (keys_of entries ++ left) all))
 
-all_left : (P : KeyValue → Type 0) (entries : List Entry) (left : List KeyValue) → All P (keys_of entries ++ left) → All P left
+all_left : (P : KeyValue → Type 0) (entries : List Shown) (left : List KeyValue) → All P (keys_of entries ++ left) → All P left
 all_left P [] left all = all
 all_left P (entry ∷ entries) left all = all_left P entries left (All-tail P entry.key (keys_of entries ++ left) all)
 
-pub rise_of : (entries : List Entry) (left : List KeyValue) → AllPairs IsBefore (keys_of entries ++ left) → Rise entries
+pub rise_of : (entries : List Shown) (left : List KeyValue) → AllPairs IsBefore (keys_of entries ++ left) → Rise entries
 rise_of [] left pairs = tt
 rise_of (entry ∷ entries) left pairs =
     let keys = keys_of entries ++ left in (
@@ -45,10 +44,10 @@ rise_of (entry ∷ entries) left pairs =
     )
 
 -- no key that is left has a lesser total than a matching
-abbrev pub NotBelow : List KeyValue → Entry → Type 0
+abbrev pub NotBelow : List KeyValue → Shown → Type 0
 NotBelow left entry = All (λ (key : KeyValue). entry.key.total ≤ key.total) left
 
-pub left_not_below : (entries : List Entry) (left : List KeyValue) → AllPairs IsBefore (keys_of entries ++ left) → All (NotBelow left) entries
+pub left_not_below : (entries : List Shown) (left : List KeyValue) → AllPairs IsBefore (keys_of entries ++ left) → All (NotBelow left) entries
 left_not_below [] left pairs = All-nil (NotBelow left)
 left_not_below (entry ∷ entries) left pairs =
     let keys = keys_of entries ++ left in

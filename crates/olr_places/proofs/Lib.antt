@@ -2,7 +2,6 @@ mod Runs
 mod Covering
 mod CloseLaws
 mod Looks
-mod AtMost
 mod OneLooking
 mod InOrder
 mod Verdicts
@@ -11,7 +10,6 @@ mod Members
 mod Gaps
 mod Opening
 mod LookSteps
-mod LookAt
 mod Rests
 mod Paging
 mod Outputs

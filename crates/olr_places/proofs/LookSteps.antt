@@ -1,17 +1,16 @@
--- One step of looking at matchings.
-use Rattle.std.proofs.Common.{◌≡◌, ℕ, zero, suc, ◌+◌, ◌-◌, ◌<◌, ◌≤◌, Bool, true, false, List, [], ◌∷◌, ◌++◌, length, length-append, map, set, get_or, min, All, Option, Some, None, filter, refl, ap, sym, subst, ◌∙◌, inl, inr, arith, ◌==◌, nat_le, nat_lt, option_map}
-use Rattle.std.specs.Global.{Vec}
+-- One step of looking at matchings, whatever was looked at before.
+use Rattle.std.proofs.Common.{◌≡◌, ◌≢◌, ℕ, zero, suc, ◌+◌, ◌-◌, ◌<◌, ◌≤◌, Bool, true, false, List, [], ◌∷◌, ◌++◌, length, length-append, map, get_or, All, Option, Some, None, filter, refl, ap, sym, ◌∙◌, inl, inr, arith, append_assoc, ◌==◌, nat_le, nat_lt, option_map}
 use Rattle.std.specs.Prelude.{slice_get}
-use Rattle.std.proofs.lemmas.Bool.{cases_eq, lt-leb}
-use Rattle.std.proofs.lemmas.List.{append-nil, get_or-set_other, get_or-set_same, get_or_append_left, get_or_default, get_or_push, length-map, length-set, map-append}
-use Rattle.std.proofs.lemmas.List.Elements.{All-head, All-tail, All-push, All-weaker, filter-append}
-use Rattle.std.proofs.lemmas.Option.{get_or_from_slice_get, slice_get-get_or, slice_get_within}
+use Rattle.std.proofs.lemmas.Bool.{cases_Bool, lt-leb}
+use Rattle.std.proofs.lemmas.List.{append-nil, length-map, map-append}
+use Rattle.std.proofs.lemmas.List.Elements.{All-cons, All-head, All-push, All-tail, filter-append}
 use Rattle.olr_keys.specs.Key.{KeyValue}
 use Rattle.olr_keys.specs.Page.{last_of}
-use Rattle.olr_report.specs.Entries.{Entry}
-use Rattle.olr_places.specs.Looking.{Looked, LooksOn, belongs, gap_of, is_close_to, is_within, listed_of, members_of, openers_of, place_of}
-use Rattle.olr_places.specs.Places.{AreCounted, IsCounted, entry_of}
-use Rattle.olr_places.specs.Steps.{HasEnded, Stands, gap_behind, gap_in, last_key, margin_in, with_members}
+use Rattle.olr_map.specs.RoadMap.{RoadMap}
+use Rattle.olr_places.specs.Looking.{Looked, belongs, gap_of, is_within, listed_of, looking, looking_on, members_of, openers_of, place_of}
+use Rattle.olr_places.specs.Places.{AreCounted, ArePlacesOf, IsCounted, shown_by}
+use Rattle.olr_places.specs.Shown.{Shown, keys_of}
+use Rattle.olr_places.specs.Steps.{HasEnded, Stands, gap_behind, gap_in, margin_in, one_more_at, places_in}
 use Rattle.olr_places.specs.Verdict.{margin_of}
 use Rattle.olr_places.specs.declared.ending.Ending.{Ending}
 use Rattle.olr_places.specs.declared.ending.Ending.TheVariants.{Beyond, Cut}
@@ -22,250 +21,26 @@ use Rattle.olr_places.proofs.Gaps.{gap_of_next, gap_stays}
 use Rattle.olr_places.proofs.Members.{agree, at_most, count_of, none_here, none_past, one_here, with_one}
 use Rattle.olr_places.proofs.Opening.{all_placed, close_itself, first_behind, first_opens, first_stays, openers_more, openers_same}
 
--- ---- what is left of looking, by what the next matching is
-
-module _ (limits : PlaceLimits) (IsEntry : KeyValue → Entry → Type 0) (before : List Entry) (key : KeyValue) (left : List KeyValue) (looked : Looked) (entry : Entry)
-    (is : IsEntry key entry) (more : (length before == limits.look) ≡ false) where
-  pub belongs_on : belongs limits (openers_of limits before) entry ≡ true → LooksOn limits IsEntry (before ++ entry ∷ []) left looked
-      → LooksOn limits IsEntry before (key ∷ left) looked
-  belongs_on old on = rw more (entry, is, rw old on)
-
-  pub opens_on : belongs limits (openers_of limits before) entry ≡ false → nat_lt limits.within (gap_of before entry) ≡ false
-      → (length (openers_of limits before) == limits.most) ≡ false → LooksOn limits IsEntry (before ++ entry ∷ []) left looked
-      → LooksOn limits IsEntry before (key ∷ left) looked
-  opens_on new near room on = rw more (entry, is, rw (new, near, room) on)
-
-  pub beyond_ends : belongs limits (openers_of limits before) entry ≡ false → nat_lt limits.within (gap_of before entry) ≡ true
-      → looked ≡ record { matchings = before ++ entry ∷ []; ending = Beyond (gap_of before entry) } → LooksOn limits IsEntry before (key ∷ left) looked
-  beyond_ends new far ends = rw more (entry, is, rw (new, far) ends)
-
-  pub full_ends : belongs limits (openers_of limits before) entry ≡ false → nat_lt limits.within (gap_of before entry) ≡ false
-      → (length (openers_of limits before) == limits.most) ≡ true → looked ≡ record { matchings = before; ending = Cut }
-      → LooksOn limits IsEntry before (key ∷ left) looked
-  full_ends new near full ends = rw more (entry, is, rw (new, near, full) ends)
-
 -- ---- lists of openers
 
-pub last_with : (start : Option KeyValue) (before : List Entry) (entry : Entry) → last_of start (map (λ (one : Entry). one.key) (before ++ entry ∷ [])) ≡ Some entry.key
-last_with start [] entry = refl
-last_with start (first ∷ others) entry = last_with (Some first.key) others entry
+last_with : (start : Option KeyValue) (before : List Shown) (one : Shown) → last_of start (keys_of (before ++ one ∷ [])) ≡ Some one.key
+last_with start [] one = refl
+last_with start (first ∷ others) one = last_with (Some first.key) others one
 
 -- one more member changes nothing that is shown
-same_entries : (items : List Opener) (index members : ℕ) (first : Opener) → index < length items → first ≡ get_or items index first
-    → map entry_of (set items index (with_members first members)) ≡ map entry_of items
-same_entries [] index members first inside is = absurd (omega (arith, inside))
-same_entries (one ∷ items) zero members first inside is = ap (λ (opener : Opener). entry_of opener ∷ map entry_of items) is
-same_entries (one ∷ items) (suc index) members first inside is =
-    ap (λ (l : List Entry). entry_of one ∷ l) (same_entries items index members first (omega (arith, inside)) is)
+same_shown : (road : RoadMap) (index : ℕ) (items : List Opener) → map (shown_by road) (one_more_at index items) ≡ map (shown_by road) items
+same_shown road index [] = refl
+same_shown road zero (opener ∷ items) = refl
+same_shown road (suc index) (opener ∷ items) = ap (λ (l : List Shown). shown_by road opener ∷ l) (same_shown road index items)
 
-some_openers : (limits : PlaceLimits) (before : List Entry) → 1 ≤ length (openers_of limits before) → 1 ≤ length before
-some_openers limits [] some = some
-some_openers limits (first ∷ others) some = omega arith
-
--- the place of a matching is one of places of openers where there is one, so there was a matching before
-pub gap_at_first : (limits : PlaceLimits) (before : List Entry) (items : List Opener) (entry : Entry) → map entry_of items ≡ openers_of limits before
-    → gap_behind items entry.key ≡ gap_of before entry
-gap_at_first limits [] [] entry same = refl
-gap_at_first limits [] (one ∷ items) entry same = absurd (let none : length (map entry_of (one ∷ items)) ≡ 0 = ap (λ (l : List Entry). length l) same in omega (arith, none))
-gap_at_first limits (first ∷ others) [] entry same =
-    let opens = first_opens limits first others in
-    let some : length (openers_of limits (first ∷ others)) ≡ suc (length opens.0) = ap (λ (l : List Entry). length l) opens.1 in
-    let none : 0 ≡ length (openers_of limits (first ∷ others)) = ap (λ (l : List Entry). length l) same in
-    absurd (omega (arith, some, none))
-gap_at_first limits (first ∷ others) (one ∷ items) entry same =
-    let opens = first_opens limits first others in
-    let heads : entry_of one ≡ first = ap (λ (l : List Entry). get_or l 0 first) (same ∙ opens.1) in
-    ap (λ (one : Entry). entry.key.total - one.key.total) heads
-
--- ---- what is kept behind a matching
-
-module _ (limits : PlaceLimits) (before : List Entry) (old new : Looking) (entry : Entry) (stands : Stands limits before old)
-    (more : new.looked ≡ old.looked + 1) (last : new.last ≡ Some entry.key) where
-  abbrev items : List Opener
-  items = old.openers.items
-
-  abbrev with : List Entry
-  with = before ++ entry ∷ []
-
-  abbrev openers : List Entry
-  openers = openers_of limits before
-
-  count_with : new.looked ≡ length with
-  count_with = omega (arith, more, stands.count, length-append before (entry ∷ []))
-
-  last_is : new.last ≡ last_key with
-  last_is = last ∙ sym (last_with None before entry)
-
-  same_length : length items ≡ length openers
-  same_length = sym (length-map items entry_of) ∙ ap (λ (l : List Entry). length l) stands.openers
-
-  -- the openers are within, and keep their gaps
-  within_still : All (λ (one : Entry). is_within limits with one ≡ true) openers
-  within_still = elim (cases_eq (length before) 0) [
-    | inl none ↦
-        λ k one inside. absurd (omega (arith, inside, none, some_openers limits before (omega (arith, inside))))
-    | inr some ↦
-        All-weaker (λ (one : Entry). is_within limits before one ≡ true) (λ (one : Entry). is_within limits with one ≡ true)
-        (λ one is. ap (λ (n : ℕ). nat_le n limits.within) (gap_stays before entry one (omega (arith, some))) ∙ is) openers stands.within
-  ]
-
-  gap_still : (index : ℕ) (opener : Opener) → slice_get items index ≡ Some opener → opener.gap ≡ gap_of with (entry_of opener)
-  gap_still index opener found =
-      let inside : 1 ≤ length openers = omega (arith, slice_get_within items index opener found, same_length) in
-      (stands.counted index opener found).gap ∙ sym (gap_stays before entry (entry_of opener) (some_openers limits before inside))
-
-  members_were : (index : ℕ) (opener : Opener) → slice_get items index ≡ Some opener → opener.members ≡ count_of (place_of limits openers) before index
-  members_were index opener found = (stands.counted index opener found).members
-
-  small_enough : length before < 4294967295 → (index : ℕ) → count_of (place_of limits openers) before index + 1 ≤ 4294967295
-  small_enough small index = omega (arith, small, at_most (place_of limits openers) before index)
-
-  -- ---- it belongs to a place
-
-  module _ (default : Opener) (index : ℕ) (inside : index < length items) (is : place_of limits (map entry_of items) entry ≡ index) (small : length before < 4294967295)
-      (has : new.openers.items ≡ set items index (with_members (get_or items index default) (min ((get_or items index default).members + 1) 4294967295)))
-      (old_one : belongs limits openers entry ≡ true) where
-    abbrev first : Opener
-    first = get_or items index default
-
-    abbrev set_items : List Opener
-    set_items = set items index (with_members first (min (first.members + 1) 4294967295))
-
-    place_is : place_of limits openers entry ≡ index
-    place_is = ap (λ (l : List Entry). place_of limits l entry) (sym stands.openers) ∙ is
-
-    same_openers : openers_of limits with ≡ openers
-    same_openers = openers_same limits before entry old_one
-
-    shown : map entry_of new.openers.items ≡ openers_of limits with
-    shown =
-        ap (map entry_of) has ∙ same_entries items index (min (first.members + 1) 4294967295) first inside (get_or_default items index default first inside)
-        ∙ stands.openers ∙ sym same_openers
-
-    members_now : (place : ℕ) → members_of limits with place ≡ count_of (place_of limits openers) before place + count_of (place_of limits openers) (entry ∷ []) place
-    members_now place =
-        ap (λ (l : List Entry). count_of (place_of limits l) with place) same_openers ∙ with_one (place_of limits openers) before entry place
-
-    counted_at : (place : ℕ) (opener : Opener) → slice_get set_items place ≡ Some opener → IsCounted limits with place opener
-    counted_at place opener found =
-        let at : get_or set_items place default ≡ opener = get_or_from_slice_get set_items place opener default found in
-        let within : place < length items =
-        omega (arith, slice_get_within set_items place opener found, length-set items index (with_members first (min (first.members + 1) 4294967295))) in
-        elim (cases_eq place index) [
-          | inl same ↦
-              let itself : with_members first (min (first.members + 1) 4294967295) ≡ opener =
-              sym (get_or-set_same items index (with_members first (min (first.members + 1) 4294967295)) default inside)
-              ∙ ap (λ (i : ℕ). get_or set_items i default) (sym same) ∙ at in
-              let there : slice_get items index ≡ Some first = slice_get-get_or items index default inside in
-              let were = members_were index first there in
-              let one_more : count_of (place_of limits openers) (entry ∷ []) index ≡ 1 = one_here (place_of limits openers) entry index place_is in
-              record {
-                gap = ap (λ (o : Opener). o.gap) (sym itself) ∙ gap_still index first there ∙ ap (λ (o : Opener). gap_of with (entry_of o)) itself;
-                members =
-                    let counts : opener.members ≡ min (first.members + 1) 4294967295 = ap (λ (o : Opener). o.members) (sym itself) in
-                    let now : members_of limits with place ≡ count_of (place_of limits openers) before index + count_of (place_of limits openers) (entry ∷ []) index =
-                    ap (members_of limits with) same ∙ members_now index in
-                    omega (arith, counts, were, now, one_more, small_enough small index);
-              }
-          | inr other ↦
-              let kept : get_or items place default ≡ opener =
-              sym (get_or-set_other items index place (with_members first (min (first.members + 1) 4294967295)) default other) ∙ at in
-              let there : slice_get items place ≡ Some opener = slice_get-get_or items place default within ∙ ap (λ (o : Opener). Some o) kept in
-              let none_more : count_of (place_of limits openers) (entry ∷ []) place ≡ 0 =
-              none_here (place_of limits openers) entry place (λ is_here. other (sym is_here ∙ place_is)) in
-              record {
-                gap = gap_still place opener there;
-                members = omega (arith, members_were place opener there, none_more, members_now place);
-              }
-        ]
-
-    pub stands_with_member : Stands limits with new
-    stands_with_member = record {
-      openers = shown;
-      within = subst (λ (l : List Entry). All (λ (one : Entry). is_within limits with one ≡ true) l) (sym same_openers) within_still;
-      counted = subst (λ (l : List Opener). AreCounted limits with l) (sym has) counted_at;
-      count = count_with;
-      last = last_is;
-    }
-
-  -- ---- it opens a place
-
-  module _ (new_one : belongs limits openers entry ≡ false) where
-    more_openers : openers_of limits with ≡ openers ++ entry ∷ []
-    more_openers = openers_more limits before entry new_one
-
-    -- those before it keep their places, and its own is the last
-    places_stay : All (λ (one : Entry). place_of limits (openers ++ entry ∷ []) one ≡ place_of limits openers one) before
-    places_stay =
-        All-weaker (λ (one : Entry). place_of limits openers one < length openers)
-        (λ (one : Entry). place_of limits (openers ++ entry ∷ []) one ≡ place_of limits openers one)
-        (λ one placed. first_stays (is_close_to limits one) openers entry placed) before (all_placed limits before)
-
-    own_place : place_of limits (openers ++ entry ∷ []) entry ≡ length openers
-    own_place = first_behind (is_close_to limits entry) openers entry new_one (close_itself limits entry)
-
-    members_with : (place : ℕ) → members_of limits with place
-        ≡ count_of (place_of limits openers) before place + count_of (place_of limits (openers ++ entry ∷ [])) (entry ∷ []) place
-    members_with place =
-        ap (λ (l : List Entry). count_of (place_of limits l) with place) more_openers ∙ with_one (place_of limits (openers ++ entry ∷ [])) before entry place
-        ∙ ap (λ (n : ℕ). n + count_of (place_of limits (openers ++ entry ∷ [])) (entry ∷ []) place)
-        (agree (place_of limits (openers ++ entry ∷ [])) (place_of limits openers) before place places_stay)
-
-    counted_before : (place : ℕ) (opener : Opener) → slice_get items place ≡ Some opener → IsCounted limits with place opener
-    counted_before place opener found =
-        let within : place < length openers = omega (arith, slice_get_within items place opener found, same_length) in
-        let none_more : count_of (place_of limits (openers ++ entry ∷ [])) (entry ∷ []) place ≡ 0 =
-        none_here (place_of limits (openers ++ entry ∷ [])) entry place (λ here. omega (arith, within, sym here ∙ own_place)) in
-        record {
-          gap = gap_still place opener found;
-          members = omega (arith, members_were place opener found, none_more, members_with place);
-        }
-
-    counted_itself : (opener : Opener) → entry_of opener ≡ entry → opener.gap ≡ gap_of before entry → opener.members ≡ 1 → IsCounted limits with (length items) opener
-    counted_itself opener shown gap members =
-        let none_before : count_of (place_of limits openers) before (length items) ≡ 0 =
-        none_past (place_of limits openers) before (length items)
-        (subst (λ (n : ℕ). All (λ (one : Entry). place_of limits openers one < n) before) (sym same_length) (all_placed limits before)) in
-        let itself : count_of (place_of limits (openers ++ entry ∷ [])) (entry ∷ []) (length items) ≡ 1 =
-        one_here (place_of limits (openers ++ entry ∷ [])) entry (length items) (own_place ∙ sym same_length) in
-        record {
-          gap = gap ∙ sym (gap_of_next before entry) ∙ ap (gap_of with) (sym shown);
-          members = omega (arith, members, none_before, itself, members_with (length items));
-        }
-
-    module _ (opener : Opener) (shown : entry_of opener ≡ entry) (gap : opener.gap ≡ gap_of before entry) (members : opener.members ≡ 1)
-        (pushed : new.openers.items ≡ items ++ opener ∷ []) (near : nat_le (gap_of before entry) limits.within ≡ true) where
-      counted_with : (place : ℕ) (one : Opener) → slice_get (items ++ opener ∷ []) place ≡ Some one → IsCounted limits with place one
-      counted_with place one found =
-          let at : get_or (items ++ opener ∷ []) place one ≡ one = get_or_from_slice_get (items ++ opener ∷ []) place one one found in
-          elim (cases_eq place (length items)) [
-            | inl same ↦
-                let itself : opener ≡ one = sym (get_or_push items opener one place (sym same)) ∙ at in
-                subst (λ (o : Opener). IsCounted limits with place o) itself
-                (subst (λ (i : ℕ). IsCounted limits with i opener) (sym same) (counted_itself opener shown gap members))
-            | inr other ↦
-                let within : place < length items =
-                omega (arith, other, slice_get_within (items ++ opener ∷ []) place one found, length-append items (opener ∷ [])) in
-                counted_before place one
-                (slice_get-get_or items place one within
-                ∙ ap (λ (o : Opener). Some o) (sym (get_or_append_left items (opener ∷ []) one place within) ∙ at))
-          ]
-
-      pub stands_with_opener : Stands limits with new
-      stands_with_opener = record {
-        openers =
-            ap (map entry_of) pushed ∙ map-append entry_of items (opener ∷ []) ∙ ap (λ (l : List Entry). l ++ entry_of opener ∷ []) stands.openers
-            ∙ ap (λ (one : Entry). openers ++ one ∷ []) shown ∙ sym more_openers;
-        within =
-            subst (λ (l : List Entry). All (λ (one : Entry). is_within limits with one ≡ true) l) (sym more_openers)
-            (All-push (λ (one : Entry). is_within limits with one ≡ true) openers entry within_still
-            (ap (λ (n : ℕ). nat_le n limits.within) (gap_of_next before entry) ∙ near));
-        counted = subst (λ (l : List Opener). AreCounted limits with l) (sym pushed) counted_with;
-        count = count_with;
-        last = last_is;
-      }
-
--- ---- looking has ended
+-- nor what holds of each opener
+pub more_kept : (P : Opener → Type 0) → ((opener : Opener) (members : ℕ) → P opener → P (record opener { members = members }))
+    → (index : ℕ) (items : List Opener) → All P items → All P (one_more_at index items)
+more_kept P keep index [] all = all
+more_kept P keep zero (opener ∷ items) all =
+    All-cons P _ items (keep opener _ (All-head P opener items all)) (All-tail P opener items all)
+more_kept P keep (suc index) (opener ∷ items) all =
+    All-cons P opener _ (All-head P opener items all) (more_kept P keep index items (All-tail P opener items all))
 
 -- those that pass are all where each does
 all_pass : {X : Type 0} (p : X → Bool) (xs : List X) → All (λ x. p x ≡ true) xs → filter p xs ≡ xs
@@ -275,82 +50,236 @@ all_pass p (x ∷ xs) all =
     let rest = all_pass p xs (All-tail (λ x. p x ≡ true) x xs all) in
     rw (here, rest) refl
 
--- the gap of the second of these openers is that of the second place
-second_gap : (limits : PlaceLimits) (matchings : List Entry) (first second : Opener) (others : List Opener) (behind : List Entry)
-    → AreCounted limits matchings (first ∷ second ∷ others) → openers_of limits matchings ≡ map entry_of (first ∷ second ∷ others) ++ behind
-    → Some second.gap ≡ margin_of limits matchings
-second_gap limits matchings one second others behind counted are =
-    ap (λ (n : ℕ). Some n) (counted 1 second refl).gap
-    ∙ ap (λ (l : List Entry). option_map (gap_of matchings) (slice_get l 1)) (sym are)
+module _ (limits : PlaceLimits) (road : RoadMap) where
+  some_openers : (before : List Shown) → 1 ≤ length (openers_of limits before) → 1 ≤ length before
+  some_openers [] some = some
+  some_openers (first ∷ others) some = omega arith
+
+  -- the gap of the next matching, by the first opener that is kept
+  pub gap_at_first : (before : List Shown) (items : List Opener) (key : KeyValue) → map (shown_by road) items ≡ openers_of limits before
+      → gap_behind items key ≡ gap_of before key
+  gap_at_first [] [] key same = refl
+  gap_at_first [] (one ∷ items) key same = absurd (cc)
+  gap_at_first (first ∷ others) [] key same = let opens = first_opens limits first others in absurd (cc)
+  gap_at_first (first ∷ others) (one ∷ items) key same =
+      let opens = first_opens limits first others in
+      let heads : shown_by road one ≡ first = ap (λ (l : List Shown). get_or l 0 first) (same ∙ opens.1) in
+      ap (λ (one : Shown). key.total - one.key.total) heads
+
+  -- the gap of the second opener that is kept is that of the second place
+  margin_is : (matchings : List Shown) (first second : Opener) (others : List Opener) (behind : List Shown)
+      → AreCounted limits matchings 0 (first ∷ second ∷ others)
+      → openers_of limits matchings ≡ map (shown_by road) (first ∷ second ∷ others) ++ behind → Some second.gap ≡ margin_of limits matchings
+  margin_is matchings first second others behind counted are = rw are (ap (λ (n : ℕ). Some n) counted.1.0.gap)
 
 -- where looking ends before the next matching, or where none is left
-module _ (limits : PlaceLimits) (before : List Entry) (looking : Looking) (stands : Stands limits before looking) (ending : Ending) (none : gap_in ending ≡ None) where
-  margin_here : (items : List Opener) → AreCounted limits before items → map entry_of items ≡ openers_of limits before → margin_in items ending ≡ margin_of limits before
-  margin_here [] counted are = none ∙ ap (λ (l : List Entry). option_map (gap_of before) (slice_get l 1)) are
-  margin_here (one ∷ []) counted are = none ∙ ap (λ (l : List Entry). option_map (gap_of before) (slice_get l 1)) are
-  margin_here (one ∷ second ∷ others) counted are = second_gap limits before one second others [] counted (sym are ∙ sym (append-nil (map entry_of (one ∷ second ∷ others))))
+module _ {limits : PlaceLimits} {road : RoadMap} {before : List Shown} {kept : Looking} (stands : Stands limits road before kept) (ending : Ending)
+    (none : gap_in ending ≡ None) where
+  margin_here : (items : List Opener) → AreCounted limits before 0 items → map (shown_by road) items ≡ openers_of limits before
+      → margin_in items ending ≡ margin_of limits before
+  margin_here [] counted are = rw (← are) none
+  margin_here (first ∷ []) counted are = rw (← are) none
+  margin_here (first ∷ second ∷ others) counted are =
+      margin_is limits road before first second others [] counted (sym are ∙ sym (append-nil _))
 
-  pub stands_ends : HasEnded limits (record { matchings = before; ending = ending }) looking
-  stands_ends = record {
+  pub ends_here : ArePlacesOf limits road (record { matchings = before; ending = ending }) (places_in kept ending)
+  ends_here = record {
     openers = stands.openers ∙ sym (all_pass (is_within limits before) (openers_of limits before) stands.within);
     counted = stands.counted;
     count = stands.count;
     last = stands.last;
-    margin = margin_here looking.openers.items stands.counted stands.openers;
+    margin = margin_here kept.openers.items stands.counted stands.openers;
+    ending = refl;
   }
 
--- where it ends behind a matching that opens a place beyond what is asked for
-module _ (limits : PlaceLimits) (before : List Entry) (old new : Looking) (entry : Entry) (stands : Stands limits before old)
-    (more : new.looked ≡ old.looked + 1) (last : new.last ≡ Some entry.key) (kept : new.openers ≡ old.openers)
-    (new_one : belongs limits (openers_of limits before) entry ≡ false) (far : limits.within < gap_of before entry) where
-  abbrev all : List Entry
-  all = before ++ entry ∷ []
+-- ---- the next matching
 
-  opens : openers_of limits all ≡ openers_of limits before ++ entry ∷ []
-  opens = openers_more limits before entry new_one
+module _ {limits : PlaceLimits} {road : RoadMap} {before : List Shown} {old : Looking} (stands : Stands limits road before old) (one : Shown)
+    (more_left : (length before == limits.look) ≡ false) where
+  abbrev items : List Opener
+  items = old.openers.items
 
-  kept_items : new.openers.items ≡ old.openers.items
-  kept_items = ap (λ (v : Vec Opener). v.items) kept
+  abbrev with : List Shown
+  with = before ++ one ∷ []
 
-  counted : AreCounted limits all old.openers.items
-  counted place opener found = counted_before limits before old new entry stands more last new_one place opener found
+  abbrev openers : List Shown
+  openers = openers_of limits before
 
-  listed : listed_of limits all ≡ openers_of limits before
-  listed =
-      let beyond : is_within limits all entry ≡ false = ap (λ (n : ℕ). nat_le n limits.within) (gap_of_next before entry) ∙ lt-leb (gap_of before entry) limits.within far in
-      let none : filter (is_within limits all) (entry ∷ []) ≡ [] = rw beyond refl in
-      ap (filter (is_within limits all)) opens ∙ filter-append (is_within limits all) (openers_of limits before) (entry ∷ [])
-      ∙ ap (λ (l : List Entry). filter (is_within limits all) (openers_of limits before) ++ l) none ∙ append-nil (filter (is_within limits all) (openers_of limits before))
-      ∙ all_pass (is_within limits all) (openers_of limits before) (within_still limits before old new entry stands more last)
+  -- the index of its place
+  abbrev own : ℕ
+  own = place_of limits (openers_of limits with) one
 
-  some_before : 1 ≤ length before
-  some_before = elim (cases_eq (length before) 0) [
-    | inl none ↦ absurd (let zero_gap : gap_of before entry ≡ 0 = gap_of_none before none in omega (arith, far, zero_gap))
-    | inr some ↦ omega (arith, some)
+  same_length : length items ≡ length openers
+  same_length = sym (length-map items (shown_by road)) ∙ ap (λ (l : List Shown). length l) stands.openers
+
+  gap_still : (key : KeyValue) → 1 ≤ length openers → gap_of with key ≡ gap_of before key
+  gap_still key some = gap_stays before one key (some_openers limits road before some)
+
+  within_still : All (λ (opener : Shown). is_within limits with opener ≡ true) openers
+  within_still = λ k d inside.
+      ap (λ (n : ℕ). nat_le n limits.within) (gap_still (get_or openers k d).key (omega (arith, inside))) ∙ stands.within k d inside
+
+  -- what it leaves, by what looking gives at it and others behind it
+  looks_on : (looked : Looked) (left : List Shown) → looking_on limits before (one ∷ left) ≡ looked → looking limits (with ++ left) ≡ looked
+  looks_on looked left is = ap (looking limits) (append_assoc before (one ∷ []) left) ∙ stands.goes_on (one ∷ left) ∙ is
+
+  -- ---- members
+
+  -- those before it keep their places
+  places_stay : All (λ (other : Shown). place_of limits (openers_of limits with) other ≡ place_of limits openers other) before
+  places_stay = elim (cases_Bool (belongs limits openers one)) [
+    | inl here ↦ λ k d inside. ap (λ (l : List Shown). place_of limits l (get_or before k d)) (openers_same limits before one here)
+    | inr new ↦ λ k d inside.
+        ap (λ (l : List Shown). place_of limits l (get_or before k d)) (openers_more limits before one new)
+        ∙ first_stays _ openers one (all_placed limits before k d inside)
   ]
-    where
-      gap_of_none : (before : List Entry) → length before ≡ 0 → gap_of before entry ≡ 0
-      gap_of_none [] none = refl
-      gap_of_none (first ∷ others) none = absurd (omega (arith, none))
 
-  margin_beyond : (items : List Opener) → AreCounted limits all items → map entry_of items ≡ openers_of limits before
-      → margin_in items (Beyond (gap_of before entry)) ≡ margin_of limits all
-  margin_beyond [] counted are = absurd (omega (arith, some_opened before some_before, ap (λ (l : List Entry). length l) are))
-    where
-      some_opened : (before : List Entry) → 1 ≤ length before → 1 ≤ length (openers_of limits before)
-      some_opened [] some = some
-      some_opened (first ∷ others) some = let begin = first_opens limits first others in omega (arith, ap (λ (l : List Entry). length l) begin.1)
-  margin_beyond (first ∷ []) counted are =
-      ap (λ (n : ℕ). Some n) (sym (gap_of_next before entry))
-      ∙ ap (λ (l : List Entry). option_map (gap_of all) (slice_get l 1)) (ap (λ (l : List Entry). l ++ entry ∷ []) are ∙ sym opens)
-  margin_beyond (first ∷ second ∷ others) counted are =
-      second_gap limits all first second others (entry ∷ []) counted (opens ∙ ap (λ (l : List Entry). l ++ entry ∷ []) (sym are))
+  members_with : (index : ℕ) → members_of limits with index
+      ≡ members_of limits before index + count_of (place_of limits (openers_of limits with)) (one ∷ []) index
+  members_with index =
+      with_one (place_of limits (openers_of limits with)) before one index
+      ∙ ap (λ (n : ℕ). n + count_of (place_of limits (openers_of limits with)) (one ∷ []) index)
+      (agree (place_of limits (openers_of limits with)) (place_of limits openers) before index places_stay)
 
-  pub beyond_ended : HasEnded limits (record { matchings = all; ending = Beyond (gap_of before entry) }) new
-  beyond_ended = record {
-    openers = ap (map entry_of) kept_items ∙ stands.openers ∙ sym listed;
-    counted = subst (λ (l : List Opener). AreCounted limits all l) (sym kept_items) counted;
-    count = count_with limits before old new entry stands more last;
-    last = last_is limits before old new entry stands more last;
-    margin = ap (λ (l : List Opener). margin_in l (Beyond (gap_of before entry))) kept_items ∙ margin_beyond old.openers.items counted stands.openers;
+  still_counted : (index : ℕ) (opener : Opener) → 1 ≤ length openers → own ≢ index → IsCounted limits before index opener
+      → IsCounted limits with index opener
+  still_counted index opener some other was = record {
+    gap = was.gap ∙ sym (gap_still opener.key some);
+    members = omega (arith, was.members, members_with index, none_here (place_of limits (openers_of limits with)) one index other);
   }
+
+  all_counted : (start : ℕ) (l : List Opener) → ((index : ℕ) → start ≤ index → index < start + length l → own ≢ index)
+      → start + length l ≤ length openers → AreCounted limits before start l → AreCounted limits with start l
+  all_counted start [] elsewhere inside was = tt
+  all_counted start (opener ∷ l) elsewhere inside was = (
+    still_counted start opener (omega (arith, inside)) (elsewhere start (omega arith) (omega arith)) was.0,
+    all_counted (start + 1) l (λ index from to. elsewhere index (omega (arith, from)) (omega (arith, to))) (omega (arith, inside)) was.1,
+  )
+
+  count_with : (looked : ℕ) → looked ≡ old.looked + 1 → looked ≡ length with
+  count_with looked more = omega (arith, more, stands.count, length-append before (one ∷ []))
+
+  last_is : (last : Option KeyValue) → last ≡ Some one.key → last ≡ last_of None (keys_of with)
+  last_is last is = is ∙ sym (last_with None before one)
+
+  -- ---- it belongs to a place
+
+  module _ (here : belongs limits openers one ≡ true) (small : length before < 4294967295) where
+    counted_more : (start index : ℕ) (l : List Opener) → start + index ≡ own → start + length l ≤ length openers
+        → AreCounted limits before start l → AreCounted limits with start (one_more_at index l)
+    counted_more start index [] at inside was = tt
+    counted_more start zero (opener ∷ l) at inside was = (
+      record {
+        gap = was.0.gap ∙ sym (gap_still opener.key (omega (arith, inside)));
+        members =
+            let one_more = one_here (place_of limits (openers_of limits with)) one start (omega (arith, at)) in
+            omega (arith, was.0.members, members_with start, one_more, small, at_most (place_of limits openers) before start);
+      },
+      all_counted (start + 1) l (λ index from to is. omega (arith, from, at, is)) (omega (arith, inside)) was.1,
+    )
+    counted_more start (suc index) (opener ∷ l) at inside was = (
+      still_counted start opener (omega (arith, inside)) (λ is. omega (arith, at, is)) was.0,
+      counted_more (start + 1) index l (omega (arith, at)) (omega (arith, inside)) was.1,
+    )
+
+    pub stands_with_member : (new : Looking) (index : ℕ) → place_of limits openers one ≡ index → new.openers.items ≡ one_more_at index items
+        → new.looked ≡ old.looked + 1 → new.last ≡ Some one.key → Stands limits road with new
+    stands_with_member new index at has more last =
+        let same = openers_same limits before one here in
+        let at_own : 0 + index ≡ own = rw same (omega (arith, at)) in record {
+          openers = ap (map (shown_by road)) has ∙ same_shown road index items ∙ stands.openers ∙ sym same;
+          within = rw same within_still;
+          counted = rw has (counted_more 0 index items at_own (omega (arith, same_length)) stands.counted);
+          count = count_with new.looked more;
+          last = last_is new.last last;
+          goes_on = λ left. looks_on _ left (rw (more_left, here) refl);
+        }
+
+  -- ---- it opens a place
+
+  module _ (new_one : belongs limits openers one ≡ false) where
+    opens : openers_of limits with ≡ openers ++ one ∷ []
+    opens = openers_more limits before one new_one
+
+    own_is : own ≡ length openers
+    own_is = ap (λ (l : List Shown). place_of limits l one) opens ∙ first_behind _ openers one new_one (close_itself limits one)
+
+    counted : AreCounted limits with 0 items
+    counted =
+        all_counted 0 items (λ index from to is. omega (arith, to, is, own_is, same_length)) (omega (arith, same_length)) stands.counted
+
+    module _ (opener : Opener) (shown : shown_by road opener ≡ one) (gap : opener.gap ≡ gap_of before one.key) (alone : opener.members ≡ 1) where
+      counted_itself : IsCounted limits with (length items) opener
+      counted_itself = record {
+        gap = gap ∙ sym (gap_of_next before one) ∙ ap (λ (s : Shown). gap_of with s.key) (sym shown);
+        members =
+            let none_before = none_past (place_of limits openers) before (length items) (rw same_length (all_placed limits before)) in
+            let itself = one_here (place_of limits (openers_of limits with)) one (length items) (own_is ∙ sym same_length) in
+            omega (arith, alone, none_before, itself, members_with (length items));
+      }
+
+      counted_with : (start : ℕ) (l : List Opener) → start + length l ≡ length items → AreCounted limits with start l
+          → AreCounted limits with start (l ++ opener ∷ [])
+      counted_with start [] all was = let at : start ≡ length items = omega (arith, all) in (rw at counted_itself, tt)
+      counted_with start (first ∷ l) all was = (was.0, counted_with (start + 1) l (omega (arith, all)) was.1)
+
+      pub stands_with_opener : (new : Looking) → nat_lt limits.within (gap_of before one.key) ≡ false → nat_le (gap_of before one.key) limits.within ≡ true
+          → (length openers == limits.most) ≡ false → new.openers.items ≡ items ++ opener ∷ [] → new.looked ≡ old.looked + 1 → new.last ≡ Some one.key
+          → Stands limits road with new
+      stands_with_opener new near close room pushed more last = record {
+        openers =
+            ap (map (shown_by road)) pushed ∙ map-append (shown_by road) items (opener ∷ []) ∙ ap (λ (l : List Shown). l ++ shown_by road opener ∷ []) stands.openers
+            ∙ ap (λ (s : Shown). openers ++ s ∷ []) shown ∙ sym opens;
+        within =
+            rw opens (All-push (λ (opener : Shown). is_within limits with opener ≡ true) openers one within_still (ap (λ (n : ℕ). nat_le n limits.within) (gap_of_next before one) ∙ close));
+        counted = rw pushed (counted_with 0 items (omega arith) counted);
+        count = count_with new.looked more;
+        last = last_is new.last last;
+        goes_on = λ left. looks_on _ left (rw (more_left, new_one, near, room) refl);
+      }
+
+    -- ---- or it would open a place too many
+
+    pub full_ends : nat_lt limits.within (gap_of before one.key) ≡ false → (length openers == limits.most) ≡ true
+        → HasEnded limits road with old Cut
+    full_ends near full = record {
+      looked = record { matchings = before; ending = Cut };
+      places = ends_here stands Cut refl;
+      looked_at = (one ∷ [], refl);
+      looks = λ left. looks_on _ left (rw (more_left, new_one, near, full) refl);
+    }
+
+    -- ---- or its gap is beyond what is asked for
+
+    module _ (far : limits.within < gap_of before one.key) where
+      listed : listed_of limits with ≡ openers
+      listed =
+          let beyond : is_within limits with one ≡ false = ap (λ (n : ℕ). nat_le n limits.within) (gap_of_next before one) ∙ lt-leb (gap_of before one.key) limits.within far in
+          let none : filter (is_within limits with) (one ∷ []) ≡ [] = rw beyond refl in
+          ap (filter (is_within limits with)) opens ∙ filter-append (is_within limits with) openers (one ∷ [])
+          ∙ ap (λ (l : List Shown). filter (is_within limits with) openers ++ l) none ∙ append-nil _
+          ∙ all_pass (is_within limits with) openers within_still
+
+      margin_beyond : (l : List Opener) → AreCounted limits with 0 l → map (shown_by road) l ≡ openers
+          → margin_in l (Beyond (gap_of before one.key)) ≡ margin_of limits with
+      margin_beyond [] counted are =
+          let none = gap_at_first limits road before [] one.key are in absurd (omega (arith, far, none))
+      margin_beyond (first ∷ []) counted are = rw (opens, ← are) (ap (λ (n : ℕ). Some n) (sym (gap_of_next before one)))
+      margin_beyond (first ∷ second ∷ others) counted are =
+          margin_is limits road with first second others (one ∷ []) counted (opens ∙ ap (λ (l : List Shown). l ++ one ∷ []) (sym are))
+
+      pub beyond_ends : (new : Looking) → nat_lt limits.within (gap_of before one.key) ≡ true → new.openers ≡ old.openers → new.looked ≡ old.looked + 1
+          → new.last ≡ Some one.key → HasEnded limits road with new (Beyond (gap_of before one.key))
+      beyond_ends new beyond same more last = record {
+        looked = record { matchings = with; ending = Beyond (gap_of before one.key) };
+        places = record {
+          openers = rw same (stands.openers ∙ sym listed);
+          counted = rw same counted;
+          count = count_with new.looked more;
+          last = last_is new.last last;
+          margin = rw same (margin_beyond items counted stands.openers);
+          ending = refl;
+        };
+        looked_at = ([], sym (append-nil with));
+        looks = λ left. looks_on _ left (rw (more_left, new_one, beyond) refl);
+      }

@@ -1,57 +1,45 @@
 -- How many matchings belong to a place, with one matching more.
-use Rattle.std.proofs.Common.{◌≡◌, ◌≢◌, ℕ, suc, ◌+◌, ◌<◌, ◌≤◌, List, [], ◌∷◌, ◌++◌, length, length-append, All, filter, refl, ap, ◌∙◌, inl, inr, arith, ◌==◌}
+use Rattle.std.proofs.Common.{◌≡◌, ◌≢◌, ℕ, ◌+◌, ◌<◌, ◌≤◌, List, [], ◌∷◌, ◌++◌, length, length-append, All, filter, refl, ap, ◌∙◌, inl, inr, arith, ◌==◌}
 use Rattle.std.proofs.lemmas.Bool.{cases_eq, eq-eqb, ne_eqb}
 use Rattle.std.proofs.lemmas.List.Elements.{All-head, All-tail, filter-append}
-use Rattle.olr_report.specs.Entries.{Entry}
+use Rattle.std.proofs.lemmas.List.Sums.{count_by-le-length, length-filter}
+use Rattle.olr_places.specs.Shown.{Shown}
 
 -- how many of these have a number
-abbrev pub count_of : (Entry → ℕ) → List Entry → ℕ → ℕ
-count_of place entries index = length (filter (λ (entry : Entry). place entry == index) entries)
+abbrev pub count_of : (Shown → ℕ) → List Shown → ℕ → ℕ
+count_of place entries index = length (filter (λ (one : Shown). place one == index) entries)
 
-module _ (place : Entry → ℕ) where
-  pub one_here : (entry : Entry) (index : ℕ) → place entry ≡ index → count_of place (entry ∷ []) index ≡ 1
-  one_here entry index is = let here = eq-eqb (place entry) index is in rw here refl
+module _ (place : Shown → ℕ) where
+  pub one_here : (one : Shown) (index : ℕ) → place one ≡ index → count_of place (one ∷ []) index ≡ 1
+  one_here one index is = let here = eq-eqb (place one) index is in rw here refl
 
-  pub none_here : (entry : Entry) (index : ℕ) → place entry ≢ index → count_of place (entry ∷ []) index ≡ 0
-  none_here entry index other = let elsewhere = ne_eqb (place entry) index other in rw elsewhere refl
+  pub none_here : (one : Shown) (index : ℕ) → place one ≢ index → count_of place (one ∷ []) index ≡ 0
+  none_here one index other = let elsewhere = ne_eqb (place one) index other in rw elsewhere refl
 
-  pub with_one : (entries : List Entry) (entry : Entry) (index : ℕ) → count_of place (entries ++ entry ∷ []) index ≡ count_of place entries index + count_of place (entry ∷ []) index
-  with_one entries entry index =
-      ap (λ (l : List Entry). length l) (filter-append (λ (one : Entry). place one == index) entries (entry ∷ []))
-      ∙ length-append (filter (λ (one : Entry). place one == index) entries) (filter (λ (one : Entry). place one == index) (entry ∷ []))
+  pub with_one : (entries : List Shown) (one : Shown) (index : ℕ) → count_of place (entries ++ one ∷ []) index ≡ count_of place entries index + count_of place (one ∷ []) index
+  with_one entries one index =
+      ap (λ (l : List Shown). length l) (filter-append (λ (each : Shown). place each == index) entries (one ∷ []))
+      ∙ length-append (filter (λ (each : Shown). place each == index) entries) _
 
-  pub at_most : (entries : List Entry) (index : ℕ) → count_of place entries index ≤ length entries
-  at_most [] index = omega arith
-  at_most (entry ∷ entries) index = elim (cases_eq (place entry) index) [
-    | inl same ↦
-        let here = eq-eqb (place entry) index same in
-        let more : count_of place (entry ∷ entries) index ≡ suc (count_of place entries index) = rw here refl in
-        omega (arith, more, at_most entries index)
-    | inr other ↦
-        let elsewhere = ne_eqb (place entry) index other in
-        let same : count_of place (entry ∷ entries) index ≡ count_of place entries index = rw elsewhere refl in
-        omega (arith, same, at_most entries index)
-  ]
+  pub at_most : (entries : List Shown) (index : ℕ) → count_of place entries index ≤ length entries
+  at_most entries index =
+      rw (length-filter (λ (each : Shown). place each == index) entries)
+      (count_by-le-length (λ (each : Shown). place each == index) entries)
 
-  pub none_past : (entries : List Entry) (index : ℕ) → All (λ (entry : Entry). place entry < index) entries → count_of place entries index ≡ 0
+  pub none_past : (entries : List Shown) (index : ℕ) → All (λ (one : Shown). place one < index) entries → count_of place entries index ≡ 0
   none_past [] index all = refl
-  none_past (entry ∷ entries) index all =
-      let elsewhere = ne_eqb (place entry) index (λ is. omega (arith, is, All-head (λ (one : Entry). place one < index) entry entries all)) in
-      let rest = none_past entries index (All-tail (λ (one : Entry). place one < index) entry entries all) in
-      rw elsewhere rest
+  none_past (one ∷ entries) index all =
+      let elsewhere = ne_eqb (place one) index (λ is. omega (arith, is, All-head (λ (one : Shown). place one < index) one entries all)) in
+      rw elsewhere (none_past entries index (All-tail (λ (one : Shown). place one < index) one entries all))
 
 -- two ways to number them that agree on each
-pub agree : (place other : Entry → ℕ) (entries : List Entry) (index : ℕ) → All (λ (entry : Entry). place entry ≡ other entry) entries
+pub agree : (place other : Shown → ℕ) (entries : List Shown) (index : ℕ) → All (λ (one : Shown). place one ≡ other one) entries
     → count_of place entries index ≡ count_of other entries index
 agree place other [] index all = refl
-agree place other (entry ∷ entries) index all =
-    let rest = agree place other entries index (All-tail (λ (one : Entry). place one ≡ other one) entry entries all) in
-    let same = All-head (λ (one : Entry). place one ≡ other one) entry entries all in
-    elim (cases_eq (other entry) index) [
-      | inl is ↦
-          let here = eq-eqb (other entry) index is in
-          rw (same, here, rest) refl
-      | inr not_is ↦
-          let elsewhere = ne_eqb (other entry) index not_is in
-          rw (same, elsewhere, rest) refl
+agree place other (one ∷ entries) index all =
+    let rest = agree place other entries index (All-tail (λ (one : Shown). place one ≡ other one) one entries all) in
+    let same = All-head (λ (one : Shown). place one ≡ other one) one entries all in
+    elim (cases_eq (other one) index) [
+      | inl is ↦ let here = eq-eqb (other one) index is in rw (same, here, rest) refl
+      | inr not_is ↦ let elsewhere = ne_eqb (other one) index not_is in rw (same, elsewhere, rest) refl
     ]

@@ -1,191 +1,212 @@
 -- Looking at the matchings of a reference, page by page.
-use Rattle.std.proofs.Common.{◌≡◌, ℕ, suc, ◌+◌, ◌<◌, ◌≤◌, true, false, List, [], ◌∷◌, ◌++◌, length, length-append, take, drop, get_or, Option, Some, None, refl, sym, ap, subst, ◌∙◌, append_assoc, arith, inl, inr}
+use Rattle.std.proofs.Common.{◌≡◌, ℕ, ◌+◌, ◌-◌, ◌<◌, ◌≤◌, true, false, All, List, [], ◌∷◌, ◌++◌, length, take, drop, get_or, Option, Some, None, refl, sym, ap, subst, ◌∙◌, append_assoc, arith, inl, inr}
 use Rattle.std.specs.Prelude.{AllPairs}
 use Rattle.std.proofs.lemmas.Bool.{cases_lt, eq-eqb}
-use Rattle.std.proofs.lemmas.List.{append-nil, length-map, map-append, take_all}
+use Rattle.std.proofs.lemmas.List.{append-nil, drop_all, drop_more, length-append, length-drop, length-map, length-take, map-append, take-append-drop, take_all, take_more}
+use Rattle.std.proofs.lemmas.List.Elements.{All-push}
 use Rattle.olr_keys.specs.Key.{KeyValue, IsBefore}
 use Rattle.olr_keys.specs.Page.{IsPageAfter, IsRestAfter, PageValue, last_of}
 use Rattle.olr_map.specs.RoadMap.{RoadMap}
 use Rattle.olr_matching.specs.Layers.{LayersValue}
-use Rattle.olr_report.specs.Entries.{Entry}
-use Rattle.olr_places.specs.Looking.{IsEntryAt, IsLooked, Looked, LooksOn}
-use Rattle.olr_places.specs.Steps.{GoesOn, HasEnded, LooksAt, LooksAtAll, Stands, keys_of}
+use Rattle.olr_places.specs.Looking.{looking_on}
+use Rattle.olr_places.specs.Places.{IsOpenerAt, entry_of, shown_by}
+use Rattle.olr_places.specs.Shown.{IsShownAt, Shown, keys_of}
+use Rattle.olr_places.specs.Steps.{AreFound, AreLookedAt, LooksAt, LooksAtAll, Stands, gap_in, places_in}
 use Rattle.olr_places.specs.declared.ending.Ending.{Ending}
 use Rattle.olr_places.specs.declared.ending.Ending.TheVariants.{Cut, NoMore}
 use Rattle.olr_places.specs.declared.limits.PlaceLimits.{PlaceLimits}
 use Rattle.olr_places.specs.declared.looking.Looking.{Looking}
-use Rattle.olr_places.proofs.LookSteps.{stands_ends}
-use Rattle.olr_places.proofs.Rests.{after_keys, count_left, count_taken, last_of_both, none_left, one_rest, take_one_more, taken_and_left}
+use Rattle.olr_places.specs.declared.opener.Opener.{Opener}
+use Rattle.olr_places.proofs.LookSteps.{ends_here}
+use Rattle.olr_places.proofs.Rests.{after_keys, one_rest}
+
+abbrev key_of : Shown → KeyValue
+key_of one = one.key
+
+-- ---- the keys of a page
+
+module _ {limits : PlaceLimits} {road : RoadMap} {layers : LayersValue} where
+  -- as many matchings as keys
+  pub count_is : {keys : List KeyValue} {kept : Looking} → AreLookedAt limits road layers keys kept → kept.looked ≡ length keys
+  count_is are = are.stands.count ∙ sym (length-map are.seen key_of) ∙ ap (λ (l : List KeyValue). length l) are.keys_are
+
+  module _ {keys : List KeyValue} {old : Looking} {opener : Opener} (are : AreLookedAt limits road layers keys old) (is : IsOpenerAt road layers opener) where
+    keys_with : keys_of (are.seen ++ shown_by road opener ∷ []) ≡ keys ++ opener.key ∷ []
+    keys_with = map-append key_of are.seen (shown_by road opener ∷ []) ∙ ap (λ (l : List KeyValue). l ++ opener.key ∷ []) are.keys_are
+
+    each_with : All (IsShownAt road layers) (are.seen ++ shown_by road opener ∷ [])
+    each_with = All-push (IsShownAt road layers) are.seen (shown_by road opener) are.each (record { entry = entry_of opener; is_entry = is.is_entry; shown_is = refl })
+
+    one_looked : {new : Looking} → LooksAt limits old new opener None → AreLookedAt limits road layers (keys ++ opener.key ∷ []) new
+    one_looked step = record { seen = are.seen ++ shown_by road opener ∷ []; keys_are = keys_with; each = each_with; stands = step road are.seen are.stands }
+
+    looking_ended : {new : Looking} (why : Ending) → LooksAt limits old new opener (Some why) → (left : List KeyValue)
+        → AreFound limits road layers (keys ++ opener.key ∷ left) (places_in new why)
+    looking_ended why step left =
+        let ended = step road are.seen are.stands in (
+          ended.looked,
+          record {
+            seen = are.seen ++ shown_by road opener ∷ [];
+            left = left;
+            keys = sym (append_assoc keys (opener.key ∷ []) left) ∙ ap (λ (l : List KeyValue). l ++ left) (sym keys_with);
+            each = each_with;
+            looked_at = ended.looked_at;
+            looks = λ others same. ended.looks others;
+          },
+          ended.places,
+        )
+
+-- so many of the keys were looked at
+abbrev pub HaveLooked : PlaceLimits → RoadMap → LayersValue → Looking → Looking → List KeyValue → ℕ → Type 0
+HaveLooked limits road layers old new keys count =
+    (before : List KeyValue) → AreLookedAt limits road layers before old → AreLookedAt limits road layers (before ++ take count keys) new
+
+module _ (limits : PlaceLimits) (road : RoadMap) (layers : LayersValue) (old : Looking) (keys : List KeyValue) where
+  pub none_looked : HaveLooked limits road layers old old keys 0
+  none_looked before are = rw append-nil are
+
+  module _ (count : ℕ) (here : Looking) (have : HaveLooked limits road layers old here keys count) (inside : count < length keys)
+      (opener : Opener) (at : opener.key ≡ get_or keys count opener.key) (is : IsOpenerAt road layers opener) (new : Looking) where
+    pub next_looked : LooksAt limits here new opener None → HaveLooked limits road layers old new keys (count + 1)
+    next_looked step before are =
+        rw (take_more keys count opener.key inside, ← at, ← append_assoc before (take count keys) (opener.key ∷ []))
+        (one_looked (have before are) is step)
+
+    pub ends_within : (why : Ending) → LooksAt limits here new opener (Some why) → LooksAtAll limits road layers old new keys (Some why)
+    ends_within why step before are left =
+        let rest : drop count keys ≡ opener.key ∷ drop (count + 1) keys =
+        drop_more keys count opener.key inside ∙ ap (λ (k : KeyValue). k ∷ drop (count + 1) keys) (sym at) in
+        let parts : (before ++ take count keys) ++ opener.key ∷ (drop (count + 1) keys ++ left) ≡ (before ++ keys) ++ left =
+        ap (λ (l : List KeyValue). (before ++ take count keys) ++ (l ++ left)) (sym rest) ∙ sym (append_assoc (before ++ take count keys) (drop count keys) left)
+        ∙ ap (λ (l : List KeyValue). l ++ left)
+        (append_assoc before (take count keys) (drop count keys) ∙ ap (λ (l : List KeyValue). before ++ l) (take-append-drop count keys)) in
+        rw (← parts) (looking_ended (have before are) is why step (drop (count + 1) keys ++ left))
+
+  pub all_looked : (new : Looking) (count : ℕ) → length keys ≤ count → HaveLooked limits road layers old new keys count
+      → LooksAtAll limits road layers old new keys None
+  all_looked new count past have before are = rw (take_all count keys past) at (have before are)
+
+-- ---- all pages
 
 module _ (limits : PlaceLimits) (road : RoadMap) (layers : LayersValue) where
-  -- ---- the keys of a page
-
-  -- so many of the keys were looked at
-  abbrev pub HaveLooked : Looking → Looking → List KeyValue → ℕ → Type 0
-  HaveLooked old new keys count = (before : List Entry) → Stands limits before old
-      → (now : List Entry) × Stands limits now new × (keys_of now ≡ keys_of before ++ take count keys) × GoesOn limits road layers before (take count keys) now
-
-  pub none_looked : (old : Looking) (keys : List KeyValue) → HaveLooked old old keys 0
-  none_looked old keys = λ before stands. (before, stands, sym (append-nil (keys_of before)), λ left looked on. on)
-
-  module _ (old here new : Looking) (keys : List KeyValue) (count : ℕ) (have : HaveLooked old here keys count) (inside : count < length keys)
-      (key : KeyValue) (is : key ≡ get_or keys count key) (entry : Entry) (at : IsEntryAt road layers key entry) where
-    one_more : (left : List KeyValue) → take (suc count) keys ++ left ≡ take count keys ++ key ∷ left
-    one_more left = take_one_more keys count key left inside ∙ ap (λ (k : KeyValue). take count keys ++ k ∷ left) (sym is)
-
-    pub one_looked : LooksAt limits here new entry None → HaveLooked old new keys (suc count)
-    one_looked step = λ before stands.
-        let was = have before stands in
-        let now = step was.0 was.1 in (
-          was.0 ++ entry ∷ [],
-          now.0,
-          map-append (λ (one : Entry). one.key) was.0 (entry ∷ []) ∙ ap (λ (l : List KeyValue). l ++ entry.key ∷ []) was.2
-              ∙ append_assoc (keys_of before) (take count keys) (entry.key ∷ [])
-              ∙ ap (λ (k : KeyValue). keys_of before ++ (take count keys ++ k ∷ [])) at.key_is
-              ∙ ap (λ (l : List KeyValue). keys_of before ++ l) (sym (one_more []) ∙ append-nil (take (suc count) keys)),
-          λ left looked on.
-              subst (λ (l : List KeyValue). LooksOn limits (IsEntryAt road layers) before l looked) (sym (one_more left))
-              (was.3 (key ∷ left) looked (now.1 road layers key at left looked on)),
-        )
-
-    pub looking_ended : (why : Ending) → LooksAt limits here new entry (Some why) → LooksAtAll limits road layers old new keys (Some why)
-    looking_ended why step = λ before stands.
-        let was = have before stands in
-        let ended = step was.0 was.1 in (
-          ended.0,
-          ended.1,
-          ended.2,
-          λ left.
-              let rest = drop (suc count) keys ++ left in
-              let whole : take count keys ++ key ∷ rest ≡ keys ++ left =
-              sym (one_more rest) ∙ sym (append_assoc (take (suc count) keys) (drop (suc count) keys) left)
-              ∙ ap (λ (l : List KeyValue). l ++ left) (taken_and_left (suc count) keys) in
-              subst (λ (l : List KeyValue). LooksOn limits (IsEntryAt road layers) before l ended.0) whole
-              (was.3 (key ∷ rest) ended.0 (ended.3 road layers key at rest)),
-        )
-
-  pub all_looked : (old new : Looking) (keys : List KeyValue) (count : ℕ) → length keys ≤ count → HaveLooked old new keys count → LooksAtAll limits road layers old new keys None
-  all_looked old new keys count past have = λ before stands.
-      let was = have before stands in
-      let all = take_all count keys past in (
-        was.0,
-        was.1,
-        was.2 ∙ ap (λ (l : List KeyValue). keys_of before ++ l) all,
-        subst (λ (l : List KeyValue). GoesOn limits road layers before l was.0) all was.3,
-      )
-
-  -- ---- all pages
-
   -- how far looking at all matchings is
-  pub record Progress (answers : List KeyValue) (looking : Looking) : Type 0 where
-    pub now : List Entry
+  pub record Progress (answers : List KeyValue) (kept : Looking) : Type 0 where
+    pub front : List KeyValue
     pub left : List KeyValue
-    pub stands : Stands limits now looking
-    pub rest : IsRestAfter answers looking.last left
-    pub goes : (looked : Looked) → LooksOn limits (IsEntryAt road layers) now left looked → IsLooked limits road layers answers looked
-    pub some_left : 1 ≤ length now → 1 ≤ length left
+    pub keys_are : answers ≡ front ++ left
+    pub looked_at : AreLookedAt limits road layers front kept
+    pub some_left : 1 ≤ length front → 1 ≤ length left
 
-  -- where looking has ended
-  abbrev pub IsEnded : List KeyValue → Looking → Ending → Type 0
-  IsEnded answers looking ending = (looked : Looked) × (looked.ending ≡ ending) × HasEnded limits looked looking × IsLooked limits road layers answers looked
-
-  pub at_start : (answers : List KeyValue) (looking : Looking) → looking.last ≡ None → Stands limits [] looking → Progress answers looking
-  at_start answers looking none stands = record {
-    now = [];
+  pub at_start : (answers : List KeyValue) (kept : Looking) → Stands limits road [] kept → Progress answers kept
+  at_start answers kept stands = record {
+    front = [];
     left = answers;
-    stands = stands;
-    rest = subst (λ (o : Option KeyValue). IsRestAfter answers o answers) (sym none) refl;
-    goes = λ looked on. on;
+    keys_are = refl;
+    looked_at = record { seen = []; keys_are = refl; each = λ k d inside. absurd (omega (arith, inside)); stands = stands };
     some_left = λ some. absurd (omega (arith, some));
   }
 
+  -- looking ends behind these keys
+  ends : {front : List KeyValue} {kept : Looking} (left : List KeyValue) (ending : Ending) (are : AreLookedAt limits road layers front kept)
+      → gap_in ending ≡ None
+      → ((others : List Shown) → keys_of others ≡ left → looking_on limits are.seen others ≡ record { matchings = are.seen; ending = ending })
+      → AreFound limits road layers (front ++ left) (places_in kept ending)
+  ends left ending are none here = (
+    record { matchings = are.seen; ending = ending },
+    record {
+      seen = are.seen;
+      left = left;
+      keys = ap (λ (l : List KeyValue). l ++ left) (sym are.keys_are);
+      each = are.each;
+      looked_at = ([], sym (append-nil are.seen));
+      looks = λ others same. are.stands.goes_on others ∙ here others same;
+    },
+    ends_here are.stands ending none,
+  )
+
   module _ (answers : List KeyValue) (rise : AllPairs IsBefore answers) (old new : Looking) (progress : Progress answers old)
       (size : ℕ) (page : PageValue) (is_page : IsPageAfter answers old.last size page) where
+    abbrev front : List KeyValue
+    front = progress.front
+
     abbrev behind : List KeyValue
     behind = drop size progress.left
 
     same_left : is_page.rest ≡ progress.left
-    same_left = one_rest answers rise old.last is_page.rest progress.left is_page.is_rest progress.rest
+    same_left =
+        let last : old.last ≡ last_of None front = progress.looked_at.stands.last ∙ ap (last_of None) progress.looked_at.keys_are in
+        let rest : IsRestAfter answers old.last progress.left =
+        subst (λ (l : List KeyValue). IsRestAfter l old.last progress.left) (sym progress.keys_are)
+        (subst (λ (o : Option KeyValue). IsRestAfter (front ++ progress.left) o progress.left) (sym last)
+        (after_keys (front ++ progress.left) None front progress.left refl)) in
+        one_rest answers rise old.last is_page.rest progress.left is_page.is_rest rest
 
-    parts : page.keys ++ behind ≡ progress.left
-    parts = ap (λ (l : List KeyValue). l ++ behind) (is_page.is_page.keys ∙ ap (take size) same_left) ∙ taken_and_left size progress.left
+    keys_are : page.keys ≡ take size progress.left
+    keys_are = is_page.is_page.keys ∙ ap (take size) same_left
 
-    pub page_ended : (why : Ending) → LooksAtAll limits road layers old new page.keys (Some why) → IsEnded answers new why
+    parts : (front ++ page.keys) ++ behind ≡ answers
+    parts =
+        append_assoc front page.keys behind
+        ∙ ap (λ (l : List KeyValue). front ++ l) (ap (λ (l : List KeyValue). l ++ behind) keys_are ∙ take-append-drop size progress.left) ∙ sym progress.keys_are
+
+    pub page_ended : (why : Ending) → LooksAtAll limits road layers old new page.keys (Some why) → AreFound limits road layers answers (places_in new why)
     page_ended why looks =
-        let ended = looks progress.now progress.stands in (
-          ended.0,
-          ended.1,
-          ended.2,
-          progress.goes ended.0 (subst (λ (l : List KeyValue). LooksOn limits (IsEntryAt road layers) progress.now l ended.0) parts (ended.3 behind)),
-        )
+        subst (λ (l : List KeyValue). AreFound limits road layers l (places_in new why)) parts (looks front progress.looked_at behind)
 
     module _ (looks : LooksAtAll limits road layers old new page.keys None) where
-      abbrev moved : (now : List Entry) × Stands limits now new × (keys_of now ≡ keys_of progress.now ++ page.keys) × GoesOn limits road layers progress.now page.keys now
-      moved = looks progress.now progress.stands
+      moved : AreLookedAt limits road layers (front ++ page.keys) new
+      moved = looks front progress.looked_at
 
-      goes_behind : (looked : Looked) → LooksOn limits (IsEntryAt road layers) moved.0 behind looked → IsLooked limits road layers answers looked
-      goes_behind looked on =
-          progress.goes looked (subst (λ (l : List KeyValue). LooksOn limits (IsEntryAt road layers) progress.now l looked) parts (moved.3 behind looked on))
-
-      rest_behind : IsRestAfter answers new.last behind
-      rest_behind =
-          let last : new.last ≡ last_of old.last page.keys =
-          moved.1.last ∙ ap (last_of None) moved.2 ∙ last_of_both None (keys_of progress.now) page.keys
-          ∙ ap (λ (o : Option KeyValue). last_of o page.keys) (sym progress.stands.last) in
-          subst (λ (o : Option KeyValue). IsRestAfter answers o behind) (sym last)
-          (after_keys answers old.last page.keys behind (subst (λ (l : List KeyValue). IsRestAfter answers old.last l) (sym parts) progress.rest))
-
-      pub no_more : page.more ≡ false → IsEnded answers new NoMore
+      pub no_more : page.more ≡ false → AreFound limits road layers answers (places_in new NoMore)
       no_more last = elim (cases_lt size (length progress.left)) [
-        | inl longer ↦
-            let more : page.more ≡ true = is_page.is_page.more.1 (subst (λ (l : List KeyValue). size < length l) (sym same_left) longer) in
-            absurd cc
+        | inl longer ↦ let more : page.more ≡ true = is_page.is_page.more.1 (rw same_left longer) in absurd cc
         | inr short ↦
-            let none : behind ≡ [] = none_left size progress.left short in (
-              record { matchings = moved.0; ending = NoMore },
-              refl,
-              stands_ends limits moved.0 new moved.1 NoMore refl,
-              goes_behind (record { matchings = moved.0; ending = NoMore })
-                  (subst (λ (l : List KeyValue). LooksOn limits (IsEntryAt road layers) moved.0 l (record { matchings = moved.0; ending = NoMore })) (sym none) refl),
-            )
+            let none : behind ≡ [] = drop_all size progress.left short in
+            subst (λ (l : List KeyValue). AreFound limits road layers l (places_in new NoMore)) parts
+            (rw none (ends [] NoMore moved refl (λ others same. no_others moved others same)))
       ]
+        where
+          no_others : (are : AreLookedAt limits road layers (front ++ page.keys) new) (others : List Shown) → keys_of others ≡ []
+              → looking_on limits are.seen others ≡ record { matchings = are.seen; ending = NoMore }
+          no_others are [] same = refl
+          no_others are (one ∷ others) same = absurd (cc)
 
       longer_than : page.more ≡ true → size < length progress.left
-      longer_than more = subst (λ (l : List KeyValue). size < length l) same_left (is_page.is_page.more.0 more)
+      longer_than more = let longer = is_page.is_page.more.0 more in omega (arith, longer, ap (λ (l : List KeyValue). length l) same_left)
 
       pub goes_on : page.more ≡ true → Progress answers new
       goes_on more = record {
-        now = moved.0;
+        front = front ++ page.keys;
         left = behind;
-        stands = moved.1;
-        rest = rest_behind;
-        goes = goes_behind;
-        some_left = λ some. count_left size progress.left (longer_than more);
+        keys_are = sym parts;
+        looked_at = moved;
+        some_left = λ some. omega (arith, length-drop size progress.left, longer_than more);
       }
 
       -- as many were looked at as the page has keys
       pub looked_more : page.more ≡ true → new.looked ≡ old.looked + size
-      looked_more more =
-          let count : length page.keys ≡ size =
-          ap (λ (l : List KeyValue). length l) (is_page.is_page.keys ∙ ap (take size) same_left) ∙ count_taken size progress.left (omega (arith, longer_than more)) in
-          let all : length moved.0 ≡ length progress.now + length page.keys =
-          sym (length-map moved.0 (λ (one : Entry). one.key)) ∙ ap (λ (l : List KeyValue). length l) moved.2
-          ∙ length-append (keys_of progress.now) page.keys ∙ ap (λ (n : ℕ). n + length page.keys) (length-map progress.now (λ (one : Entry). one.key)) in
-          omega (arith, count, all, moved.1.count, progress.stands.count)
+      looked_more more = omega (
+        arith,
+        count_is moved,
+        count_is progress.looked_at,
+        length-append front page.keys,
+        ap (λ (l : List KeyValue). length l) keys_are,
+        length-take size progress.left,
+        longer_than more,
+      )
 
   -- as many were looked at as are asked for
-  pub enough : (answers : List KeyValue) (looking : Looking) → Progress answers looking → looking.looked ≡ limits.look → IsEnded answers looking Cut
-  enough answers looking progress all =
-      let some : 1 ≤ length progress.now = omega (arith, all, progress.stands.count, limits.look_in_range.least) in (
-        record { matchings = progress.now; ending = Cut },
-        refl,
-        stands_ends limits progress.now looking progress.stands Cut refl,
-        progress.goes (record { matchings = progress.now; ending = Cut }) (cut_here progress.left (progress.some_left some)),
-      )
+  pub enough : (answers : List KeyValue) (kept : Looking) → Progress answers kept → kept.looked ≡ limits.look
+      → AreFound limits road layers answers (places_in kept Cut)
+  enough answers kept progress all =
+      let some : 1 ≤ length progress.front = omega (arith, all, count_is progress.looked_at, limits.look_in_range.least) in
+      subst (λ (l : List KeyValue). AreFound limits road layers l (places_in kept Cut)) (sym progress.keys_are)
+      (ends progress.left Cut progress.looked_at refl (λ others same.
+      cut_here others (omega (arith, progress.some_left some, length-map others key_of, ap (λ (l : List KeyValue). length l) same))))
     where
-      cut_here : (left : List KeyValue) → 1 ≤ length left
-          → LooksOn limits (IsEntryAt road layers) progress.now left (record { matchings = progress.now; ending = Cut })
+      cut_here : (others : List Shown) → 1 ≤ length others
+          → looking_on limits progress.looked_at.seen others ≡ record { matchings = progress.looked_at.seen; ending = Cut }
       cut_here [] some = absurd (omega (arith, some))
-      cut_here (key ∷ left) some =
-          let full = eq-eqb (length progress.now) limits.look (omega (arith, all, progress.stands.count)) in
+      cut_here (one ∷ others) some =
+          let full = eq-eqb (length progress.looked_at.seen) limits.look (omega (arith, all, progress.looked_at.stands.count)) in
           rw full refl

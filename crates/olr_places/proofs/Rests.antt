@@ -1,8 +1,9 @@
 -- What is left of a rising list of keys.
-use Rattle.std.proofs.Common.{◌≡◌, ℕ, zero, suc, ◌<◌, ◌≤◌, List, [], ◌∷◌, ◌++◌, length, take, drop, get_or, All, Option, Some, None, refl, sym, ap, subst, ◌∙◌, append_assoc, arith}
+use Rattle.std.proofs.Common.{◌≡◌, ℕ, zero, suc, ◌<◌, List, [], ◌∷◌, ◌++◌, length, take, drop, get_or, All, Option, Some, None, refl, sym, ap, subst, ◌∙◌, append_assoc, arith}
 use Rattle.std.specs.List.{AllZip}
 use Rattle.std.specs.Prelude.{AllPairs, Contains}
-use Rattle.std.proofs.lemmas.List.Elements.{All-tail, All-take, Contains-append_right}
+use Rattle.std.proofs.Math.Seq.{drop-append_seam}
+use Rattle.std.proofs.lemmas.List.Elements.{All-drop, All-tail, All-take, Contains-append_right}
 use Rattle.olr_keys.specs.Key.{KeyValue, IsBefore}
 use Rattle.olr_keys.specs.Order.{asymmetric}
 use Rattle.olr_keys.specs.Page.{IsPageAfter, IsRestAfter, PageValue, last_of}
@@ -39,49 +40,7 @@ after_keys answers None (key ∷ keys) left rest = after_keys answers (Some key)
 after_keys answers (Some after) (key ∷ keys) left (front, is) =
     after_keys answers (Some key) keys left (front ++ after ∷ [], is ∙ sym (append_assoc front (after ∷ []) (key ∷ (keys ++ left))))
 
--- the last of two lists of keys
-pub last_of_both : (before : Option KeyValue) (front back : List KeyValue) → last_of before (front ++ back) ≡ last_of (last_of before front) back
-last_of_both before [] back = refl
-last_of_both before (key ∷ front) back = last_of_both (Some key) front back
-
--- ---- the keys of a page
-
-pub taken_and_left : {X : Type 0} (size : ℕ) (keys : List X) → take size keys ++ drop size keys ≡ keys
-taken_and_left zero keys = refl
-taken_and_left (suc size) [] = refl
-taken_and_left (suc size) (key ∷ keys) = ap (λ l. key ∷ l) (taken_and_left size keys)
-
-pub count_taken : {X : Type 0} (size : ℕ) (keys : List X) → size ≤ length keys → length (take size keys) ≡ size
-count_taken zero keys inside = refl
-count_taken (suc size) [] inside = absurd (omega (arith, inside))
-count_taken (suc size) (key ∷ keys) inside = let rest = count_taken size keys (omega (arith, inside)) in omega (arith, rest)
-
-pub count_left : {X : Type 0} (size : ℕ) (keys : List X) → size < length keys → 1 ≤ length (drop size keys)
-count_left zero keys inside = omega (arith, inside)
-count_left (suc size) [] inside = absurd (omega (arith, inside))
-count_left (suc size) (key ∷ keys) inside = count_left size keys (omega (arith, inside))
-
-pub none_left : {X : Type 0} (size : ℕ) (keys : List X) → length keys ≤ size → drop size keys ≡ []
-none_left zero [] short = refl
-none_left zero (key ∷ keys) short = absurd (omega (arith, short))
-none_left (suc size) [] short = refl
-none_left (suc size) (key ∷ keys) short = none_left size keys (omega (arith, short))
-
--- the first keys, and one more
-pub take_one_more : {X : Type 0} (keys : List X) (index : ℕ) (default : X) (left : List X) → index < length keys
-    → take (suc index) keys ++ left ≡ take index keys ++ get_or keys index default ∷ left
-take_one_more [] index default left inside = absurd (omega (arith, inside))
-take_one_more (key ∷ keys) zero default left inside = refl
-take_one_more (key ∷ keys) (suc index) default left inside = ap (λ l. key ∷ l) (take_one_more keys index default left (omega (arith, inside)))
-
 -- ---- keys beside what belongs to each
-
--- as many as keys
-pub count_same : {K M : Type 0} (R : K → M → Type 0) (keys : List K) (all : List M) → AllZip R keys all → length all ≡ length keys
-count_same R [] [] each = refl
-count_same R [] (other ∷ all) each = absurd each
-count_same R (first ∷ keys) [] each = absurd each
-count_same R (first ∷ keys) (other ∷ all) each = let rest = count_same R keys all each.1 in omega (arith, rest)
 
 -- what belongs to the key of an index
 pub matched_at : {K M : Type 0} (R : K → M → Type 0) (keys : List K) (all : List M) (index : ℕ) (key : K) (one : M) → AllZip R keys all → index < length all
@@ -95,17 +54,14 @@ matched_at R (first ∷ keys) (other ∷ all) (suc index) key one each inside ke
 
 -- ---- what holds of all keys
 
-all_behind : {X : Type 0} (P : X → Type 0) (front rest : List X) → All P (front ++ rest) → All P rest
-all_behind P [] rest all = all
-all_behind P (x ∷ front) rest all = all_behind P front rest (All-tail P x (front ++ rest) all)
-
 -- holds of those of a page
 pub all_on_page : (P : KeyValue → Type 0) (answers : List KeyValue) (after : Option KeyValue) (size : ℕ) (page : PageValue) → All P answers
     → IsPageAfter answers after size page → All P page.keys
 all_on_page P answers after size page all is =
-    subst (λ (l : List KeyValue). All P l) (sym is.is_page.keys) (All-take P size is.rest (left after is.rest is.is_rest))
+    rw is.is_page.keys (All-take P size is.rest (left after is.rest is.is_rest))
   where
     left : (after : Option KeyValue) (rest : List KeyValue) → IsRestAfter answers after rest → All P rest
-    left None rest is = subst (λ (l : List KeyValue). All P l) (sym is) all
+    left None rest is = rw is all
     left (Some key) rest (front, is) =
-        All-tail P key rest (all_behind P front (key ∷ rest) (subst (λ (l : List KeyValue). All P l) is all))
+        let behind = All-drop P (length front) (front ++ key ∷ rest) (rw is at all) in
+        All-tail P key rest (rw drop-append_seam at behind)

@@ -1,55 +1,42 @@
 -- One step of looking at matchings, and what is kept between steps.
-use Rattle.std.specs.Prelude.{◌≡◌, ℕ, ◌+◌, ◌-◌, List, [], ◌∷◌, ◌++◌, length, map, min, All, MatchOption, Option, None, Some, slice_index_or, slice_set, true}
+use Rattle.std.specs.Prelude.{◌≡◌, ℕ, zero, suc, ◌+◌, ◌-◌, List, [], ◌∷◌, ◌++◌, length, map, min, All, MatchOption, Option, None, Some, true}
 use Rattle.olr_keys.specs.Key.{KeyValue}
 use Rattle.olr_keys.specs.Page.{last_of}
 use Rattle.olr_map.specs.RoadMap.{RoadMap}
 use Rattle.olr_matching.specs.Layers.{LayersValue}
-use Rattle.olr_report.specs.Entries.{Entry}
-use Rattle.olr_places.specs.Looking.{IsEntryAt, Looked, LooksOn, is_within, listed_of, openers_of}
-use Rattle.olr_places.specs.Places.{AreCounted, entry_of}
-use Rattle.olr_places.specs.Verdict.{margin_of}
+use Rattle.olr_places.specs.Looking.{IsLooked, Looked, is_within, looking, looking_on, openers_of}
+use Rattle.olr_places.specs.Places.{AreCounted, ArePlacesOf, shown_by}
+use Rattle.olr_places.specs.Shown.{IsShownAt, Shown, keys_of}
 use Rattle.olr_places.specs.declared.ending.Ending.{Ending}
 use Rattle.olr_places.specs.declared.ending.Ending.TheVariants.{Beyond, Cut, NoMore}
 use Rattle.olr_places.specs.declared.limits.PlaceLimits.{PlaceLimits}
 use Rattle.olr_places.specs.declared.looking.Looking.{Looking}
 use Rattle.olr_places.specs.declared.opener.Opener.{Opener}
-
--- ---- members
-
--- an opener with this number of members
-abbrev pub with_members : Opener → ℕ → Opener
-with_members opener members =
-    record {
-      key = opener.key;
-      matched = opener.matched;
-      route = opener.route;
-      extent = opener.extent;
-      gap = opener.gap;
-      members = members;
-    }
-
--- the place of this index has one member more, up to the greatest number
-abbrev pub HasOneMore : List Opener → List Opener → ℕ → Type 0
-HasOneMore old new index = (default : Opener) → let opener = slice_index_or old index default in
-    new ≡ slice_set old index (with_members opener (min (opener.members + 1) 4294967295))
+use Rattle.olr_places.specs.declared.places.Places.{Places}
 
 -- ---- what is kept
 
--- the keys of matchings
-abbrev pub keys_of : List Entry → List KeyValue
-keys_of matchings = map (λ (entry : Entry). entry.key) matchings
+-- the place of this index has one member more, up to the greatest number
+abbrev pub one_more_at : ℕ → List Opener → List Opener
+one_more_at index [] = []
+one_more_at zero (opener ∷ openers) =
+    record opener { members = min (opener.members + 1) 4294967295 } ∷ openers
+one_more_at (suc index) (opener ∷ openers) = opener ∷ one_more_at index openers
 
--- the last one of these matchings
-abbrev pub last_key : List Entry → Option KeyValue
-last_key matchings = last_of None (keys_of matchings)
+-- an opener with this gap
+abbrev pub with_gap : Opener → ℕ → Opener
+with_gap opener gap = record opener { gap = gap }
 
--- What is kept of the matchings that were looked at, while looking goes on: each of those that opened a place.
-pub record Stands (limits : PlaceLimits) (before : List Entry) (looking : Looking) : Type 0 where
-  pub openers : map entry_of looking.openers.items ≡ openers_of limits before
-  pub within : All (λ (entry : Entry). is_within limits before entry ≡ true) (openers_of limits before)
-  pub counted : AreCounted limits before looking.openers.items
-  pub count : looking.looked ≡ length before
-  pub last : looking.last ≡ last_key before
+-- What is kept of the matchings that were looked at, while looking goes on: each of those that
+-- opened a place.
+pub record Stands (limits : PlaceLimits) (road : RoadMap) (before : List Shown) (kept : Looking)
+    : Type 0 where
+  pub openers : map (shown_by road) kept.openers.items ≡ openers_of limits before
+  pub within : All (λ (one : Shown). is_within limits before one ≡ true) (openers_of limits before)
+  pub counted : AreCounted limits before 0 kept.openers.items
+  pub count : kept.looked ≡ length before
+  pub last : kept.last ≡ last_of None (keys_of before)
+  pub goes_on : (left : List Shown) → looking limits (before ++ left) ≡ looking_on limits before left
 
 -- the gap of the next matching: its total less that of the first one, which opened the first place
 abbrev pub gap_behind : List Opener → KeyValue → ℕ
@@ -62,44 +49,57 @@ gap_in NoMore = None
 gap_in (Beyond gap) = Some gap
 gap_in Cut = None
 
--- the margin: the gap of the second opener that is kept, else that of the matching behind which looking ended
+-- the margin: the gap of the second opener that is kept, else that of the matching behind which
+-- looking ended
 abbrev pub margin_in : List Opener → Ending → Option ℕ
-margin_in [] ending = gap_in ending
-margin_in (first ∷ []) ending = gap_in ending
 margin_in (first ∷ second ∷ others) ending = Some second.gap
+margin_in openers ending = gap_in ending
 
--- what is kept of the matchings that were looked at, where looking has ended: each of those that opened a place that is listed
-pub record HasEnded (limits : PlaceLimits) (looked : Looked) (looking : Looking) : Type 0 where
-  pub openers : map entry_of looking.openers.items ≡ listed_of limits looked.matchings
-  pub counted : AreCounted limits looked.matchings looking.openers.items
-  pub count : looking.looked ≡ length looked.matchings
-  pub last : looking.last ≡ last_key looked.matchings
-  pub margin : margin_in looking.openers.items looked.ending ≡ margin_of limits looked.matchings
+-- the places, where this is why looking ended
+abbrev pub places_in : Looking → Ending → Places
+places_in kept ending = record {
+  openers = kept.openers;
+  looked = kept.looked;
+  last = kept.last;
+  margin = margin_in kept.openers.items ending;
+  ending = ending;
+}
 
 -- ---- steps
 
+-- looking ended within these matchings
+pub record HasEnded (limits : PlaceLimits) (road : RoadMap) (seen : List Shown) (kept : Looking)
+    (ending : Ending) : Type 0 where
+  pub looked : Looked
+  pub places : ArePlacesOf limits road looked (places_in kept ending)
+  pub looked_at : (behind : List Shown) × (seen ≡ looked.matchings ++ behind)
+  pub looks : (left : List Shown) → looking limits (seen ++ left) ≡ looked
+
+-- one matching was looked at, after others: looking goes on behind it, or has ended
+abbrev pub LooksAt : PlaceLimits → Looking → Looking → Opener → Option Ending → Type 0
+LooksAt limits old new opener ending =
+    (road : RoadMap) (before : List Shown) → Stands limits road before old → MatchOption ending
+    (Stands limits road (before ++ shown_by road opener ∷ []) new)
+    (HasEnded limits road (before ++ shown_by road opener ∷ []) new)
+
 module _ (limits : PlaceLimits) (road : RoadMap) (layers : LayersValue) where
-  -- looking goes on from these matchings, over these keys, to those matchings
-  abbrev pub GoesOn : List Entry → List KeyValue → List Entry → Type 0
-  GoesOn before keys now = (left : List KeyValue) (looked : Looked)
-      → LooksOn limits (IsEntryAt road layers) now left looked → LooksOn limits (IsEntryAt road layers) before (keys ++ left) looked
+  -- the matchings of these keys were looked at, and looking goes on
+  pub record AreLookedAt (keys : List KeyValue) (kept : Looking) : Type 0 where
+    pub seen : List Shown
+    pub keys_are : keys_of seen ≡ keys
+    pub each : All (IsShownAt road layers) seen
+    pub stands : Stands limits road seen kept
 
-  -- looking ends within these keys
-  abbrev pub EndsIn : List Entry → List KeyValue → Looked → Type 0
-  EndsIn before keys looked = (left : List KeyValue) → LooksOn limits (IsEntryAt road layers) before (keys ++ left) looked
+  -- looking at the matchings of these answers has ended, with these places
+  abbrev pub AreFound : List KeyValue → Places → Type 0
+  AreFound answers places =
+      (looked : Looked) × IsLooked limits road layers answers looked
+      × ArePlacesOf limits road looked places
 
--- one matching was looked at, after these: looking goes on behind it, or has ended
-abbrev pub LooksAt : PlaceLimits → Looking → Looking → Entry → Option Ending → Type 0
-LooksAt limits old new entry ending = (before : List Entry) → Stands limits before old → MatchOption ending
-    (Stands limits (before ++ entry ∷ []) new
-    × ((road : RoadMap) (layers : LayersValue) (key : KeyValue) → IsEntryAt road layers key entry
-    → GoesOn limits road layers before (key ∷ []) (before ++ entry ∷ [])))
-    (λ why. (looked : Looked) × (looked.ending ≡ why) × HasEnded limits looked new
-    × ((road : RoadMap) (layers : LayersValue) (key : KeyValue) → IsEntryAt road layers key entry
-    → EndsIn limits road layers before (key ∷ []) looked))
-
--- the matchings of these keys were looked at, after others: looking goes on behind them, or has ended
-abbrev pub LooksAtAll : PlaceLimits → RoadMap → LayersValue → Looking → Looking → List KeyValue → Option Ending → Type 0
-LooksAtAll limits road layers old new keys ending = (before : List Entry) → Stands limits before old → MatchOption ending
-    ((now : List Entry) × Stands limits now new × (keys_of now ≡ keys_of before ++ keys) × GoesOn limits road layers before keys now)
-    (λ why. (looked : Looked) × (looked.ending ≡ why) × HasEnded limits looked new × EndsIn limits road layers before keys looked)
+  -- The matchings of these keys were looked at, after those of others: looking goes on behind them,
+  -- or has ended, whatever keys are left.
+  abbrev pub LooksAtAll : Looking → Looking → List KeyValue → Option Ending → Type 0
+  LooksAtAll old new keys ending =
+      (before : List KeyValue) → AreLookedAt before old → MatchOption ending
+      (AreLookedAt (before ++ keys) new)
+      (λ why. (left : List KeyValue) → AreFound ((before ++ keys) ++ left) (places_in new why))

@@ -11,9 +11,8 @@ ghost use Rattle.olr_keys.specs.Page.{IsPageAfter, page_of};
 ghost use Rattle.olr_matching.specs.Layers.{AreLayersOn};
 ghost use Rattle.olr_matching.specs.Matched.{IsMatchedBy};
 ghost use Rattle.olr_matching.specs.Searches.{AreSearchesOn};
-ghost use Rattle.olr_report.specs.Entries.{IsOnMap};
-ghost use Rattle.olr_places.specs.Looking.{IsEntryAt, IsLooked, Looked};
-ghost use Rattle.olr_places.specs.Places.{AreOnMap, ArePlacesOf, entry_of};
+ghost use Rattle.olr_places.specs.Looking.{IsLooked, Looked};
+ghost use Rattle.olr_places.specs.Places.{AreOnMap, ArePlacesOf, IsOpenerAt};
 ghost use Rattle.olr_places.specs.Steps.{LooksAtAll};
 
 use crate::ending::Ending;
@@ -46,9 +45,8 @@ impl Matchings<'_> {
         requires is_reference { IsReference self.now.reference.now }
         requires key { IsKey self.now.layers.now.penalties key.now }
         requires matched { IsMatchedBy self.now.map.now self.now.layers.now key.now matched }
-        ensures entry { IfOk result (λ opener.
-            IsEntryAt self.now.map.now self.now.layers.now key.now (entry_of opener)) }
-        ensures on_map { IfOk result (λ opener. IsOnMap self.now.map.now (entry_of opener)) }
+        ensures key { IfOk result (λ opener. opener.key ≡ key.now) }
+        ensures entry { IfOk result (IsOpenerAt self.now.map.now self.now.layers.now) }
         ensures itself { IfOk result (λ opener. opener.members ≡ 1) }
     {
         matchings_are_sound();
@@ -84,11 +82,11 @@ impl Matchings<'_> {
         requires keys { All (IsKey self.now.layers.now.penalties) keys.now }
         requires all { AllZip (IsMatchedBy self.now.map.now self.now.layers.now) keys.now all.items }
         requires count { looking.old.looked + length keys.now ≤ limits.now.look }
-        requires on_map { All (λ one. IsOnMap self.now.map.now (entry_of one))
+        requires openers { All (IsOpenerAt self.now.map.now self.now.layers.now)
             looking.old.openers.items }
         ensures looks { IfOk result (LooksAtAll limits.now self.now.map.now self.now.layers.now
             looking.old looking.new keys.now) }
-        ensures on_map { OnOk result (All (λ one. IsOnMap self.now.map.now (entry_of one))
+        ensures openers { OnOk result (All (IsOpenerAt self.now.map.now self.now.layers.now)
             looking.new.openers.items) }
     {
         let mut index = 0;
@@ -158,7 +156,9 @@ pub fn places_of(
     ensures places { IfOk result (λ places. (answers : List KeyValue) × (looked : Looked)
         × AreAnswers layers.now.penalties answers
         × IsLooked limits.now map.now layers.now answers looked
-        × ArePlacesOf limits.now looked places) }
+        × ArePlacesOf limits.now map.now looked places) }
+    ensures openers { IfOk result (λ places.
+        All (IsOpenerAt map.now layers.now) places.openers.items) }
     ensures on_map { IfOk result (AreOnMap map.now) }
 {
     let matchings = Matchings {

@@ -2,10 +2,9 @@
 
 ghost use Rattle.std.specs.Prelude.{◌≡◌, ◌+◌, ◌-◌, ◌^◌, ◌<◌, All, IfNone, IfOk, OnOk, Some, [], length};
 ghost use Rattle.olr_map.specs.RoadMap.{RoadMap};
-ghost use Rattle.olr_report.specs.Entries.{IsOnMap};
-ghost use Rattle.olr_places.specs.Looking.{Looked};
-ghost use Rattle.olr_places.specs.Places.{ArePlacesOf, entry_of};
-ghost use Rattle.olr_places.specs.Steps.{HasEnded, HasOneMore, LooksAt, Stands, gap_behind, margin_in};
+ghost use Rattle.olr_matching.specs.Layers.{LayersValue};
+ghost use Rattle.olr_places.specs.Places.{IsOpenerAt};
+ghost use Rattle.olr_places.specs.Steps.{LooksAt, Stands, gap_behind, margin_in, one_more_at, places_in, with_gap};
 ghost use Rattle.olr_places.specs.declared.limits.PlaceLimits.{PlaceLimits as Limits};
 
 use crate::ending::Ending;
@@ -30,7 +29,7 @@ pub(crate) struct Looking {
 /// Counts a matching as one more member of a place.
 fn add_member(openers: &mut Vec<Opener>, index: usize)
     requires { index < length openers.old.items }
-    ensures { HasOneMore openers.old.items openers.new.items index }
+    ensures { openers.new.items ≡ one_more_at index openers.old.items }
 {
     openers[index].members = openers[index].members.saturating_add(1);
 }
@@ -48,9 +47,7 @@ fn gap_behind(openers: &[Opener], key: &Key) -> u32
 
 /// The same opener with this gap.
 fn with_gap(mut opener: Opener, gap: u32) -> Opener
-    ensures entry { entry_of result ≡ entry_of opener }
-    ensures gap { result.gap ≡ gap }
-    ensures members { result.members ≡ opener.members }
+    ensures { result ≡ with_gap opener gap }
 {
     opener.gap = gap;
     opener
@@ -72,7 +69,7 @@ fn margin_in(openers: &[Opener], ending: Ending) -> Option<u32>
 impl Looking {
     /// No matching was looked at yet.
     pub(crate) fn new(alloc: Global) -> Looking
-        ensures { (limits : Limits) → Stands limits [] result }
+        ensures { (limits : Limits) (road : RoadMap) → Stands limits road [] result }
     {
         Looking {
             openers: Vec::new(alloc),
@@ -104,12 +101,11 @@ impl Looking {
     ) -> Result<Option<Ending>, NoMemory>
         requires count { self.old.looked < limits.now.look }
         requires itself { opener.members ≡ 1 }
-        ensures looks { IfOk result (LooksAt limits.now self.old self.new (entry_of opener)) }
+        ensures looks { IfOk result (LooksAt limits.now self.old self.new opener) }
         ensures counts { IfOk result (λ ending. IfNone ending (self.new.looked ≡ self.old.looked + 1)) }
-        ensures on_map { (road : RoadMap)
-            → All (λ one. IsOnMap road (entry_of one)) self.old.openers.items
-            → IsOnMap road (entry_of opener)
-            → OnOk result (All (λ one. IsOnMap road (entry_of one)) self.new.openers.items) }
+        ensures openers { (road : RoadMap) (layers : LayersValue)
+            → All (IsOpenerAt road layers) self.old.openers.items → IsOpenerAt road layers opener
+            → OnOk result (All (IsOpenerAt road layers) self.new.openers.items) }
     {
         if let Some(index) = place_of(&self.openers, &opener, limits) {
             add_member(&mut self.openers, index);
@@ -131,9 +127,7 @@ impl Looking {
 
     /// The places of the matchings that were looked at, where this is why looking ended.
     pub(crate) fn places(self, ending: Ending) -> Places
-        ensures openers { result.openers ≡ self.openers }
-        ensures places { (limits : Limits) (looked : Looked) → looked.ending ≡ ending
-            → HasEnded limits looked self → ArePlacesOf limits looked result }
+        ensures { result ≡ places_in self ending }
     {
         let margin = margin_in(&self.openers, ending);
         Places {

@@ -1,9 +1,7 @@
 use Rattle.std.proofs.Common.{◌≡◌, ◌-◌, ◌≤◌, All}
 use Rattle.olr_keys.specs.Answers.{AreAnswers}
 use Rattle.olr_keys.specs.AnswersOf.{answers_of}
-use Rattle.olr_report.specs.Entries.{IsOnMap}
-use Rattle.olr_places.specs.Places.{entry_of}
-use Rattle.olr_places.specs.declared.opener.Opener.{Opener}
+use Rattle.olr_places.specs.Places.{IsOpenerAt}
 use Rattle.olr_places.proofs.Paging.{Progress}
 use Rattle.olr_places.proofs.finding.places_of.Given as goal
 
@@ -11,7 +9,7 @@ abbrev pub invariant-loop-looking : goal.invariant-loop-looking
 invariant-loop-looking l = AreAnswers l.layers.penalties (answers_of l.finder.penalties)
     × Progress l.limits l.map l.layers (answers_of l.finder.penalties) l.looking
     × (l.routes ≡ record { road = l.map; layers = l.layers })
-    × All (λ (one : Opener). IsOnMap l.map (entry_of one)) l.looking.openers.items
+    × All (IsOpenerAt l.map l.layers) l.looking.openers.items
     × (l.looking.looked ≤ l.limits.look)
 
 abbrev pub decreases-loop-looking : goal.decreases-loop-looking

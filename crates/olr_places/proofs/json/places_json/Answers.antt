@@ -15,4 +15,4 @@ to_json_line-requires-clause-shallow c =
 
 pub returns : goal.returns
 returns c = λ limits looked are.
-    subst (λ (value : Data). IsJsonLine value (string_bytes c.in_ok-text.text)) (object_is limits looked c.args.places are c.args.map.now) c.in_ok-text.ensures
+    subst (λ (value : Data). IsJsonLine value (string_bytes c.in_ok-text.text)) (object_is are) c.in_ok-text.ensures

@@ -1,15 +1,16 @@
-use Rattle.std.proofs.Common.{◌≡◌, ◌+◌, ℕ, List, ap, set, get_or, min, ◌∙◌}
-use Rattle.std.proofs.lemmas.List.{get_or_default}
-use Rattle.olr_places.specs.Steps.{with_members}
+use Rattle.std.proofs.Common.{◌≡◌, ◌+◌, ◌<◌, ℕ, zero, suc, List, [], ◌∷◌, length, ap, set, get_or, min, ◌∙◌, refl, arith}
+use Rattle.olr_places.specs.Steps.{one_more_at}
 use Rattle.olr_places.specs.declared.opener.Opener.{Opener}
 use Rattle.olr_places.proofs.looking.add_member.Goals as goal
 
+set_is : (index : ℕ) (items : List Opener) (one other : Opener) → index < length items → one ≡ get_or items index one → other ≡ get_or items index other
+    → set items index (record one { members = min (other.members + 1) 4294967295 }) ≡ one_more_at index items
+set_is index [] one other inside is is' = absurd (omega (arith, inside))
+set_is zero (opener ∷ items) one other inside is is' = rw (is, is') refl
+set_is (suc index) (opener ∷ items) one other inside is is' =
+    ap (λ (l : List Opener). opener ∷ l) (set_is index items one other (omega (arith, inside)) is is')
+
 pub returns : goal.returns
-returns c = λ default.
-    let items : List Opener = c.args.openers.now.items in
-    let read : c.index.result.now ≡ get_or items c.args.index default = c.index.ensures ∙ get_or_default items c.args.index _ default c.requires in
-    let same : c.index_mut.result.now ≡ get_or items c.args.index default =
-    c.index_mut.ensures.value ∙ get_or_default items c.args.index _ default c.requires in
-    ap (λ (members : ℕ). set items c.args.index (with_members c.index_mut.result.now members))
-    (c.saturating_add.ensures ∙ ap (λ (one : Opener). min (one.members + 1) 4294967295) read)
-    ∙ ap (λ (one : Opener). set items c.args.index (with_members one (min ((get_or items c.args.index default).members + 1) 4294967295))) same
+returns c =
+    ap (λ (members : ℕ). set c.args.openers.now.items c.args.index (record c.index_mut.result.now { members = members })) c.saturating_add.ensures
+    ∙ set_is c.args.index c.args.openers.now.items _ _ c.requires c.index_mut.ensures.value c.index.ensures

@@ -1,8 +1,10 @@
 use Rattle.std.proofs.Common.{◌≡◌, take, false, All}
+use Rattle.olr_map.specs.RoadMap.{RoadMap}
 use Rattle.olr_places.specs.Looking.{is_close_to}
-use Rattle.olr_places.specs.Places.{entry_of}
+use Rattle.olr_places.specs.Places.{shown_by}
 use Rattle.olr_places.specs.declared.opener.Opener.{Opener}
 use Rattle.olr_places.proofs.opener.place_of.Given as goal
 
 abbrev pub invariant-loop-index : goal.invariant-loop-index
-invariant-loop-index l = All (λ (one : Opener). is_close_to l.limits (entry_of l.opener) (entry_of one) ≡ false) (take l.index l.openers)
+invariant-loop-index l = (road : RoadMap)
+    → All (λ (one : Opener). is_close_to l.limits (shown_by road l.opener) (shown_by road one) ≡ false) (take l.index l.openers)

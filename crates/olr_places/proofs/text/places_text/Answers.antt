@@ -20,4 +20,4 @@ pub returns : goal.returns
 returns c = λ limits looked are.
     rows_are c.args.map.now c.args.places.now.openers.items c.deref.result.now _ _ _ _ _ _ _ _ _ _ c.deref.ensures.value c.new-text.ensures.bytes
     c.in_ok-push_openers.ensures c.verdict.ensures.value c.in_ok-push_summary.ensures c.next.ensures c.in_ok-push_end.ensures
-    ∙ text_is limits looked c.args.places.now are c.args.map.now
+    ∙ text_is are

@@ -1,4 +1,4 @@
-use Rattle.olr_places.proofs.AtMost.{looks_at_most}
+use Rattle.olr_places.proofs.Looks.{looks_at_most}
 use Rattle.olr_places.proofs.verdict_laws.looks_at_most.Goals as goal
 
 pub returns : goal.returns

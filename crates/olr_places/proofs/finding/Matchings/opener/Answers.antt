@@ -1,10 +1,10 @@
-use Rattle.std.proofs.Common.{sym, subst}
+use Rattle.std.proofs.Common.{rules, sym, subst}
 use Rattle.olr_report.specs.Entries.{HasLocation}
 use Rattle.olr_report.specs.declared.locating.Located.{Located}
 use Rattle.olr_places.proofs.finding.Matchings.opener.Goals as goal
 
-pub returns-clause-on_map : goal.returns-clause-on_map
-returns-clause-on_map c =
+pub returns-clause-entry : goal.returns-clause-entry
+returns-clause-entry c =
     let road = c.args.self.now.map.now in
     let layers = c.args.self.now.layers.now in
     let shown =
@@ -12,7 +12,10 @@ returns-clause-on_map c =
     (c.matchings_are_sound.ensures road layers c.args.key.now c.args.matched c.sound.ensures c.requires.layers c.requires.key c.requires.matched) in
     let is = c.in_ok-route.ensures.on_map road shown.on_map in
     record {
-      matched = shown.on_map;
-      route = is.route;
-      located = subst (λ (l : Located). HasLocation road l) (sym c.in_ok-new.ensures) is.located;
+      is_entry = search rules;
+      on_map = record {
+        matched = shown.on_map;
+        route = is.route;
+        located = subst (λ (l : Located). HasLocation road l) (sym c.in_ok-new.ensures) is.located;
+      };
     }
