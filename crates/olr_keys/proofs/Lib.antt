@@ -10,7 +10,7 @@ mod Stepping
 mod Least
 mod Beginnings
 mod Ranges
-mod Rising
+pub mod Rising
 mod Listed
 mod FromStart
 mod PageLists

@@ -1,23 +1,16 @@
 -- The keys of the table of layers are those of the matchings of their reference.
-use Rattle.std.proofs.Common.{◌≡◌, ℕ, zero, suc, ◌+◌, ◌-◌, ◌<◌, List, [], ◌∷◌, length, get_or, refl, sym, ◌∙◌, ap, subst, arith}
-use Rattle.std.specs.Prelude.{Option, None, Some, option_map, slice_get, slice_index_or}
+use Rattle.std.proofs.Common.{◌≡◌, ℕ, zero, suc, ◌+◌, ◌-◌, ◌<◌, List, [], ◌∷◌, length, get_or, refl, sym, ◌∙◌, ap, subst, arith, Option, None, Some, option_map, slice_get, slice_index_or}
 use Rattle.std.proofs.lemmas.List.{length-map}
 use Rattle.std.proofs.lemmas.Option.{same_Some, slice_get-get_or, slice_get_within}
-use Rattle.olr_binary.specs.declared.point.Next.{Next}
-use Rattle.olr_binary.specs.Reference.{points_of}
-use Rattle.olr_candidates.specs.declared.candidate.Candidate.{Candidate}
+use Rattle.olr_matching.proofs.Common.{AreLayersOn, Candidate, class_limit, IsOfRank, LayersValue, LeadsOn, leg_penalty, Next, penalties_of, points_of, RoadMap}
 use Rattle.olr_candidates.specs.Laws.{OneListOfPoint}
 use Rattle.olr_keys.specs.Matching.{IsCompletion}
 use Rattle.olr_keys.specs.Table.{leg_at, penalty_at}
-use Rattle.olr_map.specs.RoadMap.{RoadMap}
 use Rattle.olr_matching.specs.Admissible.{Admits, HasCandidate, IsMatching, IsRestBehind, KeysAreOfMatchings}
-use Rattle.olr_matching.specs.Layers.{AreLayersOn, LayersValue, LeadsOn, penalties_of}
 use Rattle.olr_matching.specs.LayersLaws.{IsAdmittedPenalty}
-use Rattle.olr_matching.specs.Leg.{class_limit, leg_penalty}
-use Rattle.olr_matching.specs.Matched.{IsOfRank}
 use Rattle.olr_matching.proofs.Admitted.{one_length}
 use Rattle.olr_matching.proofs.Keys.{candidate_of_penalty}
-use Rattle.olr_matching.proofs.LegLaws.{leg_of_ranks, penalties_are}
+use Rattle.olr_matching.proofs.LegLaws.{layers_count, leg_of_ranks, penalties_are}
 use Rattle.olr_matching.proofs.Lists.{list_inside}
 use Rattle.olr_matching.proofs.Pairs.{candidates_at}
 use Rattle.olr_matching.proofs.Points.{leads_on}
@@ -85,7 +78,7 @@ module _ (road : RoadMap) (layers : LayersValue) (are : AreLayersOn road layers)
   -- ---- the rest of a matching
 
   count : length layers.penalties.candidates ≡ length (points_of layers.reference)
-  count = ap (λ (l : List (List ℕ)). length l) are.penalties ∙ length-map layers.candidates penalties_of ∙ are.lists.all
+  count = layers_count are ∙ are.lists.all
 
   rest_behind : (index rank : ℕ) (from : Candidate) (ranks : List ℕ) (total : ℕ) → IsOfRank layers.candidates index rank from
       → IsCompletion layers.penalties (index + 1) (Some rank) ranks total → IsRestBehind road layers.tolerances layers.reference index from ranks total

@@ -1,9 +1,6 @@
 -- What a leg admits.
 use Rattle.std.proofs.Common.{◌≡◌, ℕ, ◌≤◌, arith}
-use Rattle.olr_binary.specs.declared.point.Next.{Next}
-use Rattle.olr_candidates.specs.declared.tolerances.Tolerances.{Tolerances}
-use Rattle.olr_map.specs.RoadMap.{RoadMap}
-use Rattle.olr_map.specs.declared.place.Place.{Place}
+use Rattle.olr_matching.proofs.Common.{Next, Place, RoadMap, Tolerances}
 use Rattle.olr_matching.specs.Leg.{greatest_admitted}
 use Rattle.olr_route.specs.Least.{IsLeastLength}
 

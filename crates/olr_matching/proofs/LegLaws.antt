@@ -1,24 +1,15 @@
 -- The legs of layers: their penalties in the table, and the range of their lengths.
-use Rattle.std.proofs.Common.{◌≡◌, ℕ, ◌+◌, ◌-◌, ◌*◌, ◌≤◌, List, [], ◌∷◌, length, map, get_or, refl, sym, ◌∙◌, ap, subst, add-one, arith}
-use Rattle.std.specs.Prelude.{Option, None, Some, option_map, slice_index_or, unwrap_or}
+use Rattle.std.proofs.Common.{◌≡◌, ℕ, ◌+◌, ◌-◌, ◌*◌, ◌≤◌, List, [], ◌∷◌, length, map, get_or, refl, sym, ◌∙◌, ap, subst, add-one, arith, Option, None, Some, option_map, slice_index_or, unwrap_or}
 use Rattle.std.proofs.Math.ListN.{get_or-map as map_at}
 use Rattle.std.proofs.lemmas.List.{length-map}
 use Rattle.std.proofs.lemmas.List.Sums.{sum_by-cons}
 use Rattle.std.proofs.lemmas.Option.{slice_get-map}
-use Rattle.olr_binary.specs.declared.point.Next.{Next}
-use Rattle.olr_candidates.specs.declared.candidate.Candidate.{Candidate}
-use Rattle.olr_candidates.specs.declared.tolerances.Tolerances.{Tolerances}
+use Rattle.olr_matching.proofs.Common.{Candidate, IsAdmittedLength, IsDeparture, leg_penalty, Next, Piece, Place, RoadLine, RoadMap, Tolerances}
 use Rattle.olr_keys.specs.Table.{Penalties, count_of, leg_at}
-use Rattle.olr_map.specs.Place.{IsDeparture}
-use Rattle.olr_map.specs.RoadMap.{RoadMap}
-use Rattle.olr_map.specs.Rows.{RoadLine}
-use Rattle.olr_map.specs.declared.place.Place.{Place}
 use Rattle.olr_matching.specs.Layers.{AreLayersOn, IsCandidateOf, LayersValue, LeadsOn, leg_penalties, penalties_of}
 use Rattle.olr_matching.specs.LayersLaws.{AdmittedLengthsAreInRange, IsAdmittedPenalty, LegsAreAdmitted, PenaltiesAreOfCandidates}
-use Rattle.olr_matching.specs.Leg.{IsAdmittedLength, leg_penalty}
 use Rattle.olr_matching.proofs.Admitted.{greatest_at_most}
 use Rattle.olr_route.specs.Walk.{IsWalk, length_at, piece_length, pieces_from, walk_length}
-use Rattle.olr_route.specs.declared.piece.Piece.{Piece}
 
 -- ---- the table
 
@@ -32,6 +23,11 @@ pub count_is : (penalties : Penalties) (lists : List (List Candidate)) (layer : 
     → count_of penalties layer ≡ length (get_or lists layer [])
 count_is penalties lists layer is =
     ap (λ (l : List ℕ). length l) (layer_is penalties lists layer is) ∙ length-map (get_or lists layer []) (λ (candidate : Candidate). candidate.penalty)
+
+-- the table has the layers
+pub layers_count : {road : RoadMap} {layers : LayersValue} → AreLayersOn road layers
+    → length layers.penalties.candidates ≡ length layers.candidates
+layers_count {layers} are = rw are.penalties (length-map layers.candidates penalties_of)
 
 pub penalties_are : PenaltiesAreOfCandidates
 penalties_are road layers layer index are =

@@ -1,13 +1,9 @@
 -- The legs of a matching, one after the other.
-use Rattle.std.proofs.Common.{◌≡◌, ℕ, ◌+◌, ◌<◌, List, [], ◌∷◌, ◌++◌, length, sym, subst, ap, ◌∙◌, arith}
-use Rattle.std.specs.Prelude.{Some, slice_get, slice_index_or}
+use Rattle.std.proofs.Common.{◌≡◌, ℕ, ◌+◌, ◌<◌, List, [], ◌∷◌, ◌++◌, length, sym, subst, ap, ◌∙◌, arith, Some, slice_get, slice_index_or}
 use Rattle.std.proofs.lemmas.Option.{get_or_from_slice_get, slice_get-get_or, slice_get_within}
-use Rattle.olr_candidates.specs.declared.candidate.Candidate.{Candidate}
+use Rattle.olr_matching.proofs.Common.{Candidate, LayersValue, Leg, RoadMap}
 use Rattle.olr_keys.specs.Key.{KeyValue}
-use Rattle.olr_map.specs.RoadMap.{RoadMap}
-use Rattle.olr_matching.specs.Layers.{LayersValue}
 use Rattle.olr_matching.specs.Matched.{AreCandidatesAt, IsLegAt, IsLegOfPair, IsMatchedBy}
-use Rattle.olr_matching.specs.declared.matched.Leg.{Leg}
 use Rattle.olr_matching.specs.declared.matched.Matched.{Matched}
 use Rattle.olr_matching.proofs.Lists.{push_each, same_some}
 
@@ -64,12 +60,12 @@ leg_at road layers ranks chosen legs count candidates they layer leg is =
     }
 
 pub are_parts : (road : RoadMap) (layers : LayersValue) (key : KeyValue) (ranks : List ℕ) (matched : Matched) → ranks ≡ key.ranks
-    → AreCandidatesAt layers.candidates ranks matched.candidates.items → length matched.legs.items + 1 ≡ length ranks
-    → AreFirstLegs road layers ranks matched.legs.items → IsMatchedBy road layers key matched
+    → AreCandidatesAt layers.candidates ranks matched.candidates → length matched.legs + 1 ≡ length ranks
+    → AreFirstLegs road layers ranks matched.legs → IsMatchedBy road layers key matched
 are_parts road layers key ranks matched same candidates count legs = record {
-  candidates = subst (λ (l : List ℕ). AreCandidatesAt layers.candidates l matched.candidates.items) same candidates;
+  candidates = subst (λ (l : List ℕ). AreCandidatesAt layers.candidates l matched.candidates) same candidates;
   legs = record {
     count = count ∙ sym candidates.count;
-    each = leg_at road layers ranks matched.candidates.items matched.legs.items count candidates legs;
+    each = leg_at road layers ranks matched.candidates matched.legs count candidates legs;
   };
 }

@@ -1,3 +1,4 @@
+pub mod Common
 pub mod Points
 pub mod Admitted
 pub mod Tables

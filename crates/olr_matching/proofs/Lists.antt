@@ -1,11 +1,11 @@
 -- Lists by their indices.
-use Rattle.std.proofs.Common.{◌≡◌, ℕ, ◌+◌, ◌<◌, List, [], ◌∷◌, ◌++◌, length, get_or, take, inl, inr, sym, subst, ap, ◌∙◌, arith, below_more}
-use Rattle.std.specs.Prelude.{Option, Some, None, slice_get, slice_index_or, All}
+use Rattle.std.proofs.Common.{◌≡◌, ℕ, suc, ◌+◌, ◌<◌, List, [], ◌∷◌, ◌++◌, length, get_or, take, inl, inr, refl, sym, subst, ap, ◌∙◌, arith, below_more, Option, Some, None, slice_get, slice_index_or, All}
 use Rattle.std.specs.List.{AllZip}
 use Rattle.std.proofs.Math.ListN.{get_or-eq_default}
 use Rattle.std.proofs.Math.Seq.{get_or-append_seam}
 use Rattle.std.proofs.lemmas.Bool.{cases_lt}
 use Rattle.std.proofs.lemmas.List.{length-append, take_more, get_or_append_left, get_or_at}
+use Rattle.olr_map.proofs.Zips.{zip_push}
 use Rattle.std.proofs.lemmas.Option.{get_or_from_slice_get, same_Some, slice_get-get_or, slice_get_within}
 
 pub same_some : {X : Type 0} (o : Option X) (x y : X) → o ≡ Some x → o ≡ Some y → x ≡ y
@@ -20,6 +20,17 @@ list_inside {X} lists index k x is = elim (cases_lt index (length lists)) [
       let none : ◌≡◌ {A = Option X} None (Some x) = ap (λ (l : List X). slice_get l k) (sym (get_or-eq_default lists [] {n = index} outside)) ∙ is in
       absurd cc
 ]
+
+-- two lists of the same length are the same where they have the same elements by their indices
+pub by_index : {X : Type 0} (xs ys : List X) → length xs ≡ length ys
+    → ((k : ℕ) (x y : X) → slice_get xs k ≡ Some x → slice_get ys k ≡ Some y → x ≡ y) → xs ≡ ys
+by_index [] [] count each = refl
+by_index [] (y ∷ ys) count each = absurd (omega arith)
+by_index (x ∷ xs) [] count each = absurd (omega arith)
+by_index (x ∷ xs) (y ∷ ys) count each =
+    let first = each 0 x y refl refl in
+    let rest = by_index xs ys (omega arith) (λ k. each (suc k)) in
+    λ i. first i ∷ rest i
 
 -- what holds of all holds of the one at an index
 pub all_at : {X : Type 0} (P : X → Type 0) (xs : List X) (k : ℕ) (x : X) → All P xs → slice_get xs k ≡ Some x → P x
@@ -42,13 +53,6 @@ push_each P xs x each here k y is =
     ]
 
 -- ---- two lists, element by element
-
-zip_push : {X Y : Type 0} (R : X → Y → Type 0) (xs : List X) (ys : List Y) (x : X) (y : Y) → AllZip R xs ys → R x y
-    → AllZip R (xs ++ x ∷ []) (ys ++ y ∷ [])
-zip_push R [] [] x y they is = (is, tt)
-zip_push R [] (other ∷ ys) x y they is = absurd they
-zip_push R (other ∷ xs) [] x y they is = absurd they
-zip_push R (a ∷ xs) (b ∷ ys) x y they is = (they.0, zip_push R xs ys x y they.1 is)
 
 pub zip_more : {X Y : Type 0} (R : X → Y → Type 0) (xs : List X) (ys : List Y) (index : ℕ) (x : X) (y : Y) → index < length xs
     → x ≡ slice_index_or xs index x

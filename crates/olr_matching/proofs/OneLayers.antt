@@ -1,22 +1,15 @@
 -- A reference and tolerances have one value of layers on a map at most.
-use Rattle.std.proofs.Common.{◌≡◌, ℕ, ◌+◌, ◌*◌, ◌/◌, ◌%◌, ◌<◌, List, [], length, get_or, refl, sym, ◌∙◌, ap, subst, inl, inr, arith}
-use Rattle.std.specs.Prelude.{Option, None, Some, option_map, slice_get}
+use Rattle.std.proofs.Common.{◌≡◌, ℕ, ◌+◌, ◌*◌, ◌/◌, ◌%◌, ◌<◌, List, [], length, get_or, refl, sym, ◌∙◌, ap, subst, inl, inr, arith, Option, None, Some, option_map, slice_get}
 use Rattle.std.proofs.Math.Nat.{div-add-mod, div-lt_iff_lt-mul, eq-zero-or-pos, mod-lt}
 use Rattle.std.proofs.lemmas.List.{ext_get_or, length-map}
 use Rattle.std.proofs.lemmas.Option.{slice_get-get_or}
-use Rattle.olr_binary.specs.declared.point.Next.{Next}
-use Rattle.olr_candidates.specs.declared.candidate.Candidate.{Candidate}
-use Rattle.olr_candidates.specs.declared.tolerances.Tolerances.{Tolerances}
+use Rattle.olr_matching.proofs.Common.{AreLayersOn, Candidate, class_limit, IsAdmittedLength, LayersValue, LeadsOn, leg_penalties, leg_penalty, Next, penalties_of, Place, RoadMap, Tolerances}
 use Rattle.olr_candidates.specs.Laws.{OneLists}
 use Rattle.olr_candidates.specs.Points.{AreLists}
 use Rattle.olr_keys.specs.Table.{Penalties}
-use Rattle.olr_map.specs.RoadMap.{RoadMap}
-use Rattle.olr_map.specs.declared.place.Place.{Place}
-use Rattle.olr_matching.specs.Layers.{AreLayersOn, LayersValue, LeadsOn, leg_penalties, penalties_of}
 use Rattle.olr_matching.specs.LayersLaws.{OneLayers}
-use Rattle.olr_matching.specs.Leg.{IsAdmittedLength, class_limit, leg_penalty}
 use Rattle.olr_matching.proofs.Admitted.{one_length}
-use Rattle.olr_matching.proofs.LegLaws.{count_is}
+use Rattle.olr_matching.proofs.LegLaws.{count_is, layers_count}
 use Rattle.olr_matching.proofs.LengthRows.{no_candidate}
 use Rattle.olr_matching.proofs.Points.{leads_on}
 
@@ -37,7 +30,7 @@ Has road tolerances next firsts seconds lengths = (first second : ℕ) (from to 
     → slice_get firsts first ≡ Some from → slice_get seconds second ≡ Some to → IsAdmittedLength road tolerances next from.place to.place (get_or lengths (first * length seconds + second) None)
 
 -- there is a second candidate where there is a pair
-not_empty : (k m n : ℕ) → k < m * n → 0 < n
+pub not_empty : (k m n : ℕ) → k < m * n → 0 < n
 not_empty k m n inside = elim (eq-zero-or-pos n) [
   | inl zero ↦ absurd (omega (arith, inside, ap (λ (c : ℕ). m * c) zero))
   | inr pos ↦ pos
@@ -67,19 +60,12 @@ same_leg road tolerances next firsts seconds a b a_long b_long a_has b_has = ext
 -- ---- all legs
 
 -- how many lengths the leg from a point has
-long : (road : RoadMap) (layers : LayersValue) (layer : ℕ) (next : Next) → AreLayersOn road layers → layer < length layers.lengths
+pub long : (road : RoadMap) (layers : LayersValue) (layer : ℕ) (next : Next) → AreLayersOn road layers → layer < length layers.lengths
     → LeadsOn layers.reference layer next
     → length (get_or layers.lengths layer []) ≡ length (get_or layers.candidates layer []) * length (get_or layers.candidates (layer + 1) [])
 long road layers layer next are inside leads =
     let p : Penalties = layers.penalties in
-    let within : layer < length p.legs = omega (
-      arith,
-      inside,
-      are.between,
-      are.table.between,
-      ap (λ (l : List (List ℕ)). length l) are.penalties,
-      length-map layers.candidates penalties_of,
-    ) in
+    let within : layer < length p.legs = omega (arith, layers_count are) in
     let pairs = (are.table.legs layer (get_or p.legs layer []) (slice_get-get_or p.legs layer [] within)).pairs in
     let here = sym (length-map (get_or layers.lengths layer []) (λ (length : Option ℕ). option_map (leg_penalty next) length))
     ∙ sym (ap (λ (l : List (Option ℕ)). length l) (are.legs layer next leads)) ∙ pairs in
@@ -122,13 +108,10 @@ same_legs : (road : RoadMap) (a b : LayersValue) → a.lengths ≡ b.lengths →
     → AreLayersOn road (with_legs_of a b)
     → a.penalties.legs ≡ b.penalties.legs
 same_legs road a b lengths are other =
-    let count = length-map a.candidates penalties_of in
-    let a_count : length a.penalties.legs + 1 ≡ length a.candidates =
-    omega (arith, are.table.between, ap (λ (l : List (List ℕ)). length l) are.penalties, count) in
-    let b_count : length b.penalties.legs + 1 ≡ length a.candidates =
-    omega (arith, other.table.between, ap (λ (l : List (List ℕ)). length l) other.penalties, count) in
-    ext_get_or [] a.penalties.legs b.penalties.legs (omega (arith, a_count, b_count)) (λ layer inside.
-    let leads = leads_on a.reference layer are.reference (omega (arith, inside, a_count, are.lists.all)) in
+    let count = layers_count are in
+    let others = layers_count other in
+    ext_get_or [] a.penalties.legs b.penalties.legs (omega arith) (λ layer inside.
+    let leads = leads_on a.reference layer are.reference (omega arith) in
     are.legs layer leads.0 leads.1 ∙ ap (λ (l : List (List (Option ℕ))). leg_penalties leads.0 (get_or l layer [])) lengths
     ∙ sym (other.legs layer leads.0 leads.1))
 

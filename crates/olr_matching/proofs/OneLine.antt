@@ -4,7 +4,7 @@ use Rattle.base64.specs.Rfc4648.{encode_symbols, padding_len}
 use Rattle.base64.specs.Engines.{standard}
 use Rattle.olr_binary.specs.Text.{trimmed, IsBase64}
 use Rattle.olr_binary.specs.Outcome.{IsTextOf}
-use Rattle.olr_binary.specs.declared.reference.Reference.{Reference}
+use Rattle.olr_matching.proofs.Common.{Reference}
 use Rattle.olr_matching.specs.FingerprintLaws.{IsOneLine}
 use Rattle.olr_matching.proofs.Cutting.{Lacks}
 

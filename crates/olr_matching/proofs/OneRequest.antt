@@ -1,10 +1,8 @@
 -- Equal fingerprinted texts name the same reference, the same tolerances and the same map.
-use Rattle.std.proofs.Common.{◌≡◌, ℕ, ◌<◌, List, [], ◌∷◌, ◌++◌, append_assoc, sym, ◌∙◌, arith}
-use Rattle.std.specs.Prelude.{codes, decimal}
+use Rattle.std.proofs.Common.{◌≡◌, ℕ, ◌<◌, List, [], ◌∷◌, ◌++◌, append_assoc, sym, ◌∙◌, arith, codes, decimal}
 use Rattle.std.specs.List.{join_with_byte}
 use Rattle.olr_binary.specs.Text.{trimmed}
-use Rattle.olr_candidates.specs.declared.tolerances.Tolerances.{Tolerances}
-use Rattle.olr_map.specs.RoadMap.{RoadMap, IsSoundMap}
+use Rattle.olr_matching.proofs.Common.{IsSoundMap, RoadMap, Tolerances}
 use Rattle.olr_map.specs.Canonical.{canonical_text}
 use Rattle.olr_matching.specs.Fingerprint.{line_text, fingerprinted_text}
 use Rattle.olr_matching.specs.FingerprintLaws.{IsRequest, SameTolerances, SameInputs}

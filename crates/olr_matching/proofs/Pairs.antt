@@ -1,23 +1,14 @@
 -- Pairs of candidates that a leg admits, and the route between them.
-use Rattle.std.proofs.Common.{◌≡◌, ℕ, ◌+◌, ◌-◌, ◌<◌, ◌≤◌, List, [], length, sym, subst, ap, ◌∙◌, arith}
-use Rattle.std.specs.Prelude.{Some, slice_get, slice_index_or}
-use Rattle.std.specs.Global.{Vec}
+use Rattle.std.proofs.Common.{◌≡◌, ℕ, ◌+◌, ◌-◌, ◌<◌, ◌≤◌, List, [], length, sym, subst, ap, ◌∙◌, arith, Some, slice_get, slice_index_or}
 use Rattle.std.proofs.lemmas.Option.{MatchOption-at_some, get_or_from_slice_get, slice_get-get_or}
-use Rattle.olr_binary.specs.declared.point.Next.{Next}
+use Rattle.olr_matching.proofs.Common.{Candidate, IsDeparture, IsPlace, Next, Piece, points_of, Reference, RoadMap, Tolerances}
 use Rattle.olr_binary.specs.declared.point.Point.{Point}
-use Rattle.olr_binary.specs.declared.reference.Reference.{Reference}
-use Rattle.olr_binary.specs.Reference.{points_of}
 use Rattle.olr_candidates.specs.Laws.{ArePlaces, AreDepartures}
 use Rattle.olr_candidates.specs.Points.{AreCandidatesOf}
-use Rattle.olr_candidates.specs.declared.candidate.Candidate.{Candidate}
-use Rattle.olr_candidates.specs.declared.tolerances.Tolerances.{Tolerances}
-use Rattle.olr_map.specs.Place.{IsPlace, IsDeparture}
-use Rattle.olr_map.specs.RoadMap.{RoadMap}
 use Rattle.olr_route.specs.Least.{HasNoWalkWithin}
 use Rattle.olr_route.specs.Reach.{Lengths}
 use Rattle.olr_route.specs.Route.{IsRouteWithin}
 use Rattle.olr_route.specs.Walk.{walk_length}
-use Rattle.olr_route.specs.declared.piece.Piece.{Piece}
 use Rattle.olr_matching.specs.Layers.{LayersValue, AreLayersOn, IsCandidateOf, LeadsOn, length_at}
 use Rattle.olr_matching.specs.Leg.{IsAdmitted, class_limit, greatest_admitted, leg_penalty}
 use Rattle.olr_matching.specs.LegOnMap.{IsLegFrom}
@@ -138,10 +129,10 @@ module _ (road : RoadMap) (layers : LayersValue) (pair : Pair) (leg : LegOnMap) 
       }
 
 -- the leg with that route
-pub leg_of_pair : (road : RoadMap) (layers : LayersValue) (layer first second long length penalty : ℕ) (next : Next) (pieces : Vec Piece)
+pub leg_of_pair : (road : RoadMap) (layers : LayersValue) (layer first second long length penalty : ℕ) (next : Next) (pieces : List Piece)
     → IsPair layers layer first second long
     → LeadsOn layers.reference layer next → penalty ≡ leg_penalty next long → length ≡ long → AreLayersOn road layers
-    → IsRouteOfPair road layers layer first second pieces.items
+    → IsRouteOfPair road layers layer first second pieces
     → IsLegOfPair road layers layer first second record { length = length; penalty = penalty; route = pieces }
 leg_of_pair road layers layer first second long length penalty next pieces known leads_on is same sound route =
     let pair = route.pair in
@@ -161,7 +152,7 @@ leg_of_pair road layers layer first second long length penalty next pieces known
         penalty = is ∙ ap (λ (n : Next). leg_penalty n long) (one_next layers.reference layer next pair.next leads_on pair.leads_on) ∙ ap
             (leg_penalty pair.next) (sym same);
         route =
-            subst (λ (n : ℕ). IsRouteWithin road (class_limit layers.tolerances pair.next) pair.from.place pair.to.place n pieces.items)
+            subst (λ (n : ℕ). IsRouteWithin road (class_limit layers.tolerances pair.next) pair.from.place pair.to.place n pieces)
             (sym one ∙ sym same) route.route;
       };
     }

@@ -1,20 +1,14 @@
 -- The points of a reference, and their candidates.
-use Rattle.std.proofs.Common.{◌≡◌, ℕ, ◌+◌, ◌<◌, ◌≤◌, List, [], length, get_or, refl, subst, inl, inr, arith}
-use Rattle.std.specs.Prelude.{MatchOption, Option, None, Some, slice_get}
+use Rattle.std.proofs.Common.{◌≡◌, ℕ, ◌+◌, ◌<◌, ◌≤◌, List, [], length, get_or, refl, subst, inl, inr, arith, MatchOption, Option, None, Some, slice_get}
 use Rattle.std.proofs.lemmas.Option.{slice_get-get_or, slice_get_cases}
-use Rattle.olr_binary.specs.declared.point.Next.{Next}
+use Rattle.olr_matching.proofs.Common.{Candidate, LeadsOn, Next, Reference, RoadLine, Tolerances}
 use Rattle.olr_binary.specs.declared.point.Point.{Point}
-use Rattle.olr_binary.specs.declared.reference.Reference.{Reference}
 use Rattle.olr_binary.specs.declared.reference.Reference.TheVariants.{Line, PointAlong}
 use Rattle.olr_binary.specs.Reference.{AreLinked, IsReference, points_of}
-use Rattle.olr_candidates.specs.declared.candidate.Candidate.{Candidate}
-use Rattle.olr_candidates.specs.declared.tolerances.Tolerances.{Tolerances}
 use Rattle.olr_candidates.specs.Points.{AreLists, IsListOf}
-use Rattle.olr_map.specs.Rows.{RoadLine}
-use Rattle.olr_matching.specs.Layers.{LeadsOn}
 
 -- what a list has at a place before its end
-some_at : {X : Type 0} (xs : List X) (i : ℕ) → i < length xs → (x : X) × (slice_get xs i ≡ Some x)
+pub some_at : {X : Type 0} (xs : List X) (i : ℕ) → i < length xs → (x : X) × (slice_get xs i ≡ Some x)
 some_at xs i inside =
     elim (slice_get_cases xs i).1 [ inl found ↦ (found.0, found.2) | inr past ↦ absurd (omega (arith, inside, past.0)) ]
 

@@ -1,22 +1,12 @@
 -- What holds of the parts of every matching.
-use Rattle.std.proofs.Common.{◌≡◌, ℕ, ◌+◌, ◌<◌, List, length, sym, ap, ◌∙◌, zero-add, arith}
-use Rattle.std.specs.Prelude.{None, Some, slice_get, slice_index_or}
-use Rattle.std.specs.List.{sum_by}
+use Rattle.std.proofs.Common.{◌≡◌, ℕ, ◌+◌, ◌<◌, List, length, sym, ap, ◌∙◌, zero-add, arith, None, Some, slice_get, slice_index_or, sum_by}
 use Rattle.std.proofs.lemmas.Option.{slice_get-get_or, slice_get_within}
 use Rattle.std.proofs.lemmas.List.{length-map}
-use Rattle.olr_binary.specs.Reference.{points_of}
+use Rattle.olr_matching.proofs.Common.{Candidate, class_limit, IsDeparture, IsPlace, IsSoundMap, LayersValue, Leg, penalties_of, Piece, Place, points_of, RoadMap}
 use Rattle.olr_candidates.specs.Laws.{ArePlaces, AreDepartures}
-use Rattle.olr_candidates.specs.declared.candidate.Candidate.{Candidate}
-use Rattle.olr_map.specs.Place.{IsPlace, IsDeparture}
-use Rattle.olr_map.specs.RoadMap.{IsSoundMap, RoadMap}
-use Rattle.olr_map.specs.declared.place.Place.{Place}
 use Rattle.olr_route.specs.Route.{AreRoutePieces, IsRouteWithin}
 use Rattle.olr_route.specs.Walk.{piece_length}
-use Rattle.olr_route.specs.declared.piece.Piece.{Piece}
-use Rattle.olr_matching.specs.Layers.{LayersValue, penalties_of}
-use Rattle.olr_matching.specs.Leg.{class_limit}
 use Rattle.olr_matching.specs.Matched.{AreCandidatesAt, AreSound, IsLegAt, IsOfRank, IsSoundLeg}
-use Rattle.olr_matching.specs.declared.matched.Leg.{Leg}
 use Rattle.olr_matching.proofs.Admitted.{greatest_at_most, one_length}
 use Rattle.olr_matching.proofs.Keys.{ranks_count}
 use Rattle.olr_matching.proofs.Pairs.{is_place, is_departure}
@@ -33,10 +23,10 @@ sound_leg : (road : RoadMap) (layers : LayersValue) (chosen : List Candidate) (l
     → IsDeparture road at.from.place → IsPlace road at.to.place → IsSoundLeg road leg
 sound_leg road layers chosen layer leg law map at departure place =
     let class = class_limit layers.tolerances at.next in
-    let pieces : AreRoutePieces road class at.from.place at.to.place leg.route.items = law road class at.from.place at.to.place leg.length
-    leg.route.items map departure place at.leg_is.route in
-    let same : leg.length ≡ sum_by piece_length leg.route.items =
-    one_length road class at.from.place at.to.place leg.length (sum_by piece_length leg.route.items) at.leg_is.admitted.is_least pieces.least in
+    let pieces : AreRoutePieces road class at.from.place at.to.place leg.route = law road class at.from.place at.to.place leg.length
+    leg.route map departure place at.leg_is.route in
+    let same : leg.length ≡ sum_by piece_length leg.route =
+    one_length road class at.from.place at.to.place leg.length (sum_by piece_length leg.route) at.leg_is.admitted.is_least pieces.least in
     record {
       length_is = same;
       long = rw same pieces.positive;
@@ -57,8 +47,8 @@ of_rank candidates ranks chosen layer candidate they is =
 
 pub are_sound : ArePlaces → AreDepartures → PiecesOfRoute → AreSound
 are_sound places departures law road layers key matched map sound is_key parts =
-    let chosen = matched.candidates.items in
-    let legs = matched.legs.items in
+    let chosen = matched.candidates in
+    let legs = matched.legs in
     let ranks = key.ranks in
     let count : length chosen ≡ length (points_of layers.reference) =
     parts.candidates.count ∙ sym (zero-add (length ranks)) ∙ ranks_count layers.penalties 0 None ranks key.total is_key ∙ ap

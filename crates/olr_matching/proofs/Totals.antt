@@ -1,17 +1,12 @@
 -- The total of a key is the sum of the penalties of its parts.
-use Rattle.std.proofs.Common.{◌≡◌, ℕ, suc, ◌+◌, List, [], ◌∷◌, length, refl, sym, ◌∙◌, ap, subst, arith}
-use Rattle.std.specs.Prelude.{Some, slice_get}
-use Rattle.std.specs.List.{sum_by}
+use Rattle.std.proofs.Common.{◌≡◌, ℕ, suc, ◌+◌, List, [], ◌∷◌, length, refl, sym, ◌∙◌, ap, subst, arith, Some, slice_get, sum_by}
 use Rattle.std.proofs.lemmas.List.Sums.{sum_by-cons}
 use Rattle.std.proofs.lemmas.Option.{same_Some}
-use Rattle.olr_candidates.specs.declared.candidate.Candidate.{Candidate}
+use Rattle.olr_matching.proofs.Common.{AreLayersOn, Candidate, LayersValue, Leg, RoadMap}
 use Rattle.olr_candidates.specs.Laws.{OneListOfPoint}
 use Rattle.olr_keys.specs.Table.{leg_at}
-use Rattle.olr_map.specs.RoadMap.{RoadMap}
 use Rattle.olr_matching.specs.Admissible.{Admits, IsMatching, IsRestBehind, TotalsAreOfParts}
-use Rattle.olr_matching.specs.Layers.{AreLayersOn, LayersValue}
 use Rattle.olr_matching.specs.Matched.{AreLegsBetween, IsOfRank}
-use Rattle.olr_matching.specs.declared.matched.Leg.{Leg}
 use Rattle.olr_matching.proofs.Admissible.{leg_of, matching, of_rank}
 
 module _ (road : RoadMap) (layers : LayersValue) (are : AreLayersOn road layers) (one_list : OneListOfPoint) where
@@ -99,8 +94,8 @@ module _ (road : RoadMap) (layers : LayersValue) (are : AreLayersOn road layers)
 
 pub totals_are : OneListOfPoint → TotalsAreOfParts
 totals_are one_list road layers key matched are is parts =
-    sum_of_parts road layers are one_list key.ranks key.total matched.candidates.items matched.legs.items
+    sum_of_parts road layers are one_list key.ranks key.total matched.candidates matched.legs
     (matching road layers are one_list key.ranks key.total is)
     parts.candidates.count parts.legs.count
     (λ k rank c rank_is c_is. subst (λ (n : ℕ). IsOfRank layers.candidates n rank c) {x = k} {y = 0 + k} (omega arith) (parts.candidates.each k rank c rank_is c_is))
-    (between_parts road layers are one_list matched.candidates.items matched.legs.items parts.legs)
+    (between_parts road layers are one_list matched.candidates matched.legs parts.legs)

@@ -2,15 +2,10 @@
 -- takes one of these.) Points are counted from 0, ranks from 1.
 use Rattle.std.specs.Prelude.{◌≡◌, ℕ, ◌+◌, ◌-◌, ◌≤◌, ◌↔◌, List, [], ◌∷◌, length, Some, slice_get}
 use Rattle.std.specs.List.{sum_by}
-use Rattle.olr_binary.specs.declared.point.Next.{Next}
-use Rattle.olr_binary.specs.declared.reference.Reference.{Reference}
-use Rattle.olr_binary.specs.Reference.{points_of}
-use Rattle.olr_candidates.specs.declared.candidate.Candidate.{Candidate}
-use Rattle.olr_candidates.specs.declared.tolerances.Tolerances.{Tolerances}
+use Rattle.olr_matching.specs.Common.{Candidate, Next, points_of, Reference, RoadMap, Tolerances}
 use Rattle.olr_candidates.specs.Points.{AreCandidatesOf}
 use Rattle.olr_keys.specs.Key.{KeyValue}
 use Rattle.olr_keys.specs.Matching.{IsKey}
-use Rattle.olr_map.specs.RoadMap.{RoadMap}
 use Rattle.olr_matching.specs.Layers.{AreLayersOn, LayersValue, LeadsOn}
 use Rattle.olr_matching.specs.Leg.{IsAdmitted, leg_penalty}
 use Rattle.olr_matching.specs.Matched.{IsMatchedBy}
@@ -56,4 +51,4 @@ KeysAreOfMatchings = (road : RoadMap) (layers : LayersValue) (key : KeyValue) �
 abbrev pub TotalsAreOfParts : Type 0
 TotalsAreOfParts = (road : RoadMap) (layers : LayersValue) (key : KeyValue) (matched : Matched) → AreLayersOn road layers
     → IsKey layers.penalties key → IsMatchedBy road layers key matched
-    → key.total ≡ sum_by (λ (candidate : Candidate). candidate.penalty) matched.candidates.items + sum_by (λ (leg : Leg). leg.penalty) matched.legs.items
+    → key.total ≡ sum_by (λ (candidate : Candidate). candidate.penalty) matched.candidates + sum_by (λ (leg : Leg). leg.penalty) matched.legs

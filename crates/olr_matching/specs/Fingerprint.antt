@@ -4,9 +4,8 @@ use Rattle.std.specs.Prelude.{◌≡◌, ℕ, List, [], ◌∷◌, ◌++◌, map
 use Rattle.std.specs.List.{join_with_byte}
 use Rattle.sha2.specs.Sha256.{sha256}
 use Rattle.olr_binary.specs.Text.{trimmed}
-use Rattle.olr_candidates.specs.declared.tolerances.Tolerances.{Tolerances}
+use Rattle.olr_matching.specs.Common.{RoadMap, Tolerances}
 use Rattle.olr_keys.specs.declared.mark.Mark.{Mark}
-use Rattle.olr_map.specs.RoadMap.{RoadMap}
 use Rattle.olr_map.specs.Canonical.{canonical_text}
 
 -- a line, with a line feed at its end

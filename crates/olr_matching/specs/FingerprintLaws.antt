@@ -2,8 +2,7 @@
 use Rattle.std.specs.Prelude.{◌≡◌, ℕ, List, Contains}
 use Rattle.olr_binary.specs.Text.{trimmed}
 use Rattle.olr_binary.specs.Outcome.{IsTextOf}
-use Rattle.olr_binary.specs.declared.reference.Reference.{Reference}
-use Rattle.olr_candidates.specs.declared.tolerances.Tolerances.{Tolerances}
+use Rattle.olr_matching.specs.Common.{Reference, Tolerances}
 use Rattle.olr_keys.specs.Cursor.{IsMark}
 use Rattle.olr_keys.specs.declared.mark.Mark.{Mark}
 use Rattle.olr_map.specs.RoadMap.{RoadMap, IsSoundMap}

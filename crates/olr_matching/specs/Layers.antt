@@ -2,15 +2,11 @@
 -- from 0, the ranks of candidates from 1.
 use Rattle.std.specs.Prelude.{◌≡◌, ℕ, ◌+◌, ◌*◌, List, [], length, map, Option, Some, None, option_map, slice_get, slice_index_or}
 use Rattle.std.specs.Global.{Vec}
-use Rattle.olr_binary.specs.declared.point.Next.{Next}
+use Rattle.olr_matching.specs.Common.{Candidate, Next, Reference, RoadMap, Tolerances}
 use Rattle.olr_binary.specs.declared.point.Point.{Point}
-use Rattle.olr_binary.specs.declared.reference.Reference.{Reference}
 use Rattle.olr_binary.specs.Reference.{IsReference, points_of}
-use Rattle.olr_candidates.specs.declared.candidate.Candidate.{Candidate}
-use Rattle.olr_candidates.specs.declared.tolerances.Tolerances.{Tolerances}
 use Rattle.olr_candidates.specs.Points.{AreLists}
 use Rattle.olr_keys.specs.Table.{Penalties, IsTable}
-use Rattle.olr_map.specs.RoadMap.{RoadMap}
 use Rattle.olr_matching.specs.Leg.{IsAdmittedLength, leg_penalty}
 
 -- the candidate of a layer that has this index, counted from 0

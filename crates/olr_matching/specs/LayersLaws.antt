@@ -1,13 +1,8 @@
 -- Laws on the layers of a reference. Each is the contract of a public function that does nothing at run time; its body only names the laws on which it
 -- rests.
 use Rattle.std.specs.Prelude.{◌≡◌, ℕ, ◌+◌, ◌≤◌, Option, MatchOption, [], option_map, slice_get, slice_index_or}
-use Rattle.olr_binary.specs.declared.point.Next.{Next}
-use Rattle.olr_candidates.specs.declared.candidate.Candidate.{Candidate}
-use Rattle.olr_candidates.specs.declared.tolerances.Tolerances.{Tolerances}
+use Rattle.olr_matching.specs.Common.{Candidate, IsDeparture, Next, Place, RoadMap, Tolerances}
 use Rattle.olr_keys.specs.Table.{leg_at, penalty_at}
-use Rattle.olr_map.specs.Place.{IsDeparture}
-use Rattle.olr_map.specs.RoadMap.{RoadMap}
-use Rattle.olr_map.specs.declared.place.Place.{Place}
 use Rattle.olr_matching.specs.Layers.{AreLayersOn, IsCandidateOf, LayersValue, LeadsOn}
 use Rattle.olr_matching.specs.Leg.{IsAdmitted, leg_penalty}
 

@@ -1,10 +1,7 @@
 -- The leg from a point of a reference to the next one: which lengths it admits, and with which penalty. (Class limit and interval come from the
 -- attributes of the path to the next point in the white paper; the tolerances and the penalty are this project's choice.) Lengths are in decimetres.
 use Rattle.std.specs.Prelude.{ℕ, ◌+◌, ◌-◌, ◌*◌, ◌/◌, ◌≤◌, min, Option, MatchOption}
-use Rattle.olr_binary.specs.declared.point.Next.{Next}
-use Rattle.olr_candidates.specs.declared.tolerances.Tolerances.{Tolerances}
-use Rattle.olr_map.specs.RoadMap.{RoadMap}
-use Rattle.olr_map.specs.declared.place.Place.{Place}
+use Rattle.olr_matching.specs.Common.{Next, Place, RoadMap, Tolerances}
 use Rattle.olr_route.specs.Least.{IsLeastLength}
 
 -- the class limit of the lines that a route may drive: the lowest class of the path and the tolerance, at most 7

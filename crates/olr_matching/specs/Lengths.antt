@@ -1,12 +1,7 @@
 -- The lengths of a leg between its candidates, in decimetres: for each pair the length with which
 -- the leg admits it, or none where it doesn't.
 use Rattle.std.specs.Prelude.{◌≡◌, ℕ, ◌+◌, ◌*◌, ◌<◌, List, [], length, Option, None, Some, slice_get, slice_index_or, All}
-use Rattle.olr_binary.specs.declared.point.Next.{Next}
-use Rattle.olr_binary.specs.declared.reference.Reference.{Reference}
-use Rattle.olr_candidates.specs.declared.candidate.Candidate.{Candidate}
-use Rattle.olr_candidates.specs.declared.tolerances.Tolerances.{Tolerances}
-use Rattle.olr_map.specs.RoadMap.{RoadMap}
-use Rattle.olr_map.specs.declared.place.Place.{Place}
+use Rattle.olr_matching.specs.Common.{Candidate, Next, Place, Reference, RoadMap, Tolerances}
 use Rattle.olr_matching.specs.Layers.{LeadsOn}
 use Rattle.olr_matching.specs.Leg.{IsAdmittedLength}
 

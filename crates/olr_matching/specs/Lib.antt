@@ -1,8 +1,10 @@
+pub mod Common
 pub mod Leg
 pub mod Layers
 pub mod Lengths
 pub mod Penalties
 pub mod LayersLaws
+pub mod Values
 pub mod Matched
 pub mod LegOnMap
 pub mod Searches

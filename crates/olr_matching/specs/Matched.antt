@@ -1,20 +1,14 @@
 -- The parts of a matching: the candidate of each point, and the length, the penalty and the route of each leg. Layers and legs are counted from 0,
 -- the ranks of candidates from 1.
 use Rattle.std.specs.Prelude.{◌≡◌, ℕ, ◌+◌, ◌-◌, ◌≤◌, List, length, Some, slice_get, All}
-use Rattle.std.specs.List.{AllZip, sum_by}
-use Rattle.olr_binary.specs.declared.point.Next.{Next}
-use Rattle.olr_binary.specs.declared.reference.Reference.{Reference}
-use Rattle.olr_binary.specs.Reference.{points_of}
-use Rattle.olr_candidates.specs.declared.candidate.Candidate.{Candidate}
-use Rattle.olr_candidates.specs.declared.tolerances.Tolerances.{Tolerances}
+use Rattle.std.specs.List.{sum_by}
+use Rattle.olr_matching.specs.Common.{Candidate, Next, Piece, Place, points_of, Reference, Tolerances}
 use Rattle.olr_keys.specs.Key.{KeyValue}
 use Rattle.olr_keys.specs.Matching.{IsKey}
 use Rattle.olr_map.specs.Place.{IsPlace}
 use Rattle.olr_map.specs.RoadMap.{RoadMap, IsSoundMap}
-use Rattle.olr_map.specs.declared.place.Place.{Place}
 use Rattle.olr_route.specs.Route.{IsPieceOn, IsRouteWithin}
 use Rattle.olr_route.specs.Walk.{piece_length}
-use Rattle.olr_route.specs.declared.piece.Piece.{Piece}
 use Rattle.olr_matching.specs.Layers.{LayersValue, AreLayersOn, IsCandidateOf, LeadsOn, length_at}
 use Rattle.olr_matching.specs.Leg.{IsAdmitted, class_limit, leg_penalty}
 use Rattle.olr_matching.specs.declared.matched.Leg.{Leg}
@@ -36,7 +30,7 @@ pub record AreCandidatesAt (candidates : List (List Candidate)) (ranks : List �
 pub record IsLegOf (road : RoadMap) (tolerances : Tolerances) (next : Next) (from to : Place) (leg : Leg) : Type 0 where
   pub admitted : IsAdmitted road tolerances next from to leg.length
   pub penalty : leg.penalty ≡ leg_penalty next leg.length
-  pub route : IsRouteWithin road (class_limit tolerances next) from to leg.length leg.route.items
+  pub route : IsRouteWithin road (class_limit tolerances next) from to leg.length leg.route
 
 -- This is the leg from the candidate of a layer to that of the next one, by the attributes of the path that the point of the layer has.
 pub record IsLegAt (road : RoadMap) (layers : LayersValue) (chosen : List Candidate) (layer : ℕ) (leg : Leg) : Type 0 where
@@ -55,8 +49,8 @@ pub record AreLegsBetween (road : RoadMap) (layers : LayersValue) (chosen : List
 
 -- the parts of the matching that has this key
 pub record IsMatchedBy (road : RoadMap) (layers : LayersValue) (key : KeyValue) (matched : Matched) : Type 0 where
-  pub candidates : AreCandidatesAt layers.candidates key.ranks matched.candidates.items
-  pub legs : AreLegsBetween road layers matched.candidates.items matched.legs.items
+  pub candidates : AreCandidatesAt layers.candidates key.ranks matched.candidates
+  pub legs : AreLegsBetween road layers matched.candidates matched.legs
 
 -- ---- a pair of candidates
 
@@ -91,18 +85,18 @@ pub record AreRanks (layers : LayersValue) (ranks : List ℕ) : Type 0 where
 
 -- The length of a leg is that of its route, 1 to 310,032 decimetres; its penalty is at most 100; the pieces of its route lie on the map, forwards.
 pub record IsSoundLeg (road : RoadMap) (leg : Leg) : Type 0 where
-  pub length_is : leg.length ≡ sum_by piece_length leg.route.items
+  pub length_is : leg.length ≡ sum_by piece_length leg.route
   pub long : 1 ≤ leg.length
   pub short : leg.length ≤ 310032
   pub penalty_at_most : leg.penalty ≤ 100
-  pub pieces : All (IsPieceOn road) leg.route.items
+  pub pieces : All (IsPieceOn road) leg.route
 
 -- There are as many candidates as the reference has points, each on the map, and one leg fewer.
 pub record IsSoundMatched (road : RoadMap) (reference : Reference) (matched : Matched) : Type 0 where
-  pub candidates : length matched.candidates.items ≡ length (points_of reference)
-  pub on_map : All (λ (candidate : Candidate). IsPlace road candidate.place) matched.candidates.items
-  pub legs : length matched.legs.items + 1 ≡ length (points_of reference)
-  pub each : All (IsSoundLeg road) matched.legs.items
+  pub candidates : length matched.candidates ≡ length (points_of reference)
+  pub on_map : All (λ (candidate : Candidate). IsPlace road candidate.place) matched.candidates
+  pub legs : length matched.legs + 1 ≡ length (points_of reference)
+  pub each : All (IsSoundLeg road) matched.legs
 
 -- the parts of the matching of every key of the answers are sound
 abbrev pub AreSound : Type 0
@@ -111,16 +105,9 @@ AreSound = (road : RoadMap) (layers : LayersValue) (key : KeyValue) (matched : M
 
 -- ---- one value
 
--- two legs have the same length, penalty and route
-pub record IsSameLeg (a b : Leg) : Type 0 where
-  pub same_length : a.length ≡ b.length
-  pub same_penalty : a.penalty ≡ b.penalty
-  pub same_route : a.route.items ≡ b.route.items
-
 -- two values have the same candidates and legs
-pub record IsSameMatched (a b : Matched) : Type 0 where
-  pub same_candidates : a.candidates.items ≡ b.candidates.items
-  pub same_legs : AllZip IsSameLeg a.legs.items b.legs.items
+abbrev pub IsSameMatched : Matched → Matched → Type 0
+IsSameMatched a b = a ≡ b
 
 -- a key has one value of parts at most
 abbrev pub OneMatched : Type 0

@@ -1,7 +1,6 @@
 -- The penalties of the legs of a reference, from their lengths.
 use Rattle.std.specs.Prelude.{◌≡◌, ℕ, ◌<◌, List, [], length, Option, slice_index_or}
-use Rattle.olr_binary.specs.declared.point.Next.{Next}
-use Rattle.olr_binary.specs.declared.reference.Reference.{Reference}
+use Rattle.olr_matching.specs.Common.{Next, Reference}
 use Rattle.olr_matching.specs.Layers.{LeadsOn, leg_penalties}
 
 -- the penalties of the leg from a point of a reference to the next one, for these lengths

@@ -2,9 +2,8 @@
 -- ranks from 1.
 use Rattle.std.specs.Prelude.{◌≡◌, ℕ, ◌+◌, ◌*◌, ◌<◌, List, Option, Some}
 use Rattle.std.specs.Global.{Vec}
-use Rattle.olr_map.specs.RoadMap.{RoadMap}
+use Rattle.olr_matching.specs.Common.{Piece, RoadMap}
 use Rattle.olr_route.specs.Reach.{Lengths}
-use Rattle.olr_route.specs.declared.piece.Piece.{Piece}
 use Rattle.olr_matching.specs.Layers.{AreLayersOn, LayersValue}
 use Rattle.olr_matching.specs.Matched.{IsPair, IsRouteOfPair}
 use Rattle.olr_matching.specs.Searches.{AreSearchesOn}

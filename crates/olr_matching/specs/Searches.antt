@@ -1,9 +1,6 @@
 -- Searches for the lengths of a leg, and those of a reference on a map that are kept.
 use Rattle.std.specs.Prelude.{◌≡◌, ℕ, ◌<◌, List, All, HoldsAt, length, map}
-use Rattle.olr_candidates.specs.declared.candidate.Candidate.{Candidate}
-use Rattle.olr_map.specs.Place.{IsDeparture}
-use Rattle.olr_map.specs.RoadMap.{RoadMap}
-use Rattle.olr_map.specs.declared.place.Place.{Place}
+use Rattle.olr_matching.specs.Common.{Candidate, IsDeparture, Place, RoadMap}
 use Rattle.olr_route.specs.Reach.{AreLengthsOn, Lengths, Tells}
 use Rattle.olr_route.specs.Sharing.{Serves}
 use Rattle.olr_matching.specs.Leg.{class_limit, greatest_admitted}

@@ -6,6 +6,7 @@ use arrayvec::ArrayVec;
 use olr_binary::MAX_POINTS;
 use olr_candidates::{Candidate, places};
 use olr_route::{Piece, one_route, pieces_of_route};
+use std::marker::Model;
 
 /// A leg of a matching: the route from the candidate of one point to that of the next one.
 #[derive(Debug, Drop)]
@@ -18,6 +19,18 @@ pub struct Leg {
     pub route: Vec<Piece>,
 }
 
+impl Model for Leg {
+    ghost use Rattle.olr_matching.specs.Values.{LegValue};
+
+    ghost Value = { LegValue };
+
+    ghost view = { λ leg. record {
+      length = leg.length;
+      penalty = leg.penalty;
+      route = leg.route.items;
+    } };
+}
+
 /// The parts of a matching: the candidate of each point of the reference, in order, and the leg
 /// between each two neighbours.
 #[derive(Debug, Drop)]
@@ -26,6 +39,17 @@ pub struct Matched {
     pub candidates: ArrayVec<Candidate, MAX_POINTS>,
     /// One leg fewer.
     pub legs: Vec<Leg>,
+}
+
+impl Model for Matched {
+    ghost use Rattle.olr_matching.specs.Values.{MatchedValue};
+
+    ghost Value = { MatchedValue };
+
+    ghost view = { λ matched. record {
+      candidates = matched.candidates.items;
+      legs = matched.legs.items;
+    } };
 }
 
 /// What holds of the parts of every matching: there are as many candidates as the reference has

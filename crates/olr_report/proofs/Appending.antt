@@ -1,12 +1,10 @@
 -- A piece added to the end of joined pieces.
-use Rattle.std.proofs.Common.{◌≡◌, ℕ, ◌+◌, ◌-◌, ◌<◌, ◌≤◌, Some, List, [], ◌∷◌, ◌++◌, length, take, get_or, set, refl, sym, ◌∙◌, append_assoc, arith}
-use Rattle.std.specs.List.{flat_map}
+use Rattle.std.proofs.Common.{◌≡◌, ℕ, ◌+◌, ◌-◌, ◌<◌, ◌≤◌, Some, List, [], ◌∷◌, ◌++◌, length, take, get_or, set, refl, sym, ◌∙◌, append_assoc, arith, flat_map}
 use Rattle.std.proofs.lemmas.List.{append-nil, flat_map_more, length-set, take_all, take_more, take_more_set}
 use Rattle.std.proofs.lemmas.List.Concat.{flat_map-append}
 use Rattle.std.proofs.lemmas.List.Elements.{All-nil, All-pop, All-push}
-use Rattle.olr_route.specs.declared.piece.Piece.{Piece}
+use Rattle.olr_report.proofs.Common.{Piece, Step, steps_in, steps_of}
 use Rattle.olr_report.specs.Joined.{AreApart, IsJoined, IsNotEmpty, IsRouteOver, Touches}
-use Rattle.olr_report.specs.Steps.{Step, steps_in, steps_of}
 use Rattle.olr_report.proofs.StepLists.{touching_steps}
 
 -- ---- steps

@@ -2,14 +2,8 @@
 use Rattle.std.proofs.Common.{List, Option, None, Some, refl, arith}
 use Rattle.std.specs.Global.{Vec}
 use Rattle.olr_binary.specs.JsonValues.{array_of}
-use Rattle.olr_keys.specs.Key.{KeyValue}
-use Rattle.olr_keys.specs.declared.mark.Mark.{Mark}
-use Rattle.olr_map.specs.RoadMap.{RoadMap}
-use Rattle.olr_matching.specs.declared.matched.Matched.{Matched}
-use Rattle.olr_route.specs.declared.piece.Piece.{Piece}
-use Rattle.olr_report.specs.Entries.{Entry}
+use Rattle.olr_report.proofs.Common.{Entry, KeyValue, Located, Mark, Matched, Piece, RoadMap}
 use Rattle.olr_report.specs.Json.{candidate_object, leg_object, piece_array, part_value, matching_object, entry_object, next_value, page_object}
-use Rattle.olr_report.specs.declared.locating.Located.{Located}
 use Rattle.olr_report.specs.declared.locating.Located.TheVariants.{Line, Point}
 use Rattle.olr_binary.proofs.PlainValues.{IsPlain, all_plain}
 
@@ -24,8 +18,8 @@ module _ (road : RoadMap) where
   matching_plain : (key : KeyValue) (matched : Matched) (route : List Piece) (located : Located)
       → IsPlain 3 (matching_object road key matched route located)
   matching_plain key matched route (Line outer inner) =
-      let legs = all_plain 1 leg_object (λ leg. record { no_float = refl; shallow = omega arith }) matched.legs.items in
-      let points = all_plain 1 (candidate_object road) (λ point. record { no_float = refl; shallow = omega arith }) matched.candidates.items in
+      let legs = all_plain 1 leg_object (λ leg. record { no_float = refl; shallow = omega arith }) matched.legs in
+      let points = all_plain 1 (candidate_object road) (λ point. record { no_float = refl; shallow = omega arith }) matched.candidates in
       let pieces = pieces_plain route in
       let within = part_plain inner in
       let around = part_plain outer in record {
@@ -33,8 +27,8 @@ module _ (road : RoadMap) where
         shallow = omega (arith, within.shallow, legs.shallow, around.shallow, points.shallow, pieces.shallow);
       }
   matching_plain key matched route (Point earliest latest) =
-      let legs = all_plain 1 leg_object (λ leg. record { no_float = refl; shallow = omega arith }) matched.legs.items in
-      let points = all_plain 1 (candidate_object road) (λ point. record { no_float = refl; shallow = omega arith }) matched.candidates.items in
+      let legs = all_plain 1 leg_object (λ leg. record { no_float = refl; shallow = omega arith }) matched.legs in
+      let points = all_plain 1 (candidate_object road) (λ point. record { no_float = refl; shallow = omega arith }) matched.candidates in
       let pieces = pieces_plain route in record {
         no_float = rw (legs.no_float, points.no_float, pieces.no_float);
         shallow = omega (arith, legs.shallow, points.shallow, pieces.shallow);

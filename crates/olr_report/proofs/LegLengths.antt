@@ -1,17 +1,9 @@
 -- The lengths of legs and of their joined route.
-use Rattle.std.proofs.Common.{◌≡◌, ℕ, ◌+◌, ◌*◌, ◌^◌, ◌<◌, ◌≤◌, List, [], ◌∷◌, ◌++◌, length, take, get_or, ap, length-append, arith}
-use Rattle.std.specs.Prelude.{All}
-use Rattle.std.specs.List.{sum_by}
+use Rattle.std.proofs.Common.{◌≡◌, ℕ, ◌+◌, ◌*◌, ◌^◌, ◌<◌, ◌≤◌, List, [], ◌∷◌, ◌++◌, length, take, get_or, ap, length-append, arith, All, sum_by}
 use Rattle.std.proofs.lemmas.List.Elements.{All-get_or}
 use Rattle.olr_binary.specs.Reference.{IsReference}
-use Rattle.olr_binary.specs.declared.reference.Reference.{Reference}
-use Rattle.olr_binary.specs.declared.reference.Reference.TheVariants.{Line, PointAlong}
-use Rattle.olr_matching.specs.declared.matched.Leg.{Leg}
-use Rattle.olr_route.specs.declared.piece.Piece.{Piece}
-use Rattle.olr_route.specs.Walk.{piece_length}
-use Rattle.olr_report.specs.Joined.{IsJoinedRoute}
+use Rattle.olr_report.proofs.Common.{IsJoinedRoute, Leg, Line, Piece, piece_length, PointAlong, Reference, steps_of, steps_of_legs}
 use Rattle.olr_report.specs.Location.{AreLegsOf, IsMeasured}
-use Rattle.olr_report.specs.Steps.{steps_of, steps_of_legs}
 use Rattle.olr_report.proofs.Appending.{steps_taken}
 use Rattle.olr_report.proofs.StepLists.{length-steps_of}
 
@@ -20,8 +12,8 @@ some_leg (Line points positive negative) legs is legs_are = omega (arith, is.at_
 some_leg (PointAlong points orientation side positive) legs is legs_are = omega (arith, is.two, legs_are.count)
 
 -- the steps of a leg are as many as it is long
-leg_steps : (leg : Leg) → IsMeasured leg → length (steps_of leg.route.items) ≡ leg.length
-leg_steps leg is = cc (length-steps_of leg.route.items)
+leg_steps : (leg : Leg) → IsMeasured leg → length (steps_of leg.route) ≡ leg.length
+leg_steps leg is = cc (length-steps_of leg.route)
 
 -- one leg more
 pub total_more : (legs : List Leg) (leg : Leg) (i total : ℕ) → All IsMeasured legs → i < length legs → leg ≡ get_or legs i leg
@@ -29,17 +21,17 @@ pub total_more : (legs : List Leg) (leg : Leg) (i total : ℕ) → All IsMeasure
     → (total + leg.length ≡ length (steps_of_legs (take (i + 1) legs))) × (total + leg.length ≤ (i + 1) * 2 ^ 20)
 total_more legs leg i total measured inside is (so_far, below) =
     let here : IsMeasured leg = rw is (All-get_or IsMeasured legs i leg inside measured) in
-    let more : steps_of_legs (take i legs) ++ steps_of (get_or legs i leg).route.items ≡ steps_of_legs (take (i + 1) legs) =
-    steps_taken (λ l. steps_of l.route.items) [] legs i leg inside
+    let more : steps_of_legs (take i legs) ++ steps_of (get_or legs i leg).route ≡ steps_of_legs (take (i + 1) legs) =
+    steps_taken (λ l. steps_of l.route) [] legs i leg inside
     in
-    let same : length (steps_of (get_or legs i leg).route.items) ≡ leg.length = cc (leg_steps leg here) in (
+    let same : length (steps_of (get_or legs i leg).route) ≡ leg.length = cc (leg_steps leg here) in (
       omega (
         arith,
         so_far,
         same,
         ap length more,
         length-append (steps_of_legs (take i legs))
-            (steps_of (get_or legs i leg).route.items),
+            (steps_of (get_or legs i leg).route),
       ),
       omega (arith, below, here.below),
     )
@@ -53,7 +45,7 @@ first_steps : (legs : List Leg) (d : Leg) → All IsMeasured legs → 0 < length
 first_steps [] d measured some = absurd (omega (arith, some))
 first_steps (leg ∷ legs) d measured some =
     let here : IsMeasured leg = measured 0 leg some in
-    (here.at_least, omega (arith, leg_steps leg here, length-append (steps_of leg.route.items) (steps_of_legs legs)))
+    (here.at_least, omega (arith, leg_steps leg here, length-append (steps_of leg.route) (steps_of_legs legs)))
 
 -- and so it isn't empty, and reaches as far as the first leg is long
 pub reaches : (reference : Reference) (legs : List Leg) (route pieces : List Piece) (d : Leg) (distance : ℕ) → IsReference reference

@@ -1,3 +1,4 @@
+pub mod Common
 pub mod StepLists
 mod Appending
 mod OneRoute
@@ -12,7 +13,7 @@ mod Shown
 mod PageEntries
 mod PiecesText
 mod OneShown
-pub mod SameParts
+mod SameParts
 pub mod JsonShape
 mod SentTexts
 mod SentEntries

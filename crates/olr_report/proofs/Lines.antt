@@ -1,21 +1,13 @@
 -- The lines of joined routes, trimmed parts and places are those of the pieces of the legs.
-use Rattle.std.proofs.Common.{◌≡◌, ℕ, zero, suc, ◌-◌, ◌<◌, List, [], ◌∷◌, ◌++◌, length, map, drop, slice_get, Option, Some, None, All, option_map, refl, subst, ap, ◌∙◌, arith}
-use Rattle.std.specs.Prelude.{slice_range}
+use Rattle.std.proofs.Common.{◌≡◌, ℕ, zero, suc, ◌-◌, ◌<◌, List, [], ◌∷◌, ◌++◌, length, map, drop, slice_get, Option, Some, None, All, option_map, refl, subst, ap, ◌∙◌, arith, slice_range}
 use Rattle.std.specs.Global.{Vec}
 use Rattle.std.specs.List.{range_with_len}
 use Rattle.std.proofs.lemmas.List.Elements.{All-nil, All-cons, All-head, All-tail, All-append, All-same, All-take, All-drop}
 use Rattle.std.proofs.lemmas.Option.{same_Some, none-some}
-use Rattle.olr_binary.specs.declared.reference.Reference.{Reference}
-use Rattle.olr_binary.specs.declared.reference.Reference.TheVariants.{Line, PointAlong}
-use Rattle.olr_map.specs.RoadMap.{RoadMap}
-use Rattle.olr_map.specs.declared.place.Place.{Place}
-use Rattle.olr_matching.specs.declared.matched.Leg.{Leg}
-use Rattle.olr_route.specs.declared.piece.Piece.{Piece}
+use Rattle.olr_report.proofs.Common.{IsJoinedRoute, IsNotEmpty, IsRouteOver, Leg, Line, Located, Piece, Place, PointAlong, Reference, RoadMap}
 use Rattle.olr_report.specs.Entries.{HasLine, HasPieces, HasPart, HasLocation}
-use Rattle.olr_report.specs.Joined.{IsJoinedRoute, IsRouteOver, IsNotEmpty}
 use Rattle.olr_report.specs.Location.{IsLocation, IsPartBetween}
 use Rattle.olr_report.specs.Steps.{Step, steps_in, steps_of, steps_of_legs, start_of, end_of, place_at}
-use Rattle.olr_report.specs.declared.locating.Located.{Located}
 use Rattle.olr_report.specs.declared.locating.Located.TheVariants.{Line as LocatedLine, Point as LocatedPoint}
 
 module _ (road : RoadMap) where
@@ -26,7 +18,7 @@ module _ (road : RoadMap) where
   IsPieceOn piece = HasLine road piece.line
 
   abbrev pub IsLegOn : Leg → Type 0
-  IsLegOn leg = HasPieces road leg.route.items
+  IsLegOn leg = HasPieces road leg.route
 
   -- the steps lie on lines of the map
   abbrev HasSteps : List Step → Type 0
@@ -48,8 +40,8 @@ module _ (road : RoadMap) where
   steps_of_all : (legs : List Leg) → All IsLegOn legs → HasSteps (steps_of_legs legs)
   steps_of_all [] has = All-nil IsStepOn
   steps_of_all (leg ∷ legs) has =
-      let first = steps_of_pieces leg.route.items (All-head IsLegOn leg legs has) in
-      All-append IsStepOn (steps_of leg.route.items) (steps_of_legs legs) first (steps_of_all legs (All-tail IsLegOn leg legs has))
+      let first = steps_of_pieces leg.route (All-head IsLegOn leg legs has) in
+      All-append IsStepOn (steps_of leg.route) (steps_of_legs legs) first (steps_of_all legs (All-tail IsLegOn leg legs has))
 
   -- ---- from steps to pieces
 

@@ -2,24 +2,13 @@
 use Rattle.std.proofs.Common.{◌≡◌, ℕ, List, [], ◌∷◌, map, Option, Some, None, refl, ap, ◌∙◌, All, codes, arith}
 use Rattle.std.specs.Global.{Vec}
 use Rattle.std.proofs.lemmas.List.Elements.{All-head, All-tail}
-use Rattle.olr_binary.specs.declared.reference.Reference.{Reference}
-use Rattle.olr_binary.specs.declared.reference.Reference.TheVariants.{Line, PointAlong}
-use Rattle.olr_keys.specs.Key.{KeyValue}
-use Rattle.olr_map.specs.RoadMap.{RoadMap}
-use Rattle.olr_map.specs.declared.place.Place.{Place}
-use Rattle.olr_matching.specs.declared.matched.Leg.{Leg}
-use Rattle.olr_matching.specs.declared.matched.Matched.{Matched}
-use Rattle.olr_route.specs.declared.piece.Piece.{Piece}
-use Rattle.olr_report.specs.Entries.{Entry, IsEntryOf, AreEntriesOf}
-use Rattle.olr_report.specs.Joined.{IsJoinedRoute, IsRouteOver}
+use Rattle.olr_report.proofs.Common.{AreEntriesOf, Entry, IsEntryOf, IsJoinedRoute, IsRouteOver, KeyValue, Leg, Line, Located, Matched, Piece, Place, PointAlong, Reference, RoadMap, Step, steps_of_legs}
 use Rattle.olr_report.specs.Json.{part_value, matching_object, entry_object, next_value}
 use Rattle.olr_report.specs.JsonLaws.{OneJson, OnlyMarkDiffers}
 use Rattle.olr_report.specs.Location.{IsLocation, IsPartBetween}
-use Rattle.olr_report.specs.Steps.{Step, steps_of_legs}
 use Rattle.olr_report.specs.Text.{entries_rows, next_after}
 use Rattle.olr_report.specs.TextLaws.{OneText}
 use Rattle.olr_report.specs.TextRows.{pieces_row, part_row, location_rows, entry_rows}
-use Rattle.olr_report.specs.declared.locating.Located.{Located}
 use Rattle.olr_report.specs.declared.locating.Located.TheVariants.{Line as LocatedLine, Point as LocatedPoint}
 
 abbrev OneRoute : Type 0
@@ -72,10 +61,10 @@ module _ (one_route : OneRoute) (road : RoadMap) where
   one_entry : (reference : Reference) (a b : Entry) → a.key ≡ b.key → a.matched ≡ b.matched → IsEntryOf reference a → IsEntryOf reference b
       → (entry_rows road a ≡ entry_rows road b) × (entry_object road a ≡ entry_object road b)
   one_entry reference a b key matched is is' =
-      let joined : IsJoinedRoute b.matched.legs.items a.route = rw (← matched) is.route in
-      let lies : IsLocation b.matched.legs.items reference a.located = rw (← matched) is.location in
+      let joined : IsJoinedRoute b.matched.legs a.route = rw (← matched) is.route in
+      let lies : IsLocation b.matched.legs reference a.located = rw (← matched) is.location in
       let routes = one_route _ a.route b.route joined is'.route in
-      let locations = one_location b.matched.legs.items reference a.located b.located lies is'.location in (
+      let locations = one_location b.matched.legs reference a.located b.located lies is'.location in (
         let rows = locations.rows in rw (key, matched, routes, rows),
         let objects = locations.objects b.key b.matched b.route in cc,
       )

@@ -1,10 +1,7 @@
 -- A part of a route, while its pieces are gone through.
 use Rattle.std.proofs.Common.{◌≡◌, ℕ, ◌+◌, ◌-◌, ◌<◌, ◌≤◌, List, [], ◌++◌, length, take, drop, get_or, ap, append_assoc, arith}
 use Rattle.std.proofs.lemmas.List.{append-nil, drop_all, drop_more, length-drop, length-take, nil_from_length}
-use Rattle.olr_route.specs.declared.piece.Piece.{Piece}
-use Rattle.olr_route.specs.Walk.{piece_length}
-use Rattle.olr_report.specs.Joined.{IsJoined, IsRouteOver}
-use Rattle.olr_report.specs.Steps.{Step, steps_in, steps_of}
+use Rattle.olr_report.proofs.Common.{IsJoined, IsRouteOver, Piece, piece_length, Step, steps_in, steps_of}
 use Rattle.olr_report.proofs.StepLists.{length-steps_in, part-append}
 
 -- The joined pieces, and then the part of the rest behind its first `skip` decimetres, at most `left` long, are the steps that are sought.

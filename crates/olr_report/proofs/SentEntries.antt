@@ -1,14 +1,10 @@
 -- What the members of a location send, how many they are, and where they stand.
-use Rattle.std.proofs.Common.{◌≡◌, List, codes, refl, suc}
-use Rattle.std.specs.Prelude.{ℕ}
-use Rattle.serde.specs.Event.{Log}
+use Rattle.std.proofs.Common.{◌≡◌, List, codes, refl, suc, ℕ}
+use Rattle.olr_report.proofs.Common.{Leg, Located, Log, RoadMap}
 use Rattle.serde_json.specs.Data.{Data, Members, member, no_members}
 use Rattle.serde_json.specs.Events.{members_len}
-use Rattle.olr_map.specs.RoadMap.{RoadMap}
-use Rattle.olr_matching.specs.declared.matched.Leg.{Leg}
 use Rattle.olr_report.specs.Json.{located_members}
 use Rattle.olr_report.specs.Sent.{AreOrdered, SendsBefore, SendsMember}
-use Rattle.olr_report.specs.declared.locating.Located.{Located}
 use Rattle.olr_report.specs.declared.locating.Located.TheVariants.{Line, Point}
 
 pub three_sent : (a b c : List ℕ) (x y z : Data) (old first second new : Log) → SendsMember a x old first → SendsMember b y first second

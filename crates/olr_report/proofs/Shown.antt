@@ -1,10 +1,7 @@
 -- The entries of a page lie on the map.
 use Rattle.std.proofs.Common.{List, [], ◌∷◌, map, All}
 use Rattle.std.proofs.lemmas.List.Elements.{All-nil, All-cons, All-head, All-tail, All-same}
-use Rattle.olr_binary.specs.declared.reference.Reference.{Reference}
-use Rattle.olr_keys.specs.Key.{KeyValue}
-use Rattle.olr_map.specs.RoadMap.{RoadMap}
-use Rattle.olr_matching.specs.declared.matched.Matched.{Matched}
+use Rattle.olr_report.proofs.Common.{KeyValue, Matched, Reference, RoadMap}
 use Rattle.olr_report.specs.Entries.{Entry, entry_of, IsEntryOf, AreEntriesOf, IsOnMap, HasMatched, CanBeShown}
 use Rattle.olr_report.specs.declared.page_entries.Entry.{Entry as Returned}
 use Rattle.olr_report.proofs.Lines.{route_of, location_of}
@@ -13,8 +10,8 @@ module _ (road : RoadMap) (reference : Reference) where
   pub on_map : (entry : Entry) → HasMatched road entry.matched → IsEntryOf reference entry → IsOnMap road entry
   on_map entry matched is = record {
     matched = matched;
-    route = route_of road entry.matched.legs.items entry.route matched.legs is.route;
-    located = location_of road entry.matched.legs.items reference entry.located matched.legs is.location;
+    route = route_of road entry.matched.legs entry.route matched.legs is.route;
+    located = location_of road entry.matched.legs reference entry.located matched.legs is.location;
   }
 
   each_on_map : (list : List Returned) → All (CanBeShown road reference) (map (λ entry. entry.matched) (map entry_of list))

@@ -3,10 +3,7 @@ use Rattle.std.proofs.Common.{◌≡◌, ℕ, Bor, List, [], ◌∷◌, map, Opt
 use Rattle.serde_json.specs.Data.{member, no_members, object, string}
 use Rattle.olr_binary.specs.JsonValues.{array_of, or_null}
 use Rattle.olr_keys.specs.Cursor.{cursor_text}
-use Rattle.olr_keys.specs.Key.{KeyValue}
-use Rattle.olr_keys.specs.declared.mark.Mark.{Mark}
-use Rattle.olr_map.specs.RoadMap.{RoadMap}
-use Rattle.olr_report.specs.Entries.{entry_of}
+use Rattle.olr_report.proofs.Common.{entry_of, KeyValue, Mark, RoadMap}
 use Rattle.olr_report.specs.Json.{entry_object, next_value, page_object}
 use Rattle.olr_report.specs.declared.page_entries.Entry.{Entry}
 use Rattle.olr_binary.proofs.PlainValues.{IsPlain, plain_same}

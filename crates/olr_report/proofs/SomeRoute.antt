@@ -2,11 +2,8 @@
 use Rattle.std.proofs.Common.{◌≡◌, ℕ, suc, ◌+◌, ◌-◌, List, [], ◌∷◌, inl, inr, refl, sym, ap, ◌∙◌, arith}
 use Rattle.std.proofs.lemmas.Bool.{cases_eq}
 use Rattle.std.proofs.lemmas.List.Elements.{All-cons, All-head, All-nil, All-tail}
-use Rattle.olr_route.specs.declared.piece.Piece.{Piece}
-use Rattle.olr_route.specs.Walk.{piece_length}
-use Rattle.olr_report.specs.Joined.{AreApart, IsNotEmpty, IsRouteOver}
+use Rattle.olr_report.proofs.Common.{AreApart, IsNotEmpty, IsRouteOver, Piece, piece_length, Step, steps_in}
 use Rattle.olr_report.specs.PartLaws.{SomeRouteOver}
-use Rattle.olr_report.specs.Steps.{Step, steps_in}
 use Rattle.olr_report.proofs.StepLists.{stretch}
 
 -- the piece of one step

@@ -4,9 +4,7 @@ use Rattle.std.specs.List.{range_with_len, sum_by}
 use Rattle.std.proofs.lemmas.List.{drop_at, drop_min, take_min, length-take}
 use Rattle.std.proofs.lemmas.List.FromFn.{length-map-range_with_len, take-map-range_with_len}
 use Rattle.std.proofs.lemmas.List.Sums.{sum_by-cons}
-use Rattle.olr_route.specs.declared.piece.Piece.{Piece}
-use Rattle.olr_route.specs.Walk.{piece_length}
-use Rattle.olr_report.specs.Steps.{Step, steps_in, steps_of}
+use Rattle.olr_report.proofs.Common.{Piece, piece_length, Step, steps_in, steps_of}
 
 -- ---- any list
 

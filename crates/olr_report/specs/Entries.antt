@@ -1,13 +1,7 @@
 -- The entries of a page: a matching as a page shows it, whatever the format.
 use Rattle.std.specs.Prelude.{◌≡◌, ℕ, ◌<◌, List, length, map, Option, IfSome, All}
 use Rattle.std.specs.Global.{Vec}
-use Rattle.olr_binary.specs.declared.reference.Reference.{Reference}
-use Rattle.olr_candidates.specs.declared.candidate.Candidate.{Candidate}
-use Rattle.olr_keys.specs.Key.{KeyValue}
-use Rattle.olr_map.specs.RoadMap.{RoadMap}
-use Rattle.olr_matching.specs.declared.matched.Leg.{Leg}
-use Rattle.olr_matching.specs.declared.matched.Matched.{Matched}
-use Rattle.olr_route.specs.declared.piece.Piece.{Piece}
+use Rattle.olr_report.specs.Common.{Candidate, KeyValue, Leg, Matched, Piece, Reference, RoadMap}
 use Rattle.olr_report.specs.Joined.{IsJoinedRoute}
 use Rattle.olr_report.specs.Location.{AreLegsOf, IsLocation}
 use Rattle.olr_report.specs.declared.locating.Located.{Located}
@@ -32,8 +26,8 @@ shown_entry shown = record { key = shown.key.now; matched = shown.matched.now; r
 
 -- the route and the location are those of the legs
 pub record IsEntryOf (reference : Reference) (entry : Entry) : Type 0 where
-  pub route : IsJoinedRoute entry.matched.legs.items entry.route
-  pub location : IsLocation entry.matched.legs.items reference entry.located
+  pub route : IsJoinedRoute entry.matched.legs entry.route
+  pub location : IsLocation entry.matched.legs reference entry.located
 
 -- the entries of these keys and parts, one for each, in order
 pub record AreEntriesOf (reference : Reference) (keys : List KeyValue) (matched : List Matched) (entries : List Entry) : Type 0 where
@@ -62,8 +56,8 @@ HasLocation road (Point earliest latest) = HasLine road earliest.line × HasLine
 
 -- the candidates and the routes of the legs of a matching lie on lines of the map
 pub record HasMatched (road : RoadMap) (matched : Matched) : Type 0 where
-  pub candidates : All (λ (candidate : Candidate). HasLine road candidate.place.line) matched.candidates.items
-  pub legs : All (λ (leg : Leg). HasPieces road leg.route.items) matched.legs.items
+  pub candidates : All (λ (candidate : Candidate). HasLine road candidate.place.line) matched.candidates
+  pub legs : All (λ (leg : Leg). HasPieces road leg.route) matched.legs
 
 -- the candidates of an entry, its legs, its route and its location lie on lines of the map
 pub record IsOnMap (road : RoadMap) (entry : Entry) : Type 0 where
@@ -73,5 +67,5 @@ pub record IsOnMap (road : RoadMap) (entry : Entry) : Type 0 where
 
 -- The parts of a matching that can be shown: its legs lie between the points of the reference, and its lines are on the map.
 pub record CanBeShown (road : RoadMap) (reference : Reference) (matched : Matched) : Type 0 where
-  pub legs : AreLegsOf reference matched.legs.items
+  pub legs : AreLegsOf reference matched.legs
   pub on_map : HasMatched road matched

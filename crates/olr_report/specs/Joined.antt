@@ -1,8 +1,7 @@
 -- The joined route of legs, and a part of a route: lists of pieces that have no empty piece and no piece that could have been joined to the one before.
 -- (The joined route is this project's choice.)
 use Rattle.std.specs.Prelude.{◌≡◌, ℕ, ◌<◌, ◌≤◌, ⊤, List, [], ◌∷◌, All, slice_range}
-use Rattle.olr_matching.specs.declared.matched.Leg.{Leg}
-use Rattle.olr_route.specs.declared.piece.Piece.{Piece}
+use Rattle.olr_report.specs.Common.{Leg, Piece}
 use Rattle.olr_report.specs.Steps.{Step, steps_of, steps_of_legs}
 
 -- the piece doesn't go backwards on its line; it may be empty
@@ -11,7 +10,7 @@ IsForwards piece = piece.from ≤ piece.to
 
 -- no piece of these legs goes backwards
 abbrev pub AreForwards : List Leg → Type 0
-AreForwards legs = All (λ (leg : Leg). All IsForwards leg.route.items) legs
+AreForwards legs = All (λ (leg : Leg). All IsForwards leg.route) legs
 
 -- the piece drives a decimetre or more
 abbrev pub IsNotEmpty : Piece → Type 0

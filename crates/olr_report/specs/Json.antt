@@ -4,18 +4,9 @@ use Rattle.std.specs.Prelude.{ℕ, List, Option, None, codes}
 use Rattle.std.specs.Global.{Vec}
 use Rattle.serde_json.specs.Data.{Data, Members, string, array, object, no_items, item, no_members, member}
 use Rattle.olr_binary.specs.JsonValues.{whole, array_of, or_null, IsJsonLine}
-use Rattle.olr_binary.specs.declared.reference.Reference.{Reference}
-use Rattle.olr_candidates.specs.declared.candidate.Candidate.{Candidate}
+use Rattle.olr_report.specs.Common.{Candidate, KeyValue, Leg, Mark, Matched, PageValue, Piece, Place, Reference, RoadMap}
 use Rattle.olr_keys.specs.Cursor.{cursor_text}
-use Rattle.olr_keys.specs.Key.{KeyValue}
-use Rattle.olr_keys.specs.Page.{PageValue}
-use Rattle.olr_keys.specs.declared.mark.Mark.{Mark}
-use Rattle.olr_map.specs.RoadMap.{RoadMap}
-use Rattle.olr_map.specs.declared.place.Place.{Place}
-use Rattle.olr_matching.specs.declared.matched.Leg.{Leg}
-use Rattle.olr_matching.specs.declared.matched.Matched.{Matched}
 use Rattle.olr_route.specs.Route.{id_at}
-use Rattle.olr_route.specs.declared.piece.Piece.{Piece}
 use Rattle.olr_report.specs.Entries.{Entry, AreEntriesOf}
 use Rattle.olr_report.specs.Text.{next_after}
 use Rattle.olr_report.specs.declared.locating.Located.{Located}
@@ -70,8 +61,8 @@ located_members road (Point earliest latest) legs others =
 abbrev pub matching_object : RoadMap → KeyValue → Matched → List Piece → Located → Data
 matching_object road key matched route located = object (
     member (codes "cursor") (string (cursor_text key None)) (
-    located_members road located matched.legs.items (
-    member (codes "points") (array_of (candidate_object road) matched.candidates.items) (
+    located_members road located matched.legs (
+    member (codes "points") (array_of (candidate_object road) matched.candidates) (
     member (codes "route") (pieces_array road route) (
     member (codes "total") (whole key.total) no_members)))))
 

@@ -5,13 +5,8 @@ use Rattle.serde_json.specs.Data.{Data}
 use Rattle.serde_json.specs.Find.{get}
 use Rattle.serde_json.specs.Read.{read}
 use Rattle.olr_binary.specs.JsonValues.{array_of, IsJsonLine}
-use Rattle.olr_binary.specs.declared.reference.Reference.{Reference}
-use Rattle.olr_keys.specs.Key.{KeyValue}
-use Rattle.olr_keys.specs.Page.{PageValue}
-use Rattle.olr_keys.specs.declared.mark.Mark.{Mark}
-use Rattle.olr_map.specs.RoadMap.{RoadMap}
+use Rattle.olr_report.specs.Common.{KeyValue, Mark, Matched, PageValue, Reference, RoadMap}
 use Rattle.olr_matching.specs.Matched.{IsSameMatched}
-use Rattle.olr_matching.specs.declared.matched.Matched.{Matched}
 use Rattle.olr_report.specs.Entries.{Entry, AreEntriesOf}
 use Rattle.olr_report.specs.Json.{entry_object, next_value, page_object, IsPageJson}
 use Rattle.olr_report.specs.Text.{next_after}

@@ -5,11 +5,8 @@ use Rattle.std.specs.Global.{Vec}
 use Rattle.std.specs.Int.{div_ceil}
 use Rattle.std.specs.List.{sum_by}
 use Rattle.olr_binary.specs.Reference.{points_of}
-use Rattle.olr_binary.specs.declared.reference.Reference.{Reference}
+use Rattle.olr_report.specs.Common.{Leg, Piece, Place, Reference}
 use Rattle.olr_binary.specs.declared.reference.Reference.TheVariants.{Line, PointAlong}
-use Rattle.olr_map.specs.declared.place.Place.{Place}
-use Rattle.olr_matching.specs.declared.matched.Leg.{Leg}
-use Rattle.olr_route.specs.declared.piece.Piece.{Piece}
 use Rattle.olr_route.specs.Walk.{piece_length}
 use Rattle.olr_report.specs.Joined.{AreForwards, IsTrimmedPart}
 use Rattle.olr_report.specs.Steps.{Step, place_at, steps_of_legs}
@@ -20,7 +17,7 @@ use Rattle.olr_report.specs.declared.locating.Located.TheVariants.{Line as Locat
 
 -- the leg's length is that of its route, at least one decimetre and below 2^20
 pub record IsMeasured (leg : Leg) : Type 0 where
-  pub length_is : leg.length ≡ sum_by piece_length leg.route.items
+  pub length_is : leg.length ≡ sum_by piece_length leg.route
   pub at_least : 1 ≤ leg.length
   pub below : leg.length < 2 ^ 20
 

@@ -1,8 +1,7 @@
 -- Laws on joined routes and on the two parts of a line. Each is the contract of a public function that does nothing at run time.
 use Rattle.std.specs.Prelude.{◌≡◌, ℕ, List, ◌++◌, Option, Some}
 use Rattle.std.specs.Global.{Vec}
-use Rattle.olr_matching.specs.declared.matched.Leg.{Leg}
-use Rattle.olr_route.specs.declared.piece.Piece.{Piece}
+use Rattle.olr_report.specs.Common.{Leg, Piece}
 use Rattle.olr_report.specs.Joined.{IsRouteOver}
 use Rattle.olr_report.specs.Location.{IsLineLocation}
 use Rattle.olr_report.specs.Steps.{Step, steps_of}

@@ -2,9 +2,7 @@
 -- it is cut into pieces. (The steps are this project's definition.) Positions are in decimetres from the start of a line.
 use Rattle.std.specs.Prelude.{ℕ, zero, suc, ◌+◌, List, Option, map, option_map, slice_get}
 use Rattle.std.specs.List.{flat_map, range_with_len}
-use Rattle.olr_map.specs.declared.place.Place.{Place}
-use Rattle.olr_matching.specs.declared.matched.Leg.{Leg}
-use Rattle.olr_route.specs.declared.piece.Piece.{Piece}
+use Rattle.olr_report.specs.Common.{Leg, Piece, Place}
 use Rattle.olr_route.specs.Walk.{piece_length}
 
 -- a step on a line, from the position `at` to the next one
@@ -22,7 +20,7 @@ steps_of pieces = flat_map steps_in pieces
 
 -- the steps of the routes of legs, one leg after the other
 abbrev pub steps_of_legs : List Leg → List Step
-steps_of_legs legs = flat_map (λ (leg : Leg). steps_of leg.route.items) legs
+steps_of_legs legs = flat_map (λ (leg : Leg). steps_of leg.route) legs
 
 -- the place where a step begins
 abbrev pub start_of : Step → Place

@@ -1,11 +1,7 @@
 -- The text of a page of matchings: the rows of each of them, and a last row that says whether more follow.
 use Rattle.std.specs.Prelude.{◌≡◌, ℕ, List, [], ◌∷◌, ◌++◌, Option, None, if◌then◌else◌}
-use Rattle.olr_binary.specs.declared.reference.Reference.{Reference}
-use Rattle.olr_keys.specs.Key.{KeyValue}
+use Rattle.olr_report.specs.Common.{KeyValue, Mark, Matched, Reference, RoadMap}
 use Rattle.olr_keys.specs.Page.{PageValue, last_of}
-use Rattle.olr_keys.specs.declared.mark.Mark.{Mark}
-use Rattle.olr_map.specs.RoadMap.{RoadMap}
-use Rattle.olr_matching.specs.declared.matched.Matched.{Matched}
 use Rattle.olr_report.specs.Entries.{Entry, AreEntriesOf}
 use Rattle.olr_report.specs.TextRows.{entry_rows, end_row}
 

@@ -1,11 +1,7 @@
 -- Laws on the texts of pages. Each is the contract of a public function that does nothing at run time.
 use Rattle.std.specs.Prelude.{◌≡◌, ℕ, List, Option, false}
 use Rattle.std.specs.List.{AllZip}
-use Rattle.olr_binary.specs.declared.reference.Reference.{Reference}
-use Rattle.olr_keys.specs.Page.{PageValue}
-use Rattle.olr_keys.specs.declared.mark.Mark.{Mark}
-use Rattle.olr_map.specs.RoadMap.{RoadMap}
-use Rattle.olr_matching.specs.declared.matched.Matched.{Matched}
+use Rattle.olr_report.specs.Common.{Mark, Matched, PageValue, Reference, RoadMap}
 use Rattle.olr_matching.specs.Matched.{IsSameMatched, IsSoundMatched}
 use Rattle.olr_report.specs.Entries.{CanBeShown}
 use Rattle.olr_report.specs.Text.{IsPageText}

@@ -2,15 +2,9 @@
 use Rattle.std.specs.Prelude.{ℕ, ◌+◌, List, [], ◌∷◌, ◌++◌, map, Option, None, Some, codes, decimal}
 use Rattle.std.specs.Global.{Vec}
 use Rattle.std.specs.List.{join_with_byte}
-use Rattle.olr_candidates.specs.declared.candidate.Candidate.{Candidate}
+use Rattle.olr_report.specs.Common.{Candidate, KeyValue, Leg, Mark, Piece, Place, RoadMap}
 use Rattle.olr_keys.specs.Cursor.{key_text, cursor_text}
-use Rattle.olr_keys.specs.Key.{KeyValue}
-use Rattle.olr_keys.specs.declared.mark.Mark.{Mark}
-use Rattle.olr_map.specs.RoadMap.{RoadMap}
-use Rattle.olr_map.specs.declared.place.Place.{Place}
-use Rattle.olr_matching.specs.declared.matched.Leg.{Leg}
 use Rattle.olr_route.specs.Route.{id_at}
-use Rattle.olr_route.specs.declared.piece.Piece.{Piece}
 use Rattle.olr_report.specs.Entries.{Entry}
 use Rattle.olr_report.specs.declared.locating.Located.{Located}
 use Rattle.olr_report.specs.declared.locating.Located.TheVariants.{Line, Point}
@@ -69,8 +63,8 @@ location_rows road (Point earliest latest) = place_row road (codes "earliest") e
 
 -- the rows of a matching: its key, its points and its legs, each counted from 1, its joined route and its location
 abbrev pub entry_rows : RoadMap → Entry → List ℕ
-entry_rows road entry = codes "matching " ++ key_text entry.key ++ codes "\n" ++ point_rows road 1 entry.matched.candidates.items
-    ++ leg_rows 1 entry.matched.legs.items ++ pieces_row road (codes "route") entry.route ++ location_rows road entry.located
+entry_rows road entry = codes "matching " ++ key_text entry.key ++ codes "\n" ++ point_rows road 1 entry.matched.candidates
+    ++ leg_rows 1 entry.matched.legs ++ pieces_row road (codes "route") entry.route ++ location_rows road entry.located
 
 -- The last row of a page: `more` and the cursor after which further matchings follow, with this mark or without one; or `end` where none do.
 abbrev pub end_row : Option KeyValue → Option Mark → List ℕ

@@ -43,7 +43,7 @@ fn have_length(pieces: &[Piece], length: u64) -> bool
 
 /// Whether the length of a leg is that of its route, at least 1 and below 2^20 decimetres.
 fn is_measured(leg: &Leg) -> bool
-    requires { All IsForwards leg.now.route.items }
+    requires { All IsForwards leg.now.route }
     ensures { IsTrue result ↔ IsMeasured leg.now }
 {
     1 <= leg.length && leg.length < 1 << 20 && have_length(&leg.route, leg.length)

@@ -13,7 +13,7 @@ use std::alloc::Global;
 
 /// How many pieces legs have, `usize::MAX` where they have more.
 fn count_of_pieces(legs: &[Leg]) -> usize
-    ensures { result ≡ min (sum_by (λ leg. length leg.route.items) legs.now) usize.MAX }
+    ensures { result ≡ min (sum_by (λ leg. length leg.route) legs.now) usize.MAX }
 {
     let mut count: usize = 0;
     for leg in legs {

@@ -25,7 +25,7 @@ pub fn legs_of_matching()
         → AreLayersOn road layers
         → IsKey layers.penalties key
         → IsMatchedBy road layers key matched
-        → AreLegsOf layers.reference matched.legs.items }
+        → AreLegsOf layers.reference matched.legs }
 {
     matchings_are_sound();
 }

@@ -91,8 +91,8 @@ pub(crate) fn location_on(
 
     ensures { IfOk result (IsLocation legs.now reference.now) }
 {
-    let first = legs[0].length;
-    let last = legs[legs.len() - 1].length;
+    let (first, last) = (&legs[0], &legs[legs.len() - 1]);
+    let (first, last) = (first.length, last.length);
     match reference {
         Reference::Line {
             positive,

@@ -41,7 +41,7 @@ pub fn entry_of<'a>(
     matched: &'a Matched,
 ) -> Result<Entry<'a>, NoMemory>
     requires reference { IsReference reference.now }
-    requires legs { AreLegsOf reference.now matched.now.legs.items }
+    requires legs { AreLegsOf reference.now matched.now.legs }
     ensures key { IfOk result (λ entry. entry.key.now ≡ key.now) }
     ensures matched { IfOk result (λ entry. entry.matched.now ≡ matched.now) }
     ensures entry { IfOk result (λ entry. IsEntryOf reference.now (entry_of entry)) }
@@ -75,7 +75,7 @@ pub fn entries<'a>(
 ) -> Result<Vec<Entry<'a>>, NoMemory>
     requires reference { IsReference reference.now }
     requires one_each { length matched.now ≡ length page.now.keys.items }
-    requires legs { All (λ matched. AreLegsOf reference.now matched.legs.items) matched.now }
+    requires legs { All (λ matched. AreLegsOf reference.now matched.legs) matched.now }
     ensures { IfOk result (λ entries. AreEntriesOf reference.now page.now.keys.items matched.now
         (map entry_of entries.items)) }
 {

@@ -196,8 +196,9 @@ fn push_entry(text: &mut String, map: &Map, entry: &Entry<'_>) -> Result<(), NoM
 {
     let cursor = Cursor::write(entry.key, None);
     write!(text, "matching {cursor}\n")?;
-    push_points(text, map, &entry.matched.candidates)?;
-    push_legs(text, &entry.matched.legs)?;
+    let matched = entry.matched;
+    push_points(text, map, &matched.candidates)?;
+    push_legs(text, &matched.legs)?;
     push_pieces_row(text, map, "route", &entry.route)?;
     push_location(text, map, &entry.location)?;
     Ok(())

@@ -1,12 +1,9 @@
-use Rattle.std.proofs.Common.{◌≡◌, Bool, true, false, ℕ, ◌++◌, List, [], ◌∷◌, length, ◌∙◌, ap, arith}
-use Rattle.std.specs.Prelude.{All, None, Option}
+use Rattle.std.proofs.Common.{◌≡◌, Bool, true, false, ℕ, ◌++◌, List, [], ◌∷◌, length, ◌∙◌, ap, arith, All, None, Option}
 use Rattle.std.specs.Global.{Vec}
 use Rattle.std.proofs.lemmas.List.{length-map, map-append}
 use Rattle.std.proofs.lemmas.List.Elements.{All-push}
 use Rattle.arrayvec.specs.ArrayVec.{ArrayVec}
-use Rattle.olr_candidates.specs.declared.candidate.Candidate.{Candidate}
-use Rattle.olr_candidates.specs.Points.{lists_of}
-use Rattle.olr_matching.specs.Layers.{lengths_of}
+use Rattle.olr_matching.proofs.Common.{Candidate, lengths_of, lists_of}
 use Rattle.olr_matching.specs.Lengths.{AreLengthsOfLeg}
 use Rattle.olr_matching.proofs.LengthRows.{lengths_of_leg}
 use Rattle.olr_matching.proofs.Lists.{holds_of_one_more}

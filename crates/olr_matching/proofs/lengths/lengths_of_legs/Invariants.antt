@@ -1,7 +1,5 @@
-use Rattle.std.proofs.Common.{ℕ, List, []}
-use Rattle.std.specs.Prelude.{IsTrue, Option}
-use Rattle.olr_candidates.specs.Points.{lists_of}
-use Rattle.olr_matching.specs.Layers.{lengths_of}
+use Rattle.std.proofs.Common.{ℕ, List, [], IsTrue, Option}
+use Rattle.olr_matching.proofs.Common.{lengths_of, lists_of}
 use Rattle.olr_matching.specs.Lengths.{AreLengthsOfLeg, AreOpen}
 use Rattle.olr_matching.specs.Searches.{AreSearchesOn}
 use Rattle.olr_matching.proofs.Lists.{HoldsOfAll}

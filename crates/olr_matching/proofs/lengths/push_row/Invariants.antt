@@ -1,5 +1,4 @@
-use Rattle.std.proofs.Common.{◌≡◌, ◌++◌, ℕ, List, take}
-use Rattle.std.specs.Prelude.{Option}
+use Rattle.std.proofs.Common.{◌≡◌, ◌++◌, ℕ, List, take, Option}
 use Rattle.olr_matching.specs.Lengths.{AreLengthsTo}
 use Rattle.olr_matching.proofs.lengths.push_row.Given as goal
 

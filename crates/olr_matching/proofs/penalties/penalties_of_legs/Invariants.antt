@@ -1,5 +1,4 @@
-use Rattle.std.proofs.Common.{ℕ, List, []}
-use Rattle.std.specs.Prelude.{Option, slice_index_or}
+use Rattle.std.proofs.Common.{ℕ, List, [], Option, slice_index_or}
 use Rattle.olr_matching.specs.Layers.{lengths_of}
 use Rattle.olr_matching.specs.Penalties.{ArePenaltiesOfLeg}
 use Rattle.olr_matching.proofs.Lists.{HoldsOfAll}

@@ -1,7 +1,6 @@
 use Rattle.std.proofs.Common.{◌≡◌, ℕ, map, take}
 use Rattle.std.specs.Global.{Vec}
-use Rattle.olr_candidates.specs.Points.{lists_of}
-use Rattle.olr_matching.specs.Layers.{penalties_of}
+use Rattle.olr_matching.proofs.Common.{lists_of, penalties_of}
 use Rattle.olr_matching.proofs.penalties.penalties_of_points.Given as goal
 
 -- the penalties of the points so far

@@ -1,7 +1,5 @@
 use Rattle.std.proofs.lemmas.List.Elements.{All-map}
-use Rattle.olr_candidates.specs.declared.candidate.Candidate.{Candidate}
-use Rattle.olr_map.specs.Place.{IsPlace}
-use Rattle.olr_map.specs.declared.place.Place.{Place}
+use Rattle.olr_matching.proofs.Common.{Candidate, IsPlace, Place}
 use Rattle.olr_matching.proofs.LengthRows.{all_of_places}
 use Rattle.olr_route.specs.Reach.{Tells}
 use Rattle.olr_matching.proofs.searches.lengths_to_candidates.Goals as goal

@@ -1,7 +1,5 @@
-use Rattle.std.proofs.Common.{◌+◌, ◌++◌, get_or, take}
-use Rattle.std.proofs.lemmas.List.{append-nil, take_all}
-use Rattle.olr_route.specs.declared.piece.Piece.{Piece}
-use Rattle.olr_report.specs.Steps.{steps_in, steps_of}
+use Rattle.std.proofs.Common.{◌+◌, ◌++◌, get_or, take, append-nil, take_all}
+use Rattle.olr_report.proofs.Common.{Piece, steps_in, steps_of}
 use Rattle.olr_report.proofs.Appending.{route_of_itself, steps_more, steps_taken}
 use Rattle.olr_report.proofs.joining.append_all.Goals as goal
 

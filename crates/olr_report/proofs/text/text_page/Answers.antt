@@ -1,9 +1,5 @@
 use Rattle.std.proofs.Common.{◌≡◌, ℕ, List, [], ◌++◌, map, Bor, Option, option_map}
-use Rattle.olr_keys.specs.Key.{KeyValue}
-use Rattle.olr_keys.specs.declared.mark.Mark.{Mark}
-use Rattle.olr_map.specs.RoadMap.{RoadMap}
-use Rattle.olr_report.specs.Entries.{entry_of}
-use Rattle.olr_report.specs.Text.{entries_rows}
+use Rattle.olr_report.proofs.Common.{entries_rows, entry_of, KeyValue, Mark, RoadMap}
 use Rattle.olr_report.specs.TextRows.{end_row}
 use Rattle.olr_report.specs.declared.page_entries.Entry.{Entry}
 use Rattle.olr_report.proofs.Shown.{entries_on_map}

@@ -2,8 +2,7 @@ use Rattle.std.proofs.Common.{◌≡◌, [], drop, map, Some, sym, subst, arith}
 use Rattle.std.proofs.lemmas.List.{drop_all}
 use Rattle.std.proofs.lemmas.Result.{on_ok_weaker}
 use Rattle.serde.specs.Event.{Logs, seq_begins}
-use Rattle.serde_json.specs.View.{items_of}
-use Rattle.olr_report.specs.Sent.{SendsItems}
+use Rattle.olr_report.proofs.Common.{items_of, SendsItems}
 use Rattle.olr_report.proofs.SentTexts.{count, one_more}
 use Rattle.olr_report.proofs.to_json.send_array.Goals as goal
 

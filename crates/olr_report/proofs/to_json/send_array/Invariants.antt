@@ -1,7 +1,5 @@
 use Rattle.std.proofs.Common.{drop, map}
-use Rattle.serde.specs.Event.{Log}
-use Rattle.serde_json.specs.View.{items_of}
-use Rattle.olr_report.specs.Sent.{SendsItems}
+use Rattle.olr_report.proofs.Common.{items_of, Log, SendsItems}
 use Rattle.olr_report.proofs.to_json.send_array.Given as goal
 
 -- with what the values that are left send, and the end, all of them are sent

@@ -1,8 +1,5 @@
-use Rattle.std.proofs.Common.{◌≡◌, ◌+◌, ◌-◌, drop, get_or, refl, arith}
-use Rattle.std.specs.Prelude.{slice_range}
-use Rattle.olr_route.specs.declared.piece.Piece.{Piece}
-use Rattle.olr_route.specs.Walk.{piece_length}
-use Rattle.olr_report.specs.Steps.{steps_of}
+use Rattle.std.proofs.Common.{◌≡◌, ◌+◌, ◌-◌, drop, get_or, refl, arith, slice_range}
+use Rattle.olr_report.proofs.Common.{Piece, piece_length, steps_of}
 use Rattle.olr_report.proofs.Appending.{no_pieces}
 use Rattle.olr_report.proofs.Parts.{clipped_within, part_all, part_more, part_none}
 use Rattle.olr_report.proofs.trimming.trim.Goals as goal

@@ -1,7 +1,5 @@
-use Rattle.std.proofs.Common.{◌≡◌, ℕ, length}
-use Rattle.std.specs.Prelude.{Some, slice_get}
-use Rattle.olr_candidates.specs.declared.candidate.Candidate.{Candidate}
-use Rattle.olr_matching.specs.Matched.{IsOfRank}
+use Rattle.std.proofs.Common.{◌≡◌, ℕ, length, Some, slice_get}
+use Rattle.olr_matching.proofs.Common.{Candidate, IsOfRank}
 use Rattle.olr_matching.proofs.layers.Layers.candidates_of.Given as goal
 
 abbrev pub invariant-loop-layer : goal.invariant-loop-layer

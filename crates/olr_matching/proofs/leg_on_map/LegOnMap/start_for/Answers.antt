@@ -1,6 +1,5 @@
-use Rattle.olr_candidates.specs.declared.candidate.Candidate.{Candidate}
+use Rattle.olr_matching.proofs.Common.{Candidate, IsDeparture}
 use Rattle.std.proofs.lemmas.List.Elements.{All-get_or}
-use Rattle.olr_map.specs.Place.{IsDeparture}
 use Rattle.olr_matching.proofs.LengthRows.{serves_on, no_candidate}
 use Rattle.olr_matching.proofs.leg_on_map.LegOnMap.start_for.Goals as goal
 

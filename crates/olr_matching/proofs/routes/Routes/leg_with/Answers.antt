@@ -1,6 +1,5 @@
 use Rattle.std.proofs.Common.{ap}
-use Rattle.olr_matching.specs.Layers.{LayersValue}
-use Rattle.olr_matching.specs.Routes.{RoutesValue}
+use Rattle.olr_matching.proofs.Common.{LayersValue, RoutesValue}
 use Rattle.olr_matching.proofs.Pairs.{leg_of_pair}
 use Rattle.olr_matching.proofs.routes.Routes.leg_with.Goals as goal
 
@@ -16,6 +15,6 @@ next_of-requires c = (
 
 pub returns : goal.returns
 returns c = rw (← c.self.view_is)
-    (leg_of_pair _ _ _ _ _ c.length-length.result c.from.result _ c.next_of.result c.args.route c.length-length.ensures
+    (leg_of_pair _ _ _ _ _ c.length-length.result c.from.result _ c.next_of.result c.args.route.items c.length-length.ensures
     (rw (← c.layers.view_is) c.next_of.ensures)
     c.leg_penalty.ensures.is c.from.ensures c.self.invariant.sound (rw (← c.self.view_is) at c.requires.route))

@@ -1,5 +1,4 @@
-use Rattle.olr_candidates.specs.declared.candidate.Candidate.{Candidate}
-use Rattle.olr_map.specs.Place.{IsDeparture, IsPlace}
+use Rattle.olr_matching.proofs.Common.{Candidate, IsDeparture, IsPlace}
 use Rattle.olr_route.specs.Reach.{Tells}
 use Rattle.olr_matching.proofs.Lists.{all_at}
 use Rattle.olr_matching.proofs.Pairs.{has_walk, route_of_pair}
