@@ -41,25 +41,25 @@ IsAt spots s i = (a b : Spot) → slice_get spots i ≡ Some a → slice_get spo
 abbrev pub spot_at : List Spot → ℕ → Spot
 spot_at spots i = get_or spots i (record { x = pos 0; y = pos 0 })
 
-read : (spots : List Spot) (s i : ℕ) → i + 1 < length spots → IsAt spots s i → IsSegmentAt spots s i (spot_at spots i) (spot_at spots (i + 1))
-read spots s i within is =
+read : {spots : List Spot} (s i : ℕ) → i + 1 < length spots → IsAt spots s i → IsSegmentAt spots s i (spot_at spots i) (spot_at spots (i + 1))
+read {spots} s i within is =
     let one : i + 1 ≡ suc i = omega arith in
     rw one (is (spot_at spots i) (spot_at spots (suc i))
     (slice_get-get_or _ i _ (omega (arith, within)))
     (slice_get-get_or spots (suc i) (record { x = pos 0; y = pos 0 }) (omega (arith, within))))
 
-pub is_at : (spots : List Spot) (s i : ℕ) → i + 1 < length spots → IsAt spots s i → IsPolyline spots
+pub is_at : {spots : List Spot} {s i : ℕ} → i + 1 < length spots → IsAt spots s i → IsPolyline spots
     → (spot_at spots i ≢ spot_at spots (i + 1)) × (s - arc_at spots i ≤ distance (spot_at spots i) (spot_at spots (i + 1)))
-is_at spots s i within is polyline =
-    let at = read _ s i within is in
+is_at {spots} {s} {i} within is polyline =
+    let at = read s i within is in
     (polyline.apart i (spot_at spots i) (spot_at spots (i + 1)) at.segment, ends_behind _ s i _ _ at)
 
-pub is_along : (spots : List Spot) (s i start : ℕ) (spot : Spot) → i + 1 < length spots → IsAt spots s i → start ≡ arc_at spots i
+pub is_along : {spots : List Spot} {s i start : ℕ} {spot : Spot} → i + 1 < length spots → IsAt spots s i → start ≡ arc_at spots i
     → spot ≡ spot_between (spot_at spots i) (spot_at spots (i + 1)) (s - start) (distance (spot_at spots i) (spot_at spots (i + 1))) → IsAlong spots s spot
-is_along spots s i start spot within is same spot_is = record {
+is_along {spots} {s} {i} within is same spot_is = record {
   i = i;
   a = spot_at spots i;
   b = spot_at spots (i + 1);
-  at_arc = read _ s i within is;
+  at_arc = read s i within is;
   spot_of = rw (sym same) spot_is;
 }

@@ -40,8 +40,8 @@ some_sector d there =
 IsInOne : Direction → Type 0
 IsInOne d = (s t : ℕ) → IsSector d s → IsSector d t → s ≡ t
 
-turned_on : (d : Direction) (s : ℕ) → IsSector (turned d) s → IsSector d ((((s + 8) % 32 + 8) % 32 + 8) % 32)
-turned_on d s is =
+turned_on : {d : Direction} (s : ℕ) → IsSector (turned d) s → IsSector d ((((s + 8) % 32 + 8) % 32 + 8) % 32)
+turned_on {d} s is =
     let twice = sector_turned _ s is in
     let thrice = sector_turned _ _ twice in
     rw (← turned_round d) (sector_turned _ _ thrice)
@@ -50,7 +50,7 @@ one_turned : (k : ℕ) (d : Direction) → IsInOne d → IsInOne (turns k d)
 unfolding IsInOne
 one_turned zero d one = one
 one_turned (suc k) d one = λ s t is_s is_t.
-    let same = one_turned k d one _ _ (turned_on _ s is_s) (turned_on _ t is_t) in
+    let same = one_turned k d one _ _ (turned_on s is_s) (turned_on t is_t) in
     omega (arith, same, is_s.in_range, is_t.in_range)
 
 one_of_quarter : (d : Direction) → Quarter d → IsInOne d

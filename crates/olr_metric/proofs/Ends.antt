@@ -45,8 +45,8 @@ first_segment spots zero first = refl
 first_segment spots (suc i) first = absurd (omega (arith, first i (omega arith)))
 
 -- behind the last segment there is no other
-last_segment : (spots : List Spot) (i : ℕ) (a b : Spot) → IsPolyline spots → IsSegment spots i a b → arc spots ≤ arc_at spots (suc i) → suc i ≡ length spots - 1
-last_segment spots i a b polyline segment reaches =
+last_segment : {spots : List Spot} {i : ℕ} {a b : Spot} → IsPolyline spots → IsSegment spots i a b → arc spots ≤ arc_at spots (suc i) → suc i ≡ length spots - 1
+last_segment {spots} {i} {b} polyline segment reaches =
     let within : suc i < length spots = slice_get_within spots (suc i) b segment.end in
     elim (cases_lt (suc (suc i)) (length spots)) [
       | inl more ↦
@@ -73,7 +73,7 @@ starts spots spot polyline is =
 pub ends : (spots : List Spot) (spot : Spot) → IsPolyline spots → IsAlong spots (arc spots) spot → slice_get spots (length spots - 1) ≡ Some spot
 ends spots spot polyline is =
     let some : 0 < distance is.a is.b = distance_positive _ _ (polyline.apart is.i is.a is.b is.at_arc.segment) in
-    let last : suc is.i ≡ length spots - 1 = last_segment _ _ _ _ polyline is.at_arc.segment is.at_arc.reaches in
+    let last : suc is.i ≡ length spots - 1 = last_segment polyline is.at_arc.segment is.at_arc.reaches in
     let rest : arc spots - arc_at spots is.i ≡ distance is.a is.b = omega (arith, is.at_arc.reaches, arc_within spots (suc is.i), arc_segment spots is.i is.a is.b is.at_arc.segment.start is.at_arc.segment.end) in
     let same : spot_between is.a is.b (distance is.a is.b) (distance is.a is.b) ≡ is.b = same_spot _ _ (whole_part _ _ _ some) (whole_part _ _ _ some) in
     let spot_is : spot ≡ is.b = is.spot_of ∙ ap (λ (k : ℕ). spot_between is.a is.b k (distance is.a is.b)) rest ∙ same in

@@ -21,14 +21,14 @@ share_near d part whole within positive = floor_product_near d _ _ _ positive
     (mul-le (nat_abs d) part (nat_abs d) whole (omega arith) within)
 
 -- that part as the code has it, in a wider type
-pub share_at_most : (d : ℤ) (part whole : ℕ) (r : ℤ) → r ≡ floor (d *ℤ pos part) whole → nat_abs d ≤ 2 ^ 34 → part ≤ whole → 0 < whole → nat_abs r ≤ 2 ^ 34
-share_at_most d part whole r same at_most within positive = rw same (omega (arith, share_near d _ _ within positive, at_most))
+pub share_at_most : (d : ℤ) {part whole : ℕ} (r : ℤ) → r ≡ floor (d *ℤ pos part) whole → nat_abs d ≤ 2 ^ 34 → part ≤ whole → 0 < whole → nat_abs r ≤ 2 ^ 34
+share_at_most d r same at_most within positive = rw same (omega (arith, share_near d _ _ within positive, at_most))
 
-pub small_is_wide : (r : ℤ) → nat_abs r ≤ 2 ^ 34 → to_z w128 (of_z w128 r) ≡ r
-small_is_wide r at_most = to_z-of_z w128 r (fits_signed_from_abs _ r (omega (arith, at_most)))
+pub small_is_wide : {r : ℤ} → nat_abs r ≤ 2 ^ 34 → to_z w128 (of_z w128 r) ≡ r
+small_is_wide {r} at_most = to_z-of_z w128 r (fits_signed_from_abs _ r (omega (arith, at_most)))
 
 pub small_is : (r : ℤ) → nat_abs r ≤ 2 ^ 34 → to_z w64 (of_z w64 r) ≡ r
 small_is r at_most = to_z-of_z w64 r (fits_signed_from_abs _ r (omega (arith, at_most)))
 
-pub small_fits : (r : ℤ) → nat_abs r ≤ 2 ^ 34 → FitsSigned w64 r
-small_fits r at_most = fits_signed_from_abs _ r (omega (arith, at_most))
+pub small_fits : {r : ℤ} → nat_abs r ≤ 2 ^ 34 → FitsSigned w64 r
+small_fits {r} at_most = fits_signed_from_abs _ r (omega (arith, at_most))

@@ -57,8 +57,8 @@ nearest_one spots p gap is = record {
 }
 
 -- the next one is nearer
-pub nearest_next : (spots : List Spot) (p : Spot) (n i gap next : ℕ) → IsNearestOf spots p n i gap → IsGap spots p n next → next < gap → IsNearestOf spots p (n + 1) n next
-nearest_next spots p n i gap next of is nearer = record {
+pub nearest_next : {spots : List Spot} {p : Spot} {n i gap next : ℕ} → IsNearestOf spots p n i gap → IsGap spots p n next → next < gap → IsNearestOf spots p (n + 1) n next
+nearest_next {spots} {n} of is nearer = record {
   within = omega arith;
   is_gap = is;
   least = λ j c d lt segment. elim (cases_lt j n) [
@@ -70,9 +70,9 @@ nearest_next spots p n i gap next of is nearer = record {
 }
 
 -- it is not
-pub nearest_still : (spots : List Spot) (p : Spot) (n i gap : ℕ) → IsNearestOf spots p n i gap
+pub nearest_still : {spots : List Spot} {p : Spot} {n i gap : ℕ} → IsNearestOf spots p n i gap
     → ((a b : Spot) → slice_get spots n ≡ Some a → slice_get spots (suc n) ≡ Some b → gap ≤ distance p (foot p a b)) → IsNearestOf spots p (n + 1) i gap
-nearest_still spots p n i gap of no_nearer = record {
+nearest_still {spots} {n} of no_nearer = record {
   within = omega (arith, of.within);
   is_gap = of.is_gap;
   least = λ j c d lt segment. elim (cases_lt j n) [
@@ -84,9 +84,9 @@ nearest_still spots p n i gap of no_nearer = record {
 }
 
 -- of all segments
-pub nearest_of_all : (spots : List Spot) (p : Spot) (n i gap : ℕ) (a b : Spot) → n + 1 ≡ length spots → IsNearestOf spots p n i gap
+pub nearest_of_all : {spots : List Spot} {p : Spot} {n i gap : ℕ} (a b : Spot) → n + 1 ≡ length spots → IsNearestOf spots p n i gap
     → slice_get spots i ≡ Some a → slice_get spots (suc i) ≡ Some b → IsNearestSegment spots p i a b
-nearest_of_all spots p n i gap a b all of start end = record {
+nearest_of_all {spots} {n} a b all of start end = record {
   segment = record { start = start; end = end };
   least = λ j c d segment. let lt : j < n = omega (arith, all, slice_get_within spots (suc j) d segment.end) in
       omega (arith, of.least j c d lt segment, of.is_gap a b start end);
@@ -108,12 +108,12 @@ end_at spots i within =
     let one : i + 1 ≡ suc i = omega arith in
     rw one (slice_get-get_or spots (suc i) (record { x = pos 0; y = pos 0 }) (omega (arith, within)))
 
-pub is_nearest : (spots : List Spot) (p : Spot) (i : ℕ) (near : Near) → i + 1 < length spots → IsFirst spots p i
+pub is_nearest : {spots : List Spot} {p : Spot} {i : ℕ} {near : Near} → i + 1 < length spots → IsFirst spots p i
     → IsFoot spots p i near.spot
     → near.distance ≡ distance p near.spot
     → near.arc ≡ arc_at spots i + min (distance (spot_at spots i) near.spot) (distance (spot_at spots i) (spot_at spots (i + 1)))
     → IsNearest spots p near
-is_nearest spots p i near within is is_foot distance_is arc_is = record {
+is_nearest {spots} {i} within is is_foot distance_is arc_is = record {
   i = i;
   a = spot_at spots i;
   b = spot_at spots (i + 1);

@@ -66,8 +66,8 @@ same_part (negsuc a) (pos b) f d some long same = absurd (pos-ne-negsuc (b * f /
 same_part (negsuc a) (negsuc b) f d some long same = ap negsuc (one_multiple_below a b f d some long
     (negsuc_is (sym (below a f d some long) ∙ same ∙ below b f d some long)))
 
-same_displacement : (a b o : ℤ) → a -ℤ o ≡ b -ℤ o → a ≡ b
-same_displacement a b o same = omega (arith, ints, same)
+same_displacement : {a b : ℤ} (o : ℤ) → a -ℤ o ≡ b -ℤ o → a ≡ b
+same_displacement o same = omega (arith, ints, same)
 
 same_place : (a b : Coordinates) → a.lon ≡ b.lon → a.lat ≡ b.lat → a ≡ b
 same_place a b lon lat = ap (λ (x : ℤ). let place : Coordinates = record { lon = x; lat = a.lat } in place) lon
@@ -77,5 +77,5 @@ pub one_place : (origin a b : Coordinates) → IsLatitude origin.lat → spot_of
 one_place origin a b is same =
     let long : 10000000 ≤ 11132 * scale_of origin.lat = omega (arith, scale_at_least _ is) in
     same_place a b
-    (same_displacement _ _ origin.lon (same_part _ _ _ _ (omega arith) long (ap (λ (s : Spot). s.x) same)))
-    (same_displacement _ _ _ (same_part _ _ _ _ (omega arith) (omega arith) (ap (λ (s : Spot). s.y) same)))
+    (same_displacement origin.lon (same_part _ _ _ _ (omega arith) long (ap (λ (s : Spot). s.x) same)))
+    (same_displacement _ (same_part _ _ _ _ (omega arith) (omega arith) (ap (λ (s : Spot). s.y) same)))

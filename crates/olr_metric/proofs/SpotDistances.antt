@@ -21,8 +21,8 @@ zero_root n none =
     let below : n < (0 + 1) * (0 + 1) = subst (λ (r : ℕ). n < (r + 1) * (r + 1)) none next in
     omega (arith, below)
 
-same_number : (x y : ℤ) → nat_abs (x -ℤ y) ≡ 0 → x ≡ y
-same_number x y none = omega (arith, ints, none)
+same_number : {x y : ℤ} → nat_abs (x -ℤ y) ≡ 0 → x ≡ y
+same_number none = omega (arith, ints, none)
 
 turned_number : (x y : ℤ) → nat_abs (x -ℤ y) ≡ nat_abs (y -ℤ x)
 turned_number x y = omega (arith, ints)
@@ -31,8 +31,8 @@ turned_number x y = omega (arith, ints)
 pub distance_zero : (a b : Spot) → distance a b ≡ 0 → a ≡ b
 distance_zero a b none =
     let squares : square (a.x -ℤ b.x) + square (a.y -ℤ b.y) ≡ 0 = zero_root _ none in
-    same_spot a b (same_number _ _ (zero_square _ (omega (arith, squares))))
-    (same_number _ _ (zero_square _ (omega (arith, squares))))
+    same_spot a b (same_number (zero_square _ (omega (arith, squares))))
+    (same_number (zero_square _ (omega (arith, squares))))
 
 no_displacement : (x : ℤ) → nat_abs (x -ℤ x) ≡ 0
 no_displacement x = omega (arith, ints)

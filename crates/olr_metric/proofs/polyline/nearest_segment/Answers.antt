@@ -7,7 +7,7 @@ use Rattle.olr_metric.proofs.polyline.nearest_segment.Goals as goal
 
 pub loop-segment-preserved-then-not-may_be_nearer : goal.loop-segment-preserved-then-not-may_be_nearer
 loop-segment-preserved-then-not-may_be_nearer c = record {
-  nearest = nearest_still _ _ _ _ _ c.loop-segment.invariant.nearest
+  nearest = nearest_still c.loop-segment.invariant.nearest
       (c.if-not-may_be_nearer.ensures refl);
   foot = c.loop-segment.invariant.foot;
   distance = c.loop-segment.invariant.distance;
@@ -23,7 +23,7 @@ loop-segment-preserved-then-square-squared c =
     let no_nearer : c.loop-segment.least ≤ root c.square_distance-square.result =
     root_at_least _ _ (omega (arith, c.squared.ensures, c.if-square-squared.true)) in
     record {
-      nearest = nearest_still _ _ _ _ _ c.loop-segment.invariant.nearest
+      nearest = nearest_still c.loop-segment.invariant.nearest
           (λ a b start end. omega (arith, no_nearer, gap a b start end));
       foot = c.loop-segment.invariant.foot;
       distance = c.loop-segment.invariant.distance;
@@ -37,7 +37,7 @@ loop-segment-preserved c =
     let nearer : root c.square_distance-square.result < c.loop-segment.least =
     root_less _ _ (omega (arith, c.squared.ensures, c.if-square-squared.false)) in
     record {
-      nearest = nearest_next _ _ _ _ _ _ c.loop-segment.invariant.nearest
+      nearest = nearest_next c.loop-segment.invariant.nearest
           (gap_of_foot c.args.spots.now _ c.loop-segment.segment _ _ c.foot_on-found.ensures.foot gap_is)
           (omega (arith, c.root_of-least.ensures.root, nearer));
       foot = c.foot_on-found.ensures.foot;
@@ -49,4 +49,4 @@ loop-segment-preserved c =
 pub returns-clause-nearest : goal.returns-clause-nearest
 returns-clause-nearest c a b start end =
     let all : c.loop-segment.segment + 1 ≡ length c.args.spots.now = omega (arith, c.loop-segment-test.false, c.requires.at_least) in
-    nearest_of_all _ _ _ _ _ a b all c.loop-segment.invariant.nearest start end
+    nearest_of_all a b all c.loop-segment.invariant.nearest start end

@@ -11,7 +11,7 @@ overflow_add-result c =
     let is_displacement : c.displacement.result ≡ c.args.b -ℤ c.args.a = search rules in
     let is : to_z w64 (of_z w64 c.args.a) +ℤ to_z w64 (of_z w64 c.share.result) ≡ between c.args.a c.args.b c.args.part c.args.whole = between_is c.args.a c.args.b _ _ _ _ is_displacement c.share.ensures c.requires.a c.displacement.ensures.at_most c.requires.part c.requires.positive in
     let near : nat_abs (between c.args.a c.args.b c.args.part c.args.whole) ≤ 2 ^ 33 = between_near c.args.a c.args.b _ _ _ c.requires.a c.requires.b c.requires.part c.requires.positive in
-    rw is (small_fits _ (omega (arith, near)))
+    rw is (small_fits (omega (arith, near)))
 
 -- src/segment.rt:105:1
 pub returns-clause-between : goal.returns-clause-between
