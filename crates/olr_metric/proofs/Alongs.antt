@@ -1,5 +1,5 @@
 -- The segment at an arc.
-use Rattle.std.proofs.Common.{◌≡◌, ℕ, suc, ◌+◌, ◌-◌, ◌<◌, ◌≤◌, arith, List, length, Some, get_or, inl, inr, subst, sym, ◌≢◌, pos}
+use Rattle.std.proofs.Common.{◌≡◌, ℕ, suc, ◌+◌, ◌-◌, ◌<◌, ◌≤◌, arith, add-one, List, length, Some, get_or, inl, inr, sym, ◌≢◌, pos}
 use Rattle.std.specs.Prelude.{slice_get}
 use Rattle.std.proofs.lemmas.Bool.{cases_lt}
 use Rattle.std.proofs.lemmas.Option.{slice_get-get_or}
@@ -26,7 +26,7 @@ pub segment_at : (spots : List Spot) (s i : ℕ) (a b : Spot) → AreBefore spot
     → slice_get spots i ≡ Some a → slice_get spots (suc i) ≡ Some b → IsSegmentAt spots s i a b
 segment_at spots s i a b before reaches start end = record {
   segment = record { start = start; end = end };
-  reaches = let one : i + 1 ≡ suc i = omega arith in subst (λ (k : ℕ). s ≤ arc_at spots k) one reaches;
+  reaches = rw add-one at reaches;
   first = before;
 }
 
@@ -43,8 +43,7 @@ spot_at spots i = get_or spots i (record { x = pos 0; y = pos 0 })
 
 read : {spots : List Spot} (s i : ℕ) → i + 1 < length spots → IsAt spots s i → IsSegmentAt spots s i (spot_at spots i) (spot_at spots (i + 1))
 read {spots} s i within is =
-    let one : i + 1 ≡ suc i = omega arith in
-    rw one (is (spot_at spots i) (spot_at spots (suc i))
+    rw add-one (is (spot_at spots i) (spot_at spots (suc i))
     (slice_get-get_or _ i _ (omega (arith, within)))
     (slice_get-get_or spots (suc i) (record { x = pos 0; y = pos 0 }) (omega (arith, within))))
 

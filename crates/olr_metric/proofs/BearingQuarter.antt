@@ -1,10 +1,11 @@
 -- The directions of the first quarter, from north (included) to east (excluded), and their sectors.
-use Rattle.std.proofs.Common.{◌≡◌, ℕ, zero, suc, ◌+◌, ◌-◌, ◌*◌, ◌/◌, ◌%◌, ◌<◌, ◌≤◌, arith, pos, neg_ℤ, ◌≤ℤ◌, ◌<ℤ◌, refl, inl, inr}
+use Rattle.std.proofs.Common.{◌≡◌, ℕ, zero, suc, ◌+◌, ◌-◌, ◌*◌, ◌/◌, ◌%◌, ◌<◌, ◌≤◌, arith, rules, add-one, pos, neg_ℤ, ◌≤ℤ◌, ◌<ℤ◌, refl, inl, inr}
 use Rattle.std.proofs.lemmas.Int.{ints, by_lt_z}
 use Rattle.std.proofs.lemmas.Bool.{cases_lt}
 use Rattle.std.proofs.lemmas.Nat.{mul-le}
 use Rattle.std.proofs.Math.IntN.{neg_ℤ-neg_ℤ}
 use Rattle.olr_metric.specs.Sector.{Direction, cross, turned, ray, ray_to, IsSector}
+use Rattle.olr_metric.proofs.Neither.{neither_less}
 use Rattle.olr_metric.proofs.BearingTurns.{ray_turned, cross_turned, ray_turned_twice, ray_turned_thrice, negative_times}
 
 -- A ray of the first quarter and the one behind it, which goes no less far east and no further north.
@@ -20,17 +21,20 @@ record Step (s : ℕ) : Type 0 where
   up : 0 < y
   clockwise : x * y' < y * x'
 
+step_of : {s x y x' y' : ℕ} → ray s ≡ ray_to x y → ray (suc s) ≡ ray_to x' y' → x ≤ x' → y' ≤ y → 0 < y → x * y' < y * x' → Step s
+step_of this next east north up clockwise = search rules
+
 step : (s : ℕ) → s < 8 → Step s
 unfolding ray
-step zero inside = record { x = 0; y = 1000000; x' = 198912; y' = 1000000; this = refl; next = refl; east = omega arith; north = omega arith; up = omega arith; clockwise = omega arith }
-step (suc zero) inside = record { x = 198912; y = 1000000; x' = 414214; y' = 1000000; this = refl; next = refl; east = omega arith; north = omega arith; up = omega arith; clockwise = omega arith }
-step (suc (suc zero)) inside = record { x = 414214; y = 1000000; x' = 668179; y' = 1000000; this = refl; next = refl; east = omega arith; north = omega arith; up = omega arith; clockwise = omega arith }
-step (suc (suc (suc zero))) inside = record { x = 668179; y = 1000000; x' = 1000000; y' = 1000000; this = refl; next = refl; east = omega arith; north = omega arith; up = omega arith; clockwise = omega arith }
-step (suc (suc (suc (suc zero)))) inside = record { x = 1000000; y = 1000000; x' = 1000000; y' = 668179; this = refl; next = refl; east = omega arith; north = omega arith; up = omega arith; clockwise = omega arith }
-step (suc (suc (suc (suc (suc zero))))) inside = record { x = 1000000; y = 668179; x' = 1000000; y' = 414214; this = refl; next = refl; east = omega arith; north = omega arith; up = omega arith; clockwise = omega arith }
-step (suc (suc (suc (suc (suc (suc zero)))))) inside = record { x = 1000000; y = 414214; x' = 1000000; y' = 198912; this = refl; next = refl; east = omega arith; north = omega arith; up = omega arith; clockwise = omega arith }
-step (suc (suc (suc (suc (suc (suc (suc zero))))))) inside = record { x = 1000000; y = 198912; x' = 1000000; y' = 0; this = refl; next = refl; east = omega arith; north = omega arith; up = omega arith; clockwise = omega arith }
-step (suc (suc (suc (suc (suc (suc (suc (suc k)))))))) inside = absurd (omega (arith, inside))
+step zero inside = step_of refl refl (omega arith) (omega arith) (omega arith) (omega arith)
+step (suc zero) inside = step_of refl refl (omega arith) (omega arith) (omega arith) (omega arith)
+step (suc (suc zero)) inside = step_of refl refl (omega arith) (omega arith) (omega arith) (omega arith)
+step (suc (suc (suc zero))) inside = step_of refl refl (omega arith) (omega arith) (omega arith) (omega arith)
+step (suc (suc (suc (suc zero)))) inside = step_of refl refl (omega arith) (omega arith) (omega arith) (omega arith)
+step (suc (suc (suc (suc (suc zero))))) inside = step_of refl refl (omega arith) (omega arith) (omega arith) (omega arith)
+step (suc (suc (suc (suc (suc (suc zero)))))) inside = step_of refl refl (omega arith) (omega arith) (omega arith) (omega arith)
+step (suc (suc (suc (suc (suc (suc (suc zero))))))) inside = step_of refl refl (omega arith) (omega arith) (omega arith) (omega arith)
+step _ inside = absurd (omega arith)
 
 -- each ray lies clockwise of the one before, within half a turn
 clockwise_of : (x y x' y' : ℕ) → x * y' < y * x' → cross (ray_to x y) (ray_to x' y') <ℤ pos 0
@@ -133,16 +137,9 @@ no_earlier a b s t inside earlier is_s is_t =
     omega (arith, ints, more', is_s.ends, is_t.begins)
 
 pub one_in_quarter : (a b s t : ℕ) → 0 < b → IsSector (ray_to a b) s → IsSector (ray_to a b) t → s ≡ t
-one_in_quarter a b s t up is_s is_t = elim (cases_lt s t) [
-  | inl less ↦ absurd (no_earlier a b s t (in_quarter a b t up is_t) less is_s is_t)
-  | inr more ↦ elim (cases_lt t s) [
-    | inl less ↦ absurd (no_earlier a b t s (in_quarter a b s up is_s) less is_t is_s)
-    | inr same ↦ omega (arith, more, same)
-  ]
-]
-
-ends_of : (a b k : ℕ) → pos 0 <ℤ cross (ray (suc k)) (ray_to a b) → pos 0 <ℤ cross (ray (k + 1)) (ray_to a b)
-ends_of a b k ahead = let next : k + 1 ≡ suc k = omega arith in rw next ahead
+one_in_quarter a b s t up is_s is_t = neither_less
+    (λ less. no_earlier a b s t (in_quarter a b t up is_t) less is_s is_t)
+    (λ more. no_earlier a b t s (in_quarter a b s up is_s) more is_t is_s)
 
 pub passes_first : (a b : ℕ) → cross (ray 0) (ray_to a b) ≤ℤ pos 0
 unfolding ray
@@ -165,7 +162,7 @@ before_ray : (a b k : ℕ) → k ≤ 8 → pos 0 <ℤ cross (ray k) (ray_to a b)
 before_ray a b zero inside ahead = absurd (omega (arith, ints, ahead, passes_first a b))
 before_ray a b (suc k) inside ahead = by_lt_z _ _
     (λ ahead'. before_ray a b k (omega (arith, inside)) ahead')
-    (λ passed. (k, record { in_range = omega (arith, inside); begins = passed; ends = ends_of a b k ahead }))
+    (λ passed. (k, record { in_range = omega (arith, inside); begins = passed; ends = rw add-one ahead }))
 
 pub some_in_quarter : (a b : ℕ) → 0 < b → (s : ℕ) × IsSector (ray_to a b) s
 some_in_quarter a b up = before_ray a b 8 (omega arith) (ahead_of_last a b up)

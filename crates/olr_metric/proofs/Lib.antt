@@ -1,3 +1,4 @@
+pub mod Neither
 pub mod Checks
 mod Roots
 mod Apart

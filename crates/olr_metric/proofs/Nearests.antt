@@ -1,5 +1,5 @@
 -- The nearest of the first segments of a polyline.
-use Rattle.std.proofs.Common.{◌≡◌, ℕ, suc, ◌+◌, ◌<◌, ◌≤◌, arith, List, length, Some, subst, inl, inr, pos, get_or, min, ap, ◌∙◌, ◌*◌, ◌-ℤ◌, refl}
+use Rattle.std.proofs.Common.{◌≡◌, ℕ, suc, ◌+◌, ◌<◌, ◌≤◌, arith, add-one, List, length, Some, subst, inl, inr, pos, get_or, min, ap, ◌∙◌, ◌*◌, ◌-ℤ◌, refl}
 use Rattle.std.specs.Prelude.{slice_get}
 use Rattle.std.proofs.lemmas.Bool.{cases_lt}
 use Rattle.std.proofs.lemmas.Option.{slice_get_within, slice_get-get_or, get_or_from_slice_get}
@@ -52,7 +52,7 @@ nearest_one spots p gap is = record {
   within = omega arith;
   is_gap = is;
   least = λ j c d lt segment. let none : j ≡ 0 = omega (arith, lt) in
-      omega (arith, is c d (subst (λ (k : ℕ). slice_get spots k ≡ Some c) none segment.start) (subst (λ (k : ℕ). slice_get spots (suc k) ≡ Some d) none segment.end));
+      omega (arith, is c d (rw none at segment.start) (rw none at segment.end));
   first = λ j c d lt segment. absurd (omega (arith, lt));
 }
 
@@ -64,7 +64,7 @@ nearest_next {spots} {n} of is nearer = record {
   least = λ j c d lt segment. elim (cases_lt j n) [
     | inl before ↦ omega (arith, of.least j c d before segment, nearer)
     | inr at ↦ let same : j ≡ n = omega (arith, lt, at) in
-        omega (arith, is c d (subst (λ (k : ℕ). slice_get spots k ≡ Some c) same segment.start) (subst (λ (k : ℕ). slice_get spots (suc k) ≡ Some d) same segment.end))
+        omega (arith, is c d (rw same at segment.start) (rw same at segment.end))
   ];
   first = λ j c d lt segment. omega (arith, of.least j c d lt segment, nearer);
 }
@@ -78,7 +78,7 @@ nearest_still {spots} {n} of no_nearer = record {
   least = λ j c d lt segment. elim (cases_lt j n) [
     | inl before ↦ of.least j c d before segment
     | inr at ↦ let same : j ≡ n = omega (arith, lt, at) in
-        no_nearer c d (subst (λ (k : ℕ). slice_get spots k ≡ Some c) same segment.start) (subst (λ (k : ℕ). slice_get spots (suc k) ≡ Some d) same segment.end)
+        no_nearer c d (rw same at segment.start) (rw same at segment.end)
   ];
   first = of.first;
 }
@@ -105,8 +105,7 @@ start_at spots i within = slice_get-get_or _ i _ (omega (arith, within))
 
 end_at : (spots : List Spot) (i : ℕ) → i + 1 < length spots → slice_get spots (suc i) ≡ Some (spot_at spots (i + 1))
 end_at spots i within =
-    let one : i + 1 ≡ suc i = omega arith in
-    rw one (slice_get-get_or spots (suc i) (record { x = pos 0; y = pos 0 }) (omega (arith, within)))
+    rw add-one (slice_get-get_or spots (suc i) (record { x = pos 0; y = pos 0 }) (omega (arith, within)))
 
 pub is_nearest : {spots : List Spot} {p : Spot} {i : ℕ} {near : Near} → i + 1 < length spots → IsFirst spots p i
     → IsFoot spots p i near.spot

@@ -3,6 +3,7 @@ use Rattle.std.proofs.Common.{◌≡◌, ℕ, zero, suc, ◌+◌, ◌*◌, ◌<�
 use Rattle.std.proofs.lemmas.Bool.{cond_both, leb-true, leb-false, cases_lt}
 use Rattle.std.proofs.lemmas.Nat.{mul-le}
 use Rattle.olr_metric.specs.Root.{root, root_within, IsRoot}
+use Rattle.olr_metric.proofs.Neither.{neither_less}
 
 -- its square is small enough
 within_square : (n k : ℕ) → root_within n k * root_within n k ≤ n
@@ -42,14 +43,11 @@ pub root_is : (n : ℕ) → IsRoot n (root n)
 root_is n = record { square = within_square n n; next = next_square n _ refl }
 
 -- a number has one root
+no_less_root : (n a b : ℕ) → n < (a + 1) * (a + 1) → b * b ≤ n → a < b → ⊥
+no_less_root n a b high low less = omega (arith, mul-le (a + 1) (a + 1) b b (omega arith) (omega arith))
+
 pub one_root : (n a b : ℕ) → a * a ≤ n → n < (a + 1) * (a + 1) → b * b ≤ n → n < (b + 1) * (b + 1) → a ≡ b
-one_root n a b low_a high_a low_b high_b = elim (cases_lt a b) [
-  | inl under ↦ absurd (omega (arith, mul-le (a + 1) (a + 1) b b (omega (arith, under)) (omega (arith, under)), high_a, low_b))
-  | inr over ↦ elim (cases_lt b a) [
-    | inl under ↦ absurd (omega (arith, mul-le (b + 1) (b + 1) a a (omega (arith, under)) (omega (arith, under)), high_b, low_a))
-    | inr same ↦ omega (arith, over, same)
-  ]
-]
+one_root n a b low_a high_a low_b high_b = neither_less (no_less_root n a b high_a low_b) (no_less_root n b a high_b low_a)
 
 -- what has the square and the next square of the root is the root
 pub is_root : (n r : ℕ) → r * r ≤ n → n < (r + 1) * (r + 1) → r ≡ root n
@@ -74,16 +72,11 @@ pub root_less : (n k : ℕ) → n < k * k → root n < k
 root_less n k high = root_below n _ k (root_is n).square high
 
 -- the root of the lesser of two numbers is the lesser of their roots
+root_rises : (n m : ℕ) → n ≤ m → root n ≤ root m
+root_rises n m le = root_at_least m _ (omega (arith, (root_is n).square))
+
 pub root_min : (n m : ℕ) → root (min n m) ≡ min (root n) (root m)
 root_min n m = elim (cases_lt n m) [
-  | inl under ↦
-      let least : min n m ≡ n = omega (arith, under) in
-      let roots : root n ≤ root m = root_at_least m _ (omega (arith, (root_is n).square, under)) in
-      let least_root : root n ≡ min (root n) (root m) = omega (arith, roots) in
-      rw least least_root
-  | inr over ↦
-      let least : min n m ≡ m = omega (arith, over) in
-      let roots : root m ≤ root n = root_at_least n _ (omega (arith, (root_is m).square, over)) in
-      let least_root : root m ≡ min (root n) (root m) = omega (arith, roots) in
-      rw least least_root
+  | inl under ↦ let least : min n m ≡ n = omega arith in rw least (omega (arith, root_rises n m (omega arith)))
+  | inr over ↦ let least : min n m ≡ m = omega arith in rw least (omega (arith, root_rises m n over))
 ]

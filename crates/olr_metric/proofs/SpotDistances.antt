@@ -1,5 +1,5 @@
 -- The distance of spots.
-use Rattle.std.proofs.Common.{◌≡◌, ◌≢◌, ℕ, zero, suc, ◌+◌, ◌*◌, ◌<◌, arith, ℤ, ◌-ℤ◌, ap, ◌∙◌, inl, inr, refl, subst}
+use Rattle.std.proofs.Common.{◌≡◌, ◌≢◌, ℕ, zero, suc, ◌+◌, ◌*◌, ◌<◌, arith, ℤ, ◌-ℤ◌, inl, inr, refl, subst}
 use Rattle.std.specs.Prelude.{nat_abs}
 use Rattle.std.proofs.lemmas.Int.{ints}
 use Rattle.std.proofs.lemmas.Bool.{cases_eq}
@@ -9,7 +9,7 @@ use Rattle.olr_metric.specs.Spot.{square, distance}
 use Rattle.olr_metric.proofs.Roots.{root_is}
 
 pub same_spot : (a b : Spot) → a.x ≡ b.x → a.y ≡ b.y → a ≡ b
-same_spot a b x y = ap (λ (x : ℤ). let spot : Spot = record { x = x; y = a.y } in spot) x ∙ ap (λ (y : ℤ). let spot : Spot = record { x = b.x; y = y } in spot) y
+same_spot a b x y = λ i. record { x = x i; y = y i }
 
 zero_square : (n : ℕ) → n * n ≡ 0 → n ≡ 0
 zero_square zero none = refl
