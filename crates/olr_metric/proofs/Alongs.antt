@@ -14,12 +14,12 @@ abbrev pub AreBefore : List Spot → ℕ → ℕ → Type 0
 AreBefore spots s n = (j : ℕ) → j < n → arc_at spots (suc j) < s
 
 pub none_before : (spots : List Spot) (s : ℕ) → AreBefore spots s 0
-none_before spots s j lt = absurd (omega (arith, lt))
+none_before spots s j lt = absurd (omega arith)
 
 pub one_more_before : (spots : List Spot) (s n : ℕ) → AreBefore spots s n → arc_at spots (n + 1) < s → AreBefore spots s (n + 1)
 one_more_before spots s n before next j lt = elim (cases_lt j n) [
   | inl under ↦ before j under
-  | inr over ↦ let same : suc j ≡ n + 1 = omega (arith, lt, over) in rw same next
+  | inr over ↦ let same : suc j ≡ n + 1 = omega arith in rw same next
 ]
 
 pub segment_at : (spots : List Spot) (s i : ℕ) (a b : Spot) → AreBefore spots s i → s ≤ arc_at spots (i + 1)
@@ -32,7 +32,7 @@ segment_at spots s i a b before reaches start end = record {
 
 -- and s lies no further on it than its end
 pub ends_behind : (spots : List Spot) (s i : ℕ) (a b : Spot) → IsSegmentAt spots s i a b → s - arc_at spots i ≤ distance a b
-ends_behind spots s i a b is = omega (arith, is.reaches, arc_segment _ i a b is.segment.start is.segment.end)
+ends_behind spots s i a b is = omega (arith, arc_segment _ i a b is.segment.start is.segment.end)
 
 -- what the segment of a number is when its spots are read
 abbrev pub IsAt : List Spot → ℕ → ℕ → Type 0
@@ -44,8 +44,8 @@ spot_at spots i = get_or spots i (record { x = pos 0; y = pos 0 })
 read : {spots : List Spot} (s i : ℕ) → i + 1 < length spots → IsAt spots s i → IsSegmentAt spots s i (spot_at spots i) (spot_at spots (i + 1))
 read {spots} s i within is =
     rw add-one (is (spot_at spots i) (spot_at spots (suc i))
-    (slice_get-get_or _ i _ (omega (arith, within)))
-    (slice_get-get_or spots (suc i) (record { x = pos 0; y = pos 0 }) (omega (arith, within))))
+    (slice_get-get_or _ i _ (omega arith))
+    (slice_get-get_or spots (suc i) (record { x = pos 0; y = pos 0 }) (omega arith)))
 
 pub is_at : {spots : List Spot} {s i : ℕ} → i + 1 < length spots → IsAt spots s i → IsPolyline spots
     → (spot_at spots i ≢ spot_at spots (i + 1)) × (s - arc_at spots i ≤ distance (spot_at spots i) (spot_at spots (i + 1)))

@@ -16,17 +16,17 @@ arc_segment (x ∷ y ∷ rest) zero a b start end = rw (sym (same_Some x a start
 arc_segment (x ∷ y ∷ rest) (suc i) a b start end = omega (arith, arc_segment (y ∷ rest) i a b start end)
 
 arc_step : (spots : List Spot) (i : ℕ) (d : Spot) → suc i < length spots → arc_at spots (suc i) ≡ arc_at spots i + distance (get_or spots i d) (get_or spots (suc i) d)
-arc_step spots i d within = arc_segment _ i _ _ (slice_get-get_or _ i d (omega (arith, within))) (slice_get-get_or _ _ d within)
+arc_step spots i d within = arc_segment _ i _ _ (slice_get-get_or _ i d (omega arith)) (slice_get-get_or _ _ d within)
 
 -- one segment more
 pub arc_more : (spots : List Spot) (i : ℕ) (d : Spot) → i + 1 < length spots → arc_at spots (i + 1) ≡ arc_at spots i + distance (get_or spots i d) (get_or spots (i + 1) d)
 arc_more spots i d within =
-    rw add-one (arc_step _ i d (omega (arith, within)))
+    rw add-one (arc_step _ i d (omega arith))
 
 -- all segments
 pub arc_all : (spots : List Spot) → 0 < length spots → arc_at spots (length spots - 1) ≡ arc spots
 arc_all spots some =
-    let whole : suc (length spots - 1) ≡ length spots = omega (arith, some) in
+    let whole : suc (length spots - 1) ≡ length spots = omega arith in
     rw whole (ap arc (take-length spots))
 
 arc_within_one : (a : Spot) (i : ℕ) → arc_at (a ∷ []) i ≤ 0
@@ -42,8 +42,8 @@ arc_within (a ∷ b ∷ rest) (suc i) = omega (arith, arc_within (b ∷ rest) i)
 
 -- and a polyline has a length
 pub arc_positive : (spots : List Spot) → IsPolyline spots → 0 < arc spots
-arc_positive [] is = absurd (omega (arith, is.at_least))
-arc_positive (a ∷ []) is = absurd (omega (arith, is.at_least))
+arc_positive [] is = absurd (omega arith)
+arc_positive (a ∷ []) is = absurd (omega arith)
 arc_positive (a ∷ b ∷ rest) is = omega (arith, distance_positive a b (is.apart 0 a b (record { start = refl; end = refl })))
 
 pub end_within : (spots : List Spot) (i : ℕ) (a b : Spot) (beyond : ℕ) → slice_get spots i ≡ Some a → slice_get spots (suc i) ≡ Some b → beyond ≤ distance a b

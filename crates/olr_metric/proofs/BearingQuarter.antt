@@ -58,7 +58,7 @@ clockwise_behind (suc k) s inside =
 
 clockwise_at : (s k r : ℕ) → r < 8 → s ≡ r + 8 * k → cross (ray s) (ray (s + 1)) <ℤ pos 0
 clockwise_at s k r inside here =
-    let next : s + 1 ≡ suc r + 8 * k = omega (arith, here) in
+    let next : s + 1 ≡ suc r + 8 * k = omega arith in
     rw (next, here) (clockwise_behind k r inside)
 
 pub clockwise : (s : ℕ) → cross (ray s) (ray (s + 1)) <ℤ pos 0
@@ -77,9 +77,9 @@ rises_by : (s k a b : ℕ) → s + k ≤ 8 → cross (ray s) (ray_to a b) ≤ℤ
 rises_by s zero a b inside = let same : s + 0 ≡ s = omega arith in rw same (omega (arith, ints))
 rises_by s (suc k) a b inside =
     let next : s + suc k ≡ suc (s + k) = omega arith in
-    let before = rises_by s k a b (omega (arith, inside)) in
-    let last = rises (s + k) a b (omega (arith, inside)) in
-    rw next (omega (arith, ints, before, last))
+    let before = rises_by s k a b (omega arith) in
+    let last = rises (s + k) a b (omega arith) in
+    rw next (omega (arith, ints))
 
 -- the rays of the other quarters
 cross_second : (x y a b : ℕ) → cross (turned (ray_to x y)) (ray_to a b) ≡ pos (y * b + x * a)
@@ -92,14 +92,14 @@ in_second : (s a b : ℕ) → s < 8 → 0 < b → pos 0 <ℤ cross (ray (s + 8))
 in_second s a b inside up =
     let it = step s inside in
     let some = mul-le 1 1 it.y b it.up up in
-    rw (ray_turned s, it.this, cross_second _ _ a b) (omega (arith, ints, some))
+    rw (ray_turned s, it.this, cross_second _ _ a b) (omega (arith, ints))
 
 in_third : (s a b : ℕ) → s < 8 → cross (ray (s + 16)) (ray_to a b) ≤ℤ pos 0 → pos 0 <ℤ cross (ray (suc s + 16)) (ray_to a b) → ⊥
 in_third s a b inside begins ends =
     let begins' = rw (ray_turned_twice s, cross_third (ray s) (ray_to a b)) at begins in
     let ends' = rw (ray_turned_twice (suc s), cross_third (ray (suc s)) (ray_to a b)) at ends in
     let more = rises s a b inside in
-    omega (arith, ints, begins', ends', more)
+    omega (arith, ints)
 
 in_fourth : (s a b : ℕ) → s < 8 → cross (ray (suc s + 24)) (ray_to a b) ≤ℤ pos 0
 in_fourth s a b inside =
@@ -114,16 +114,16 @@ in_quarter a b s up is = elim (cases_lt s 8) [
     | inl second ↦
         let at : s ≡ (s - 8) + 8 = omega arith in
         let begins = rw at at is.begins in
-        absurd (omega (arith, ints, in_second (s - 8) a b (omega arith) up, begins))
+        absurd (omega (arith, ints, in_second (s - 8) a b (omega arith) up))
     | inr behind ↦ elim (cases_lt s 24) [
       | inl third ↦
           let at : s ≡ (s - 16) + 16 = omega arith in
           let next : s + 1 ≡ suc (s - 16) + 16 = omega arith in
           absurd (in_third (s - 16) a b (omega arith) (rw (← at) is.begins) (rw (← next) is.ends))
       | inr fourth ↦
-          let next : s + 1 ≡ suc (s - 24) + 24 = omega (arith, is.in_range) in
+          let next : s + 1 ≡ suc (s - 24) + 24 = omega arith in
           let ends = rw next at is.ends in
-          absurd (omega (arith, ints, in_fourth (s - 24) a b (omega (arith, is.in_range)), ends))
+          absurd (omega (arith, ints, in_fourth (s - 24) a b (omega arith), ends))
     ]
   ]
 ]
@@ -134,7 +134,7 @@ no_earlier a b s t inside earlier is_s is_t =
     let at : t ≡ (s + 1) + (t - (s + 1)) = omega arith in
     let more = rises_by _ _ a b (omega arith) in
     let more' : cross (ray (s + 1)) (ray_to a b) ≤ℤ cross (ray t) (ray_to a b) = rw at more in
-    omega (arith, ints, more', is_s.ends, is_t.begins)
+    omega (arith, ints)
 
 pub one_in_quarter : (a b s t : ℕ) → 0 < b → IsSector (ray_to a b) s → IsSector (ray_to a b) t → s ≡ t
 one_in_quarter a b s t up is_s is_t = neither_less
@@ -152,17 +152,17 @@ ahead_of_last a b up = omega (arith, ints)
 -- a direction that has passed the last ray lies in the last sector
 pub in_last : (a b s : ℕ) → 0 < b → s ≡ 7 → cross (ray s) (ray_to a b) ≤ℤ pos 0 → IsSector (ray_to a b) s
 in_last a b s up last passed = record {
-  in_range = omega (arith, last);
+  in_range = omega arith;
   begins = passed;
-  ends = let next : s + 1 ≡ 8 = omega (arith, last) in rw next (ahead_of_last a b up);
+  ends = let next : s + 1 ≡ 8 = omega arith in rw next (ahead_of_last a b up);
 }
 
 -- a direction lies in a sector that begins before a ray which it hasn't passed
 before_ray : (a b k : ℕ) → k ≤ 8 → pos 0 <ℤ cross (ray k) (ray_to a b) → (s : ℕ) × IsSector (ray_to a b) s
-before_ray a b zero inside ahead = absurd (omega (arith, ints, ahead, passes_first a b))
+before_ray a b zero inside ahead = absurd (omega (arith, ints, passes_first a b))
 before_ray a b (suc k) inside ahead = by_lt_z _ _
-    (λ ahead'. before_ray a b k (omega (arith, inside)) ahead')
-    (λ passed. (k, record { in_range = omega (arith, inside); begins = passed; ends = rw add-one ahead }))
+    (λ ahead'. before_ray a b k (omega arith) ahead')
+    (λ passed. (k, record { in_range = omega arith; begins = passed; ends = rw add-one ahead }))
 
 pub some_in_quarter : (a b : ℕ) → 0 < b → (s : ℕ) × IsSector (ray_to a b) s
 some_in_quarter a b up = before_ray a b 8 (omega arith) (ahead_of_last a b up)

@@ -51,7 +51,7 @@ unfolding IsInOne
 one_turned zero d one = one
 one_turned (suc k) d one = λ s t is_s is_t.
     let same = one_turned k d one _ _ (turned_on s is_s) (turned_on t is_t) in
-    omega (arith, same, is_s.in_range, is_t.in_range)
+    omega arith
 
 one_of_quarter : (d : Direction) → Quarter d → IsInOne d
 unfolding IsInOne
@@ -59,7 +59,7 @@ one_of_quarter d q = subst IsInOne (sym q.is) (one_turned q.turn (ray_to q.a q.b
 
 -- the zero direction lies in none
 none_of : (r : Direction) → pos 0 <ℤ cross r zero_direction → ⊥
-none_of r ends = omega (arith, ints, ends)
+none_of r ends = omega (arith, ints)
 
 pub no_sector : (s : ℕ) → IsSector zero_direction s → ⊥
 no_sector s is = none_of (ray (s + 1)) is.ends
@@ -71,35 +71,35 @@ one_sector d s t is_s is_t = one_of_quarter d (quarter _ _ (λ same. no_sector s
 -- The sector of a direction by that of the direction of the first quarter that it is turned back to. In each it goes so far
 -- along the axes.
 turned_once : (e : Direction) (s : ℕ) → s < 8 → IsSector e s → IsSector (turned e) (8 + s)
-turned_once e s first is = let further : 8 + s ≡ (s + 8) % 32 = omega (arith, first) in rw further (sector_turned e s is)
+turned_once e s first is = let further : 8 + s ≡ (s + 8) % 32 = omega arith in rw further (sector_turned e s is)
 
 turned_twice : (e : Direction) (s : ℕ) → s < 8 → IsSector e s → IsSector (turned (turned e)) (16 + s)
 turned_twice e s first is =
-    let further : 16 + s ≡ ((8 + s) + 8) % 32 = omega (arith, first) in
+    let further : 16 + s ≡ ((8 + s) + 8) % 32 = omega arith in
     rw further (sector_turned (turned e) (8 + s) (turned_once e s first is))
 
 turned_thrice : (e : Direction) (s : ℕ) → s < 8 → IsSector e s → IsSector (turned (turned (turned e))) (24 + s)
 turned_thrice e s first is =
-    let further : 24 + s ≡ ((16 + s) + 8) % 32 = omega (arith, first) in
+    let further : 24 + s ≡ ((16 + s) + 8) % 32 = omega arith in
     rw further (sector_turned (turned (turned e)) (16 + s) (turned_twice e s first is))
 
 pub from_east : (east north : ℤ) (x y s : ℕ) → pos 0 <ℤ east → north ≤ℤ pos 0 → x ≡ nat_abs east → y ≡ nat_abs north
     → s < 8 → IsSector (ray_to y x) s → IsSector (towards east north) (8 + s)
 from_east east north x y s some none x_is y_is first is =
-    let east_is : east ≡ pos x = omega (arith, ints, some, x_is) in
-    let north_is : north ≡ neg_ℤ (pos y) = omega (arith, ints, none, y_is) in
+    let east_is : east ≡ pos x = omega (arith, ints) in
+    let north_is : north ≡ neg_ℤ (pos y) = omega (arith, ints) in
     rw (east_is, north_is) (turned_once _ s first is)
 
 pub from_south : (east north : ℤ) (x y s : ℕ) → east ≤ℤ pos 0 → north <ℤ pos 0 → x ≡ nat_abs east → y ≡ nat_abs north
     → s < 8 → IsSector (ray_to x y) s → IsSector (towards east north) (16 + s)
 from_south east north x y s none some x_is y_is first is =
-    let east_is : east ≡ neg_ℤ (pos x) = omega (arith, ints, none, x_is) in
-    let north_is : north ≡ neg_ℤ (pos y) = omega (arith, ints, some, y_is) in
+    let east_is : east ≡ neg_ℤ (pos x) = omega (arith, ints) in
+    let north_is : north ≡ neg_ℤ (pos y) = omega (arith, ints) in
     rw (east_is, north_is) (turned_twice _ s first is)
 
 pub from_west : (east north : ℤ) (x y s : ℕ) → east <ℤ pos 0 → pos 0 ≤ℤ north → x ≡ nat_abs east → y ≡ nat_abs north
     → s < 8 → IsSector (ray_to y x) s → IsSector (towards east north) (24 + s)
 from_west east north x y s some none x_is y_is first is =
-    let east_is : east ≡ neg_ℤ (pos x) = omega (arith, ints, some, x_is) in
-    let north_is : north ≡ neg_ℤ (neg_ℤ (pos y)) = omega (arith, ints, none, y_is) in
+    let east_is : east ≡ neg_ℤ (pos x) = omega (arith, ints) in
+    let north_is : north ≡ neg_ℤ (neg_ℤ (pos y)) = omega (arith, ints) in
     rw (east_is, north_is) (turned_thrice _ s first is)

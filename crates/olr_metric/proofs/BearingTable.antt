@@ -22,7 +22,7 @@ le_decides : (m n : ℕ) → Decides (leb m n) (m ≤ n)
 le_decides m n = (λ t. leb-true m n t, λ le. grind (arith, nat_tests))
 
 passed_of : (x y a b : ℕ) → Decides (leb (x * b) (y * a)) (cross (ray_to x y) (ray_to a b) ≤ℤ pos 0)
-passed_of x y a b = Decides-like (leb (x * b) (y * a)) (λ le. omega (arith, ints, le)) (λ le. omega (arith, ints, le)) (le_decides _ _)
+passed_of x y a b = Decides-like (leb (x * b) (y * a)) (λ le. omega (arith, ints)) (λ le. omega (arith, ints)) (le_decides _ _)
 
 -- whether a direction has passed a ray, by the table
 pub passed : (s a b : ℕ) → s < 8 → Decides (leb ((get_or RAYS s (0, 0)).0 * b) ((get_or RAYS s (0, 0)).1 * a)) (cross (ray s) (ray_to a b) ≤ℤ pos 0)

@@ -8,21 +8,21 @@ use Rattle.olr_metric.proofs.Floors.{share_near, share_at_most, small_is}
 
 step_up : (a b f : ℤ) (n : ℕ) → b -ℤ a ≡ pos n → nat_abs f ≤ n → pos 0 ≤ℤ f → IsBetween a b (a +ℤ f)
 step_up a b f n up near positive = (
-  λ le. (omega (arith, ints, positive), omega (arith, ints, up, near)),
-  λ ge. (omega (arith, ints, up, near, ge), omega (arith, ints, up, near, ge)),
+  λ le. (omega (arith, ints), omega (arith, ints)),
+  λ ge. (omega (arith, ints), omega (arith, ints)),
 )
 
 step_down : (a b f : ℤ) (n : ℕ) → b -ℤ a ≡ negsuc n → nat_abs f ≤ suc n → f ≤ℤ pos 0 → IsBetween a b (a +ℤ f)
 step_down a b f n down near negative = (
-  λ le. absurd (omega (arith, ints, down, le)),
-  λ ge. (omega (arith, ints, down, near), omega (arith, ints, negative)),
+  λ le. absurd (omega (arith, ints)),
+  λ ge. (omega (arith, ints), omega (arith, ints)),
 )
 
 floor_of_positive : (m d : ℕ) → pos 0 ≤ℤ floor (pos m) d
 floor_of_positive m d = omega (arith, ints)
 
 floor_of_negative : (m d : ℕ) → 0 < d → floor (neg_ℤ (pos m)) d ≤ℤ pos 0
-floor_of_negative zero d some = let none : 0 / d ≡ 0 = omega (arith, some) in rw none (omega (arith, ints))
+floor_of_negative zero d some = let none : 0 / d ≡ 0 = omega arith in rw none (omega (arith, ints))
 floor_of_negative (suc m) d some = omega (arith, ints)
 
 lies : (a b d : ℤ) (part whole : ℕ) → b -ℤ a ≡ d → part ≤ whole → 0 < whole → IsBetween a b (a +ℤ floor (d *ℤ pos part) whole)
@@ -36,10 +36,10 @@ pub lies_between : (a b : ℤ) {part whole : ℕ} → part ≤ whole → 0 < who
 lies_between a b {part} {whole} within some = lies a b (b -ℤ a) part whole refl within some
 
 near_up : (a b x : ℤ) (m : ℕ) → nat_abs a ≤ m → nat_abs b ≤ m → (a ≤ℤ x) × (x ≤ℤ b) → nat_abs x ≤ m
-near_up a b x m near_a near_b lies = omega (arith, ints, lies.0, lies.1)
+near_up a b x m near_a near_b lies = omega (arith, ints)
 
 lies_near : (a b x : ℤ) (m : ℕ) → nat_abs a ≤ m → nat_abs b ≤ m → IsBetween a b x → nat_abs x ≤ m
-lies_near a b x m near_a near_b lies = by_lt_z b a (λ lt. near_up b a x m near_b near_a (lies.1 (omega (arith, ints, lt)))) (λ ge. near_up a b x m near_a near_b (lies.0 ge))
+lies_near a b x m near_a near_b lies = by_lt_z b a (λ lt. near_up b a x m near_b near_a (lies.1 (omega (arith, ints)))) (λ ge. near_up a b x m near_a near_b (lies.0 ge))
 
 pub between_near : (a b : ℤ) (part whole m : ℕ) → nat_abs a ≤ m → nat_abs b ≤ m → part ≤ whole → 0 < whole → nat_abs (between a b part whole) ≤ m
 between_near a b part whole m near_a near_b within some = lies_near a b _ m near_a near_b (lies_between a b within some)
@@ -50,4 +50,4 @@ pub between_is : (a b d share : ℤ) (part whole : ℕ) → d ≡ b -ℤ a → s
     → to_z w64 (of_z w64 a) +ℤ to_z w64 (of_z w64 share) ≡ between a b part whole
 between_is a b d share part whole is_d is_share small_a small_d within some =
     let is : share ≡ floor (d *ℤ pos part) whole = simp (small_is d small_d) at is_share in
-    rw (small_is a (omega (arith, small_a)), small_is _ (share_at_most d share is small_d within some), is, is_d) refl
+    rw (small_is a (omega arith), small_is _ (share_at_most d share is small_d within some), is, is_d) refl

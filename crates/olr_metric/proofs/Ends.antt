@@ -17,7 +17,7 @@ use Rattle.olr_metric.proofs.Arcs.{arc_segment, arc_within}
 -- ---- no part of a displacement, and the whole of it
 
 floor_none : (e : ℕ) → 0 < e → floor (pos 0) e ≡ pos 0
-floor_none e some = ap pos (omega (arith, some))
+floor_none e some = ap pos (omega arith)
 
 no_part : (a b : ℤ) (e : ℕ) → 0 < e → between a b 0 e ≡ a
 no_part a b e some = rw (*ℤ-zero (b -ℤ a), floor_none e some) (+ℤ_idr a)
@@ -33,7 +33,7 @@ whole_displacement (pos n) e some = ap pos (subst (λ (k : ℕ). k / e ≡ n) (o
 whole_displacement (negsuc n) (suc e) some =
     let below : suc n * suc e ≡ suc (n * suc e + e) = omega arith in
     rw (below, negative _ _) (ap negsuc (quotient n _ e (omega arith)))
-whole_displacement (negsuc n) zero some = absurd (omega (arith, some))
+whole_displacement (negsuc n) zero some = absurd (omega arith)
 
 whole_part : (a b : ℤ) (e : ℕ) → 0 < e → between a b e e ≡ b
 whole_part a b e some = rw (whole_displacement _ e some) (omega (arith, ints))
@@ -58,7 +58,7 @@ last_segment {spots} {i} {b} polyline segment reaches =
             arc_segment spots (suc i) b (get_or spots (suc (suc i)) b) segment.end next,
             distance_positive b _ (polyline.apart (suc i) b (get_or spots (suc (suc i)) b) (record { start = segment.end; end = next })),
           ))
-      | inr last ↦ omega (arith, within, last)
+      | inr last ↦ omega arith
     ]
 
 pub starts : (spots : List Spot) (spot : Spot) → IsPolyline spots → IsAlong spots 0 spot → slice_get spots 0 ≡ Some spot
@@ -74,7 +74,7 @@ pub ends : (spots : List Spot) (spot : Spot) → IsPolyline spots → IsAlong sp
 ends spots spot polyline is =
     let some : 0 < distance is.a is.b = distance_positive _ _ (polyline.apart is.i is.a is.b is.at_arc.segment) in
     let last : suc is.i ≡ length spots - 1 = last_segment polyline is.at_arc.segment is.at_arc.reaches in
-    let rest : arc spots - arc_at spots is.i ≡ distance is.a is.b = omega (arith, is.at_arc.reaches, arc_within spots (suc is.i), arc_segment spots is.i is.a is.b is.at_arc.segment.start is.at_arc.segment.end) in
+    let rest : arc spots - arc_at spots is.i ≡ distance is.a is.b = omega (arith, arc_within spots (suc is.i), arc_segment spots is.i is.a is.b is.at_arc.segment.start is.at_arc.segment.end) in
     let same : spot_between is.a is.b (distance is.a is.b) (distance is.a is.b) ≡ is.b = same_spot _ _ (whole_part _ _ _ some) (whole_part _ _ _ some) in
     let spot_is : spot ≡ is.b = is.spot_of ∙ ap (λ (k : ℕ). spot_between is.a is.b k (distance is.a is.b)) rest ∙ same in
     rw spot_is (subst (λ (k : ℕ). slice_get spots k ≡ Some is.b) last is.at_arc.segment.end)

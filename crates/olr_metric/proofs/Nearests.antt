@@ -51,9 +51,9 @@ pub nearest_one : (spots : List Spot) (p : Spot) (gap : ℕ) → IsGap spots p 0
 nearest_one spots p gap is = record {
   within = omega arith;
   is_gap = is;
-  least = λ j c d lt segment. let none : j ≡ 0 = omega (arith, lt) in
+  least = λ j c d lt segment. let none : j ≡ 0 = omega arith in
       omega (arith, is c d (rw none at segment.start) (rw none at segment.end));
-  first = λ j c d lt segment. absurd (omega (arith, lt));
+  first = λ j c d lt segment. absurd (omega arith);
 }
 
 -- the next one is nearer
@@ -62,22 +62,22 @@ nearest_next {spots} {n} of is nearer = record {
   within = omega arith;
   is_gap = is;
   least = λ j c d lt segment. elim (cases_lt j n) [
-    | inl before ↦ omega (arith, of.least j c d before segment, nearer)
-    | inr at ↦ let same : j ≡ n = omega (arith, lt, at) in
+    | inl before ↦ omega (arith, of.least j c d before segment)
+    | inr at ↦ let same : j ≡ n = omega arith in
         omega (arith, is c d (rw same at segment.start) (rw same at segment.end))
   ];
-  first = λ j c d lt segment. omega (arith, of.least j c d lt segment, nearer);
+  first = λ j c d lt segment. omega (arith, of.least j c d lt segment);
 }
 
 -- it is not
 pub nearest_still : {spots : List Spot} {p : Spot} {n i gap : ℕ} → IsNearestOf spots p n i gap
     → ((a b : Spot) → slice_get spots n ≡ Some a → slice_get spots (suc n) ≡ Some b → gap ≤ distance p (foot p a b)) → IsNearestOf spots p (n + 1) i gap
 nearest_still {spots} {n} of no_nearer = record {
-  within = omega (arith, of.within);
+  within = omega arith;
   is_gap = of.is_gap;
   least = λ j c d lt segment. elim (cases_lt j n) [
     | inl before ↦ of.least j c d before segment
-    | inr at ↦ let same : j ≡ n = omega (arith, lt, at) in
+    | inr at ↦ let same : j ≡ n = omega arith in
         no_nearer c d (rw same at segment.start) (rw same at segment.end)
   ];
   first = of.first;
@@ -88,7 +88,7 @@ pub nearest_of_all : {spots : List Spot} {p : Spot} {n i gap : ℕ} (a b : Spot)
     → slice_get spots i ≡ Some a → slice_get spots (suc i) ≡ Some b → IsNearestSegment spots p i a b
 nearest_of_all {spots} {n} a b all of start end = record {
   segment = record { start = start; end = end };
-  least = λ j c d segment. let lt : j < n = omega (arith, all, slice_get_within spots (suc j) d segment.end) in
+  least = λ j c d segment. let lt : j < n = omega (arith, slice_get_within spots (suc j) d segment.end) in
       omega (arith, of.least j c d lt segment, of.is_gap a b start end);
   first = λ j c d lt segment. omega (arith, of.first j c d lt segment, of.is_gap a b start end);
 }
@@ -101,11 +101,11 @@ abbrev pub spot_at : List Spot → ℕ → Spot
 spot_at spots i = get_or spots i (record { x = pos 0; y = pos 0 })
 
 start_at : (spots : List Spot) (i : ℕ) → i + 1 < length spots → slice_get spots i ≡ Some (spot_at spots i)
-start_at spots i within = slice_get-get_or _ i _ (omega (arith, within))
+start_at spots i within = slice_get-get_or _ i _ (omega arith)
 
 end_at : (spots : List Spot) (i : ℕ) → i + 1 < length spots → slice_get spots (suc i) ≡ Some (spot_at spots (i + 1))
 end_at spots i within =
-    rw add-one (slice_get-get_or spots (suc i) (record { x = pos 0; y = pos 0 }) (omega (arith, within)))
+    rw add-one (slice_get-get_or spots (suc i) (record { x = pos 0; y = pos 0 }) (omega arith))
 
 pub is_nearest : {spots : List Spot} {p : Spot} {i : ℕ} {near : Near} → i + 1 < length spots → IsFirst spots p i
     → IsFoot spots p i near.spot

@@ -40,7 +40,7 @@ one_nearest spots p a b one other =
     λ i. record { distance = distance_is i; arc = arc_is i; spot = spot i }
 
 not_on_before : {spots : List Spot} {s : ℕ} {a b : Spot} (one : IsAlong spots s a) (other : IsAlong spots s b) → one.i < other.i → ⊥
-not_on_before one other less = omega (arith, other.at_arc.first one.i less, one.at_arc.reaches)
+not_on_before one other less = omega (arith, other.at_arc.first one.i less)
 
 pub one_along : (spots : List Spot) (s : ℕ) (a b : Spot) → IsAlong spots s a → IsAlong spots s b → a ≡ b
 one_along spots s a b one other =

@@ -15,12 +15,12 @@ within_square n (suc k) = cond_both (nat_le (suc k * suc k) n) (suc k) (root_wit
 -- and each greater one up to k is not
 within_next : (n k j : ℕ) → root_within n k < j → j ≤ k → n < j * j
 unfolding root_within
-within_next n zero j = λ above below. absurd (omega (arith, above, below))
+within_next n zero j = λ above below. absurd (omega arith)
 within_next n (suc k) j = cond_both (nat_le (suc k * suc k) n) (suc k) (root_within n k) (λ r. r < j → j ≤ suc k → n < j * j)
-    (λ small above below. absurd (omega (arith, above, below)))
+    (λ small above below. absurd (omega arith))
     (λ big above below. elim (cases_lt j (suc k)) [
-      | inl under ↦ within_next n k j above (omega (arith, under))
-      | inr over ↦ let same : j ≡ suc k = omega (arith, over, below) in rw same (leb-false (suc k * suc k) n big)
+      | inl under ↦ within_next n k j above (omega arith)
+      | inr over ↦ let same : j ≡ suc k = omega arith in rw same (leb-false (suc k * suc k) n big)
     ])
 
 within_at_most : (n k : ℕ) → root_within n k ≤ k
@@ -35,8 +35,8 @@ less_than_next n = omega (arith, mul-le 1 (n + 1) (n + 1) (n + 1))
 
 next_square : (n r : ℕ) → r ≡ root n → n < (r + 1) * (r + 1)
 next_square n r same = elim (cases_lt r n) [
-  | inl under ↦ within_next n n _ (omega (arith, same)) (omega (arith, under))
-  | inr over ↦ let all : r ≡ n = omega (arith, over, same, within_at_most n n) in rw all (less_than_next n)
+  | inl under ↦ within_next n n _ (omega arith) (omega arith)
+  | inr over ↦ let all : r ≡ n = omega (arith, within_at_most n n) in rw all (less_than_next n)
 ]
 
 pub root_is : (n : ℕ) → IsRoot n (root n)
@@ -57,13 +57,13 @@ is_root n r low high = one_root n r _ low high (root_is n).square (root_is n).ne
 pub root_below : (n r k : ℕ) → r * r ≤ n → n < k * k → r < k
 root_below n r k low high = elim (cases_lt r k) [
   | inl under ↦ under
-  | inr over ↦ absurd (omega (arith, mul-le k k r r over over, low, high))
+  | inr over ↦ absurd (omega (arith, mul-le k k r r over over))
 ]
 
 -- a number whose square is at most n is at most the root of n
 pub root_at_least : (n k : ℕ) → k * k ≤ n → k ≤ root n
 root_at_least n k low = elim (cases_lt (root n) k) [
-  | inl under ↦ absurd (omega (arith, mul-le (root n + 1) (root n + 1) k k (omega (arith, under)) (omega (arith, under)), (root_is n).next, low))
+  | inl under ↦ absurd (omega (arith, mul-le (root n + 1) (root n + 1) k k (omega arith) (omega arith), (root_is n).next, low))
   | inr over ↦ over
 ]
 

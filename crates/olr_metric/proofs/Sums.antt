@@ -8,7 +8,7 @@ sum_near : (x y : ℤ) {m : ℕ} → nat_abs x ≤ m → nat_abs y ≤ m → nat
 sum_near x y near_x near_y = omega (arith, ints)
 
 wide_is : (x : ℤ) → nat_abs x ≤ 2 ^ 68 → to_z w128 (of_z w128 x) ≡ x
-wide_is x near = to_z-of_z w128 x (fits_signed_from_abs _ x (omega (arith, near)))
+wide_is x near = to_z-of_z w128 x (fits_signed_from_abs _ x (omega arith))
 
 pub sum_fits : (x y : ℤ) → nat_abs x ≤ 2 ^ 68 → nat_abs y ≤ 2 ^ 68 → FitsSigned w128 (to_z w128 (of_z w128 x) +ℤ to_z w128 (of_z w128 y))
 sum_fits x y near_x near_y = rw (wide_is x near_x, wide_is y near_y) (fits_signed_from_abs _ _ (omega (arith, sum_near x y near_x near_y)))

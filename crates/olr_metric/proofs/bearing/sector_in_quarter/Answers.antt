@@ -10,4 +10,4 @@ loop-sector-init c = record { in_range = omega arith; begins = passes_first _ _ 
 pub returns-after-loop-sector-clause-sector : goal.returns-after-loop-sector-clause-sector
 returns-after-loop-sector-clause-sector c =
     let inv = c.loop-sector.invariant in
-    in_last _ _ _ c.requires.north_positive (omega (arith, c.loop-sector-test.false, inv.in_range)) inv.begins
+    in_last _ _ _ c.requires.north_positive (omega arith) inv.begins

@@ -15,4 +15,4 @@ returns-clause-nearest c =
 pub returns-clause-within : goal.returns-clause-within
 returns-clause-within c =
     rw c.arc_to.ensures.arc (arc_is_within _ _ _
-    c.nearest_segment-segment.ensures.within (omega (arith, c.lesser_distance-beyond_start.ensures.lesser)))
+    c.nearest_segment-segment.ensures.within (omega arith))

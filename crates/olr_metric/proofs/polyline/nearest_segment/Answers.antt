@@ -21,10 +21,10 @@ loop-segment-preserved-then-square-squared c =
     let gap : IsGap c.args.spots.now c.args.p c.loop-segment.segment (root c.square_distance-square.result) =
     gap_of_foot c.args.spots.now _ c.loop-segment.segment _ _ c.foot_on-found.ensures.foot gap_is in
     let no_nearer : c.loop-segment.least ≤ root c.square_distance-square.result =
-    root_at_least _ _ (omega (arith, c.squared.ensures, c.if-square-squared.true)) in
+    root_at_least _ _ (omega arith) in
     record {
       nearest = nearest_still c.loop-segment.invariant.nearest
-          (λ a b start end. omega (arith, no_nearer, gap a b start end));
+          (λ a b start end. omega (arith, gap a b start end));
       foot = c.loop-segment.invariant.foot;
       distance = c.loop-segment.invariant.distance;
       at_most = c.loop-segment.invariant.at_most;
@@ -35,11 +35,11 @@ pub loop-segment-preserved : goal.loop-segment-preserved
 loop-segment-preserved c =
     let gap_is : c.root_of-least.result ≡ distance c.args.p c.foot_on-found.result = c.root_of-least.ensures.root ∙ ap (λ (n : ℕ). root n) c.square_distance-square.ensures.square in
     let nearer : root c.square_distance-square.result < c.loop-segment.least =
-    root_less _ _ (omega (arith, c.squared.ensures, c.if-square-squared.false)) in
+    root_less _ _ (omega arith) in
     record {
       nearest = nearest_next c.loop-segment.invariant.nearest
           (gap_of_foot c.args.spots.now _ c.loop-segment.segment _ _ c.foot_on-found.ensures.foot gap_is)
-          (omega (arith, c.root_of-least.ensures.root, nearer));
+          (omega arith);
       foot = c.foot_on-found.ensures.foot;
       distance = gap_is;
       at_most = c.root_of-least.ensures.at_most;
@@ -48,5 +48,5 @@ loop-segment-preserved c =
 
 pub returns-clause-nearest : goal.returns-clause-nearest
 returns-clause-nearest c a b start end =
-    let all : c.loop-segment.segment + 1 ≡ length c.args.spots.now = omega (arith, c.loop-segment-test.false, c.requires.at_least) in
+    let all : c.loop-segment.segment + 1 ≡ length c.args.spots.now = omega arith in
     nearest_of_all a b all c.loop-segment.invariant.nearest start end

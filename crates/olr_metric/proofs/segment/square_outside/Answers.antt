@@ -6,7 +6,7 @@ use Rattle.olr_metric.proofs.Rectangles.{foot_outside}
 use Rattle.olr_metric.proofs.segment.square_outside.Goals as goal
 
 near : (x : ℤ) → nat_abs x ≤ 2 ^ 33 → nat_abs x ≤ 2 ^ 34
-near x at_most = omega (arith, at_most)
+near x at_most = omega arith
 
 pub returns : goal.returns
 returns c =
