@@ -6,7 +6,7 @@ use Rattle.std.proofs.lemmas.Nat.{mul-le}
 use Rattle.std.proofs.Math.IntN.{neg_ℤ-neg_ℤ}
 use Rattle.olr_metric.specs.Sector.{Direction, cross, turned, ray, ray_to, IsSector}
 use Rattle.olr_metric.proofs.Neither.{neither_less}
-use Rattle.olr_metric.proofs.BearingTurns.{ray_turned, cross_turned, ray_turned_twice, ray_turned_thrice, negative_times}
+use Rattle.olr_metric.proofs.BearingTurns.{ray_turned, cross_turned, ray_turned_by, negative_times}
 
 -- A ray of the first quarter and the one behind it, which goes no less far east and no further north.
 record Step (s : ℕ) : Type 0 where
@@ -96,15 +96,15 @@ in_second s a b inside up =
 
 in_third : (s a b : ℕ) → s < 8 → cross (ray (s + 16)) (ray_to a b) ≤ℤ pos 0 → pos 0 <ℤ cross (ray (suc s + 16)) (ray_to a b) → ⊥
 in_third s a b inside begins ends =
-    let begins' = rw (ray_turned_twice s, cross_third (ray s) (ray_to a b)) at begins in
-    let ends' = rw (ray_turned_twice (suc s), cross_third (ray (suc s)) (ray_to a b)) at ends in
+    let begins' = rw (ray_turned_by 2 s, cross_third (ray s) (ray_to a b)) at begins in
+    let ends' = rw (ray_turned_by 2 (suc s), cross_third (ray (suc s)) (ray_to a b)) at ends in
     let more = rises s a b inside in
     omega (arith, ints)
 
 in_fourth : (s a b : ℕ) → s < 8 → cross (ray (suc s + 24)) (ray_to a b) ≤ℤ pos 0
 in_fourth s a b inside =
     let it = step s inside in
-    rw (ray_turned_thrice _, cross_third _ (ray_to a b), it.next, cross_second it.x' it.y' a b) (omega (arith, ints))
+    rw (ray_turned_by 3 (suc s), cross_third _ (ray_to a b), it.next, cross_second it.x' it.y' a b) (omega (arith, ints))
 
 -- a direction of the first quarter lies in a sector of that quarter
 pub in_quarter : (a b s : ℕ) → 0 < b → IsSector (ray_to a b) s → s < 8

@@ -1,5 +1,5 @@
 -- Each direction lies in one sector.
-use Rattle.std.proofs.Common.{◌≡◌, ◌≢◌, ℕ, zero, suc, ◌+◌, ◌%◌, ◌<◌, arith, ℤ, pos, negsuc, neg_ℤ, ◌≤ℤ◌, ◌<ℤ◌, refl, sym, subst}
+use Rattle.std.proofs.Common.{◌≡◌, ◌≢◌, ℕ, zero, suc, ◌+◌, ◌%◌, ◌*◌, ◌<◌, arith, ℤ, pos, negsuc, neg_ℤ, ◌≤ℤ◌, ◌<ℤ◌, refl, sym, subst}
 use Rattle.std.specs.Prelude.{nat_abs}
 use Rattle.std.proofs.lemmas.Int.{ints}
 use Rattle.olr_metric.specs.Sector.{Direction, zero_direction, towards, cross, turned, turns, ray, ray_to, IsSector}
@@ -70,36 +70,29 @@ one_sector d s t is_s is_t = one_of_quarter d (quarter _ _ (λ same. no_sector s
 
 -- The sector of a direction by that of the direction of the first quarter that it is turned back to. In each it goes so far
 -- along the axes.
-turned_once : (e : Direction) (s : ℕ) → s < 8 → IsSector e s → IsSector (turned e) (8 + s)
-turned_once e s first is = let further : 8 + s ≡ (s + 8) % 32 = omega arith in rw further (sector_turned e s is)
-
-turned_twice : (e : Direction) (s : ℕ) → s < 8 → IsSector e s → IsSector (turned (turned e)) (16 + s)
-turned_twice e s first is =
-    let further : 16 + s ≡ ((8 + s) + 8) % 32 = omega arith in
-    rw further (sector_turned (turned e) (8 + s) (turned_once e s first is))
-
-turned_thrice : (e : Direction) (s : ℕ) → s < 8 → IsSector e s → IsSector (turned (turned (turned e))) (24 + s)
-turned_thrice e s first is =
-    let further : 24 + s ≡ ((16 + s) + 8) % 32 = omega arith in
-    rw further (sector_turned (turned (turned e)) (16 + s) (turned_twice e s first is))
+turned_by : (k : ℕ) (e : Direction) (s : ℕ) → k < 4 → s < 8 → IsSector e s → IsSector (turns k e) (8 * k + s)
+turned_by zero e s few first is = let same : 8 * 0 + s ≡ s = omega arith in rw same is
+turned_by (suc k) e s few first is =
+    let further : 8 * suc k + s ≡ ((8 * k + s) + 8) % 32 = omega arith in
+    rw further (sector_turned (turns k e) (8 * k + s) (turned_by k e s (omega arith) first is))
 
 pub from_east : (east north : ℤ) (x y s : ℕ) → pos 0 <ℤ east → north ≤ℤ pos 0 → x ≡ nat_abs east → y ≡ nat_abs north
     → s < 8 → IsSector (ray_to y x) s → IsSector (towards east north) (8 + s)
 from_east east north x y s some none x_is y_is first is =
     let east_is : east ≡ pos x = omega (arith, ints) in
     let north_is : north ≡ neg_ℤ (pos y) = omega (arith, ints) in
-    rw (east_is, north_is) (turned_once _ s first is)
+    rw (east_is, north_is) (turned_by 1 _ s (omega arith) first is)
 
 pub from_south : (east north : ℤ) (x y s : ℕ) → east ≤ℤ pos 0 → north <ℤ pos 0 → x ≡ nat_abs east → y ≡ nat_abs north
     → s < 8 → IsSector (ray_to x y) s → IsSector (towards east north) (16 + s)
 from_south east north x y s none some x_is y_is first is =
     let east_is : east ≡ neg_ℤ (pos x) = omega (arith, ints) in
     let north_is : north ≡ neg_ℤ (pos y) = omega (arith, ints) in
-    rw (east_is, north_is) (turned_twice _ s first is)
+    rw (east_is, north_is) (turned_by 2 _ s (omega arith) first is)
 
 pub from_west : (east north : ℤ) (x y s : ℕ) → east <ℤ pos 0 → pos 0 ≤ℤ north → x ≡ nat_abs east → y ≡ nat_abs north
     → s < 8 → IsSector (ray_to y x) s → IsSector (towards east north) (24 + s)
 from_west east north x y s some none x_is y_is first is =
     let east_is : east ≡ neg_ℤ (pos x) = omega (arith, ints) in
     let north_is : north ≡ neg_ℤ (neg_ℤ (pos y)) = omega (arith, ints) in
-    rw (east_is, north_is) (turned_thrice _ s first is)
+    rw (east_is, north_is) (turned_by 3 _ s (omega arith) first is)

@@ -2,7 +2,6 @@ use Rattle.std.proofs.Common.{arith, ◌<◌, ◌+◌, length, pos}
 use Rattle.olr_metric.proofs.Arcs.{arc_more}
 use Rattle.olr_metric.proofs.polyline.arc_to.Goals as goal
 
--- src/polyline.rt:32:5
 pub loop-end-preserved : goal.loop-end-preserved
 loop-end-preserved c =
     let within : c.loop-end.end + 1 < length c.args.spots.now = omega arith in (

@@ -4,7 +4,6 @@ use Rattle.olr_metric.specs.Spot.{distance}
 use Rattle.olr_metric.proofs.Roots.{root_min}
 use Rattle.olr_metric.proofs.polyline.lesser_distance.Goals as goal
 
--- src/polyline.rt:110:1
 pub returns-clause-lesser : goal.returns-clause-lesser
 returns-clause-lesser c =
     let lesser : c.min.result ≡ min c.square_distance.result c.square_distance-2.result = search rules in

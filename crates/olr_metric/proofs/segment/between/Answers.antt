@@ -5,7 +5,6 @@ use Rattle.olr_metric.proofs.Betweens.{between_is, between_near}
 use Rattle.olr_metric.proofs.Floors.{small_is, small_fits}
 use Rattle.olr_metric.proofs.segment.between.Goals as goal
 
--- src/segment.rt:105:1
 pub overflow_add-result : goal.overflow_add-result
 overflow_add-result c =
     let is_displacement : c.displacement.result ≡ c.args.b -ℤ c.args.a = search rules in
@@ -13,7 +12,6 @@ overflow_add-result c =
     let near : nat_abs (between c.args.a c.args.b c.args.part c.args.whole) ≤ 2 ^ 33 = between_near c.args.a c.args.b _ _ _ c.requires.a c.requires.b c.requires.part c.requires.positive in
     rw is (small_fits (omega arith))
 
--- src/segment.rt:105:1
 pub returns-clause-between : goal.returns-clause-between
 returns-clause-between c =
     let is_displacement : c.displacement.result ≡ c.args.b -ℤ c.args.a = search rules in
@@ -21,7 +19,6 @@ returns-clause-between c =
     let near : nat_abs (between c.args.a c.args.b c.args.part c.args.whole) ≤ 2 ^ 33 = between_near c.args.a c.args.b c.args.part c.args.whole (2 ^ 33) c.requires.a c.requires.b c.requires.part c.requires.positive in
     rw is (small_is (between c.args.a c.args.b c.args.part c.args.whole) (omega arith))
 
--- src/segment.rt:105:1
 pub returns-clause-at_most : goal.returns-clause-at_most
 returns-clause-at_most c =
     let near : nat_abs (between c.args.a c.args.b c.args.part c.args.whole) ≤ 2 ^ 33 = between_near c.args.a c.args.b _ _ _ c.requires.a c.requires.b c.requires.part c.requires.positive in
