@@ -55,8 +55,8 @@ cross_turned r d = cross_of r.east r.north d.east d.north
 pub sector_turned : (d : Direction) (s : ℕ) → IsSector d s → IsSector (turned d) ((s + 8) % 32)
 sector_turned d s is =
     let t : ℕ = (s + 8) % 32 in
-    let begin : ray t ≡ turned (ray s) = ray_further s t 0 s t is.in_range refl (omega arith) (omega arith) in
-    let end : ray (t + 1) ≡ turned (ray (s + 1)) = ray_further s t 1 _ _ is.in_range refl refl refl in
+    let begin = ray_further s t 0 s t is.in_range refl (omega arith) (omega arith) in
+    let end = ray_further s t 1 _ _ is.in_range refl refl refl in
     record {
       in_range = omega arith;
       begins = rw (begin, cross_turned _ d) is.begins;

@@ -49,5 +49,5 @@ pub between_is : (a b d share : ℤ) (part whole : ℕ) → d ≡ b -ℤ a → s
     → nat_abs a ≤ 2 ^ 33 → nat_abs d ≤ 2 ^ 34 → part ≤ whole → 0 < whole
     → to_z w64 (of_z w64 a) +ℤ to_z w64 (of_z w64 share) ≡ between a b part whole
 between_is a b d share part whole is_d is_share small_a small_d within some =
-    let is : share ≡ floor (d *ℤ pos part) whole = simp (small_is d small_d) at is_share in
+    let is = simp (small_is d small_d) at is_share in
     rw (small_is a (omega arith), small_is _ (share_at_most d share is small_d within some), is, is_d) refl

@@ -47,10 +47,10 @@ first_segment spots (suc i) first = absurd (omega (arith, first i (omega arith))
 -- behind the last segment there is no other
 last_segment : {spots : List Spot} {i : ℕ} {a b : Spot} → IsPolyline spots → IsSegment spots i a b → arc spots ≤ arc_at spots (suc i) → suc i ≡ length spots - 1
 last_segment {spots} {i} {b} polyline segment reaches =
-    let within : suc i < length spots = slice_get_within spots (suc i) b segment.end in
+    let within = slice_get_within spots (suc i) b segment.end in
     elim (cases_lt (suc (suc i)) (length spots)) [
       | inl more ↦
-          let next : slice_get spots (suc (suc i)) ≡ Some (get_or spots (suc (suc i)) b) = slice_get-get_or _ _ b more in
+          let next = slice_get-get_or _ _ b more in
           absurd (omega (
             arith,
             reaches,
@@ -63,18 +63,18 @@ last_segment {spots} {i} {b} polyline segment reaches =
 
 pub starts : (spots : List Spot) (spot : Spot) → IsPolyline spots → IsAlong spots 0 spot → slice_get spots 0 ≡ Some spot
 starts spots spot polyline is =
-    let none : is.i ≡ 0 = first_segment _ _ is.at_arc.first in
-    let some : 0 < distance is.a is.b = distance_positive _ _ (polyline.apart is.i is.a is.b is.at_arc.segment) in
-    let same : spot_between is.a is.b 0 (distance is.a is.b) ≡ is.a = same_spot _ _ (no_part _ _ _ some) (no_part _ _ _ some) in
+    let none = first_segment _ _ is.at_arc.first in
+    let some = distance_positive _ _ (polyline.apart is.i is.a is.b is.at_arc.segment) in
+    let same = same_spot _ _ (no_part _ _ _ some) (no_part _ _ _ some) in
     let zero_part : 0 - arc_at spots is.i ≡ 0 = omega arith in
-    let spot_is : spot ≡ is.a = is.spot_of ∙ ap (λ (k : ℕ). spot_between is.a is.b k (distance is.a is.b)) zero_part ∙ same in
+    let spot_is = is.spot_of ∙ ap (λ (k : ℕ). spot_between is.a is.b k (distance is.a is.b)) zero_part ∙ same in
     rw spot_is (subst (λ (k : ℕ). slice_get spots k ≡ Some is.a) none is.at_arc.segment.start)
 
 pub ends : (spots : List Spot) (spot : Spot) → IsPolyline spots → IsAlong spots (arc spots) spot → slice_get spots (length spots - 1) ≡ Some spot
 ends spots spot polyline is =
-    let some : 0 < distance is.a is.b = distance_positive _ _ (polyline.apart is.i is.a is.b is.at_arc.segment) in
-    let last : suc is.i ≡ length spots - 1 = last_segment polyline is.at_arc.segment is.at_arc.reaches in
+    let some = distance_positive _ _ (polyline.apart is.i is.a is.b is.at_arc.segment) in
+    let last = last_segment polyline is.at_arc.segment is.at_arc.reaches in
     let rest : arc spots - arc_at spots is.i ≡ distance is.a is.b = omega (arith, arc_within spots (suc is.i), arc_segment spots is.i is.a is.b is.at_arc.segment.start is.at_arc.segment.end) in
-    let same : spot_between is.a is.b (distance is.a is.b) (distance is.a is.b) ≡ is.b = same_spot _ _ (whole_part _ _ _ some) (whole_part _ _ _ some) in
-    let spot_is : spot ≡ is.b = is.spot_of ∙ ap (λ (k : ℕ). spot_between is.a is.b k (distance is.a is.b)) rest ∙ same in
+    let same = same_spot _ _ (whole_part _ _ _ some) (whole_part _ _ _ some) in
+    let spot_is = is.spot_of ∙ ap (λ (k : ℕ). spot_between is.a is.b k (distance is.a is.b)) rest ∙ same in
     rw spot_is (subst (λ (k : ℕ). slice_get spots k ≡ Some is.b) last is.at_arc.segment.end)

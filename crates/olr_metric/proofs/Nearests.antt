@@ -32,7 +32,7 @@ pub no_nearer_read : (spots : List Spot) (p : Spot) (i : ℕ) (d : Spot) (least 
     → least * least ≤ square (p.x -ℤ (foot p (get_or spots i d) (get_or spots (i + 1) d)).x) + square (p.y -ℤ (foot p (get_or spots i d) (get_or spots (i + 1) d)).y)
     → (a b : Spot) → slice_get spots i ≡ Some a → slice_get spots (suc i) ≡ Some b → least ≤ distance p (foot p a b)
 no_nearer_read spots p i d least low a b start end =
-    let at : Spot = foot p (get_or spots i d) (get_or spots (i + 1) d) in
+    let at = foot p (get_or spots i d) (get_or spots (i + 1) d) in
     subst (λ (s : Spot). least ≤ distance p s) (foot_read _ p i _ d refl a b start end)
     (root_at_least _ _ low)
 

@@ -34,7 +34,7 @@ one_nearest spots p a b one other =
     let ends = same_ends same one.nearest.segment other.nearest.segment in
     let start = ends.start in
     let end = ends.end in
-    let spot : a.spot ≡ b.spot = one.foot_of ∙ ap (λ (s : Spot). foot p s one.b) start ∙ ap (λ (s : Spot). foot p other.a s) end ∙ sym other.foot_of in
+    let spot = one.foot_of ∙ ap (λ (s : Spot). foot p s one.b) start ∙ ap (λ (s : Spot). foot p other.a s) end ∙ sym other.foot_of in
     let distance_is = one.distance_of ∙ ap (λ (s : Spot). distance p s) spot ∙ sym other.distance_of in
     let arc_is = one.arc_of ∙ rw (same, start, end, spot) (sym other.arc_of) in
     λ i. record { distance = distance_is i; arc = arc_is i; spot = spot i }

@@ -30,7 +30,7 @@ turned_number x y = omega (arith, ints)
 -- only a spot itself is at distance 0
 pub distance_zero : (a b : Spot) → distance a b ≡ 0 → a ≡ b
 distance_zero a b none =
-    let squares : square (a.x -ℤ b.x) + square (a.y -ℤ b.y) ≡ 0 = zero_root _ none in
+    let squares = zero_root _ none in
     same_spot a b (same_number (zero_square _ (omega arith)))
     (same_number (zero_square _ (omega arith)))
 
