@@ -8,7 +8,8 @@ use Rattle.olr_metric.specs.Sector.{Direction, cross, turned, ray, ray_to, IsSec
 use Rattle.olr_metric.proofs.Neither.{neither_less}
 use Rattle.olr_metric.proofs.BearingTurns.{ray_turned, cross_turned, ray_turned_by, negative_times}
 
--- A ray of the first quarter and the one behind it, which goes no less far east and no further north.
+-- A ray of the first quarter and the one behind it, which goes no less far east and no further
+-- north.
 record Step (s : ℕ) : Type 0 where
   x : ℕ
   y : ℕ
@@ -21,19 +22,26 @@ record Step (s : ℕ) : Type 0 where
   up : 0 < y
   clockwise : x * y' < y * x'
 
-step_of : {s x y x' y' : ℕ} → ray s ≡ ray_to x y → ray (suc s) ≡ ray_to x' y' → x ≤ x' → y' ≤ y → 0 < y → x * y' < y * x' → Step s
+step_of : {s x y x' y' : ℕ} → ray s ≡ ray_to x y → ray (suc s) ≡ ray_to x' y' → x ≤ x' → y' ≤ y
+    → 0 < y → x * y' < y * x' → Step s
 step_of this next east north up clockwise = search rules
 
 step : (s : ℕ) → s < 8 → Step s
 unfolding ray
 step zero inside = step_of refl refl (omega arith) (omega arith) (omega arith) (omega arith)
 step (suc zero) inside = step_of refl refl (omega arith) (omega arith) (omega arith) (omega arith)
-step (suc (suc zero)) inside = step_of refl refl (omega arith) (omega arith) (omega arith) (omega arith)
-step (suc (suc (suc zero))) inside = step_of refl refl (omega arith) (omega arith) (omega arith) (omega arith)
-step (suc (suc (suc (suc zero)))) inside = step_of refl refl (omega arith) (omega arith) (omega arith) (omega arith)
-step (suc (suc (suc (suc (suc zero))))) inside = step_of refl refl (omega arith) (omega arith) (omega arith) (omega arith)
-step (suc (suc (suc (suc (suc (suc zero)))))) inside = step_of refl refl (omega arith) (omega arith) (omega arith) (omega arith)
-step (suc (suc (suc (suc (suc (suc (suc zero))))))) inside = step_of refl refl (omega arith) (omega arith) (omega arith) (omega arith)
+step (suc (suc zero)) inside = step_of refl refl (omega arith) (omega arith) (omega arith)
+    (omega arith)
+step (suc (suc (suc zero))) inside =
+    step_of refl refl (omega arith) (omega arith) (omega arith) (omega arith)
+step (suc (suc (suc (suc zero)))) inside =
+    step_of refl refl (omega arith) (omega arith) (omega arith) (omega arith)
+step (suc (suc (suc (suc (suc zero))))) inside =
+    step_of refl refl (omega arith) (omega arith) (omega arith) (omega arith)
+step (suc (suc (suc (suc (suc (suc zero)))))) inside =
+    step_of refl refl (omega arith) (omega arith) (omega arith) (omega arith)
+step (suc (suc (suc (suc (suc (suc (suc zero))))))) inside =
+    step_of refl refl (omega arith) (omega arith) (omega arith) (omega arith)
 step _ inside = absurd (omega arith)
 
 -- each ray lies clockwise of the one before, within half a turn
@@ -65,15 +73,18 @@ pub clockwise : (s : ℕ) → cross (ray s) (ray (s + 1)) <ℤ pos 0
 clockwise s = clockwise_at s (s / 8) (s % 8) (omega arith) (omega arith)
 
 -- from north to east each ray lies further clockwise of a direction
-rises_of : (x y x' y' a b : ℕ) → x ≤ x' → y' ≤ y → cross (ray_to x y) (ray_to a b) ≤ℤ cross (ray_to x' y') (ray_to a b)
-rises_of x y x' y' a b east north = omega (arith, ints, mul-le x b x' b east (omega arith), mul-le y' a y a north (omega arith))
+rises_of : (x y x' y' a b : ℕ) → x ≤ x' → y' ≤ y
+    → cross (ray_to x y) (ray_to a b) ≤ℤ cross (ray_to x' y') (ray_to a b)
+rises_of x y x' y' a b east north =
+    omega (arith, ints, mul-le x b x' b east (omega arith), mul-le y' a y a north (omega arith))
 
 rises : (s a b : ℕ) → s < 8 → cross (ray s) (ray_to a b) ≤ℤ cross (ray (suc s)) (ray_to a b)
 rises s a b inside =
     let it = step s inside in
     rw (it.this, it.next) (rises_of _ _ _ _ a b it.east it.north)
 
-rises_by : (s k a b : ℕ) → s + k ≤ 8 → cross (ray s) (ray_to a b) ≤ℤ cross (ray (s + k)) (ray_to a b)
+rises_by : (s k a b : ℕ) → s + k ≤ 8
+    → cross (ray s) (ray_to a b) ≤ℤ cross (ray (s + k)) (ray_to a b)
 rises_by s zero a b inside = let same : s + 0 ≡ s = omega arith in rw same (omega (arith, ints))
 rises_by s (suc k) a b inside =
     let next : s + suc k ≡ suc (s + k) = omega arith in
@@ -94,7 +105,8 @@ in_second s a b inside up =
     let some = mul-le 1 1 it.y b it.up up in
     rw (ray_turned s, it.this, cross_second _ _ a b) (omega (arith, ints))
 
-in_third : (s a b : ℕ) → s < 8 → cross (ray (s + 16)) (ray_to a b) ≤ℤ pos 0 → pos 0 <ℤ cross (ray (suc s + 16)) (ray_to a b) → ⊥
+in_third : (s a b : ℕ) → s < 8 → cross (ray (s + 16)) (ray_to a b) ≤ℤ pos 0
+    → pos 0 <ℤ cross (ray (suc s + 16)) (ray_to a b) → ⊥
 in_third s a b inside begins ends =
     let begins' = rw (ray_turned_by 2 s, cross_third (ray s) (ray_to a b)) at begins in
     let ends' = rw (ray_turned_by 2 (suc s), cross_third (ray (suc s)) (ray_to a b)) at ends in
@@ -104,7 +116,8 @@ in_third s a b inside begins ends =
 in_fourth : (s a b : ℕ) → s < 8 → cross (ray (suc s + 24)) (ray_to a b) ≤ℤ pos 0
 in_fourth s a b inside =
     let it = step s inside in
-    rw (ray_turned_by 3 (suc s), cross_third _ (ray_to a b), it.next, cross_second it.x' it.y' a b) (omega (arith, ints))
+    rw (ray_turned_by 3 (suc s), cross_third _ (ray_to a b), it.next, cross_second it.x' it.y' a b)
+    (omega (arith, ints))
 
 -- a direction of the first quarter lies in a sector of that quarter
 pub in_quarter : (a b s : ℕ) → 0 < b → IsSector (ray_to a b) s → s < 8
@@ -136,7 +149,8 @@ no_earlier a b s t inside earlier is_s is_t =
     let more' : cross (ray (s + 1)) (ray_to a b) ≤ℤ cross (ray t) (ray_to a b) = rw at more in
     omega (arith, ints)
 
-pub one_in_quarter : (a b s t : ℕ) → 0 < b → IsSector (ray_to a b) s → IsSector (ray_to a b) t → s ≡ t
+pub one_in_quarter : (a b s t : ℕ) → 0 < b → IsSector (ray_to a b) s → IsSector (ray_to a b) t
+    → s ≡ t
 one_in_quarter a b s t up is_s is_t = neither_less
     (λ less. no_earlier a b s t (in_quarter a b t up is_t) less is_s is_t)
     (λ more. no_earlier a b t s (in_quarter a b s up is_s) more is_t is_s)
@@ -150,7 +164,8 @@ unfolding ray
 ahead_of_last a b up = omega (arith, ints)
 
 -- a direction that has passed the last ray lies in the last sector
-pub in_last : (a b s : ℕ) → 0 < b → s ≡ 7 → cross (ray s) (ray_to a b) ≤ℤ pos 0 → IsSector (ray_to a b) s
+pub in_last : (a b s : ℕ) → 0 < b → s ≡ 7 → cross (ray s) (ray_to a b) ≤ℤ pos 0
+    → IsSector (ray_to a b) s
 in_last a b s up last passed = record {
   in_range = omega arith;
   begins = passed;
@@ -158,7 +173,8 @@ in_last a b s up last passed = record {
 }
 
 -- a direction lies in a sector that begins before a ray which it hasn't passed
-before_ray : (a b k : ℕ) → k ≤ 8 → pos 0 <ℤ cross (ray k) (ray_to a b) → (s : ℕ) × IsSector (ray_to a b) s
+before_ray : (a b k : ℕ) → k ≤ 8 → pos 0 <ℤ cross (ray k) (ray_to a b) → (s : ℕ)
+    × IsSector (ray_to a b) s
 before_ray a b zero inside ahead = absurd (omega (arith, ints, passes_first a b))
 before_ray a b (suc k) inside ahead = by_lt_z _ _
     (λ ahead'. before_ray a b k (omega arith) ahead')

@@ -28,7 +28,8 @@ pub ray_round : (s : ℕ) → ray (s + 32) ≡ ray s
 ray_round s = ray_turned_by 4 s ∙ turned_round _
 
 -- the ray of a sector that lies eight further, going round
-ray_further : (s t k i j : ℕ) → s < 32 → t ≡ (s + 8) % 32 → i ≡ s + k → j ≡ t + k → ray j ≡ turned (ray i)
+ray_further : (s t k i j : ℕ) → s < 32 → t ≡ (s + 8) % 32 → i ≡ s + k → j ≡ t + k
+    → ray j ≡ turned (ray i)
 ray_further s t k i j known is at_s at_t = elim (cases_lt s 24) [
   | inl before ↦ let parts : j ≡ i + 8 = omega arith in rw parts (ray_turned i)
   | inr behind ↦

@@ -8,7 +8,9 @@ use Rattle.olr_metric.specs.Spot.{square}
 use Rattle.olr_metric.proofs.Feet.{foot_between}
 
 -- the foot is no nearer than the rectangle
-pub foot_outside : (p a b : Spot) (x y : ℕ) → ((u : ℤ) → IsBetween a.x b.x u → x ≤ nat_abs (p.x -ℤ u)) → ((u : ℤ) → IsBetween a.y b.y u → y ≤ nat_abs (p.y -ℤ u))
+pub foot_outside : (p a b : Spot) (x y : ℕ)
+    → ((u : ℤ) → IsBetween a.x b.x u → x ≤ nat_abs (p.x -ℤ u))
+    → ((u : ℤ) → IsBetween a.y b.y u → y ≤ nat_abs (p.y -ℤ u))
     → x * x + y * y ≤ square (p.x -ℤ (foot p a b).x) + square (p.y -ℤ (foot p a b).y)
 foot_outside p a b x y least_x least_y =
     let in_x = least_x (foot p a b).x (foot_between (λ (s : Spot). s.x) (λ a b s e. refl) p a b) in

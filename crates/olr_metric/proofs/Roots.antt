@@ -9,14 +9,16 @@ use Rattle.olr_metric.proofs.Neither.{neither_less}
 within_square : (n k : ℕ) → root_within n k * root_within n k ≤ n
 unfolding root_within
 within_square n zero = omega arith
-within_square n (suc k) = cond_both (nat_le (suc k * suc k) n) (suc k) (root_within n k) (λ r. r * r ≤ n)
+within_square n (suc k) = cond_both (nat_le (suc k * suc k) n) (suc k) (root_within n k)
+    (λ r. r * r ≤ n)
     (λ small. leb-true (suc k * suc k) n small) (λ big. within_square n k)
 
 -- and each greater one up to k is not
 within_next : (n k j : ℕ) → root_within n k < j → j ≤ k → n < j * j
 unfolding root_within
 within_next n zero j = λ above below. absurd (omega arith)
-within_next n (suc k) j = cond_both (nat_le (suc k * suc k) n) (suc k) (root_within n k) (λ r. r < j → j ≤ suc k → n < j * j)
+within_next n (suc k) j = cond_both (nat_le (suc k * suc k) n) (suc k) (root_within n k) (λ r. r < j
+    → j ≤ suc k → n < j * j)
     (λ small above below. absurd (omega arith))
     (λ big above below. elim (cases_lt j (suc k)) [
       | inl under ↦ within_next n k j above (omega arith)
@@ -26,7 +28,8 @@ within_next n (suc k) j = cond_both (nat_le (suc k * suc k) n) (suc k) (root_wit
 within_at_most : (n k : ℕ) → root_within n k ≤ k
 unfolding root_within
 within_at_most n zero = omega arith
-within_at_most n (suc k) = cond_both (nat_le (suc k * suc k) n) (suc k) (root_within n k) (λ r. r ≤ suc k)
+within_at_most n (suc k) = cond_both (nat_le (suc k * suc k) n) (suc k) (root_within n k)
+    (λ r. r ≤ suc k)
     (λ small. omega arith) (λ big. omega (arith, within_at_most n k))
 
 -- a number is less than the square of the next one
@@ -44,10 +47,13 @@ root_is n = record { square = within_square n n; next = next_square n _ refl }
 
 -- a number has one root
 no_less_root : (n a b : ℕ) → n < (a + 1) * (a + 1) → b * b ≤ n → a < b → ⊥
-no_less_root n a b high low less = omega (arith, mul-le (a + 1) (a + 1) b b (omega arith) (omega arith))
+no_less_root n a b high low less =
+    omega (arith, mul-le (a + 1) (a + 1) b b (omega arith) (omega arith))
 
-pub one_root : (n a b : ℕ) → a * a ≤ n → n < (a + 1) * (a + 1) → b * b ≤ n → n < (b + 1) * (b + 1) → a ≡ b
-one_root n a b low_a high_a low_b high_b = neither_less (no_less_root n a b high_a low_b) (no_less_root n b a high_b low_a)
+pub one_root : (n a b : ℕ) → a * a ≤ n → n < (a + 1) * (a + 1) → b * b ≤ n → n < (b + 1) * (b + 1)
+    → a ≡ b
+one_root n a b low_a high_a low_b high_b =
+    neither_less (no_less_root n a b high_a low_b) (no_less_root n b a high_b low_a)
 
 -- what has the square and the next square of the root is the root
 pub is_root : (n r : ℕ) → r * r ≤ n → n < (r + 1) * (r + 1) → r ≡ root n
@@ -63,7 +69,13 @@ root_below n r k low high = elim (cases_lt r k) [
 -- a number whose square is at most n is at most the root of n
 pub root_at_least : (n k : ℕ) → k * k ≤ n → k ≤ root n
 root_at_least n k low = elim (cases_lt (root n) k) [
-  | inl under ↦ absurd (omega (arith, mul-le (root n + 1) (root n + 1) k k (omega arith) (omega arith), (root_is n).next, low))
+  | inl under ↦ absurd
+      (omega (
+        arith,
+        mul-le (root n + 1) (root n + 1) k k (omega arith) (omega arith),
+        (root_is n).next,
+        low,
+      ))
   | inr over ↦ over
 ]
 
@@ -77,6 +89,8 @@ root_rises n m le = root_at_least m _ (omega (arith, (root_is n).square))
 
 pub root_min : (n m : ℕ) → root (min n m) ≡ min (root n) (root m)
 root_min n m = elim (cases_lt n m) [
-  | inl under ↦ let least : min n m ≡ n = omega arith in rw least (omega (arith, root_rises n m (omega arith)))
-  | inr over ↦ let least : min n m ≡ m = omega arith in rw least (omega (arith, root_rises m n over))
+  | inl under ↦ let least : min n m ≡ n = omega arith in
+      rw least (omega (arith, root_rises n m (omega arith)))
+  | inr over ↦ let least : min n m ≡ m = omega arith in
+      rw least (omega (arith, root_rises m n over))
 ]

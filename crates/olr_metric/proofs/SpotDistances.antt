@@ -5,7 +5,7 @@ use Rattle.std.proofs.lemmas.Int.{ints}
 use Rattle.std.proofs.lemmas.Bool.{cases_eq}
 use Rattle.olr_metric.specs.declared.spot.Spot.{Spot}
 use Rattle.olr_metric.specs.Root.{root, root_within}
-use Rattle.olr_metric.specs.Spot.{square, distance}
+use Rattle.olr_metric.specs.Spot.{distance}
 use Rattle.olr_metric.proofs.Roots.{root_is}
 
 pub same_spot : (a b : Spot) → a.x ≡ b.x → a.y ≡ b.y → a ≡ b

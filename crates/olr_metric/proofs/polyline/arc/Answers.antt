@@ -5,5 +5,6 @@ use Rattle.olr_metric.proofs.polyline.arc.Goals as goal
 
 pub returns-clause-positive : goal.returns-clause-positive
 returns-clause-positive c =
-    let is : c.arc_to.result ≡ arc c.args.spots.now = c.arc_to.ensures.arc ∙ arc_all _ (omega arith) in
+    let is : c.arc_to.result ≡ arc c.args.spots.now = c.arc_to.ensures.arc
+    ∙ arc_all _ (omega arith) in
     omega (arith, arc_positive _ c.requires)

@@ -5,6 +5,10 @@ use Rattle.olr_metric.proofs.polyline.arc_to.Goals as goal
 pub loop-end-preserved : goal.loop-end-preserved
 loop-end-preserved c =
     let within : c.loop-end.end + 1 < length c.args.spots.now = omega arith in (
-      omega (arith, arc_more c.args.spots.now c.loop-end.end (record { x = pos 0; y = pos 0 }) within),
+      omega (
+        arith,
+        arc_more c.args.spots.now c.loop-end.end (record { x = pos 0; y = pos 0 })
+            within,
+      ),
       omega arith,
     )
