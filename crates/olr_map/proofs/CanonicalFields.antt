@@ -47,7 +47,7 @@ place_once a b is other same =
     let p = are_small a is in
     let q = are_small b other in
     let outside : 45 ≤ 32 → 57 < 32 = search rules in
-    let texts = joined_once 32 (signed_decimal a.lon) (signed_decimal a.lat ∷ [])
+    let texts = joined_once _ _ (signed_decimal a.lat ∷ [])
     (signed_decimal b.lon) (signed_decimal b.lat ∷ [])
     (signed_lacks 32 _ outside p.lon, (signed_lacks 32 _ outside p.lat, tt))
     (signed_lacks 32 _ outside q.lon, (signed_lacks 32 _ outside q.lat, tt)) same in

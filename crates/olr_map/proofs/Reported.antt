@@ -51,14 +51,14 @@ found : {Row S : Type 0} (table : Table Row) → IsSettled table → (left : S �
     (failed : S → ℕ) (old new : S) (why : MapFault)
     → FaultOfFile left failed old new table.file (IsFaultOfTable table) why
     → (why ≡ fault.NoMemory) ⊎ ((file_of why ≡ Some table.file) × IsFaultWithin (IsFaultOfTable table) (left old) why)
-found table settled left failed old new why (not_read is) = elim (read_cases why is) [
+found table settled left failed old new why (not_read is) = elim (read_cases _ is) [
   | inl none ↦ inl none.0
   | inr fails ↦ inr (rw fails.0 (refl, tt))
 ]
 found table settled left failed old new why (of_text whole has) =
-    elim (reports_cases (IsFaultOfTable table has.0) why has.2) [
+    elim (reports_cases (IsFaultOfTable table has.0) _ has.2) [
       | inl none ↦ inl none
-      | inr is ↦ inr ((of_file settled has.0 why is).1, fault_within (IsFaultOfTable table) _ has.0 why has.1 is)
+      | inr is ↦ inr ((of_file settled has.0 _ is).1, fault_within (IsFaultOfTable table) _ _ _ has.1 is)
     ]
 
 -- ---- what was read
