@@ -42,17 +42,17 @@ pub stops_at : (lines : List RoadLine) → AllDiffer (line_ids lines)
 stops_at lines differ size room (wrong_row error is e) =
     rw e (stops_at_error (bans_table lines) _ _ error size room is)
 stops_at lines differ size room (unknown first second says either e) =
-    rw e (stops_unread (bans_table lines) _ _ _ size room (ids_pass lines _ first second says)
+    rw e (stops_unread (bans_table lines) _ _ _ size room (ids_pass lines _ _ _ says)
     (λ repeat. no_unknown repeat.1 either) (inl (either, refl)))
 stops_at lines differ size room (apart ban two named not_adjacent e) =
-    rw e (stops_later (bans_table lines) _ _ _ _ size room (names_pass lines _ ban two named)
+    rw e (stops_later (bans_table lines) _ _ _ _ size room (names_pass _ _ _ two named)
     (λ among. (ban, named, among)) (λ repeat. rw (← (named_once differ _ _ repeat.1 named))
     repeat.2)
     (inr (no_unknown named, inl ((ban, named, not_adjacent), refl))))
 
 pub bans_settled : (lines : List RoadLine) → IsSettled (bans_table lines)
 bans_settled lines = record {
-  pass = λ fields ban is. names_pass lines fields ban is.two is.named;
+  pass = λ fields ban is. names_pass _ _ _ is.two is.named;
   repeats = λ before fields ban is among. (ban, is.named, among);
   within = λ n fields. ((tt, refl), ((tt, refl), tt));
 }

@@ -1,11 +1,12 @@
--- The fields of the rows of a map's canonical text: which bytes they lack, and that they decide the node, the line or the ban.
-use Rattle.std.proofs.Common.{◌≡◌, ℕ, ℤ, ◌-◌, ◌^◌, ◌<◌, ◌≤◌, List, [], ◌∷◌, ◌++◌, length, get_or, Some, refl, sym, ap, ◌∙◌, pos, negsuc, arith, rules}
+-- The fields of the rows of a map's canonical text: which bytes they lack, and that they decide the
+-- node, the line or the ban.
+use Rattle.std.proofs.Common.{◌≡◌, ℕ, ℤ, ◌-◌, ◌^◌, ◌<◌, ◌≤◌, List, [], ◌∷◌, ◌++◌, length, Some, refl, sym, ap, ◌∙◌, pos, negsuc, arith, rules}
 use Rattle.std.specs.Prelude.{All, ◌≤ℤ◌, neg_ℤ, unwrap_or, slice_get, slice_index}
 use Rattle.std.specs.Fmt.{decimal, signed_decimal}
 use Rattle.std.specs.Int.Signed.{mag}
 use Rattle.std.proofs.lemmas.Int.{ints}
-use Rattle.std.proofs.lemmas.List.{length-append, length-map, get_or-map, take_at}
-use Rattle.std.proofs.lemmas.List.Elements.{All-drop, All-take, All-get_or}
+use Rattle.std.proofs.lemmas.List.{length-append, length-map, take_at}
+use Rattle.std.proofs.lemmas.List.Elements.{All-drop, All-take, All-map, All-weaker}
 use Rattle.std.proofs.lemmas.Fmt.{decimal_injective, signed_decimal_injective}
 use Rattle.std.proofs.lemmas.Option.{slice_get_within}
 use Rattle.olr_metric.specs.Coordinates.{Coordinates, IsInRange}
@@ -34,33 +35,51 @@ are_small place is = search rules
 
 -- ---- a place, and a shape
 
-place_lacks : (byte : ℕ) → (32 ≡ byte → ⊥) → (45 ≤ byte → 57 < byte) → (place : Coordinates) → IsInRange place → Lacks byte (place_text place)
+place_lacks : (byte : ℕ) → (32 ≡ byte → ⊥) → (45 ≤ byte → 57 < byte) → (place : Coordinates)
+    → IsInRange place → Lacks byte (place_text place)
 place_lacks byte space other place is =
     let small = are_small _ is in
-    joined_lacks byte 32 (signed_decimal place.lon ∷ signed_decimal place.lat ∷ []) space (signed_lacks byte place.lon other small.lon, (signed_lacks byte place.lat other small.lat, tt))
+    joined_lacks byte 32 (signed_decimal place.lon ∷ signed_decimal place.lat ∷ []) space
+    (signed_lacks byte _ other small.lon, (signed_lacks byte _ other small.lat, tt))
 
 place_once : (a b : Coordinates) → IsInRange a → IsInRange b → place_text a ≡ place_text b → a ≡ b
 place_once a b is other same =
     let p = are_small a is in
     let q = are_small b other in
     let outside : 45 ≤ 32 → 57 < 32 = search rules in
-    let texts = joined_once 32 (signed_decimal a.lon) (signed_decimal a.lat ∷ []) (signed_decimal b.lon) (signed_decimal b.lat ∷ [])
-    (signed_lacks 32 a.lon outside p.lon, (signed_lacks 32 a.lat outside p.lat, tt)) (signed_lacks 32 b.lon outside q.lon, (signed_lacks 32 b.lat outside q.lat, tt)) same in
+    let texts = joined_once _ _ (signed_decimal a.lat ∷ [])
+    (signed_decimal b.lon) (signed_decimal b.lat ∷ [])
+    (signed_lacks 32 _ outside p.lon, (signed_lacks 32 _ outside p.lat, tt))
+    (signed_lacks 32 _ outside q.lon, (signed_lacks 32 _ outside q.lat, tt)) same in
     let lon = signed_decimal_injective a.lon b.lon p.lon q.lon cc in
     let lat = signed_decimal_injective a.lat b.lat p.lat q.lat cc in
     λ i. record { lon = lon i; lat = lat i }
 
-pub shape_lacks : (byte : ℕ) → (32 ≡ byte → ⊥) → (59 ≡ byte → ⊥) → (45 ≤ byte → 57 < byte) → (places : List Coordinates) → All IsInRange places → Lacks byte (shape_text places)
-shape_lacks byte space semicolon other places all = joined_lacks _ _ _ semicolon (each_lacks _ _ _ (place_lacks _ space other) _ all)
+-- a byte that stands between fields, or rows: it occurs in none of them
+pub record IsCut (byte : ℕ) : Type 0 where
+  pub below : byte < 45
+  pub space : 32 ≡ byte → ⊥
+
+shape_lacks : {byte : ℕ} → IsCut byte → (places : List Coordinates) → All IsInRange places
+    → Lacks byte (shape_text places)
+shape_lacks cut places all = joined_lacks _ _ _ (λ e. omega arith)
+    (each_lacks _ _ _ (place_lacks _ cut.space (λ low. omega arith)) _ all)
 
 -- the text of a place isn't empty
 place_not_empty : (place : Coordinates) (rest : List ℕ) → [] ≡ place_text place ++ rest → ⊥
 place_not_empty place rest none =
     let lon = signed_decimal place.lon in
     let lat = signed_decimal place.lat in
-    omega (arith, ap length none, length-append (place_text place) rest, length-append lon (32 ∷ (lat ++ [])))
+    omega (
+      arith,
+      ap length none,
+      length-append (place_text place) rest,
+      length-append lon
+          (32 ∷ (lat ++ [])),
+    )
 
-pub shape_once : (ps qs : List Coordinates) → All IsInRange ps → All IsInRange qs → shape_text ps ≡ shape_text qs → ps ≡ qs
+pub shape_once : (ps qs : List Coordinates) → All IsInRange ps → All IsInRange qs
+    → shape_text ps ≡ shape_text qs → ps ≡ qs
 shape_once [] [] all other same = refl
 shape_once [] (q ∷ qs) all other same = absurd (place_not_empty q _ same)
 shape_once (p ∷ ps) [] all other same = absurd (place_not_empty p _ (sym same))
@@ -72,14 +91,19 @@ shape_once (p ∷ ps) (q ∷ qs) all other same =
 
 -- ---- the fields of a node
 
-pub node_lacks : (byte : ℕ) → (45 ≤ byte → 57 < byte) → (node : Node) → IsSoundNode node → AllLack byte (node_fields node)
-node_lacks byte other node is =
+pub node_lacks : {byte : ℕ} {node : Node} → IsCut byte → IsSoundNode node
+    → AllLack byte (node_fields node)
+node_lacks cut is =
     let small = are_small _ is.inside in (
-      decimal_lacks _ _ (λ low. other (omega arith)) (omega arith),
-      (signed_lacks _ _ other small.lon, (signed_lacks _ _ other small.lat, tt)),
+      decimal_lacks _ _ (λ low. omega arith) (omega arith),
+      (
+        signed_lacks _ _ (λ low. omega arith) small.lon,
+        (signed_lacks _ _ (λ low. omega arith) small.lat, tt),
+      ),
     )
 
-pub node_by_fields : (a b : Node) → IsSoundNode a → IsSoundNode b → node_fields a ≡ node_fields b → a ≡ b
+pub node_by_fields : (a b : Node) → IsSoundNode a → IsSoundNode b → node_fields a ≡ node_fields b
+    → a ≡ b
 node_by_fields a b is other same =
     let p = are_small _ is.inside in
     let q = are_small _ other.inside in
@@ -93,34 +117,34 @@ node_by_fields a b is other same =
 -- ids that differ, each of them a number of 64 bits
 record AreIds (ids : List ℕ) : Type 0 where
   differ : AllDiffer ids
-  small : (k : ℕ) → k < length ids → get_or ids k 0 < 2 ^ 64
+  small : All (λ (id : ℕ). id < 2 ^ 64) ids
 
-ids_of_nodes : (nodes : List Node) → AreSoundNodes nodes → AreIds (node_ids nodes)
-ids_of_nodes nodes sound = record {
-  differ = rising_differ (node_ids nodes) sound.rise;
-  small = λ k inside.
-      let within : k < length nodes = omega (arith, length-map nodes (λ (node : Node). node.id)) in
-      let none : Node = record { id = 0; place = record { lon = pos 0; lat = pos 0 } } in
-      let is = All-get_or IsSoundNode nodes k none within sound.each in
-      omega (arith, get_or-map (λ (node : Node). node.id) nodes k none 0 within);
+ids_of_nodes : {nodes : List Node} → AreSoundNodes nodes → AreIds (node_ids nodes)
+ids_of_nodes sound = record {
+  differ = rising_differ _ sound.rise;
+  small = All-map (λ (id : ℕ). id < 2 ^ 64) _ _
+      (All-weaker IsSoundNode (λ (node : Node). node.id < 2 ^ 64) (λ node is. omega arith) _
+      sound.each);
 }
 
-ids_of_lines : (nodes : List Node) (lines : List RoadLine) → AreSoundLines nodes lines → AreIds (line_ids lines)
-ids_of_lines nodes lines sound = record {
-  differ = rising_differ (line_ids lines) sound.rise;
-  small = λ k inside.
-      let within : k < length lines = omega (arith, length-map lines (λ (line : RoadLine). line.id)) in
-      let none : RoadLine = record { id = 0; from = 0; to = 0; class = 0; form = 0; length = 0; points = [] } in
-      let is = All-get_or (IsSoundLine (length nodes)) lines k none within sound.each in
-      omega (arith, get_or-map (λ (line : RoadLine). line.id) lines k none 0 within);
+ids_of_lines : {nodes : List Node} {lines : List RoadLine} → AreSoundLines nodes lines
+    → AreIds (line_ids lines)
+ids_of_lines {nodes} sound = record {
+  differ = rising_differ _ sound.rise;
+  small = All-map (λ (id : ℕ). id < 2 ^ 64) _ _
+      (All-weaker (IsSoundLine (length nodes)) (λ (line : RoadLine). line.id < 2 ^ 64)
+      (λ line is. omega arith) _ sound.each);
 }
 
-id_lacks : {byte : ℕ} {ids : List ℕ} {rank : ℕ} → (45 ≤ byte → 57 < byte) → AreIds ids → rank < length ids → Lacks byte (decimal (slice_index ids rank))
-id_lacks {rank} other are inside = decimal_lacks _ _ (λ low. other (omega arith)) (are.small rank inside)
+id_lacks : {byte : ℕ} {ids : List ℕ} {rank : ℕ} → IsCut byte → AreIds ids → rank < length ids
+    → Lacks byte (decimal (slice_index ids rank))
+id_lacks {rank} cut are inside = decimal_lacks _ _ (λ low. omega arith) (are.small rank 0 inside)
 
-rank_by_id : {ids : List ℕ} {i j : ℕ} → AreIds ids → i < length ids → j < length ids → decimal (slice_index ids i) ≡ decimal (slice_index ids j) → i ≡ j
+rank_by_id : {ids : List ℕ} {i j : ℕ} → AreIds ids → i < length ids → j < length ids
+    → decimal (slice_index ids i) ≡ decimal (slice_index ids j) → i ≡ j
 rank_by_id {i} {j} are inside_i inside_j same =
-    rank_once _ i j are.differ inside_i inside_j (decimal_injective _ _ (are.small i inside_i) (are.small j inside_j) same)
+    rank_once _ i j are.differ inside_i inside_j
+    (decimal_injective _ _ (are.small i 0 inside_i) (are.small j 0 inside_j) same)
 
 -- ---- the fields of a line
 
@@ -132,30 +156,35 @@ pub record IsOn (nodes : List Node) (line : RoadLine) : Type 0 where
 node_inside : (nodes : List Node) (rank : ℕ) → rank < length nodes → rank < length (node_ids nodes)
 node_inside nodes rank inside = omega (arith, length-map nodes (λ (node : Node). node.id))
 
-between_in_range : (points : List Coordinates) → All IsInRange points → All IsInRange (between_ends points)
+between_in_range : (points : List Coordinates) → All IsInRange points
+    → All IsInRange (between_ends points)
 between_in_range points all = All-take IsInRange _ _ (All-drop IsInRange 1 _ all)
 
-between_is : (first : Coordinates) (shape : List Coordinates) (last : Coordinates) → between_ends (first ∷ shape ++ last ∷ []) ≡ shape
-between_is first shape last = take_at shape (last ∷ []) (length (first ∷ shape ++ last ∷ []) - 1 - 1) (omega (arith, length-append shape (last ∷ [])))
+between_is : (first : Coordinates) (shape : List Coordinates) (last : Coordinates)
+    → between_ends (first ∷ shape ++ last ∷ []) ≡ shape
+between_is first shape last = take_at shape (last ∷ [])
+    (length (first ∷ shape ++ last ∷ []) - 1 - 1) (omega (arith, length-append shape (last ∷ [])))
 
-pub line_lacks : (byte : ℕ) → (32 ≡ byte → ⊥) → (59 ≡ byte → ⊥) → (45 ≤ byte → 57 < byte) → (nodes : List Node) → AreSoundNodes nodes
-    → (line : RoadLine) → IsOn nodes line → AllLack byte (line_fields nodes line)
-line_lacks byte space semicolon other nodes sound line is =
-    let ids = ids_of_nodes _ sound in
-    let number : (n : ℕ) → n < 2 ^ 64 → Lacks byte (decimal n) = λ n small. decimal_lacks _ n (λ low. other (omega arith)) small in
-    let from = id_lacks other ids (node_inside _ _ is.sound.from) in
-    let to = id_lacks other ids (node_inside _ _ is.sound.to) in
-    let shape = shape_lacks _ space semicolon other _ (between_in_range _ is.sound.inside) in (
-      number line.id (omega arith),
+pub line_lacks : {byte : ℕ} {nodes : List Node} {line : RoadLine} → IsCut byte → AreSoundNodes nodes
+    → IsOn nodes line
+    → AllLack byte (line_fields nodes line)
+line_lacks {byte} cut sound is =
+    let ids = ids_of_nodes sound in
+    let number : (n : ℕ) → n < 2 ^ 64 → Lacks byte (decimal n) =
+    λ n small. decimal_lacks _ n (λ low. omega arith) small in (
+      number _ (omega arith),
       (
-        from,
+        id_lacks cut ids (node_inside _ _ is.sound.from),
         (
-          to,
+          id_lacks cut ids (node_inside _ _ is.sound.to),
           (
-            number line.class (omega arith),
+            number _ (omega arith),
             (
-              number line.form (omega arith),
-              (number line.length (omega arith), (shape, tt)),
+              number _ (omega arith),
+              (
+                number _ (omega arith),
+                (shape_lacks cut _ (between_in_range _ is.sound.inside), tt),
+              ),
             ),
           ),
         ),
@@ -163,44 +192,66 @@ line_lacks byte space semicolon other nodes sound line is =
     )
 
 -- the points of a line, by its nodes and its shape
-points_by_shape : (nodes : List Node) (a b : RoadLine) → JoinsNodes nodes a → JoinsNodes nodes b → a.from ≡ b.from → a.to ≡ b.to
+points_by_shape : (nodes : List Node) (a b : RoadLine) → JoinsNodes nodes a → JoinsNodes nodes b
+    → a.from ≡ b.from → a.to ≡ b.to
     → between_ends a.points ≡ between_ends b.points → a.points ≡ b.points
 points_by_shape nodes a b is other from to same =
-    let first = ap (λ o. unwrap_or o is.first) (sym is.start ∙ ap (λ (k : ℕ). slice_get nodes k) from ∙ other.start) in
-    let last = ap (λ o. unwrap_or o is.last) (sym is.end ∙ ap (λ (k : ℕ). slice_get nodes k) to ∙ other.end) in
-    let shape = sym (between_is is.first.place _ _) ∙ ap between_ends (sym is.joined) ∙ same ∙ ap between_ends other.joined
+    let first = ap (λ o. unwrap_or o is.first) (sym is.start
+    ∙ ap (λ (k : ℕ). slice_get nodes k) from ∙ other.start) in
+    let last = ap (λ o. unwrap_or o is.last) (sym is.end ∙ ap (λ (k : ℕ). slice_get nodes k) to
+    ∙ other.end) in
+    let shape = sym (between_is is.first.place _ _) ∙ ap between_ends (sym is.joined) ∙ same
+    ∙ ap between_ends other.joined
     ∙ between_is other.first.place _ _ in
-    is.joined ∙ ap (λ (node : Node). node.place ∷ is.between ++ is.last.place ∷ []) first ∙ ap (λ (l : List Coordinates). other.first.place ∷ l ++ is.last.place ∷ []) shape
-    ∙ ap (λ (node : Node). other.first.place ∷ other.between ++ node.place ∷ []) last ∙ sym other.joined
+    is.joined ∙ ap (λ (node : Node). node.place ∷ is.between ++ is.last.place ∷ []) first
+    ∙ ap (λ (l : List Coordinates). other.first.place ∷ l ++ is.last.place ∷ []) shape
+    ∙ ap (λ (node : Node). other.first.place ∷ other.between ++ node.place ∷ []) last
+    ∙ sym other.joined
 
-pub line_by_fields : (nodes : List Node) → AreSoundNodes nodes → (a b : RoadLine) → IsOn nodes a → IsOn nodes b → line_fields nodes a ≡ line_fields nodes b → a ≡ b
+pub line_by_fields : (nodes : List Node) → AreSoundNodes nodes → (a b : RoadLine) → IsOn nodes a
+    → IsOn nodes b → line_fields nodes a ≡ line_fields nodes b → a ≡ b
 line_by_fields nodes sound a b is other same =
-    let ids = ids_of_nodes _ sound in
+    let ids = ids_of_nodes sound in
     let id = decimal_injective _ _ (omega arith) (omega arith) cc in
-    let from = rank_by_id ids (node_inside _ _ is.sound.from) (node_inside _ _ other.sound.from) cc in
+    let from = rank_by_id ids (node_inside _ _ is.sound.from) (node_inside _ _ other.sound.from)
+    cc in
     let to = rank_by_id ids (node_inside _ _ is.sound.to) (node_inside _ _ other.sound.to) cc in
     let class = decimal_injective _ _ (omega arith) (omega arith) cc in
     let form = decimal_injective _ _ (omega arith) (omega arith) cc in
     let size = decimal_injective _ _ (omega arith) (omega arith) cc in
-    let shape = shape_once _ _ (between_in_range _ is.sound.inside) (between_in_range _ other.sound.inside) cc in
+    let shape = shape_once _ _ (between_in_range _ is.sound.inside)
+    (between_in_range _ other.sound.inside) cc in
     let points = points_by_shape _ a b is.joins other.joins from to shape in
-    λ i. record { id = id i; from = from i; to = to i; class = class i; form = form i; length = size i; points = points i }
+    λ i. record {
+      id = id i;
+      from = from i;
+      to = to i;
+      class = class i;
+      form = form i;
+      length =
+          size i;
+      points = points i;
+    }
 
 -- ---- the fields of a ban
 
-line_inside : (lines : List RoadLine) (rank : ℕ) (line : RoadLine) → slice_get lines rank ≡ Some line → rank < length (line_ids lines)
-line_inside lines rank line there = omega (arith, slice_get_within lines rank line there, length-map lines (λ (l : RoadLine). l.id))
+line_inside : (lines : List RoadLine) (rank : ℕ) (line : RoadLine)
+    → slice_get lines rank ≡ Some line → rank < length (line_ids lines)
+line_inside lines rank line there =
+    omega (arith, slice_get_within lines rank line there, length-map lines (λ (l : RoadLine). l.id))
 
-pub ban_lacks : (byte : ℕ) → (45 ≤ byte → 57 < byte) → (nodes : List Node) (lines : List RoadLine) → AreSoundLines nodes lines → (ban : Ban) → IsAdjacent lines ban
+pub ban_lacks : {byte : ℕ} {nodes : List Node} {lines : List RoadLine} {ban : Ban} → IsCut byte
+    → AreSoundLines nodes lines → IsAdjacent lines ban
     → AllLack byte (ban_fields lines ban)
-ban_lacks byte other nodes lines sound ban is =
-    let ids = ids_of_lines _ _ sound in
-    (id_lacks other ids (line_inside _ _ _ is.from), (id_lacks other ids (line_inside _ _ _ is.to), tt))
+ban_lacks cut sound is =
+    let ids = ids_of_lines sound in
+    (id_lacks cut ids (line_inside _ _ _ is.from), (id_lacks cut ids (line_inside _ _ _ is.to), tt))
 
-pub ban_by_fields : {nodes : List Node} {lines : List RoadLine} → AreSoundLines nodes lines → (a b : Ban) → IsAdjacent lines a → IsAdjacent lines b
+pub ban_by_fields : {nodes : List Node} {lines : List RoadLine} → AreSoundLines nodes lines
+    → (a b : Ban) → IsAdjacent lines a → IsAdjacent lines b
     → ban_fields lines a ≡ ban_fields lines b → a ≡ b
 ban_by_fields sound a b is other same =
-    let ids = ids_of_lines _ _ sound in
+    let ids = ids_of_lines sound in
     let from = rank_by_id ids (line_inside _ _ _ is.from) (line_inside _ _ _ other.from) cc in
     let to = rank_by_id ids (line_inside _ _ _ is.to) (line_inside _ _ _ other.to) cc in
     λ i. record { from = from i; to = to i }

@@ -52,7 +52,7 @@ ended_once byte [] [] lack other same = refl
 ended_once byte [] (y ∷ ys) lack other same = absurd (not_empty _ y _ same)
 ended_once byte (x ∷ xs) [] lack other same = absurd (not_empty _ x _ (sym same))
 ended_once byte (x ∷ xs) (y ∷ ys) lack other same =
-    let cut = cut_once byte x y (ended byte xs) (ended byte ys) lack.0 other.0 same in
+    let cut = cut_once _ x y _ _ lack.0 other.0 same in
     let first = cut.front in
     let rest = ended_once byte xs ys lack.1 other.1 cut.rest in
     cc

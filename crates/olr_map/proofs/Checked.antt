@@ -23,7 +23,7 @@ pub new_id : (before : List ℕ) (id : ℕ) (after : List ℕ) → AllDiffer (be
     → Contains before id → ⊥
 new_id before id after differ contains =
     let size = length-append before (id ∷ after) in
-    differ contains.0 (length before) 0 contains.1 (omega arith)
+    differ _ _ 0 contains.1 (omega arith)
     (cc (
       get_or_append_left before (id ∷ after) 0 contains.0 contains.1,
       get_or_default before contains.0 0 id contains.1,
@@ -152,4 +152,4 @@ pub refused_of_text : {Row : Type 0} (table : Table Row) → IsSettled table
     → (before : List ℕ) (fields : List (List ℕ)) (why : MapFault)
     → Refuses (checks_of table before fields) why → IsOfText why
 refused_of_text table settled before fields why refuses =
-    (refused_of_file table settled before fields why refuses).0
+    (refused_of_file _ settled _ _ _ refuses).0

@@ -70,13 +70,13 @@ pub stops_late : (nodes : List Node) (lines : List RoadLine) (bad : List (List �
     → StopsAfter (lines_table nodes) lines bad (record { fault = stop; key = Some row.id })
 stops_late nodes lines bad row shape stop before size room says late =
     stops_later (lines_table nodes) lines bad row.id stop size room
-    (row_passes nodes bad shape row says)
+    (row_passes nodes _ _ _ says)
     (λ among. (row.id, says.numbers.id, among))
     (λ repeat. rw (← (number_once 1 _ _ 0 _ _ repeat.1 says.numbers.id)) repeat.2) late
 
 pub lines_settled : (nodes : List Node) → IsSettled (lines_table nodes)
 lines_settled nodes = record {
-  pass = line_passes nodes;
+  pass = line_passes _;
   repeats = λ before fields line is among. (line.id, is.id, among);
   within = λ n fields. ((tt, refl), ((tt, refl), ((tt, refl), tt)));
 }

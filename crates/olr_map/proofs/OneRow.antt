@@ -22,10 +22,10 @@ spells_once once at a b one other =
 -- ---- a node
 
 lon_once : (fields : List (List ℕ)) (at : ℕ) (a b : ℤ) → SpellsAt SpellsLongitude fields at a → SpellsAt SpellsLongitude fields at b → a ≡ b
-lon_once fields at a b one other = spells_once (λ text y z p q. signed_once text y z p.number q.number) _ a b one other
+lon_once fields at a b one other = spells_once (λ text y z p q. signed_once _ y z p.number q.number) _ a b one other
 
 lat_once : (fields : List (List ℕ)) (at : ℕ) (a b : ℤ) → SpellsAt SpellsLatitude fields at a → SpellsAt SpellsLatitude fields at b → a ≡ b
-lat_once fields at a b one other = spells_once (λ text y z p q. signed_once text y z p.number q.number) _ a b one other
+lat_once fields at a b one other = spells_once (λ text y z p q. signed_once _ y z p.number q.number) _ a b one other
 
 pub node_once : (fields : List (List ℕ)) (a b : Node) → IsNode fields a → IsNode fields b → a ≡ b
 node_once fields a b is other =

@@ -99,7 +99,7 @@ fault_once {Row} table lawful records a b p q =
           bad p.refused) in
           first_once (checks_of table (keys_of table q.rows) q.bad) a b refused q.refused
       | before more e ↦ absurd (in_front _ lawful _ a b p q _ e)
-      | behind more e ↦ absurd (in_front _ lawful _ b a q p _ e)
+      | behind _ e ↦ absurd (in_front _ lawful _ b a q p _ e)
     ]
 
 -- ---- a text
@@ -111,7 +111,7 @@ records_once header all a b is other = cc
 
 pub keys_differ : {Row : Type 0} (table : Table Row) (text : List ℕ) (rows : List Row)
     → IsTableOf table text rows → AllDiffer (keys_of table rows)
-keys_differ table text rows is = rising_differ (keys_of table rows) is.2.rise
+keys_differ table text rows is = rising_differ _ is.2.rise
 
 pub table_once : {Row : Type 0} {table : Table Row} → IsLawful table
     → {text : List ℕ} (a b : List Row) → IsTableOf table text a → IsTableOf table text b → a ≡ b

@@ -3,12 +3,12 @@ use Rattle.std.proofs.Common.{ℕ, List, refl}
 use Rattle.olr_map.specs.RoadMap.{RoadMap, nodes_table, lines_table, bans_table}
 use Rattle.olr_map.specs.Table.{IsFaultOfTable}
 use Rattle.olr_map.specs.Files.{known, HasOutcome, AreLinesAccepted}
-use Rattle.olr_map.proofs.Checked.{of_file, reports}
+use Rattle.olr_map.proofs.Checked.{of_file}
 use Rattle.olr_map.proofs.NodeFaults.{nodes_settled}
 use Rattle.olr_map.proofs.LineFaults.{lines_settled}
 use Rattle.olr_map.proofs.BanFaults.{bans_settled}
 use Rattle.olr_map.proofs.RecordOutcomes.{nodes_decided, lines_decided, bans_decided}
-use Rattle.olr_map.proofs.Reported.{nodes_reported, lines_reported, bans_reported}
+use Rattle.olr_map.proofs.Reported.{fault_within}
 use Rattle.olr_map.proofs.Soundness.{nodes_are_sound, lines_are_sound, map_is_sound}
 use Rattle.olr_map.proofs.TableOutcome.{table_outcome}
 
@@ -30,27 +30,23 @@ outcome nodes_text lines_text bans_text no_map no_fault =
       sound = map_is_sound _ _ _ _ set is its;
       nodes = set;
       lines = is;
-      bans =
-          its;
+      bans = its;
     }))
     (λ why its.
-    let of_text = (of_file (bans_settled _) _ _ its).0 in
-    no_fault why (
-      of_text,
-      bans_reported _ _ _ _ _ refl accepted
-          (reports (IsFaultOfTable (bans_table lines) bans_text) _ of_text its),
-    )))
+    let lies = of_file (bans_settled _) _ _ its in
+    no_fault why (lies.0, rw lies.1 (record {
+      nodes = nodes;
+      lines = lines;
+      accepted = accepted;
+      text = fault_within (IsFaultOfTable (bans_table lines)) texts.bans _ _ refl its;
+    }))))
     (λ why its.
-    let of_text = (of_file (lines_settled _) _ _ its).0 in
-    no_fault why (
-      of_text,
-      lines_reported _ _ _ _ _ refl refl set
-          (reports (IsFaultOfTable (lines_table nodes) lines_text) _ of_text its),
-    )))
+    let lies = of_file (lines_settled _) _ _ its in
+    no_fault why (lies.0, rw lies.1 (record {
+      nodes = nodes;
+      accepted = record { sound = nodes_are_sound set; text = set };
+      text = fault_within (IsFaultOfTable (lines_table nodes)) texts.lines _ _ refl its;
+    }))))
     (λ why its.
-    let of_text = (of_file nodes_settled _ _ its).0 in
-    no_fault why (
-      of_text,
-      nodes_reported _ _ _ refl
-          (reports (IsFaultOfTable nodes_table nodes_text) _ of_text its),
-    ))
+    let lies = of_file nodes_settled _ _ its in
+    no_fault why (lies.0, rw lies.1 (fault_within (IsFaultOfTable nodes_table) texts.nodes _ _ refl its)))

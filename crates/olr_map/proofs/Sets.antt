@@ -53,9 +53,9 @@ sorted_lines points old new sorts = record {
 nodes_known : (node_at : Entry → ℕ) (nodes : ℕ) (points : List Degrees) → ((entry : Entry) → IsSoundLine nodes (line_in points entry) → node_at entry < nodes)
     → (entries : List Entry) → All (IsSoundLine nodes) (lines_in points entries) → (i : ℕ) → i < length (map node_at entries) → get_or (map node_at entries) i 0 < nodes
 nodes_known node_at nodes points known [] sound i inside = absurd (omega arith)
-nodes_known node_at nodes points known (entry ∷ entries) sound zero inside = known entry (All-head (IsSoundLine nodes) (line_in points entry) _ sound)
+nodes_known node_at nodes points known (entry ∷ entries) sound zero inside = known _ (All-head (IsSoundLine nodes) (line_in points entry) _ sound)
 nodes_known node_at nodes points known (entry ∷ entries) sound (suc i) inside =
-    nodes_known node_at nodes points known entries (All-tail (IsSoundLine nodes) (line_in points entry) _ sound) i (omega arith)
+    nodes_known _ _ _ known entries (All-tail (IsSoundLine nodes) (line_in points entry) _ sound) i (omega arith)
 
 module _ (nodes : ℕ) (points : List Degrees) (entries : List Entry) (sound : All (IsSoundLine nodes) (lines_in points entries)) where
   pub starts_known : (i : ℕ) → i < length (starts_of entries) → get_or (starts_of entries) i 0 < nodes

@@ -102,7 +102,7 @@ differ_front keys more differ i j d less inside same =
 -- the last of keys that differ isn't one of those before it
 last_new : (keys : List ℕ) (last : ℕ) → AllDiffer (keys ++ last ∷ []) → Contains keys last → ⊥
 last_new keys last differ among =
-    differ among.0 (length keys) last among.1 (omega (arith, length-append keys (last ∷ [])))
+    differ _ _ last among.1 (omega (arith, length-append keys (last ∷ [])))
     (cc (get_or_append_left keys (last ∷ []) last among.0 among.1, get_or_push keys _ last _ refl))
 
 -- the same of a key that may not have been read
@@ -159,7 +159,7 @@ repeat_decides : {Row : Type 0} (table : Table Row) → IsSettled table
     → IsFirstRepeat (keys_read (keys_of table rows) stop) at
     → RefusesRecord table records (fault.Duplicate table.file (at + 1))
 repeat_decides table settled records rows None at found first =
-    repeated settled [] (sym (append-nil records)) found first
+    repeated settled _ (sym (append-nil records)) found first
 repeat_decides table settled records rows (Some stop) at found first =
     repeat_before settled _ found first
 
@@ -175,7 +175,7 @@ fault_settled table settled records rows stop keys why same found (repeat at fir
     let here = subst (λ (l : List ℕ). IsFirstRepeat (keys_read l stop) at) same first in
     rw e (repeat_decides _ settled _ _ _ _ found here)
 fault_settled table settled records rows stop keys why same found (stopped its is differ e) =
-    let stops = when_some (SpellRows table records rows) _ _ _ is found in
+    let stops = when_some _ _ _ _ is found in
     let apart = subst (λ (l : List ℕ). AllDiffer (with_last l its.key)) same differ in
     rw e (stop_decides _ settled _ _ _ stops apart)
 
@@ -210,7 +210,7 @@ text_rows table text records rows sorted is say sorts = (
       each = say.each;
       at_most = say.at_most;
       differ =
-          sorts_differ table.key rows sorted sorts;
+          sorts_differ _ _ _ sorts;
     };
   },
   sorts,

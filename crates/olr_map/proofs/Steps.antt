@@ -37,7 +37,7 @@ all_of_groups P (lines ∷ groups) each =
 
 -- each line by node is one of the lines
 pub lines_known : (entries : List Entry) (nodes : ℕ) (groups : List (List ℕ)) → IsGrouping (starts_of entries) nodes groups → All (λ rank. rank < length entries) (concat groups)
-lines_known entries nodes groups grouping = all_of_groups (λ rank. rank < length entries) groups (λ node lines is.
+lines_known entries nodes groups grouping = all_of_groups (λ rank. rank < length entries) _ (λ node lines is.
     All-weaker (λ rank. slice_get (starts_of entries) rank ≡ Some node) (λ rank. rank < length entries)
     (λ rank starts. omega (arith, slice_get_within (starts_of entries) rank node starts, length-map entries (λ (entry : Entry). entry.line.from)))
     lines (grouping.each node lines is).only)

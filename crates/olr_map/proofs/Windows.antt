@@ -119,7 +119,7 @@ rank_meets points entries extents window rank lats lons placed meets =
 extent_at : (points : List Degrees) (entries : List Entry) (extents : List Extent) (window : Extent) (rank : ℕ) → AllZip (HasExtent points) entries extents
     → RankMeetsWindow (lines_in points entries) window rank → MeetsAt extents window rank
 extent_at points entries extents window rank placed meets =
-    let found = entry_at points entries rank _ meets.1 in
+    let found = entry_at _ _ rank _ meets.1 in
     let there = zip_right _ _ _ _ _ placed found.1 in
     rw there.1 (extent_meets points found.0 there.2 (rw found.2 meets.2))
 
@@ -127,7 +127,7 @@ pub window_of : (points : List Degrees) (entries : List Entry) (extents : List E
     → AllZip (HasExtent points) entries extents → IsWindow extents window ranks → IsWindowOf (lines_in points entries) window ranks
 window_of points entries extents window ranks lats lons placed is = record {
   once = is.once;
-  only = All-weaker (MeetsAt extents window) (RankMeetsWindow (lines_in points entries) window) (λ rank meets. rank_meets _ _ _ _ rank lats lons placed meets) _ is.only;
+  only = All-weaker (MeetsAt extents window) (RankMeetsWindow (lines_in points entries) window) (λ rank meets. rank_meets _ _ _ _ _ lats lons placed meets) _ is.only;
   each = λ rank meets. is.each rank (extent_at _ _ _ _ _ placed meets);
 }
 
@@ -160,7 +160,7 @@ in_order_more lines more rank extent is place before =
     let at : 0 + length (extents_of lines) ≡ rank = omega arith in
     is ∙ ap (λ (l : List PlacedLine). l ++ with_extent rank extent ∷ []) before
     ∙ ap (λ (r : ℕ). placed_from 0 (extents_of lines) ++ with_extent r extent ∷ []) (sym at)
-    ∙ sym (placed_from-push 0 (extents_of lines) extent)
+    ∙ sym (placed_from-push 0 _ _)
     ∙ ap (placed_from 0) (cc)
 
 pub extents_more : (points : List Degrees) (entries : List Entry) (i : ℕ) (d : Entry) (lines more : List PlacedLine) (rank : ℕ) (extent : Extent) → i < length entries

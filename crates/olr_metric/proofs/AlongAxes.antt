@@ -13,7 +13,7 @@ root_within x y = elim (cases_lt (root (x * x + y * y)) y) [
   | inl less ↦ absurd (omega (
     arith,
     (root_is (x * x + y * y)).next,
-    mul-le (root (x * x + y * y) + 1) (root (x * x + y * y) + 1) y y (omega (arith, less)) (omega (arith, less)),
+    mul-le (root (x * x + y * y) + 1) (root (x * x + y * y) + 1) y y (omega arith) (omega arith),
   ))
   | inr within ↦ within
 ]
@@ -23,7 +23,7 @@ root_beside x y = elim (cases_lt (root (x * x + y * y)) x) [
   | inl less ↦ absurd (omega (
     arith,
     (root_is (x * x + y * y)).next,
-    mul-le (root (x * x + y * y) + 1) (root (x * x + y * y) + 1) x x (omega (arith, less)) (omega (arith, less)),
+    mul-le (root (x * x + y * y) + 1) (root (x * x + y * y) + 1) x x (omega arith) (omega arith),
   ))
   | inr within ↦ within
 ]

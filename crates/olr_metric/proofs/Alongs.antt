@@ -1,65 +1,69 @@
 -- The segment at an arc.
-use Rattle.std.proofs.Common.{◌≡◌, ℕ, suc, ◌+◌, ◌-◌, ◌<◌, ◌≤◌, arith, List, length, Some, get_or, inl, inr, subst, sym, ◌≢◌, pos}
+use Rattle.std.proofs.Common.{◌≡◌, ℕ, suc, ◌+◌, ◌-◌, ◌<◌, ◌≤◌, arith, add-one, List, length, Some, inl, inr, sym, ◌≢◌}
 use Rattle.std.specs.Prelude.{slice_get}
 use Rattle.std.proofs.lemmas.Bool.{cases_lt}
-use Rattle.std.proofs.lemmas.Option.{slice_get-get_or}
 use Rattle.olr_metric.specs.declared.spot.Spot.{Spot}
 use Rattle.olr_metric.specs.Spot.{distance}
 use Rattle.olr_metric.specs.Polyline.{arc_at, IsPolyline, IsSegmentAt, IsAlong}
 use Rattle.olr_metric.specs.Segment.{spot_between}
 use Rattle.olr_metric.proofs.Arcs.{arc_segment}
+use Rattle.olr_metric.proofs.Nearests.{spot_at, start_at, end_at}
 
 -- the first n segments end before s
 abbrev pub AreBefore : List Spot → ℕ → ℕ → Type 0
 AreBefore spots s n = (j : ℕ) → j < n → arc_at spots (suc j) < s
 
 pub none_before : (spots : List Spot) (s : ℕ) → AreBefore spots s 0
-none_before spots s j lt = absurd (omega (arith, lt))
+none_before spots s j lt = absurd (omega arith)
 
-pub one_more_before : (spots : List Spot) (s n : ℕ) → AreBefore spots s n → arc_at spots (n + 1) < s → AreBefore spots s (n + 1)
+pub one_more_before : (spots : List Spot) (s n : ℕ) → AreBefore spots s n → arc_at spots (n + 1) < s
+    → AreBefore spots s (n + 1)
 one_more_before spots s n before next j lt = elim (cases_lt j n) [
   | inl under ↦ before j under
-  | inr over ↦ let same : suc j ≡ n + 1 = omega (arith, lt, over) in rw same next
+  | inr over ↦ let same : suc j ≡ n + 1 = omega arith in rw same next
 ]
 
-pub segment_at : (spots : List Spot) (s i : ℕ) (a b : Spot) → AreBefore spots s i → s ≤ arc_at spots (i + 1)
+pub segment_at : (spots : List Spot) (s i : ℕ) (a b : Spot) → AreBefore spots s i
+    → s ≤ arc_at spots (i + 1)
     → slice_get spots i ≡ Some a → slice_get spots (suc i) ≡ Some b → IsSegmentAt spots s i a b
 segment_at spots s i a b before reaches start end = record {
   segment = record { start = start; end = end };
-  reaches = let one : i + 1 ≡ suc i = omega arith in subst (λ (k : ℕ). s ≤ arc_at spots k) one reaches;
+  reaches = rw add-one at reaches;
   first = before;
 }
 
 -- and s lies no further on it than its end
-pub ends_behind : (spots : List Spot) (s i : ℕ) (a b : Spot) → IsSegmentAt spots s i a b → s - arc_at spots i ≤ distance a b
-ends_behind spots s i a b is = omega (arith, is.reaches, arc_segment _ i a b is.segment.start is.segment.end)
+pub ends_behind : (spots : List Spot) (s i : ℕ) (a b : Spot) → IsSegmentAt spots s i a b
+    → s - arc_at spots i ≤ distance a b
+ends_behind spots s i a b is = omega (arith, arc_segment _ i a b is.segment.start is.segment.end)
 
 -- what the segment of a number is when its spots are read
 abbrev pub IsAt : List Spot → ℕ → ℕ → Type 0
-IsAt spots s i = (a b : Spot) → slice_get spots i ≡ Some a → slice_get spots (suc i) ≡ Some b → IsSegmentAt spots s i a b
+IsAt spots s i = (a b : Spot) → slice_get spots i ≡ Some a → slice_get spots (suc i) ≡ Some b
+    → IsSegmentAt spots s i a b
 
-abbrev pub spot_at : List Spot → ℕ → Spot
-spot_at spots i = get_or spots i (record { x = pos 0; y = pos 0 })
+read : {spots : List Spot} (s i : ℕ) → i + 1 < length spots → IsAt spots s i
+    → IsSegmentAt spots s i (spot_at spots i) (spot_at spots (i + 1))
+read s i within is = is _ _ (start_at _ i within) (end_at _ i within)
 
-read : (spots : List Spot) (s i : ℕ) → i + 1 < length spots → IsAt spots s i → IsSegmentAt spots s i (spot_at spots i) (spot_at spots (i + 1))
-read spots s i within is =
-    let one : i + 1 ≡ suc i = omega arith in
-    rw one (is (spot_at spots i) (spot_at spots (suc i))
-    (slice_get-get_or _ i _ (omega (arith, within)))
-    (slice_get-get_or spots (suc i) (record { x = pos 0; y = pos 0 }) (omega (arith, within))))
+pub is_at : {spots : List Spot} {s i : ℕ} → i + 1 < length spots → IsAt spots s i → IsPolyline spots
+    → (spot_at spots i ≢ spot_at spots (i + 1))
+    × (s - arc_at spots i ≤ distance (spot_at spots i) (spot_at spots (i + 1)))
+is_at {spots} {s} {i} within is polyline =
+    let at = read s i within is in (
+      polyline.apart i (spot_at spots i) (spot_at spots (i + 1)) at.segment,
+      ends_behind _ s i _ _
+          at,
+    )
 
-pub is_at : (spots : List Spot) (s i : ℕ) → i + 1 < length spots → IsAt spots s i → IsPolyline spots
-    → (spot_at spots i ≢ spot_at spots (i + 1)) × (s - arc_at spots i ≤ distance (spot_at spots i) (spot_at spots (i + 1)))
-is_at spots s i within is polyline =
-    let at = read _ s i within is in
-    (polyline.apart i (spot_at spots i) (spot_at spots (i + 1)) at.segment, ends_behind _ s i _ _ at)
-
-pub is_along : (spots : List Spot) (s i start : ℕ) (spot : Spot) → i + 1 < length spots → IsAt spots s i → start ≡ arc_at spots i
-    → spot ≡ spot_between (spot_at spots i) (spot_at spots (i + 1)) (s - start) (distance (spot_at spots i) (spot_at spots (i + 1))) → IsAlong spots s spot
-is_along spots s i start spot within is same spot_is = record {
+pub is_along : {spots : List Spot} {s i start : ℕ} {spot : Spot} → i + 1 < length spots
+    → IsAt spots s i → start ≡ arc_at spots i
+    → spot ≡ spot_between (spot_at spots i) (spot_at spots (i + 1)) (s - start)
+    (distance (spot_at spots i) (spot_at spots (i + 1))) → IsAlong spots s spot
+is_along {spots} {s} {i} within is same spot_is = record {
   i = i;
   a = spot_at spots i;
   b = spot_at spots (i + 1);
-  at_arc = read _ s i within is;
+  at_arc = read s i within is;
   spot_of = rw (sym same) spot_is;
 }

@@ -1,5 +1,5 @@
 -- The arcs of a polyline's spots.
-use Rattle.std.proofs.Common.{◌≡◌, ℕ, zero, suc, ◌+◌, ◌-◌, ◌<◌, ◌≤◌, arith, List, [], ◌∷◌, length, get_or, Some, refl, sym, ap}
+use Rattle.std.proofs.Common.{◌≡◌, ℕ, zero, suc, ◌+◌, ◌-◌, ◌<◌, ◌≤◌, arith, add-one, List, [], ◌∷◌, length, get_or, Some, refl, sym, ap}
 use Rattle.std.specs.Prelude.{slice_get}
 use Rattle.std.proofs.Math.Seq.{take-length}
 use Rattle.std.proofs.lemmas.Option.{same_Some, none-some, slice_get-get_or}
@@ -9,25 +9,30 @@ use Rattle.olr_metric.specs.Polyline.{arc, arc_at, IsPolyline}
 use Rattle.olr_metric.proofs.SpotDistances.{distance_positive}
 
 -- the end of a segment is as much further as the segment is long
-pub arc_segment : (spots : List Spot) (i : ℕ) (a b : Spot) → slice_get spots i ≡ Some a → slice_get spots (suc i) ≡ Some b → arc_at spots (suc i) ≡ arc_at spots i + distance a b
+pub arc_segment : (spots : List Spot) (i : ℕ) (a b : Spot) → slice_get spots i ≡ Some a
+    → slice_get spots (suc i) ≡ Some b → arc_at spots (suc i) ≡ arc_at spots i + distance a b
 arc_segment [] i a b start end = absurd (none-some a start)
 arc_segment (x ∷ []) i a b start end = absurd (none-some b end)
-arc_segment (x ∷ y ∷ rest) zero a b start end = rw (sym (same_Some x a start), sym (same_Some y b end)) (omega arith)
-arc_segment (x ∷ y ∷ rest) (suc i) a b start end = omega (arith, arc_segment (y ∷ rest) i a b start end)
+arc_segment (x ∷ y ∷ rest) zero a b start end =
+    rw (sym (same_Some x a start), sym (same_Some y b end)) (omega arith)
+arc_segment (x ∷ y ∷ rest) (suc i) a b start end =
+    omega (arith, arc_segment (y ∷ rest) i a b start end)
 
-arc_step : (spots : List Spot) (i : ℕ) (d : Spot) → suc i < length spots → arc_at spots (suc i) ≡ arc_at spots i + distance (get_or spots i d) (get_or spots (suc i) d)
-arc_step spots i d within = arc_segment _ i _ _ (slice_get-get_or _ i d (omega (arith, within))) (slice_get-get_or _ _ d within)
+arc_step : (spots : List Spot) (i : ℕ) (d : Spot) → suc i < length spots
+    → arc_at spots (suc i) ≡ arc_at spots i + distance (get_or spots i d) (get_or spots (suc i) d)
+arc_step spots i d within = arc_segment _ i _ _ (slice_get-get_or _ i d (omega arith))
+    (slice_get-get_or _ _ d within)
 
 -- one segment more
-pub arc_more : (spots : List Spot) (i : ℕ) (d : Spot) → i + 1 < length spots → arc_at spots (i + 1) ≡ arc_at spots i + distance (get_or spots i d) (get_or spots (i + 1) d)
+pub arc_more : (spots : List Spot) (i : ℕ) (d : Spot) → i + 1 < length spots
+    → arc_at spots (i + 1) ≡ arc_at spots i + distance (get_or spots i d) (get_or spots (i + 1) d)
 arc_more spots i d within =
-    let one : i + 1 ≡ suc i = omega arith in
-    rw one (arc_step _ i d (omega (arith, within)))
+    rw add-one (arc_step _ i d (omega arith))
 
 -- all segments
 pub arc_all : (spots : List Spot) → 0 < length spots → arc_at spots (length spots - 1) ≡ arc spots
 arc_all spots some =
-    let whole : suc (length spots - 1) ≡ length spots = omega (arith, some) in
+    let whole : suc (length spots - 1) ≡ length spots = omega arith in
     rw whole (ap arc (take-length spots))
 
 arc_within_one : (a : Spot) (i : ℕ) → arc_at (a ∷ []) i ≤ 0
@@ -43,10 +48,13 @@ arc_within (a ∷ b ∷ rest) (suc i) = omega (arith, arc_within (b ∷ rest) i)
 
 -- and a polyline has a length
 pub arc_positive : (spots : List Spot) → IsPolyline spots → 0 < arc spots
-arc_positive [] is = absurd (omega (arith, is.at_least))
-arc_positive (a ∷ []) is = absurd (omega (arith, is.at_least))
-arc_positive (a ∷ b ∷ rest) is = omega (arith, distance_positive a b (is.apart 0 a b (record { start = refl; end = refl })))
+arc_positive [] is = absurd (omega arith)
+arc_positive (a ∷ []) is = absurd (omega arith)
+arc_positive (a ∷ b ∷ rest) is =
+    omega (arith, distance_positive a b (is.apart 0 a b (record { start = refl; end = refl })))
 
-pub end_within : (spots : List Spot) (i : ℕ) (a b : Spot) (beyond : ℕ) → slice_get spots i ≡ Some a → slice_get spots (suc i) ≡ Some b → beyond ≤ distance a b
+pub end_within : (spots : List Spot) (i : ℕ) (a b : Spot) (beyond : ℕ) → slice_get spots i ≡ Some a
+    → slice_get spots (suc i) ≡ Some b → beyond ≤ distance a b
     → arc_at spots i + beyond ≤ arc spots
-end_within spots i a b beyond start end within = omega (arith, arc_segment spots i a b start end, arc_within spots (suc i))
+end_within spots i a b beyond start end within =
+    omega (arith, arc_segment spots i a b start end, arc_within spots (suc i))

@@ -1,9 +1,9 @@
 -- Quarter turns of directions, of rays and of sectors.
-use Rattle.std.proofs.Common.{◌≡◌, ℕ, zero, suc, ◌+◌, ◌/◌, ◌%◌, ◌<◌, arith, ℤ, pos, negsuc, neg_ℤ, ◌-ℤ◌, ◌*ℤ◌, refl, sym, ap, inl, inr, ◌∙◌}
+use Rattle.std.proofs.Common.{◌≡◌, ℕ, zero, suc, ◌+◌, ◌*◌, ◌/◌, ◌%◌, ◌<◌, arith, ℤ, pos, negsuc, neg_ℤ, ◌-ℤ◌, ◌*ℤ◌, refl, sym, ap, inl, inr, ◌∙◌}
 use Rattle.std.proofs.lemmas.Int.{ints}
 use Rattle.std.proofs.lemmas.Bool.{cases_lt}
 use Rattle.std.proofs.Math.IntN.{neg_ℤ-neg_ℤ, *ℤ-zero, *ℤ-negsuc, *ℤ_comm}
-use Rattle.olr_metric.specs.Sector.{Direction, cross, turned, ray, IsSector}
+use Rattle.olr_metric.specs.Sector.{Direction, cross, turned, turns, ray, IsSector}
 
 -- a ray is a quarter turn clockwise of the one eight before
 pub ray_turned : (s : ℕ) → ray (s + 8) ≡ turned (ray s)
@@ -13,15 +13,11 @@ ray_turned s =
     let same : (s + 8) % 8 ≡ s % 8 = omega arith in
     rw (next, same) refl
 
-pub ray_turned_twice : (s : ℕ) → ray (s + 16) ≡ turned (turned (ray s))
-ray_turned_twice s =
-    let parts : s + 16 ≡ (s + 8) + 8 = omega arith in
-    rw (parts, ray_turned _, ray_turned s) refl
-
-pub ray_turned_thrice : (s : ℕ) → ray (s + 24) ≡ turned (turned (turned (ray s)))
-ray_turned_thrice s =
-    let parts : s + 24 ≡ (s + 16) + 8 = omega arith in
-    rw (parts, ray_turned _, ray_turned_twice s) refl
+pub ray_turned_by : (k s : ℕ) → ray (s + 8 * k) ≡ turns k (ray s)
+ray_turned_by zero s = let none : s + 8 * 0 ≡ s = omega arith in rw none refl
+ray_turned_by (suc k) s =
+    let parts : s + 8 * suc k ≡ (s + 8 * k) + 8 = omega arith in
+    rw (parts, ray_turned _, ray_turned_by k s) refl
 
 -- four quarter turns lead back
 pub turned_round : (d : Direction) → turned (turned (turned (turned d))) ≡ d
@@ -29,12 +25,11 @@ turned_round d = rw (neg_ℤ-neg_ℤ d.east, neg_ℤ-neg_ℤ d.north) refl
 
 -- as do 32 rays
 pub ray_round : (s : ℕ) → ray (s + 32) ≡ ray s
-ray_round s =
-    let parts : s + 32 ≡ (s + 24) + 8 = omega arith in
-    rw (parts, ray_turned _, ray_turned_thrice s) (turned_round _)
+ray_round s = ray_turned_by 4 s ∙ turned_round _
 
 -- the ray of a sector that lies eight further, going round
-ray_further : (s t k i j : ℕ) → s < 32 → t ≡ (s + 8) % 32 → i ≡ s + k → j ≡ t + k → ray j ≡ turned (ray i)
+ray_further : (s t k i j : ℕ) → s < 32 → t ≡ (s + 8) % 32 → i ≡ s + k → j ≡ t + k
+    → ray j ≡ turned (ray i)
 ray_further s t k i j known is at_s at_t = elim (cases_lt s 24) [
   | inl before ↦ let parts : j ≡ i + 8 = omega arith in rw parts (ray_turned i)
   | inr behind ↦
@@ -61,8 +56,8 @@ cross_turned r d = cross_of r.east r.north d.east d.north
 pub sector_turned : (d : Direction) (s : ℕ) → IsSector d s → IsSector (turned d) ((s + 8) % 32)
 sector_turned d s is =
     let t : ℕ = (s + 8) % 32 in
-    let begin : ray t ≡ turned (ray s) = ray_further s t 0 s t is.in_range refl (omega arith) (omega arith) in
-    let end : ray (t + 1) ≡ turned (ray (s + 1)) = ray_further s t 1 _ _ is.in_range refl refl refl in
+    let begin = ray_further s t 0 s t is.in_range refl (omega arith) (omega arith) in
+    let end = ray_further s t 1 _ _ is.in_range refl refl refl in
     record {
       in_range = omega arith;
       begins = rw (begin, cross_turned _ d) is.begins;

@@ -8,46 +8,61 @@ use Rattle.olr_metric.proofs.Floors.{share_near, share_at_most, small_is}
 
 step_up : (a b f : ℤ) (n : ℕ) → b -ℤ a ≡ pos n → nat_abs f ≤ n → pos 0 ≤ℤ f → IsBetween a b (a +ℤ f)
 step_up a b f n up near positive = (
-  λ le. (omega (arith, ints, positive), omega (arith, ints, up, near)),
-  λ ge. (omega (arith, ints, up, near, ge), omega (arith, ints, up, near, ge)),
+  λ le. (omega (arith, ints), omega (arith, ints)),
+  λ ge. (omega (arith, ints), omega (arith, ints)),
 )
 
-step_down : (a b f : ℤ) (n : ℕ) → b -ℤ a ≡ negsuc n → nat_abs f ≤ suc n → f ≤ℤ pos 0 → IsBetween a b (a +ℤ f)
+step_down : (a b f : ℤ) (n : ℕ) → b -ℤ a ≡ negsuc n → nat_abs f ≤ suc n → f ≤ℤ pos 0
+    → IsBetween a b (a +ℤ f)
 step_down a b f n down near negative = (
-  λ le. absurd (omega (arith, ints, down, le)),
-  λ ge. (omega (arith, ints, down, near), omega (arith, ints, negative)),
+  λ le. absurd (omega (arith, ints)),
+  λ ge. (omega (arith, ints), omega (arith, ints)),
 )
 
 floor_of_positive : (m d : ℕ) → pos 0 ≤ℤ floor (pos m) d
 floor_of_positive m d = omega (arith, ints)
 
 floor_of_negative : (m d : ℕ) → 0 < d → floor (neg_ℤ (pos m)) d ≤ℤ pos 0
-floor_of_negative zero d some = let none : 0 / d ≡ 0 = omega (arith, some) in rw none (omega (arith, ints))
+floor_of_negative zero d some = let none : 0 / d ≡ 0 = omega arith in rw none (omega (arith, ints))
 floor_of_negative (suc m) d some = omega (arith, ints)
 
-lies : (a b d : ℤ) (part whole : ℕ) → b -ℤ a ≡ d → part ≤ whole → 0 < whole → IsBetween a b (a +ℤ floor (d *ℤ pos part) whole)
+lies : (a b d : ℤ) (part whole : ℕ) → b -ℤ a ≡ d → part ≤ whole → 0 < whole
+    → IsBetween a b (a +ℤ floor (d *ℤ pos part) whole)
 lies a b (pos n) part whole is within some =
-    step_up a b (floor (pos n *ℤ pos part) whole) n is (share_near (pos n) part whole within some) (floor_of_positive (n * part) whole)
+    step_up a b (floor (pos n *ℤ pos part) whole) n is (share_near (pos n) part whole within some)
+    (floor_of_positive (n * part) whole)
 lies a b (negsuc n) part whole is within some =
-    step_down a b (floor (negsuc n *ℤ pos part) whole) n is (share_near (negsuc n) part whole within some) (floor_of_negative (suc n * part) whole some)
+    step_down a b (floor (negsuc n *ℤ pos part) whole) n is
+    (share_near (negsuc n) part whole within some) (floor_of_negative (suc n * part) whole some)
 
 -- what lies between two numbers is from the one to the other
-pub lies_between : (a b : ℤ) (part whole : ℕ) → part ≤ whole → 0 < whole → IsBetween a b (between a b part whole)
-lies_between a b part whole within some = lies a b (b -ℤ a) part whole refl within some
+pub lies_between : (a b : ℤ) {part whole : ℕ} → part ≤ whole → 0 < whole
+    → IsBetween a b (between a b part whole)
+lies_between a b {part} {whole} within some = lies a b (b -ℤ a) part whole refl within some
 
 near_up : (a b x : ℤ) (m : ℕ) → nat_abs a ≤ m → nat_abs b ≤ m → (a ≤ℤ x) × (x ≤ℤ b) → nat_abs x ≤ m
-near_up a b x m near_a near_b lies = omega (arith, ints, lies.0, lies.1)
+near_up a b x m near_a near_b lies = omega (arith, ints)
 
 lies_near : (a b x : ℤ) (m : ℕ) → nat_abs a ≤ m → nat_abs b ≤ m → IsBetween a b x → nat_abs x ≤ m
-lies_near a b x m near_a near_b lies = by_lt_z b a (λ lt. near_up b a x m near_b near_a (lies.1 (omega (arith, ints, lt)))) (λ ge. near_up a b x m near_a near_b (lies.0 ge))
+lies_near a b x m near_a near_b lies =
+    by_lt_z b a (λ lt. near_up b a x m near_b near_a (lies.1 (omega (arith, ints))))
+    (λ ge. near_up a b x m near_a near_b (lies.0 ge))
 
-pub between_near : (a b : ℤ) (part whole m : ℕ) → nat_abs a ≤ m → nat_abs b ≤ m → part ≤ whole → 0 < whole → nat_abs (between a b part whole) ≤ m
-between_near a b part whole m near_a near_b within some = lies_near a b _ m near_a near_b (lies_between a b _ _ within some)
+pub between_near : (a b : ℤ) (part whole m : ℕ) → nat_abs a ≤ m → nat_abs b ≤ m → part ≤ whole
+    → 0 < whole → nat_abs (between a b part whole) ≤ m
+between_near a b part whole m near_a near_b within some =
+    lies_near a b _ m near_a near_b (lies_between a b within some)
 
 -- the sum as the code has it
-pub between_is : (a b d share : ℤ) (part whole : ℕ) → d ≡ b -ℤ a → share ≡ floor (to_z w64 (of_z w64 d) *ℤ pos part) whole
+pub between_is : (a b d share : ℤ) (part whole : ℕ) → d ≡ b -ℤ a
+    → share ≡ floor (to_z w64 (of_z w64 d) *ℤ pos part) whole
     → nat_abs a ≤ 2 ^ 33 → nat_abs d ≤ 2 ^ 34 → part ≤ whole → 0 < whole
     → to_z w64 (of_z w64 a) +ℤ to_z w64 (of_z w64 share) ≡ between a b part whole
 between_is a b d share part whole is_d is_share small_a small_d within some =
-    let is : share ≡ floor (d *ℤ pos part) whole = simp (small_is d small_d) at is_share in
-    rw (small_is a (omega (arith, small_a)), small_is _ (share_at_most d _ _ share is small_d within some), is, is_d) refl
+    let is = simp (small_is d small_d) at is_share in
+    rw (
+      small_is a (omega arith),
+      small_is _ (share_at_most d share is small_d within some),
+      is,
+      is_d,
+    ) refl

@@ -17,7 +17,7 @@ use Rattle.olr_metric.proofs.Arcs.{arc_segment, arc_within}
 -- ---- no part of a displacement, and the whole of it
 
 floor_none : (e : ℕ) → 0 < e → floor (pos 0) e ≡ pos 0
-floor_none e some = ap pos (omega (arith, some))
+floor_none e some = ap pos (omega arith)
 
 no_part : (a b : ℤ) (e : ℕ) → 0 < e → between a b 0 e ≡ a
 no_part a b e some = rw (*ℤ-zero (b -ℤ a), floor_none e some) (+ℤ_idr a)
@@ -29,11 +29,12 @@ negative : (m e : ℕ) → floor (neg_ℤ (pos (suc m))) e ≡ negsuc (m / e)
 negative m e = refl
 
 whole_displacement : (w : ℤ) (e : ℕ) → 0 < e → floor (w *ℤ pos e) e ≡ w
-whole_displacement (pos n) e some = ap pos (subst (λ (k : ℕ). k / e ≡ n) (omega arith) (quotient n e 0 some))
+whole_displacement (pos n) e some =
+    ap pos (subst (λ (k : ℕ). k / e ≡ n) (omega arith) (quotient n e 0 some))
 whole_displacement (negsuc n) (suc e) some =
     let below : suc n * suc e ≡ suc (n * suc e + e) = omega arith in
     rw (below, negative _ _) (ap negsuc (quotient n _ e (omega arith)))
-whole_displacement (negsuc n) zero some = absurd (omega (arith, some))
+whole_displacement (negsuc n) zero some = absurd (omega arith)
 
 whole_part : (a b : ℤ) (e : ℕ) → 0 < e → between a b e e ≡ b
 whole_part a b e some = rw (whole_displacement _ e some) (omega (arith, ints))
@@ -45,36 +46,48 @@ first_segment spots zero first = refl
 first_segment spots (suc i) first = absurd (omega (arith, first i (omega arith)))
 
 -- behind the last segment there is no other
-last_segment : (spots : List Spot) (i : ℕ) (a b : Spot) → IsPolyline spots → IsSegment spots i a b → arc spots ≤ arc_at spots (suc i) → suc i ≡ length spots - 1
-last_segment spots i a b polyline segment reaches =
-    let within : suc i < length spots = slice_get_within spots (suc i) b segment.end in
+last_segment : {spots : List Spot} {i : ℕ} {a b : Spot} → IsPolyline spots → IsSegment spots i a b
+    → arc spots ≤ arc_at spots (suc i) → suc i ≡ length spots - 1
+last_segment {spots} {i} {b} polyline segment reaches =
+    let within = slice_get_within spots (suc i) b segment.end in
     elim (cases_lt (suc (suc i)) (length spots)) [
       | inl more ↦
-          let next : slice_get spots (suc (suc i)) ≡ Some (get_or spots (suc (suc i)) b) = slice_get-get_or _ _ b more in
+          let next = slice_get-get_or _ _ b more in
           absurd (omega (
             arith,
             reaches,
             arc_within spots (suc (suc i)),
             arc_segment spots (suc i) b (get_or spots (suc (suc i)) b) segment.end next,
-            distance_positive b _ (polyline.apart (suc i) b (get_or spots (suc (suc i)) b) (record { start = segment.end; end = next })),
+            distance_positive b _ (polyline.apart (suc i) b (get_or spots (suc (suc i)) b)
+                (record { start = segment.end; end = next })),
           ))
-      | inr last ↦ omega (arith, within, last)
+      | inr last ↦ omega arith
     ]
 
-pub starts : (spots : List Spot) (spot : Spot) → IsPolyline spots → IsAlong spots 0 spot → slice_get spots 0 ≡ Some spot
+pub starts : (spots : List Spot) (spot : Spot) → IsPolyline spots → IsAlong spots 0 spot
+    → slice_get spots 0 ≡ Some spot
 starts spots spot polyline is =
-    let none : is.i ≡ 0 = first_segment _ _ is.at_arc.first in
-    let some : 0 < distance is.a is.b = distance_positive _ _ (polyline.apart is.i is.a is.b is.at_arc.segment) in
-    let same : spot_between is.a is.b 0 (distance is.a is.b) ≡ is.a = same_spot _ _ (no_part _ _ _ some) (no_part _ _ _ some) in
+    let none = first_segment _ _ is.at_arc.first in
+    let some = distance_positive _ _ (polyline.apart is.i is.a is.b is.at_arc.segment) in
+    let same = same_spot _ _ (no_part _ _ _ some) (no_part _ _ _ some) in
     let zero_part : 0 - arc_at spots is.i ≡ 0 = omega arith in
-    let spot_is : spot ≡ is.a = is.spot_of ∙ ap (λ (k : ℕ). spot_between is.a is.b k (distance is.a is.b)) zero_part ∙ same in
+    let spot_is = is.spot_of ∙ ap (λ (k : ℕ). spot_between is.a is.b k (distance is.a is.b))
+    zero_part ∙ same in
     rw spot_is (subst (λ (k : ℕ). slice_get spots k ≡ Some is.a) none is.at_arc.segment.start)
 
-pub ends : (spots : List Spot) (spot : Spot) → IsPolyline spots → IsAlong spots (arc spots) spot → slice_get spots (length spots - 1) ≡ Some spot
+pub ends : (spots : List Spot) (spot : Spot) → IsPolyline spots → IsAlong spots (arc spots) spot
+    → slice_get spots (length spots - 1) ≡ Some spot
 ends spots spot polyline is =
-    let some : 0 < distance is.a is.b = distance_positive _ _ (polyline.apart is.i is.a is.b is.at_arc.segment) in
-    let last : suc is.i ≡ length spots - 1 = last_segment _ _ _ _ polyline is.at_arc.segment is.at_arc.reaches in
-    let rest : arc spots - arc_at spots is.i ≡ distance is.a is.b = omega (arith, is.at_arc.reaches, arc_within spots (suc is.i), arc_segment spots is.i is.a is.b is.at_arc.segment.start is.at_arc.segment.end) in
-    let same : spot_between is.a is.b (distance is.a is.b) (distance is.a is.b) ≡ is.b = same_spot _ _ (whole_part _ _ _ some) (whole_part _ _ _ some) in
-    let spot_is : spot ≡ is.b = is.spot_of ∙ ap (λ (k : ℕ). spot_between is.a is.b k (distance is.a is.b)) rest ∙ same in
+    let some = distance_positive _ _ (polyline.apart is.i is.a is.b is.at_arc.segment) in
+    let last = last_segment polyline is.at_arc.segment is.at_arc.reaches in
+    let rest : arc spots - arc_at spots is.i ≡ distance is.a is.b =
+    omega (
+      arith,
+      arc_within spots (suc is.i),
+      arc_segment spots is.i is.a is.b
+          is.at_arc.segment.start is.at_arc.segment.end,
+    ) in
+    let same = same_spot _ _ (whole_part _ _ _ some) (whole_part _ _ _ some) in
+    let spot_is = is.spot_of ∙ ap (λ (k : ℕ). spot_between is.a is.b k (distance is.a is.b)) rest
+    ∙ same in
     rw spot_is (subst (λ (k : ℕ). slice_get spots k ≡ Some is.b) last is.at_arc.segment.end)

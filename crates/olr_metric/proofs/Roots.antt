@@ -3,29 +3,33 @@ use Rattle.std.proofs.Common.{◌≡◌, ℕ, zero, suc, ◌+◌, ◌*◌, ◌<�
 use Rattle.std.proofs.lemmas.Bool.{cond_both, leb-true, leb-false, cases_lt}
 use Rattle.std.proofs.lemmas.Nat.{mul-le}
 use Rattle.olr_metric.specs.Root.{root, root_within, IsRoot}
+use Rattle.olr_metric.proofs.Neither.{neither_less}
 
 -- its square is small enough
 within_square : (n k : ℕ) → root_within n k * root_within n k ≤ n
 unfolding root_within
 within_square n zero = omega arith
-within_square n (suc k) = cond_both (nat_le (suc k * suc k) n) (suc k) (root_within n k) (λ r. r * r ≤ n)
+within_square n (suc k) = cond_both (nat_le (suc k * suc k) n) (suc k) (root_within n k)
+    (λ r. r * r ≤ n)
     (λ small. leb-true (suc k * suc k) n small) (λ big. within_square n k)
 
 -- and each greater one up to k is not
 within_next : (n k j : ℕ) → root_within n k < j → j ≤ k → n < j * j
 unfolding root_within
-within_next n zero j = λ above below. absurd (omega (arith, above, below))
-within_next n (suc k) j = cond_both (nat_le (suc k * suc k) n) (suc k) (root_within n k) (λ r. r < j → j ≤ suc k → n < j * j)
-    (λ small above below. absurd (omega (arith, above, below)))
+within_next n zero j = λ above below. absurd (omega arith)
+within_next n (suc k) j = cond_both (nat_le (suc k * suc k) n) (suc k) (root_within n k) (λ r. r < j
+    → j ≤ suc k → n < j * j)
+    (λ small above below. absurd (omega arith))
     (λ big above below. elim (cases_lt j (suc k)) [
-      | inl under ↦ within_next n k j above (omega (arith, under))
-      | inr over ↦ let same : j ≡ suc k = omega (arith, over, below) in rw same (leb-false (suc k * suc k) n big)
+      | inl under ↦ within_next n k j above (omega arith)
+      | inr over ↦ let same : j ≡ suc k = omega arith in rw same (leb-false (suc k * suc k) n big)
     ])
 
 within_at_most : (n k : ℕ) → root_within n k ≤ k
 unfolding root_within
 within_at_most n zero = omega arith
-within_at_most n (suc k) = cond_both (nat_le (suc k * suc k) n) (suc k) (root_within n k) (λ r. r ≤ suc k)
+within_at_most n (suc k) = cond_both (nat_le (suc k * suc k) n) (suc k) (root_within n k)
+    (λ r. r ≤ suc k)
     (λ small. omega arith) (λ big. omega (arith, within_at_most n k))
 
 -- a number is less than the square of the next one
@@ -34,22 +38,22 @@ less_than_next n = omega (arith, mul-le 1 (n + 1) (n + 1) (n + 1))
 
 next_square : (n r : ℕ) → r ≡ root n → n < (r + 1) * (r + 1)
 next_square n r same = elim (cases_lt r n) [
-  | inl under ↦ within_next n n _ (omega (arith, same)) (omega (arith, under))
-  | inr over ↦ let all : r ≡ n = omega (arith, over, same, within_at_most n n) in rw all (less_than_next n)
+  | inl under ↦ within_next n n _ (omega arith) (omega arith)
+  | inr over ↦ let all : r ≡ n = omega (arith, within_at_most n n) in rw all (less_than_next n)
 ]
 
 pub root_is : (n : ℕ) → IsRoot n (root n)
 root_is n = record { square = within_square n n; next = next_square n _ refl }
 
 -- a number has one root
-pub one_root : (n a b : ℕ) → a * a ≤ n → n < (a + 1) * (a + 1) → b * b ≤ n → n < (b + 1) * (b + 1) → a ≡ b
-one_root n a b low_a high_a low_b high_b = elim (cases_lt a b) [
-  | inl under ↦ absurd (omega (arith, mul-le (a + 1) (a + 1) b b (omega (arith, under)) (omega (arith, under)), high_a, low_b))
-  | inr over ↦ elim (cases_lt b a) [
-    | inl under ↦ absurd (omega (arith, mul-le (b + 1) (b + 1) a a (omega (arith, under)) (omega (arith, under)), high_b, low_a))
-    | inr same ↦ omega (arith, over, same)
-  ]
-]
+no_less_root : (n a b : ℕ) → n < (a + 1) * (a + 1) → b * b ≤ n → a < b → ⊥
+no_less_root n a b high low less =
+    omega (arith, mul-le (a + 1) (a + 1) b b (omega arith) (omega arith))
+
+pub one_root : (n a b : ℕ) → a * a ≤ n → n < (a + 1) * (a + 1) → b * b ≤ n → n < (b + 1) * (b + 1)
+    → a ≡ b
+one_root n a b low_a high_a low_b high_b =
+    neither_less (no_less_root n a b high_a low_b) (no_less_root n b a high_b low_a)
 
 -- what has the square and the next square of the root is the root
 pub is_root : (n r : ℕ) → r * r ≤ n → n < (r + 1) * (r + 1) → r ≡ root n
@@ -59,13 +63,19 @@ is_root n r low high = one_root n r _ low high (root_is n).square (root_is n).ne
 pub root_below : (n r k : ℕ) → r * r ≤ n → n < k * k → r < k
 root_below n r k low high = elim (cases_lt r k) [
   | inl under ↦ under
-  | inr over ↦ absurd (omega (arith, mul-le k k r r over over, low, high))
+  | inr over ↦ absurd (omega (arith, mul-le k k r r over over))
 ]
 
 -- a number whose square is at most n is at most the root of n
 pub root_at_least : (n k : ℕ) → k * k ≤ n → k ≤ root n
 root_at_least n k low = elim (cases_lt (root n) k) [
-  | inl under ↦ absurd (omega (arith, mul-le (root n + 1) (root n + 1) k k (omega (arith, under)) (omega (arith, under)), (root_is n).next, low))
+  | inl under ↦ absurd
+      (omega (
+        arith,
+        mul-le (root n + 1) (root n + 1) k k (omega arith) (omega arith),
+        (root_is n).next,
+        low,
+      ))
   | inr over ↦ over
 ]
 
@@ -74,16 +84,13 @@ pub root_less : (n k : ℕ) → n < k * k → root n < k
 root_less n k high = root_below n _ k (root_is n).square high
 
 -- the root of the lesser of two numbers is the lesser of their roots
+root_rises : (n m : ℕ) → n ≤ m → root n ≤ root m
+root_rises n m le = root_at_least m _ (omega (arith, (root_is n).square))
+
 pub root_min : (n m : ℕ) → root (min n m) ≡ min (root n) (root m)
 root_min n m = elim (cases_lt n m) [
-  | inl under ↦
-      let least : min n m ≡ n = omega (arith, under) in
-      let roots : root n ≤ root m = root_at_least m _ (omega (arith, (root_is n).square, under)) in
-      let least_root : root n ≡ min (root n) (root m) = omega (arith, roots) in
-      rw least least_root
-  | inr over ↦
-      let least : min n m ≡ m = omega (arith, over) in
-      let roots : root m ≤ root n = root_at_least n _ (omega (arith, (root_is m).square, over)) in
-      let least_root : root m ≡ min (root n) (root m) = omega (arith, roots) in
-      rw least least_root
+  | inl under ↦ let least : min n m ≡ n = omega arith in
+      rw least (omega (arith, root_rises n m (omega arith)))
+  | inr over ↦ let least : min n m ≡ m = omega arith in
+      rw least (omega (arith, root_rises m n over))
 ]

@@ -1,28 +1,28 @@
 -- The distance of spots.
-use Rattle.std.proofs.Common.{◌≡◌, ◌≢◌, ℕ, zero, suc, ◌+◌, ◌*◌, ◌<◌, arith, ℤ, ◌-ℤ◌, ap, ◌∙◌, inl, inr, refl, subst}
+use Rattle.std.proofs.Common.{◌≡◌, ◌≢◌, ℕ, zero, suc, ◌+◌, ◌*◌, ◌<◌, arith, ℤ, ◌-ℤ◌, inl, inr, refl, subst}
 use Rattle.std.specs.Prelude.{nat_abs}
 use Rattle.std.proofs.lemmas.Int.{ints}
 use Rattle.std.proofs.lemmas.Bool.{cases_eq}
 use Rattle.olr_metric.specs.declared.spot.Spot.{Spot}
 use Rattle.olr_metric.specs.Root.{root, root_within}
-use Rattle.olr_metric.specs.Spot.{square, distance}
+use Rattle.olr_metric.specs.Spot.{distance}
 use Rattle.olr_metric.proofs.Roots.{root_is}
 
 pub same_spot : (a b : Spot) → a.x ≡ b.x → a.y ≡ b.y → a ≡ b
-same_spot a b x y = ap (λ (x : ℤ). let spot : Spot = record { x = x; y = a.y } in spot) x ∙ ap (λ (y : ℤ). let spot : Spot = record { x = b.x; y = y } in spot) y
+same_spot a b x y = λ i. record { x = x i; y = y i }
 
 zero_square : (n : ℕ) → n * n ≡ 0 → n ≡ 0
 zero_square zero none = refl
-zero_square (suc n) none = absurd (omega (arith, none))
+zero_square (suc n) none = absurd (omega arith)
 
 zero_root : (n : ℕ) → root n ≡ 0 → n ≡ 0
 zero_root n none =
     let next : n < (root n + 1) * (root n + 1) = (root_is n).next in
     let below : n < (0 + 1) * (0 + 1) = subst (λ (r : ℕ). n < (r + 1) * (r + 1)) none next in
-    omega (arith, below)
+    omega arith
 
-same_number : (x y : ℤ) → nat_abs (x -ℤ y) ≡ 0 → x ≡ y
-same_number x y none = omega (arith, ints, none)
+same_number : {x y : ℤ} → nat_abs (x -ℤ y) ≡ 0 → x ≡ y
+same_number none = omega (arith, ints)
 
 turned_number : (x y : ℤ) → nat_abs (x -ℤ y) ≡ nat_abs (y -ℤ x)
 turned_number x y = omega (arith, ints)
@@ -30,9 +30,9 @@ turned_number x y = omega (arith, ints)
 -- only a spot itself is at distance 0
 pub distance_zero : (a b : Spot) → distance a b ≡ 0 → a ≡ b
 distance_zero a b none =
-    let squares : square (a.x -ℤ b.x) + square (a.y -ℤ b.y) ≡ 0 = zero_root _ none in
-    same_spot a b (same_number _ _ (zero_square _ (omega (arith, squares))))
-    (same_number _ _ (zero_square _ (omega (arith, squares))))
+    let squares = zero_root _ none in
+    same_spot a b (same_number (zero_square _ (omega arith)))
+    (same_number (zero_square _ (omega arith)))
 
 no_displacement : (x : ℤ) → nat_abs (x -ℤ x) ≡ 0
 no_displacement x = omega (arith, ints)
@@ -48,5 +48,5 @@ distance_turned a b = rw (turned_number _ _, turned_number a.y b.y) refl
 pub distance_positive : (a b : Spot) → a ≢ b → 0 < distance a b
 distance_positive a b apart = elim (cases_eq (distance a b) 0) [
   | inl none ↦ absurd (apart (distance_zero a b none))
-  | inr some ↦ omega (arith, some)
+  | inr some ↦ omega arith
 ]

@@ -4,15 +4,19 @@ use Rattle.std.specs.Prelude.{nat_abs}
 use Rattle.std.specs.Int.{w128}
 use Rattle.std.proofs.lemmas.Int.{ints, to_z-of_z, fits_signed_from_abs}
 
-sum_near : (x y : ℤ) (m : ℕ) → nat_abs x ≤ m → nat_abs y ≤ m → nat_abs (x +ℤ y) ≤ m + m
-sum_near x y m near_x near_y = omega (arith, ints)
+sum_near : (x y : ℤ) {m : ℕ} → nat_abs x ≤ m → nat_abs y ≤ m → nat_abs (x +ℤ y) ≤ m + m
+sum_near x y near_x near_y = omega (arith, ints)
 
 wide_is : (x : ℤ) → nat_abs x ≤ 2 ^ 68 → to_z w128 (of_z w128 x) ≡ x
-wide_is x near = to_z-of_z w128 x (fits_signed_from_abs _ x (omega (arith, near)))
+wide_is x near = to_z-of_z w128 x (fits_signed_from_abs _ x (omega arith))
 
-pub sum_fits : (x y : ℤ) → nat_abs x ≤ 2 ^ 68 → nat_abs y ≤ 2 ^ 68 → FitsSigned w128 (to_z w128 (of_z w128 x) +ℤ to_z w128 (of_z w128 y))
-sum_fits x y near_x near_y = rw (wide_is x near_x, wide_is y near_y) (fits_signed_from_abs _ _ (omega (arith, sum_near x y _ near_x near_y)))
+pub sum_fits : (x y : ℤ) → nat_abs x ≤ 2 ^ 68 → nat_abs y ≤ 2 ^ 68
+    → FitsSigned w128 (to_z w128 (of_z w128 x) +ℤ to_z w128 (of_z w128 y))
+sum_fits x y near_x near_y = rw (wide_is x near_x, wide_is y near_y)
+    (fits_signed_from_abs _ _ (omega (arith, sum_near x y near_x near_y)))
 
-pub sum_is : (x y : ℤ) → nat_abs x ≤ 2 ^ 68 → nat_abs y ≤ 2 ^ 68 → to_z w128 (of_z w128 (to_z w128 (of_z w128 x) +ℤ to_z w128 (of_z w128 y))) ≡ x +ℤ y
-sum_is x y near_x near_y = to_z-of_z w128 (to_z w128 (of_z w128 x) +ℤ to_z w128 (of_z w128 y)) (sum_fits x y near_x near_y)
+pub sum_is : (x y : ℤ) → nat_abs x ≤ 2 ^ 68 → nat_abs y ≤ 2 ^ 68
+    → to_z w128 (of_z w128 (to_z w128 (of_z w128 x) +ℤ to_z w128 (of_z w128 y))) ≡ x +ℤ y
+sum_is x y near_x near_y = to_z-of_z w128 (to_z w128 (of_z w128 x) +ℤ to_z w128 (of_z w128 y))
+    (sum_fits x y near_x near_y)
     ∙ rw (wide_is x near_x, wide_is y near_y) refl

@@ -1,5 +1,5 @@
--- Checks that are made one after the other, by their number in a list, each with the fault that it reports. The first one
--- that fails is the one reported.
+-- Checks that are made one after the other, by their number in a list, each with the fault that it
+-- reports. The first one that fails is the one reported.
 use Rattle.std.specs.Prelude.{◌≡◌, ⊤, ◌⊎◌, List, [], ◌∷◌}
 
 -- a check: what it needs, or what it forbids; and its fault
@@ -38,4 +38,5 @@ EachFault Is checks = Each (λ check. Is (fault_of check)) checks
 -- this is the fault of the first check that fails: all before it pass
 abbrev pub Refuses : {Fault : Type 0} → List (Check Fault) → Fault → Type 0
 Refuses [] fault = ⊥
-Refuses (check ∷ rest) fault = (Fails check × (fault ≡ fault_of check)) ⊎ (Passes check × Refuses rest fault)
+Refuses (check ∷ rest) fault = (Fails check × (fault ≡ fault_of check))
+    ⊎ (Passes check × Refuses rest fault)

@@ -2,9 +2,8 @@ use Rattle.std.proofs.Common.{arith}
 use Rattle.std.proofs.lemmas.List.{length-map}
 use Rattle.std.proofs.lemmas.Result.{err_from_is_err_and}
 use Rattle.olr_map.specs.Reading.{nodes_of, lines_of, line_in}
-use Rattle.olr_map.specs.Files.{texts_of}
 use Rattle.olr_map.proofs.Soundness.{bans_are_sound}
-use Rattle.olr_map.proofs.Reported.{map_reported, bans_left, bans_fault}
+use Rattle.olr_map.proofs.Reported.{map_reported, known_left, bans_fault}
 use Rattle.olr_map.proofs.files.read_map_with_bans.Goals as goal
 
 pub read_bans-requires : goal.read_bans-requires
@@ -37,9 +36,5 @@ returns-in_err-bans-clause-fault g c =
 
 pub returns-clause-map : goal.returns-clause-map
 returns-clause-map g c =
-    let lines = lines_of c.in_ok-network.network.lines in
     let read = c.in_ok-bans.ensures.bans in
-    rw c.in_ok-map.ensures (map_reported _
-    _
-    c.in_ok-network.ensures.accepted (bans_are_sound read.2)
-    (bans_left (texts_of (g.S1.Source.left c.args.nodes.now) (g.S2.Source.left c.args.lines.now) (g.S3.Source.left c.args.bans.now)) _ _ _ read.1 read.2))
+    rw c.in_ok-map.ensures (map_reported c.in_ok-network.ensures.accepted (bans_are_sound read.2) (known_left _ _ _ read.1 read.2))

@@ -1,9 +1,8 @@
-use Rattle.std.proofs.Common.{List, None, arith, subst, sym, ◌∙◌}
+use Rattle.std.proofs.Common.{List, arith, subst, sym, ◌∙◌}
 use Rattle.std.proofs.lemmas.Result.{err_from_is_err_and}
 use Rattle.olr_map.specs.declared.node.Node.{Node as NodeByRank}
 use Rattle.olr_map.specs.RoadMap.{IsNodeSet, IsLineSet, node_of}
 use Rattle.olr_map.specs.Reading.{nodes_of, lines_of}
-use Rattle.olr_map.specs.Files.{texts_of}
 use Rattle.std.proofs.lemmas.List.{length-map}
 use Rattle.olr_map.proofs.Soundness.{nodes_are_sound}
 use Rattle.olr_map.proofs.Reported.{lines_fault, not_of_bans, lines_accepted}
@@ -37,9 +36,7 @@ returns-clause-accepted g c =
     (sym (c.into_items.ensures ∙ c.in_ok-index.ensures)) rows.2 in
     let lines = subst (λ (l : List NodeByRank). IsLineSet (nodes_of l) read.0
     (lines_of c.in_ok-lines.lines)) (sym c.into_items.ensures) read.2 in
-    lines_accepted (texts_of (g.S1.Source.left c.args.nodes.now) (g.S2.Source.left c.args.lines.now)
-    None) _ _ _ _
-    rows.1 read.1 nodes lines
+    lines_accepted (rows.0, rows.1, nodes) (read.0, read.1, lines)
 
 pub index_nodes-requires-clause-at_most : goal.index_nodes-requires-clause-at_most
 index_nodes-requires-clause-at_most g c =

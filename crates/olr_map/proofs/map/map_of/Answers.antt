@@ -26,8 +26,8 @@ sound_lines nodes entries points bans sound = rw (← (length-map nodes node_of)
 
 pub by_start_of-requires-clause-known : goal.by_start_of-requires-clause-known
 by_start_of-requires-clause-known c =
-    known starts_of (length c.args.nodes.items) c.len-node_count.result c.args.entries.items c.deref.result.now c.deref.ensures.value (search rules)
-    (starts_known _ c.args.points.items _ (sound_lines c.args.nodes.items c.args.entries.items c.args.points.items c.args.bans.items c.requires.map))
+    known starts_of _ _ c.args.entries.items c.deref.result.now c.deref.ensures.value (search rules)
+    (starts_known _ c.args.points.items _ (sound_lines _ _ _ _ c.requires.map))
 
 grouped : (nodes_in : List Entry → List ℕ) (nodes : ℕ) (entries read : List Entry) (count : ℕ) (groups : List (List ℕ)) → read ≡ entries → count ≡ nodes → IsGrouping (nodes_in read) count groups
     → IsGrouping (nodes_in entries) nodes groups
@@ -47,12 +47,12 @@ pub steps_of-requires : goal.steps_of-requires
 steps_of-requires c =
     let same = c.deref.ensures.value ∙ sym c.deref-4.ensures.value in
     rw c.lines.ensures (lines_known _ _ _
-    (grouped starts_of c.len-node_count.result c.deref-4.result.now c.deref.result.now c.len-node_count.result c.in_ok-by_start.by_start same refl c.in_ok-by_start.ensures))
+    (grouped starts_of _ _ _ _ _ same refl c.in_ok-by_start.ensures))
 
 pub by_end_of-requires-clause-known : goal.by_end_of-requires-clause-known
 by_end_of-requires-clause-known c =
-    known ends_of (length c.args.nodes.items) c.len-node_count.result c.args.entries.items c.deref-5.result.now c.deref-5.ensures.value (search rules)
-    (ends_known _ c.args.points.items _ (sound_lines c.args.nodes.items c.args.entries.items c.args.points.items c.args.bans.items c.requires.map))
+    known ends_of _ _ c.args.entries.items c.deref-5.result.now c.deref-5.ensures.value (search rules)
+    (ends_known _ c.args.points.items _ (sound_lines _ _ _ _ c.requires.map))
 
 pub invariant_of-result : goal.invariant_of-result
 invariant_of-result c =
@@ -62,10 +62,10 @@ invariant_of-result c =
       nodes_at_most = c.requires.nodes_at_most;
       lines_at_most = c.requires.lines_at_most;
       within = c.requires.within;
-      started = grouped starts_of (length c.args.nodes.items) c.args.entries.items c.deref.result.now c.len-node_count.result c.in_ok-by_start.by_start c.deref.ensures.value size c.in_ok-by_start.ensures;
+      started = grouped starts_of _ _ _ _ _ c.deref.ensures.value size c.in_ok-by_start.ensures;
       ordered = c.in_ok-steps.ensures.lines ∙ c.lines.ensures;
       stepped = rw (← c.deref-4.ensures.value) (c.in_ok-steps.ensures.steps c.args.points.items);
-      ended = grouped ends_of (length c.args.nodes.items) c.args.entries.items c.deref-5.result.now c.len-node_count.result c.in_ok-by_end.by_end c.deref-5.ensures.value size c.in_ok-by_end.ensures;
-      placed = placed c.args.points.items c.deref-3.result.now c.args.entries.items c.deref-2.result.now _ c.in_ok-by_extent.by_extent c.deref-3.ensures.value c.deref-2.ensures.value c.in_ok-by_extent.ensures c.in_ok-placed_lines.ensures.extents;
+      ended = grouped ends_of _ _ _ _ _ c.deref-5.ensures.value size c.in_ok-by_end.ensures;
+      placed = placed _ _ _ _ _ _ c.deref-3.ensures.value c.deref-2.ensures.value c.in_ok-by_extent.ensures c.in_ok-placed_lines.ensures.extents;
       measured = rw (← c.deref-7.ensures.value) c.in_ok-axes.ensures;
     }

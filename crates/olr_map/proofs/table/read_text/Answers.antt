@@ -12,10 +12,10 @@ returns-in_err-settle-clause-fault g c =
     let table = g.T.TableFile.table_of (g.T.TableFile.before c.args.table.now) in
     let rows = g.T.TableFile.rows c.read_rows.new.table in
     let why = c.in_err-settle.field-0.0 in
-    let header = when_true _ _ c.in_ok-pass_header.field-0 c.if-not-branch.false c.in_ok-pass_header.ensures in
+    let header = when_true _ _ _ c.if-not-branch.false c.in_ok-pass_header.ensures in
     let settles = subst (λ (earlier : g.T.TableFile.Earlier). Settles (keys_of (g.T.TableFile.table_of earlier) rows) c.in_ok-stop.stop (g.T.TableFile.table_of earlier).file why)
     c.in_ok-stop.ensures.same c.in_err-settle.ensures.fault in
-    rw (p.1, p.2) (text_fault table c.requires.settled c.args.text.now c.pass_header.new.records rows c.in_ok-stop.stop (keys_of table rows) why (cc) refl
+    rw (p.1, p.2) (text_fault _ c.requires.settled _ _ _ _ _ _ (cc) refl
     c.in_ok-stop.ensures.rows settles)
 
 pub returns-clause-rows : goal.returns-clause-rows

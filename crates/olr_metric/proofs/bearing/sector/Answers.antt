@@ -3,7 +3,8 @@ use Rattle.std.specs.Prelude.{nat_abs}
 use Rattle.std.proofs.lemmas.Int.{ints}
 use Rattle.olr_metric.proofs.bearing.sector.Goals as goal
 
-way_is : (to from : ℤ) → nat_abs to ≤ 2 ^ 33 → nat_abs from ≤ 2 ^ 33 → to_z w64 (of_z w64 (to_z w64 (of_z w64 to) -ℤ to_z w64 (of_z w64 from))) ≡ to -ℤ from
+way_is : (to from : ℤ) → nat_abs to ≤ 2 ^ 33 → nat_abs from ≤ 2 ^ 33
+    → to_z w64 (of_z w64 (to_z w64 (of_z w64 to) -ℤ to_z w64 (of_z w64 from))) ≡ to -ℤ from
 way_is to from near_to near_from = omega (arith, ints)
 
 pub returns : goal.returns

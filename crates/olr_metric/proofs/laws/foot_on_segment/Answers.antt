@@ -1,5 +1,4 @@
 use Rattle.std.proofs.Common.{refl}
-use Rattle.olr_metric.specs.declared.spot.Spot.{Spot}
 use Rattle.olr_metric.proofs.Feet.{foot_between}
 use Rattle.olr_metric.proofs.laws.foot_on_segment.Goals as goal
 

@@ -1,17 +1,17 @@
 use Rattle.olr_metric.proofs.Alongs.{is_at, is_along}
 use Rattle.olr_metric.proofs.polyline.along.Goals as goal
 
--- src/polyline.rt:142:1
 pub along_segment-requires-clause-apart : goal.along_segment-requires-clause-apart
 along_segment-requires-clause-apart c =
-    (is_at _ _ _ c.segment_at-segment.ensures.within c.segment_at-segment.ensures.segment c.requires.polyline).0
+    (is_at c.segment_at-segment.ensures.within c.segment_at-segment.ensures.segment
+    c.requires.polyline).0
 
--- src/polyline.rt:142:1
 pub along_segment-requires-clause-s : goal.along_segment-requires-clause-s
 along_segment-requires-clause-s c = rw c.segment_at-segment.ensures.start
-    (is_at _ _ _ c.segment_at-segment.ensures.within c.segment_at-segment.ensures.segment c.requires.polyline).1
+    (is_at c.segment_at-segment.ensures.within c.segment_at-segment.ensures.segment
+    c.requires.polyline).1
 
--- src/polyline.rt:142:1
 pub returns-clause-along : goal.returns-clause-along
-returns-clause-along c = is_along _ _ _ _ _ c.segment_at-segment.ensures.within
-    c.segment_at-segment.ensures.segment c.segment_at-segment.ensures.start c.along_segment.ensures.spot
+returns-clause-along c = is_along c.segment_at-segment.ensures.within
+    c.segment_at-segment.ensures.segment c.segment_at-segment.ensures.start
+    c.along_segment.ensures.spot

@@ -2,6 +2,5 @@ use Rattle.std.proofs.Common.{arith}
 use Rattle.olr_metric.proofs.SpotDistances.{distance_positive}
 use Rattle.olr_metric.proofs.polyline.along_segment.Goals as goal
 
--- src/polyline.rt:124:1
 pub spot_between-requires-clause-positive : goal.spot_between-requires-clause-positive
-spot_between-requires-clause-positive c = omega (arith, c.from-2.ensures, c.distance.ensures.distance, distance_positive _ _ c.requires.apart)
+spot_between-requires-clause-positive c = omega (arith, distance_positive _ _ c.requires.apart)

@@ -3,8 +3,8 @@ use Rattle.olr_metric.specs.Polyline.{arc}
 use Rattle.olr_metric.proofs.Arcs.{arc_positive, arc_all}
 use Rattle.olr_metric.proofs.polyline.arc.Goals as goal
 
--- src/polyline.rt:40:1
 pub returns-clause-positive : goal.returns-clause-positive
 returns-clause-positive c =
-    let is : c.arc_to.result ≡ arc c.args.spots.now = c.arc_to.ensures.arc ∙ arc_all _ (omega (arith, c.requires.at_least)) in
-    omega (arith, is, arc_positive _ c.requires)
+    let is : c.arc_to.result ≡ arc c.args.spots.now = c.arc_to.ensures.arc
+    ∙ arc_all _ (omega arith) in
+    omega (arith, arc_positive _ c.requires)

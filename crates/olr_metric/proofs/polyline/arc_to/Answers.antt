@@ -2,10 +2,13 @@ use Rattle.std.proofs.Common.{arith, ◌<◌, ◌+◌, length, pos}
 use Rattle.olr_metric.proofs.Arcs.{arc_more}
 use Rattle.olr_metric.proofs.polyline.arc_to.Goals as goal
 
--- src/polyline.rt:32:5
 pub loop-end-preserved : goal.loop-end-preserved
 loop-end-preserved c =
-    let within : c.loop-end.end + 1 < length c.args.spots.now = omega (arith, c.loop-end-test.true, c.requires.last) in (
-      omega (arith, arc_more c.args.spots.now c.loop-end.end (record { x = pos 0; y = pos 0 }) within, c.loop-end.invariant.0, c.distance-arc.ensures.distance),
-      omega (arith, c.loop-end.invariant.1, c.distance-arc.ensures.at_most),
+    let within : c.loop-end.end + 1 < length c.args.spots.now = omega arith in (
+      omega (
+        arith,
+        arc_more c.args.spots.now c.loop-end.end (record { x = pos 0; y = pos 0 })
+            within,
+      ),
+      omega arith,
     )

@@ -4,10 +4,12 @@ use Rattle.olr_metric.specs.Spot.{distance}
 use Rattle.olr_metric.proofs.Roots.{root_min}
 use Rattle.olr_metric.proofs.polyline.lesser_distance.Goals as goal
 
--- src/polyline.rt:110:1
 pub returns-clause-lesser : goal.returns-clause-lesser
 returns-clause-lesser c =
-    let lesser : c.min.result ≡ min c.square_distance.result c.square_distance-2.result = search rules in
+    let lesser : c.min.result ≡ min c.square_distance.result c.square_distance-2.result =
+    search rules in
     c.root_of.ensures.root ∙ ap (λ (n : ℕ). root n) lesser ∙ root_min _ _
-    ∙ ap (λ (n : ℕ). min (root n) (root c.square_distance-2.result)) c.square_distance.ensures.square
-    ∙ ap (λ (n : ℕ). min (distance c.args.from c.args.a) (root n)) c.square_distance-2.ensures.square
+    ∙ ap (λ (n : ℕ). min (root n) (root c.square_distance-2.result))
+    c.square_distance.ensures.square
+    ∙ ap (λ (n : ℕ). min (distance c.args.from c.args.a) (root n))
+    c.square_distance-2.ensures.square

@@ -7,7 +7,7 @@ use Rattle.olr_metric.proofs.polyline.nearest_segment.Goals as goal
 
 pub loop-segment-preserved-then-not-may_be_nearer : goal.loop-segment-preserved-then-not-may_be_nearer
 loop-segment-preserved-then-not-may_be_nearer c = record {
-  nearest = nearest_still _ _ _ _ _ c.loop-segment.invariant.nearest
+  nearest = nearest_still c.loop-segment.invariant.nearest
       (c.if-not-may_be_nearer.ensures refl);
   foot = c.loop-segment.invariant.foot;
   distance = c.loop-segment.invariant.distance;
@@ -17,14 +17,16 @@ loop-segment-preserved-then-not-may_be_nearer c = record {
 
 pub loop-segment-preserved-then-square-squared : goal.loop-segment-preserved-then-square-squared
 loop-segment-preserved-then-square-squared c =
-    let gap_is : root c.square_distance-square.result ≡ distance c.args.p c.foot_on-found.result = ap (λ (n : ℕ). root n) c.square_distance-square.ensures.square in
-    let gap : IsGap c.args.spots.now c.args.p c.loop-segment.segment (root c.square_distance-square.result) =
+    let gap_is : root c.square_distance-square.result ≡ distance c.args.p c.foot_on-found.result =
+    ap (λ (n : ℕ). root n) c.square_distance-square.ensures.square in
+    let gap : IsGap c.args.spots.now c.args.p c.loop-segment.segment
+    (root c.square_distance-square.result) =
     gap_of_foot c.args.spots.now _ c.loop-segment.segment _ _ c.foot_on-found.ensures.foot gap_is in
     let no_nearer : c.loop-segment.least ≤ root c.square_distance-square.result =
-    root_at_least _ _ (omega (arith, c.squared.ensures, c.if-square-squared.true)) in
+    root_at_least _ _ (omega arith) in
     record {
-      nearest = nearest_still _ _ _ _ _ c.loop-segment.invariant.nearest
-          (λ a b start end. omega (arith, no_nearer, gap a b start end));
+      nearest = nearest_still c.loop-segment.invariant.nearest
+          (λ a b start end. omega (arith, gap a b start end));
       foot = c.loop-segment.invariant.foot;
       distance = c.loop-segment.invariant.distance;
       at_most = c.loop-segment.invariant.at_most;
@@ -33,13 +35,16 @@ loop-segment-preserved-then-square-squared c =
 
 pub loop-segment-preserved : goal.loop-segment-preserved
 loop-segment-preserved c =
-    let gap_is : c.root_of-least.result ≡ distance c.args.p c.foot_on-found.result = c.root_of-least.ensures.root ∙ ap (λ (n : ℕ). root n) c.square_distance-square.ensures.square in
+    let gap_is : c.root_of-least.result ≡ distance c.args.p c.foot_on-found.result =
+    c.root_of-least.ensures.root ∙ ap (λ (n : ℕ). root n)
+    c.square_distance-square.ensures.square in
     let nearer : root c.square_distance-square.result < c.loop-segment.least =
-    root_less _ _ (omega (arith, c.squared.ensures, c.if-square-squared.false)) in
+    root_less _ _ (omega arith) in
     record {
-      nearest = nearest_next _ _ _ _ _ _ c.loop-segment.invariant.nearest
-          (gap_of_foot c.args.spots.now _ c.loop-segment.segment _ _ c.foot_on-found.ensures.foot gap_is)
-          (omega (arith, c.root_of-least.ensures.root, nearer));
+      nearest = nearest_next c.loop-segment.invariant.nearest
+          (gap_of_foot c.args.spots.now _ c.loop-segment.segment _ _ c.foot_on-found.ensures.foot
+          gap_is)
+          (omega arith);
       foot = c.foot_on-found.ensures.foot;
       distance = gap_is;
       at_most = c.root_of-least.ensures.at_most;
@@ -48,5 +53,5 @@ loop-segment-preserved c =
 
 pub returns-clause-nearest : goal.returns-clause-nearest
 returns-clause-nearest c a b start end =
-    let all : c.loop-segment.segment + 1 ≡ length c.args.spots.now = omega (arith, c.loop-segment-test.false, c.requires.at_least) in
-    nearest_of_all _ _ _ _ _ a b all c.loop-segment.invariant.nearest start end
+    let all : c.loop-segment.segment + 1 ≡ length c.args.spots.now = omega arith in
+    nearest_of_all a b all c.loop-segment.invariant.nearest start end

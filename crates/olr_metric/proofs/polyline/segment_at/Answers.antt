@@ -4,20 +4,29 @@ use Rattle.olr_metric.proofs.Arcs.{arc_more}
 use Rattle.olr_metric.proofs.Alongs.{segment_at, one_more_before}
 use Rattle.olr_metric.proofs.polyline.segment_at.Goals as goal
 
--- src/polyline.rt:108:13
 pub returns-then-s-end-clause-segment : goal.returns-then-s-end-clause-segment
 returns-then-s-end-clause-segment c a b start end =
-    let within : c.loop-segment.segment + 1 < length c.args.spots.now = omega (arith, c.loop-segment-test.true, c.requires.polyline.at_least) in
-    let reaches : c.args.s ≤ arc_at c.args.spots.now (c.loop-segment.segment + 1) = omega (arith, arc_more c.args.spots.now c.loop-segment.segment (record { x = pos 0; y = pos 0 }) within, c.loop-segment.invariant.0, c.distance.ensures.distance, c.if-s-end.true) in
+    let within : c.loop-segment.segment + 1 < length c.args.spots.now = omega arith in
+    let reaches : c.args.s ≤ arc_at c.args.spots.now (c.loop-segment.segment + 1) =
+    omega (
+      arith,
+      arc_more c.args.spots.now c.loop-segment.segment
+          (record { x = pos 0; y = pos 0 }) within,
+    ) in
     segment_at _ _ _ a b c.loop-segment.invariant.3 reaches start end
 
--- src/polyline.rt:105:5
 pub loop-segment-preserved : goal.loop-segment-preserved
 loop-segment-preserved c =
-    let within : c.loop-segment.segment + 1 < length c.args.spots.now = omega (arith, c.loop-segment-test.true, c.requires.polyline.at_least) in
-    let is : c.loop-segment.start + c.distance.result ≡ arc_at c.args.spots.now (c.loop-segment.segment + 1) = omega (arith, arc_more c.args.spots.now c.loop-segment.segment (record { x = pos 0; y = pos 0 }) within, c.loop-segment.invariant.0, c.distance.ensures.distance) in (
+    let within : c.loop-segment.segment + 1 < length c.args.spots.now = omega arith in
+    let is : c.loop-segment.start + c.distance.result
+    ≡ arc_at c.args.spots.now (c.loop-segment.segment + 1) =
+    omega (
+      arith,
+      arc_more c.args.spots.now c.loop-segment.segment
+          (record { x = pos 0; y = pos 0 }) within,
+    ) in (
       is,
-      omega (arith, c.loop-segment.invariant.1, c.distance.ensures.at_most),
-      omega (arith, c.if-s-end.false),
-      one_more_before _ _ _ c.loop-segment.invariant.3 (omega (arith, is, c.if-s-end.false)),
+      omega arith,
+      omega arith,
+      one_more_before _ _ _ c.loop-segment.invariant.3 (omega arith),
     )

@@ -1,28 +1,28 @@
-use Rattle.std.proofs.Common.{rules, arith, ◌≡◌, ◌≤◌, ◌^◌, ◌+ℤ◌, ◌-ℤ◌, to_z, of_z, w64}
-use Rattle.std.specs.Prelude.{nat_abs}
-use Rattle.olr_metric.specs.Segment.{between}
+use Rattle.std.proofs.Common.{rules, arith, ◌≡◌, ◌-ℤ◌}
 use Rattle.olr_metric.proofs.Betweens.{between_is, between_near}
 use Rattle.olr_metric.proofs.Floors.{small_is, small_fits}
 use Rattle.olr_metric.proofs.segment.between.Goals as goal
 
--- src/segment.rt:105:1
 pub overflow_add-result : goal.overflow_add-result
 overflow_add-result c =
     let is_displacement : c.displacement.result ≡ c.args.b -ℤ c.args.a = search rules in
-    let is : to_z w64 (of_z w64 c.args.a) +ℤ to_z w64 (of_z w64 c.share.result) ≡ between c.args.a c.args.b c.args.part c.args.whole = between_is c.args.a c.args.b _ _ _ _ is_displacement c.share.ensures c.requires.a c.displacement.ensures.at_most c.requires.part c.requires.positive in
-    let near : nat_abs (between c.args.a c.args.b c.args.part c.args.whole) ≤ 2 ^ 33 = between_near c.args.a c.args.b _ _ _ c.requires.a c.requires.b c.requires.part c.requires.positive in
-    rw is (small_fits _ (omega (arith, near)))
+    let is = between_is c.args.a c.args.b _ _ _ _ is_displacement c.share.ensures c.requires.a
+    c.displacement.ensures.at_most c.requires.part c.requires.positive in
+    let near = between_near c.args.a c.args.b _ _ _ c.requires.a c.requires.b c.requires.part
+    c.requires.positive in
+    rw is (small_fits (omega arith))
 
--- src/segment.rt:105:1
 pub returns-clause-between : goal.returns-clause-between
 returns-clause-between c =
     let is_displacement : c.displacement.result ≡ c.args.b -ℤ c.args.a = search rules in
-    let is : to_z w64 (of_z w64 c.args.a) +ℤ to_z w64 (of_z w64 c.share.result) ≡ between c.args.a c.args.b c.args.part c.args.whole = between_is c.args.a c.args.b c.displacement.result c.share.result c.args.part c.args.whole is_displacement c.share.ensures c.requires.a c.displacement.ensures.at_most c.requires.part c.requires.positive in
-    let near : nat_abs (between c.args.a c.args.b c.args.part c.args.whole) ≤ 2 ^ 33 = between_near c.args.a c.args.b c.args.part c.args.whole (2 ^ 33) c.requires.a c.requires.b c.requires.part c.requires.positive in
-    rw is (small_is (between c.args.a c.args.b c.args.part c.args.whole) (omega (arith, near)))
+    let is = between_is c.args.a c.args.b _ _ _ _ is_displacement c.share.ensures c.requires.a
+    c.displacement.ensures.at_most c.requires.part c.requires.positive in
+    let near = between_near c.args.a c.args.b _ _ _ c.requires.a c.requires.b c.requires.part
+    c.requires.positive in
+    rw is (small_is _ (omega arith))
 
--- src/segment.rt:105:1
 pub returns-clause-at_most : goal.returns-clause-at_most
 returns-clause-at_most c =
-    let near : nat_abs (between c.args.a c.args.b c.args.part c.args.whole) ≤ 2 ^ 33 = between_near c.args.a c.args.b _ _ _ c.requires.a c.requires.b c.requires.part c.requires.positive in
+    let near = between_near c.args.a c.args.b _ _ _ c.requires.a c.requires.b c.requires.part
+    c.requires.positive in
     rw (returns-clause-between c) near

@@ -1,19 +1,16 @@
-use Rattle.std.proofs.Common.{◌≡◌, ◌≤◌, ◌^◌, pos, ◌*ℤ◌}
-use Rattle.olr_metric.specs.Floor.{floor}
-use Rattle.std.specs.Prelude.{nat_abs}
 use Rattle.olr_metric.proofs.Floors.{share_at_most, small_is_wide, small_is, small_fits}
 use Rattle.olr_metric.proofs.segment.share.Goals as goal
 
--- src/segment.rt:89:1
 pub overflow_cast-result : goal.overflow_cast-result
 overflow_cast-result c =
-    let is : c.long_share.result ≡ floor (c.args.displacement *ℤ pos c.args.part) c.args.whole = simp (small_is c.args.displacement c.requires.displacement) at c.long_share.ensures in
-    let at_most : nat_abs c.long_share.result ≤ 2 ^ 34 = share_at_most _ _ _ _ is c.requires.displacement c.requires.part c.requires.positive in
-    rw (small_is_wide _ at_most) (small_fits _ at_most)
+    let is = simp (small_is c.args.displacement c.requires.displacement) at c.long_share.ensures in
+    let at_most = share_at_most _ _ is c.requires.displacement c.requires.part
+    c.requires.positive in
+    rw (small_is_wide at_most) (small_fits at_most)
 
--- src/segment.rt:89:1
 pub returns : goal.returns
 returns c =
-    let is : c.long_share.result ≡ floor (c.args.displacement *ℤ pos c.args.part) c.args.whole = simp (small_is c.args.displacement c.requires.displacement) at c.long_share.ensures in
-    let at_most : nat_abs c.long_share.result ≤ 2 ^ 34 = share_at_most _ _ _ _ is c.requires.displacement c.requires.part c.requires.positive in
-    rw (small_is_wide _ at_most, small_is _ at_most) is
+    let is = simp (small_is c.args.displacement c.requires.displacement) at c.long_share.ensures in
+    let at_most = share_at_most _ _ is c.requires.displacement c.requires.part
+    c.requires.positive in
+    rw (small_is_wide at_most, small_is _ at_most) is

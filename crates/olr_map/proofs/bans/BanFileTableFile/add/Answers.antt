@@ -11,6 +11,6 @@ returns-in-Err-clause-added c =
     let size : length c.args.self.now.bans.items ≡ c.len.result = search rules in
     record {
       rows = refl;
-      stops = stops_at _ (rising_differ (line_ids lines) c.requires.sound.rise) size
+      stops = stops_at _ (rising_differ _ c.requires.sound.rise) size
           (omega arith) c.in-Err.ensures.stop;
     }

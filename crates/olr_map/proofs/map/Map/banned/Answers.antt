@@ -13,4 +13,4 @@ returns c =
     let found = subst (λ (key : ℕ). MatchOption c.find.result (Contains (ban_keys bans) key → ⊥) (λ rank. slice_get (ban_keys bans) rank ≡ Some key)) c.key.ensures c.find.ensures in
     let there = is_there _ _ _ _ sound.bans (omega arith)
     (omega arith) found in
-    rw (← c.self.view_is) (answered (Contains bans ban) _ c.is_some.ensures there)
+    rw (← c.self.view_is) (answered _ _ c.is_some.ensures there)

@@ -18,7 +18,7 @@ line_ranks_of_part steps lines begin end same =
 
 pub offset_bounds-deref-begin : goal.offset_bounds-deref-begin
 offset_bounds-deref-begin c =
-    let size = as_many c.self.inside.steps.items (concat c.self.inside.by_start) c.self.invariant.ordered in
+    let size = as_many _ _ c.self.invariant.ordered in
     let long = ap length c.deref.ensures.value in
     let inside : c.bounds-begin.result.0 ≤ length c.deref.result.now = omega arith in
     search rules
