@@ -64,7 +64,7 @@ NearestWithin = (spots : List Spot) (p : Spot) (near : Near) → IsNearest spots
 share_at_most : (part length whole : ℕ) → part ≤ whole → part * length / whole ≤ length
 share_at_most part length zero within = let none : part ≡ 0 = omega arith in rw none (omega arith)
 share_at_most part length (suc w) within =
-    let less : part * length ≤ suc w * length = mul-le part length (suc w) length within (omega arith) in
+    let less = mul-le part length (suc w) length within (omega arith) in
     omega (arith, div_below (part * length) (suc w) (suc length) (omega arith) (omega arith))
 
 -- ---- the candidates of a point

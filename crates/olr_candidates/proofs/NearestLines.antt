@@ -39,7 +39,7 @@ cut {X} R xs count x rise (k, inside, is) = elim (cases_lt k count) [
     omega (arith, length-take count xs),
     λ j d within.
         let lt : j < count = omega (arith, length-take count xs) in
-        let before : R (get_or xs j d) (get_or xs k d) = rise j k d (omega arith) inside in
+        let before = rise j k d (omega arith) inside in
         rw (get_or-take count xs j d lt) (rw (← (get_or_default xs k d x inside ∙ is)) before),
   )
 ]
@@ -47,8 +47,8 @@ cut {X} R xs count x rise (k, inside, is) = elim (cases_lt k count) [
 taken_rise : {X : Type 0} (R : X → X → Type 0) (xs : List X) (count : ℕ) → AllPairs R xs → AllPairs R (take count xs)
 taken_rise {X} R xs count rise i j d lt inside =
     let few = length-take count xs in
-    rw (get_or-take count xs i d (omega (arith, lt, inside, few)))
-    (rw (get_or-take count xs j d (omega (arith, inside, few))) (rise i j d lt (omega arith)))
+    rw (get_or-take count xs i d (omega arith))
+    (rw (get_or-take count xs j d (omega arith)) (rise i j d lt (omega arith)))
 
 all_inserted : {X : Type 0} (P : X → Type 0) (xs : List X) (i : ℕ) (y : X) → P y → All P xs → All P (insert xs i y)
 all_inserted P xs i y one all = All-append P _ _ (All-take P i _ all) (All-cons P y _ one (All-drop P i _ all))

@@ -33,6 +33,6 @@ not_seen (x ∷ seen) rank rest once (suc k, inside, same) =
 -- the ranks of a window are those of lines
 pub rank_within : (lines : List RoadLine) (window : Extent) (seen : List ℕ) (rank : ℕ) (rest : List ℕ) → IsWindowOf lines window (seen ++ rank ∷ rest) → rank < length lines
 rank_within lines window seen rank rest meeting =
-    let meets : RankMeetsWindow lines window rank = All-contains (RankMeetsWindow lines window) _ _ meeting.only
+    let meets = All-contains (RankMeetsWindow lines window) _ _ meeting.only
     (Contains-append_right seen (rank ∷ rest) rank (0, omega arith, refl)) in
     slice_get_within lines rank meets.0 meets.1

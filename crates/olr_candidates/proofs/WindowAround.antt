@@ -98,7 +98,7 @@ beside : (of : Spot → ℤ) → FootBetween of → (origin p : Coordinates) (li
 beside of between origin p line near is =
     let first = place_at (spot_of origin) line.points is.i is.a is.nearest.segment.start in
     let second = place_at (spot_of origin) line.points (suc is.i) is.b is.nearest.segment.end in
-    let lies : IsBetween (of is.a) (of is.b) (of near.spot) = subst (λ s. IsBetween (of is.a) (of is.b) (of s)) (cc)
+    let lies = subst (λ s. IsBetween (of is.a) (of is.b) (of s)) (cc)
     (between (spot_of origin p) is.a is.b) in
     let first_is : of (spot_of origin first.0) ≡ of is.a = cc in
     let second_is : of (spot_of origin second.0) ≡ of is.b = cc in
@@ -144,8 +144,8 @@ pub meets_window : FootBetween (λ s. s.x) → FootBetween (λ s. s.y) → NoSho
 meets_window between_x between_y shorter_x shorter_y query radius line near window covers here inside is within =
     let origin = coordinates_of query.plane in
     let point = coordinates_of query.point.at in
-    let p : Spot = spot_of origin point in
-    let r : ℕ = 100 * radius in
+    let p = spot_of origin point in
+    let r = 100 * radius in
     let xs = beside _ between_x origin point line _ is in
     let ys = beside _ between_y _ _ line _ is in
     let close_x : nat_abs (p.x -ℤ near.spot.x) ≤ r = omega (arith, shorter_x p near.spot) in

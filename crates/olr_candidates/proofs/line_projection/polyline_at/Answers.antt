@@ -15,7 +15,7 @@ returns-clause-spots c = λ line at.
 pub returns-clause-polyline : goal.returns-clause-polyline
 returns-clause-polyline c =
     let at = line_at _ _ c.requires in
-    let sound : IsSoundLine (length c.args.map.now.nodes) at.0 =
+    let sound =
     sound_at _ _ _ _ c.points.ensures.sound.lines.each at.1 in
     let points : map coordinates_of c.points.result.now ≡ at.0.points =
     points_at c.args.map.now.lines c.args.rank _ _ at.1 c.points.ensures.points in

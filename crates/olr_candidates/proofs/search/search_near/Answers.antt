@@ -41,7 +41,7 @@ loop-rank-preserved c =
 pub returns : goal.returns
 returns c =
     let seen = c.loop-rank.invariant.0 in
-    let near : IsNear c.args.query.now c.args.map.now.lines c.args.query.now.tolerances.radius seen =
+    let near =
     subst (λ l. IsNear c.args.query.now c.args.map.now.lines c.args.query.now.tolerances.radius l)
     (cc (c.in-None.ensures.steps.0, append-nil seen)) c.loop-rank.invariant.1 in
     let here : IsInRange (coordinates_of c.args.query.now.point.at) = record { lon = c.args.query.now.point.at.lon_in_range; lat = c.args.query.now.point.at.lat_in_range } in
