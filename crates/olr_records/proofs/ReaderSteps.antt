@@ -1,6 +1,7 @@
 -- What one read of a record leaves of the records of a reader over the bytes of a text.
 use Rattle.std.proofs.Common.{◌≡◌, ℕ, ◌+◌, Bool, true, false, cond, List, [], ◌∷◌, length, Some, None, refl, sym, ap, ◌∙◌, arith, inl, inr, ◌⊎◌, add-one}
 use Rattle.std.specs.Prelude.{Option, MatchBool, not}
+use Rattle.std.proofs.lemmas.Bool.{cases_Bool}
 use denote.Ref.{Bor}
 use Rattle.csv.specs.Machine.{Read, next_record, ends_at_end}
 use Rattle.csv.specs.Reading.{default_config, records_from, records_next, strip_bom, NextIs, ReadRecord, Ready, source_of, pending_of, has_failed, is_flexible, took_first, names_headers, reader_headers, reader_state}
@@ -27,32 +28,19 @@ abbrev IsOneRead : State → State → List ℕ → List ℕ → Bool → List (
 IsOneRead s s2 xs ys found fields = (found ≡ true → ends_at_end s2 ≡ false)
     × MatchBool found (records_in s (Some xs) ≡ fields ∷ records_in s2 (Some ys)) (records_in s (Some xs) ≡ [])
 
-read_none : (s s2 : State) (xs ys : List ℕ) (found : Bool) (fields : List (List ℕ)) → next_record default_config s [] [] xs ≡ None → found ≡ false
+read_as : (s s2 : State) (xs ys : List ℕ) (r : Option Read) (found : Bool) (fields : List (List ℕ))
+    → ends_at_end s ≡ false → next_record default_config s [] [] xs ≡ r → NextIs r found fields s2 ys
     → IsOneRead s s2 xs ys found fields
-read_none s s2 xs ys true fields e none = absurd cc
-read_none s s2 xs ys false fields e none = (λ h. absurd cc, opened s _ e)
-
-read_some : (s : State) {s2 : State} (xs : List ℕ) {ys : List ℕ} (found : Bool) {fields : List (List ℕ)} (p : Read) → ends_at_end s ≡ false → next_record default_config s [] [] xs ≡ Some p
-    → found ≡ true → fields ≡ p.0 → s2 ≡ p.1 → ys ≡ p.2 → IsOneRead s s2 xs ys found fields
-read_some s xs false p state e some first second third = absurd cc
-read_some s xs true p state e some first second third =
+read_as s s2 xs ys None true fields state e next = absurd cc
+read_as s s2 xs ys None false fields state e next = (λ h. absurd cc, opened s _ e)
+read_as s s2 xs ys (Some p) false fields state e next = absurd cc
+read_as s s2 xs ys (Some p) true fields state e (found, first, second, third) =
     let left = left_after s _ p state e in
     let same : records_from default_config (length xs) p.1 p.2 ≡ records_from default_config (length p.2 + 1) p.1 p.2 =
     same_records _ _ _ _ left.state left.shorter (omega arith) in
     (λ h. rw second left.state, rw (first, second, third) (opened s _ e ∙ ap (λ (rs : List (List (List ℕ))). p.0 ∷ rs) same))
 
-one_read : (s s2 : State) (xs ys : List ℕ) (found : Bool) (fields : List (List ℕ)) → ends_at_end s ≡ false
-    → NextIs (next_record default_config s [] [] xs) found fields s2 ys → IsOneRead s s2 xs ys found fields
-one_read s s2 xs ys found fields state next =
-    elim (next_record default_config s [] [] xs) as (λ r. next_record default_config s [] [] xs ≡ r → NextIs r found fields s2 ys → IsOneRead s s2 xs ys found fields) [
-      | None ↦ λ e h. read_none s _ _ _ _ _ e h
-      | Some p ↦ λ e h. read_some s _ _ p state e h.0 h.1 h.2 h.3
-    ] refl next
-
 -- ---- readers
-
-not_both : (b : Bool) → b ≡ true → b ≡ false → ⊥
-not_both b p q = cc
 
 chosen : (failed b : Bool) (x y : List ℕ) → failed ≡ false → (text : List ℕ) × (cond failed None (cond b (Some x) (Some y)) ≡ Some text)
 chosen true b x y works = absurd cc
@@ -80,25 +68,24 @@ read_one old new found fields plain read first works flexible =
     let after = source_known new (works ∙ plain.works) in
     let pending : pending_of (known new.rdr) new ≡ Some after.0 = cc in
     let next = rw (plain.defaults, before.1, pending) at read.0 in
-    let step = one_read (reader_state old) (reader_state new) before.0 after.0 found fields plain.between next in (
+    let step = read_as (reader_state old) (reader_state new) before.0 after.0 _ found fields plain.between refl next in (
       λ h. record {
         defaults = read.2 ∙ plain.defaults;
         flexible = flexible ∙ plain.flexible;
         untrimmed = read.3 ∙ plain.untrimmed;
-        headers = λ none. absurd (not_both (took_first new) first none);
+        headers = λ none. absurd cc;
         works = works ∙ plain.works;
         between = step.0 h;
       },
       rw (left_is old before.0 before.1, left_is new after.0 after.1) step.1,
     )
 
-by_first : (b : Bool) (P : Type 0) → (b ≡ false → P) → (b ≡ true) ⊎ P
-by_first true P h = inl refl
-by_first false P h = inr (h refl)
-
 -- the next read of such a reader is of one record
 pub plain_ready : (reader : Reader (Bor (List ℕ))) → IsPlain reader → Ready reader
-plain_ready reader plain = elim (by_first _ _ plain.headers) [ inl taken ↦ inl taken | inr none ↦ inr (inr none) ]
+plain_ready reader plain = elim (cases_Bool (took_first reader)) [
+  | inl taken ↦ inl taken
+  | inr none ↦ inr (inr (plain.headers none))
+]
 
 -- the same records, of what is over where none was found
 pub after_read : (found over : Bool) {value : List (List (List ℕ))} (fields : List (List ℕ)) (old new : Reader (Bor (List ℕ))) → over ≡ false → records_until over old ≡ value

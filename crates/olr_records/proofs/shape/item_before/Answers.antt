@@ -1,5 +1,4 @@
 use Rattle.std.proofs.Common.{◌≡◌, rules, ℕ, ℤ, List, Option, Bor, option_map, subst}
-use Rattle.olr_metric.specs.Coordinates.{Coordinates}
 use Rattle.olr_records.specs.Front.{Begins}
 use Rattle.olr_records.specs.Fields.{SpellsLongitude}
 use Rattle.olr_records.specs.Shape.{IsItem}
@@ -26,6 +25,3 @@ returns c =
     let both =
     item_of_both _ (first_is _ _ c.in-Some-behind.is c.in-Some.ensures) c.in-Some-latitude_before.ensures in
     search rules
-  where
-    place : ℤ → ℤ → Coordinates
-    place lon lat = record { lon = lon; lat = lat }
