@@ -2,18 +2,15 @@
 use Rattle.std.proofs.Common.{◌≡◌, ◌≢◌, ℕ, suc, ◌+◌, ◌-◌, ◌<◌, ◌≤◌, List, [], ◌∷◌, ◌++◌, length, get_or, take, drop, refl, sym, ap, ◌∙◌, ◌↔◌, arith, add-one, take-append-drop}
 use Rattle.std.specs.Prelude.{Contains, Bool, IsTrue, Option, Some, None, is_some, slice_range}
 use Rattle.std.proofs.lemmas.Bool.{eq-eqb, eqb-true}
-use Rattle.std.proofs.lemmas.List.{get_or-take, length-take-le, length-drop, drop-take, drop-drop, get_or_default}
+use Rattle.std.proofs.lemmas.List.{get_or-take, length-take, length-drop, drop-take, drop-drop, get_or_default}
 use Rattle.std.proofs.lemmas.List.Elements.{All-from_get_or, All-contains}
 use Rattle.std.proofs.Math.Seq.{drop-cons}
 use Rattle.memchr.specs.Find.{IsFirstByte, NoneBefore, Nowhere, Passes, is_byte}
 use Rattle.olr_messages.specs.Messages.{HasNoLf}
 
-at_least_zero : (k : ℕ) → 0 ≤ k
-at_least_zero k = omega arith
-
 -- no LF is found
 pub no_lf_found : (hand : List ℕ) → Nowhere (Passes (is_byte 10) hand) 0 (length hand) → HasNoLf hand
-no_lf_found hand none = All-from_get_or (λ byte. byte ≢ 10) hand 0 (λ i inside lf. none i (at_least_zero i) inside (eq-eqb (get_or hand i 0) 10 lf))
+no_lf_found hand none = All-from_get_or (λ byte. byte ≢ 10) hand 0 (λ i inside lf. none i (omega arith) inside (eq-eqb (get_or hand i 0) 10 lf))
 
 -- an LF is found: what stands before it and what stands behind it
 pub lf_found : (hand : List ℕ) (k : ℕ) → NoneBefore (Passes (is_byte 10) hand) 0 (length hand) k → Passes (is_byte 10) hand k
@@ -25,10 +22,9 @@ lf_found hand k first passes =
 
 pub no_lf_before : (hand : List ℕ) (k : ℕ) → NoneBefore (Passes (is_byte 10) hand) 0 (length hand) k → HasNoLf (take k hand)
 no_lf_before hand k first =
-    let inside = first.high in
-    let size = length-take-le k hand (omega arith) in
+    let size = length-take k hand in
     All-from_get_or (λ byte. byte ≢ 10) (take k hand) 0
-    (λ i before lf. first.before i (at_least_zero i) (omega arith) (eq-eqb (get_or hand i 0) 10 (sym (get_or-take k hand i 0 (omega arith)) ∙ lf)))
+    (λ i before lf. first.before i (omega arith) (omega arith) (eq-eqb (get_or hand i 0) 10 (sym (get_or-take k hand i 0 (omega arith)) ∙ lf)))
 
 -- whether an LF is found
 pub holds_lf : (hand : List ℕ) (r : Option ℕ) {b : Bool} → IsFirstByte (is_byte 10) hand r → b ≡ is_some r → IsTrue b ↔ Contains hand 10
@@ -41,9 +37,9 @@ holds_lf hand (Some k) first is = (
   λ has. is,
 )
 
-pub hand_length : (chunk : List ℕ) (start stop : ℕ) → start ≤ stop → stop ≤ length chunk → length (slice_range chunk start stop) ≡ stop - start
+hand_length : (chunk : List ℕ) (start stop : ℕ) → start ≤ stop → stop ≤ length chunk → length (slice_range chunk start stop) ≡ stop - start
 hand_length chunk start stop ordered inside =
-    let rest = length-drop start chunk in length-take-le (stop - start) (drop start chunk) (omega arith)
+    omega (arith, length-take (stop - start) (drop start chunk), length-drop start chunk)
 
 -- an LF at hand, and what stands behind it
 pub behind_lf : (chunk : List ℕ) {start stop k : ℕ} → start ≤ stop → stop ≤ length chunk → k < length (slice_range chunk start stop) → start + (k + 1) ≤ stop

@@ -12,10 +12,10 @@ unfolding lines_of
 lines_of-other byte rest other = elim (eqb_tells byte 10) [ inl same ↦ absurd (other same.1) | inr differs ↦ rw differs.0 refl ]
 
 no_lf_head : (byte : ℕ) (rest : List ℕ) → HasNoLf (byte ∷ rest) → byte ≢ 10
-no_lf_head byte rest free = All-head (λ b. b ≢ 10) byte rest free
+no_lf_head = All-head (λ b. b ≢ 10)
 
 no_lf_tail : (byte : ℕ) (rest : List ℕ) → HasNoLf (byte ∷ rest) → HasNoLf rest
-no_lf_tail byte rest free = All-tail (λ b. b ≢ 10) byte rest free
+no_lf_tail = All-tail (λ b. b ≢ 10)
 
 -- a line before an LF
 pub lines_of-lf : (line rest : List ℕ) → HasNoLf line → lines_of (line ++ 10 ∷ rest) ≡ line ∷ lines_of rest

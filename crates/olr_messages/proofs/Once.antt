@@ -17,7 +17,7 @@ same_text bytes (Some k) (Some l) s t a b =
     ap (λ (x : List ℕ). Text (Some x) s) same.0 ∙ ap (λ (x : List ℕ). Text (Some l) x) same.1
 
 not_long : {bytes : List ℕ} → bytes ≡ [] → 65536 < length bytes → ⊥
-not_long none long = let size = ap (λ (l : List ℕ). length l) none in omega arith
+not_long none long = omega (arith, ap length none)
 
 not_utf8_if_empty : {bytes : List ℕ} → bytes ≡ [] → ¬ (IsUtf8 bytes) → ⊥
 not_utf8_if_empty none not_utf8 = not_utf8 (rw none IsUtf8-nil)

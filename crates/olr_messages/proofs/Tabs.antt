@@ -4,7 +4,7 @@ use Rattle.std.specs.Prelude.{All, Bool}
 use Rattle.std.specs.List.{position_or_len, before_first, after_first}
 use Rattle.std.proofs.Math.Dec.{eqb}
 use Rattle.std.proofs.lemmas.Bool.{eqb-false, eqb-true}
-use Rattle.std.proofs.lemmas.List.{get_or-take, length-take-le}
+use Rattle.std.proofs.lemmas.List.{get_or-take, length-take}
 use Rattle.std.proofs.lemmas.List.Elements.{All-from_get_or}
 use Rattle.std.proofs.lemmas.List.Sums.{fails_before_first, passes_at_first, split_at_first}
 
@@ -21,7 +21,7 @@ no_tab bytes none = All-from_get_or (λ byte. byte ≢ 9) bytes 0 (λ i inside. 
 
 key_has_none : (bytes : List ℕ) → position_or_len is_tab bytes < length bytes → All (λ byte. byte ≢ 9) (before_first is_tab bytes)
 key_has_none bytes some =
-    let size = length-take-le (position_or_len is_tab bytes) bytes (omega arith) in
+    let size = length-take (position_or_len is_tab bytes) bytes in
     All-from_get_or (λ byte. byte ≢ 9) (before_first is_tab bytes) 0
     (λ i inside tab. before_tab _ i (omega arith) (sym (get_or-take (position_or_len is_tab bytes) bytes i 0 (omega arith)) ∙ tab))
 
