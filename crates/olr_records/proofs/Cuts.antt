@@ -1,5 +1,5 @@
 -- A text in front of a byte is the same one, however it is taken apart there.
-use Rattle.std.proofs.Common.{◌≡◌, ◌≢◌, ℕ, zero, suc, ◌<◌, List, [], ◌∷◌, ◌++◌, length, get_or, refl, sym, ap, ◌∙◌, subst, arith}
+use Rattle.std.proofs.Common.{◌≡◌, ◌≢◌, ℕ, suc, ◌<◌, List, [], ◌∷◌, ◌++◌, length, refl, ap, arith}
 use Rattle.std.specs.Prelude.{slice_index}
 use Rattle.std.proofs.lemmas.List.Elements.{All-append, All-cons, All-contains, All-from_get_or, Contains-append_right}
 
@@ -19,12 +19,14 @@ one_way byte [] b [] y fa fx e = (refl, ap behind_first e)
 one_way byte [] b (d ∷ x) y fa fx e = absurd (fx 0 (omega arith) (cc))
 one_way byte (c ∷ a) b [] y fa fx e = absurd (fa 0 (omega arith) (cc))
 one_way byte (c ∷ a) b (d ∷ x) y fa fx e =
-    let rest = one_way byte a b x y (λ k inside. fa (suc k) (omega arith)) (λ k inside. fx (suc k) (omega arith))
+    let rest = one_way byte a b x y (λ k inside. fa (suc k) (omega arith))
+    (λ k inside. fx (suc k) (omega arith))
     (ap behind_first e) in
     (cc rest.0, rest.1)
 
 -- what is taken apart at a byte doesn't avoid it
-pub not_avoided : (byte : ℕ) (text front rest : List ℕ) → text ≡ front ++ byte ∷ rest → Avoids byte text → ⊥
+pub not_avoided : (byte : ℕ) (text front rest : List ℕ) → text ≡ front ++ byte ∷ rest
+    → Avoids byte text → ⊥
 not_avoided byte text front rest whole avoids =
     All-contains (λ b. b ≢ byte) text byte (All-from_get_or (λ b. b ≢ byte) text 0 avoids)
     (rw whole (Contains-append_right front (byte ∷ rest) byte (0, omega arith, refl))) refl
