@@ -1,12 +1,11 @@
 -- Ids in buckets.
-use Rattle.std.proofs.Common.{◌≡◌, ℕ, ◌+◌, ◌-◌, ◌/◌, ◌^◌, ◌<◌, ◌≤◌, List, map, length, drop, get_or, Result, Ok, Err, MatchResult, sym, ap, ◌∙◌, inl, inr, arith}
+use Rattle.std.proofs.Common.{◌≡◌, ℕ, ◌+◌, ◌-◌, ◌/◌, ◌^◌, ◌<◌, ◌≤◌, List, map, length, drop, get_or, Result, Ok, Err, MatchResult, sym, ap, ◌∙◌, arith}
 use Rattle.std.specs.Prelude.{slice_index, slice_range, slice_get, Contains, Some}
 use Rattle.std.specs.Ordering.{nat_cmp}
 use Rattle.std.specs.List.Sorted.{IsBinarySearchResult, IsSearchInRange, IsStrictlyIncreasing}
 use Rattle.std.proofs.Math.Nat.{div-mul-le_self}
 use Rattle.std.proofs.lemmas.Nat.{le-div, pow_pos}
 use Rattle.olr_index.specs.Buckets.{IsHead, AreHeads, IsIndex}
-use Rattle.std.proofs.lemmas.Bool.{cases_lt}
 use Rattle.std.proofs.lemmas.List.{length-take, length-drop, get_or-take, get_or-drop, get_or_default}
 use Rattle.std.proofs.lemmas.Option.{get_or_from_slice_get, slice_get-get_or, slice_get_within}
 use Rattle.olr_index.proofs.Finding.{found_by_key, part_keys, rises}
@@ -48,7 +47,8 @@ index_of keys shift last heads rise few small heads_of count most = record {
 pub heads_rise : (shift : ℕ) (keys : List ℕ) (bucket low high : ℕ) → IsHead shift keys bucket low
     → IsHead shift keys (bucket + 1) high → low ≤ high
 heads_rise shift keys bucket low high at_low at_high =
-    let no : high < low → ⊥ = λ less. let early = at_low.below high less in omega arith in omega arith
+    let no : high < low → ⊥ = λ less. let early = at_low.below high less in omega arith in
+    omega arith
 
 -- a part of a list
 pub part_at : {X : Type 0} (xs : List X) (low high k : ℕ) (d : X) → k < high - low
@@ -91,7 +91,8 @@ nowhere shift keys low high id at_low at_high none has =
     let inside : high ≤ k → ⊥ = λ behind. omega (arith, at_high.above k behind has.1) in
     let there : low + (k - low) ≡ k = omega arith in
     let at = part_at keys low high (k - low) 0 (omega arith) in
-    let below : k - low < length (slice_range keys low high) = omega (arith, part_length keys low high at_high.within) in
+    let below : k - low < length (slice_range keys low high) =
+    omega (arith, part_length keys low high at_high.within) in
     none (
       k - low,
       below,
