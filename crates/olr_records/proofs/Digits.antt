@@ -2,7 +2,6 @@
 use Rattle.std.proofs.Common.{◌≡◌, ℕ, ◌+◌, ◌-◌, ◌*◌, ◌^◌, ◌<◌, ◌≤◌, List, ◌++◌, length, take, drop, get_or, sym, ap, ◌∙◌, subst, inl, inr, Option, Some, None, arith}
 use Rattle.std.specs.Char.{IsAsciiDigit, IsNotAsciiDigit}
 use Rattle.std.specs.Str.Parse.{digits_value, AllDigits}
-use Rattle.std.proofs.lemmas.Bool.{cases_lt}
 use Rattle.std.proofs.lemmas.List.{length-take-le, length-append, length-drop}
 use Rattle.std.proofs.lemmas.Str.{digit_value_digit}
 use Rattle.std.proofs.lemmas.Str.Parse.{digit_at, digits_value_short, numerals_by_value, tells_digits}
@@ -54,7 +53,7 @@ pub all_digits : (text : List ℕ) (count : ℕ) (byte n : ℕ) (rest : Option (
 all_digits text count byte n rest separates are begins =
     let front = begins.front in
     let tail = behind _ _ in
-    let size = ap (λ (l : List ℕ). length l) begins.whole ∙ length-append front tail in
+    let size = ap length begins.whole ∙ length-append front tail in
     let fewer : length front < count → ⊥ = λ less.
     let there = get_or-take count text (length front) 0 less
     ∙ ap (λ (l : List ℕ). get_or l (length front) 0) begins.whole
@@ -68,11 +67,7 @@ all_digits text count byte n rest separates are begins =
     ∙ get_or-append front tail 0 _ less in
     not_both _ (digit_at front count begins.spelled.digits.1 less)
     (subst IsNotAsciiDigit there (are.all (omega arith) (omega arith))) in
-    elim (cases_lt (length front) count) [
-      | inl less ↦ absurd (fewer less)
-      | inr least ↦ elim (cases_lt count (length front))
-          [ inl less ↦ absurd (more less) | inr most ↦ omega arith ]
-    ]
+    omega arith
 
 -- and what follows it follows them
 pub behind_digits : (text : List ℕ) (count : ℕ) (byte n : ℕ) (rest : Option (List ℕ))

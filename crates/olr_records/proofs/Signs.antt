@@ -118,15 +118,12 @@ plain_or_not text is minus =
 pub signed_once : (text : List ℕ) (y z : ℤ) → IsSignedNumber text y → IsSignedNumber text z → y ≡ z
 signed_once text y z a b = elim a [
   | inl p ↦ elim b [
-    | inl q ↦ p.2 ∙ ap (λ (n : ℕ). pos n) (p.1.value ∙ sym q.1.value) ∙ sym q.2
+    | inl q ↦ cc
     | inr q ↦ absurd (plain_or_not _ p.1 q.minus)
   ]
   | inr p ↦ elim b [
     | inl q ↦ absurd (plain_or_not _ q.1 p.minus)
-    | inr q ↦
-        let same = ap behind_first (sym p.minus ∙ q.minus) in
-        p.value ∙ ap (λ (n : ℕ). neg_ℤ (pos n)) (p.number.value
-        ∙ ap (λ (l : List ℕ). digits_value 10 l) same ∙ sym q.number.value) ∙ sym q.value
+    | inr q ↦ cc (ap behind_first (sym p.minus ∙ q.minus))
   ]
 ]
 
