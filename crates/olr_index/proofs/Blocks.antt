@@ -92,7 +92,7 @@ none_at size window lines blocks j d e some are inside fails =
 
 ranks_none : (window : Extent) (lines : List PlacedLine)
     → All (λ line. meets window line.extent ≡ false) lines → ranks_in window lines ≡ []
-ranks_none window [] none = ranks_in-nil window
+ranks_none window [] none = ranks_in-nil _
 ranks_none window (line ∷ lines) none =
     ranks_in-passed _ _ _ _ refl (All-head (λ (l : PlacedLine). meets window l.extent ≡ false) line
     _ none)
@@ -185,4 +185,4 @@ blocks_between first end lines blocks are =
 pub started : (window : Extent) (next all : List PlacedLine)
     → ranks_in window next ≡ ranks_in window all
     → ranks_in window [] ++ ranks_in window next ≡ ranks_in window all
-started window next all same = rw (ranks_in-nil window) same
+started window next all same = rw (ranks_in-nil _) same

@@ -96,9 +96,9 @@ ranks_in-append window xs ys =
 pub ranks_in-covered : (window block : Extent) (lines : List PlacedLine)
     → All (λ line. Covers block line.extent) lines → meets window block ≡ false
     → ranks_in window lines ≡ []
-ranks_in-covered window block [] covers none = ranks_in-nil window
+ranks_in-covered window block [] covers none = ranks_in-nil _
 ranks_in-covered window block (line ∷ lines) covers none =
-    ranks_in-passed _ _ _ _ refl (none_within window block line.extent
+    ranks_in-passed _ _ _ _ refl (none_within _ _ _
     (All-head (λ (l : PlacedLine). Covers block l.extent) line _ covers) none)
     ∙ ranks_in-covered _ _ _ (All-tail (λ (l : PlacedLine). Covers block l.extent) line _ covers)
     none

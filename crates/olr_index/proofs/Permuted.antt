@@ -32,7 +32,7 @@ pub differing_rise : (xs : List ℕ)
     → ((k : ℕ) → k + 1 < length xs → get_or xs k 0 ≤ get_or xs (k + 1) 0) → AllDiffer xs
     → IsStrictlyIncreasing xs
 differing_rise xs up differ k inside =
-    omega (arith, up k inside, differ k (k + 1) 0 (omega arith) inside)
+    omega (arith, up k inside, differ k _ 0 (omega arith) inside)
 
 -- ---- the keys of elements
 
@@ -48,7 +48,7 @@ keys_up f (x ∷ xs) up k inside =
     let below : k + 1 < length (x ∷ xs) = omega (arith, length-map (x ∷ xs) f) in
     omega (
       arith,
-      up k (k + 1) x (omega arith) below,
+      up k _ x (omega arith) below,
       get_or-map f (x ∷ xs) k x 0 (omega arith),
       get_or-map f (x ∷ xs) (k + 1) x 0 below,
     )
@@ -120,8 +120,8 @@ keys_rising_answer f (x ∷ xs) false some = (
 pub sorted_answer : (xs ys : List ℕ) (r : Bool) → IsPermutation xs ys → IsSorted nat_cmp ys
     → IsTrue r ↔ IsStrictlyIncreasing ys → IsTrue r ↔ AllDiffer xs
 sorted_answer xs ys r moved sorted rises = (
-  λ yes. differ_permuted ys xs (IsPermutation-sym xs ys moved) (rising_differ ys (rises.0 yes)),
-  λ differ. rises.1 (differing_rise ys
+  λ yes. differ_permuted _ _ (IsPermutation-sym xs ys moved) (rising_differ _ (rises.0 yes)),
+  λ differ. rises.1 (differing_rise _
       (λ k inside. IsNonDecreasingBy-from_sort (λ (x : ℕ). x) ys sorted k (k + 1) 0 (omega arith)
-      inside) (differ_permuted xs ys moved differ)),
+      inside) (differ_permuted _ _ moved differ)),
 )

@@ -8,7 +8,7 @@ pub invariant_of-result : goal.invariant_of-result
 invariant_of-result c =
     rw (c.between.ensures, c.between-2.ensures, c.deref-4.ensures.value, c.deref-5.ensures.value)
     (blocks_between c.first_that_meets-first.result c.end_of_those_that_meet-end.result
-    c.self.inside.lines.items c.self.inside.blocks.items c.self.invariant.1)
+    _ _ c.self.invariant.1)
 
 pub returns : goal.returns
 returns c =
