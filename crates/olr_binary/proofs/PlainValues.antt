@@ -25,9 +25,11 @@ module _ {A : Type 0} (most : ℕ) (value : A → Data) (each : (a : A) → IsPl
       }
 
   pub all_plain : (all : List A) → IsPlain (most + 1) (array_of value all)
-  all_plain all = let items = items_plain all in record { no_float = items.no_float; shallow = omega (arith, items.shallow) }
+  all_plain all = let items = items_plain all in
+      record { no_float = items.no_float; shallow = omega (arith, items.shallow) }
 
 -- a value that is the same as such a value
-pub plain_same : (most more : ℕ) (value other : Data) → most ≤ more → value ≡ other → IsPlain most other → IsPlain more value
+pub plain_same : (most more : ℕ) (value other : Data) → most ≤ more → value ≡ other
+    → IsPlain most other → IsPlain more value
 plain_same most more value other within is plain =
     record { no_float = rw is plain.no_float; shallow = rw is (omega arith) }

@@ -1,4 +1,5 @@
--- What the bytes of a reference say: that they say it of one reference alone, and that no refusal holds of them.
+-- What the bytes of a reference say: that they say it of one reference alone, and that no refusal
+-- holds of them.
 use Rattle.std.proofs.Common.{◌≡◌, ℕ, zero, suc, ◌+◌, ◌*◌, ◌<◌, ◌≤◌, List, length, Option, Some, None, refl, ap, ◌∙◌, arith, inl, inr}
 use Rattle.std.specs.Prelude.{Bool, true, false, ◌==◌, if◌then◌else◌, MatchOption, replicate}
 use Rattle.std.proofs.lemmas.List.{length-append, length-replicate}

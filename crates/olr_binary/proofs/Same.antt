@@ -1,4 +1,5 @@
--- Values whose types keep ranges are equal where their other fields are: a range has one proof at most.
+-- Values whose types keep ranges are equal where their other fields are: a range has one proof at
+-- most.
 use Rattle.std.proofs.Common.{◌≡◌, ℕ, suc, ◌<◌, List, [], ◌∷◌, Option, Some, length, refl, ap, subst, arith}
 use Rattle.std.specs.Prelude.{ℤ, slice_get}
 use Rattle.std.proofs.Props.{props}

@@ -1,6 +1,7 @@
--- The fields inside the bytes of a reference (OpenLR white paper 1.5, binary format version 3). Bit 0 is the
--- least significant one. Bits that no definition reads are ignored: bit 7 of the status byte and of attribute 4,
--- the upper two bits of attribute 1 in a line, and the negative flag in a point along a line.
+-- The fields inside the bytes of a reference (OpenLR white paper 1.5, binary format version 3). Bit
+-- 0 is the least significant one. Bits that no definition reads are ignored: bit 7 of the status
+-- byte and of attribute 4, the upper two bits of attribute 1 in a line, and the negative flag in a
+-- point along a line.
 use Rattle.std.specs.Prelude.{ℕ, ◌+◌, ◌/◌, ◌%◌, ◌^◌}
 
 -- `count` bits of a byte, of which bit `low` is the least significant, as a number

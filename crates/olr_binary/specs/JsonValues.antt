@@ -1,5 +1,6 @@
--- What JSON is made of: whole numbers, arrays, and the line of a value. (The compact text of a value, and the value that a text of JSON (RFC 8259) reads
--- as, are those that `serde_json` states.)
+-- What JSON is made of: whole numbers, arrays, and the line of a value. (The compact text of a
+-- value, and the value that a text of JSON (RFC 8259) reads as, are those that `serde_json`
+-- states.)
 use Rattle.std.specs.Prelude.{◌≡◌, ℕ, ℤ, List, ◌++◌, map, Option, None, Some, codes}
 use Rattle.serde_json.specs.Data.{Data, null, number, unsigned, array}
 use Rattle.serde_json.specs.Find.{of_integer}

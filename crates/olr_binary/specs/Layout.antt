@@ -1,8 +1,9 @@
--- The layout of a reference (OpenLR white paper 1.5, binary format version 3). The status byte is byte 0. The first
--- point has nine bytes: longitude and latitude of three bytes each, and attributes 1 to 3. Each intermediate point has
--- seven: longitude and latitude of two bytes each, and attributes 1 to 3. The last point has six, with attributes 1
--- and 4. The offset bytes follow. So attribute 1 of point i is byte 7 + 7 i, and its other attributes follow.
--- Points are counted from 0 here.
+-- The layout of a reference (OpenLR white paper 1.5, binary format version 3). The status byte is
+-- byte 0. The first point has nine bytes: longitude and latitude of three bytes each, and
+-- attributes 1 to 3. Each intermediate point has seven: longitude and latitude of two bytes each,
+-- and attributes 1 to 3. The last point has six, with attributes 1 and 4. The offset bytes follow.
+-- So attribute 1 of point i is byte 7 + 7 i, and its other attributes follow. Points are counted
+-- from 0 here.
 use Rattle.std.specs.Prelude.{◌≡◌, ℕ, ◌+◌, ◌*◌, ◌≤◌, List, slice_index}
 
 -- a reference of `size` bytes has `count` points and `offsets` offset bytes

@@ -20,13 +20,15 @@ pub record HasAttributes (bytes : List ℕ) (count i : ℕ) (point : Point) : Ty
   pub next : MatchOption point.next (i + 1 ≡ count) (λ next. (i + 1 < count) × IsNext bytes i next)
 
 -- point i of `count`, with the first point at `first`
-pub record IsPoint (bytes : List ℕ) (first : Coordinates) (count i : ℕ) (point : Point) : Type 0 where
-  pub lon : point.at.lon ≡ (place_of bytes first i).lon
-  pub lat : point.at.lat ≡ (place_of bytes first i).lat
-  pub attributes : HasAttributes bytes count i point
+pub record IsPoint (bytes : List ℕ) (first : Coordinates) (count i : ℕ) (point : Point) : Type 0
+  where
+    pub lon : point.at.lon ≡ (place_of bytes first i).lon
+    pub lat : point.at.lat ≡ (place_of bytes first i).lat
+    pub attributes : HasAttributes bytes count i point
 
 -- all the points, in order
 pub record ArePoints (bytes : List ℕ) (points : List Point) : Type 0 where
   pub first : Coordinates
   pub place : IsFirstPlace bytes first
-  pub each : (i : ℕ) (point : Point) → slice_get points i ≡ Some point → IsPoint bytes first (length points) i point
+  pub each : (i : ℕ) (point : Point) → slice_get points i ≡ Some point
+      → IsPoint bytes first (length points) i point

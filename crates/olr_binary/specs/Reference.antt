@@ -26,31 +26,39 @@ abbrev pub offset_of : ℕ → ℕ → Option ℕ
 offset_of flag byte = if flag == 1 then Some byte else None
 
 -- The bytes are this line. The positive offset comes before the negative one.
-pub record IsLine (bytes : List ℕ) (points : List Point) (positive negative : Option ℕ) : Type 0 where
-  pub status : IsLineStatus (status_of bytes)
-  pub offsets : ℕ
-  pub layout : IsLayout (length bytes) (length points) offsets
-  pub at_most : length points ≤ 32
-  pub flags : offsets ≡ line_offsets (last_attribute_of bytes (length points))
-  pub each_point : ArePoints bytes points
-  pub positive_offset : positive ≡ offset_of (positive_flag_of (last_attribute_of bytes (length points))) (first_offset_of bytes (length points))
-  pub negative_offset : negative ≡ offset_of (negative_flag_of (last_attribute_of bytes (length points)))
-      (if positive_flag_of (last_attribute_of bytes (length points)) == 1 then second_offset_of bytes (length points) else first_offset_of bytes (length points))
+pub record IsLine (bytes : List ℕ) (points : List Point) (positive negative : Option ℕ) : Type 0
+  where
+    pub status : IsLineStatus (status_of bytes)
+    pub offsets : ℕ
+    pub layout : IsLayout (length bytes) (length points) offsets
+    pub at_most : length points ≤ 32
+    pub flags : offsets ≡ line_offsets (last_attribute_of bytes (length points))
+    pub each_point : ArePoints bytes points
+    pub positive_offset : positive ≡ offset_of
+        (positive_flag_of (last_attribute_of bytes (length points)))
+        (first_offset_of bytes (length points))
+    pub negative_offset : negative ≡ offset_of
+        (negative_flag_of (last_attribute_of bytes (length points)))
+        (if positive_flag_of (last_attribute_of bytes (length points)) == 1 then second_offset_of
+        bytes (length points) else first_offset_of bytes (length points))
 
 -- The bytes are this point along a line, of two points and at most one offset.
-pub record IsPointAlong (bytes : List ℕ) (points : List Point) (orientation side : ℕ) (positive : Option ℕ) : Type 0 where
+pub record IsPointAlong (bytes : List ℕ) (points : List Point) (orientation side : ℕ)
+    (positive : Option ℕ) : Type 0 where
   pub status : IsPointStatus (status_of bytes)
   pub two : length points ≡ 2
   pub size : length bytes ≡ 16 + point_along_offsets (last_attribute_of bytes 2)
   pub each_point : ArePoints bytes points
   pub orientation_bits : orientation ≡ orientation_or_side_of (first_attribute_of bytes 0)
   pub side_bits : side ≡ orientation_or_side_of (first_attribute_of bytes 1)
-  pub positive_offset : positive ≡ offset_of (positive_flag_of (last_attribute_of bytes 2)) (first_offset_of bytes 2)
+  pub positive_offset : positive ≡ offset_of (positive_flag_of (last_attribute_of bytes 2))
+      (first_offset_of bytes 2)
 
 -- the bytes are this reference
 abbrev pub IsReferenceOf : List ℕ → Reference → Type 0
 IsReferenceOf bytes (Line points positive negative) = IsLine bytes points.items positive negative
-IsReferenceOf bytes (PointAlong points orientation side positive) = IsPointAlong bytes points.items orientation side positive
+IsReferenceOf bytes (PointAlong points orientation side positive) =
+    IsPointAlong bytes points.items orientation side positive
 
 -- ---- every reference, whatever its bytes
 
@@ -72,7 +80,8 @@ pub record IsLineReference (points : List Point) (positive negative : Option ℕ
   pub negative_in_range : IsOffset negative
 
 -- exactly two points
-pub record IsPointAlongReference (points : List Point) (orientation side : ℕ) (positive : Option ℕ) : Type 0 where
+pub record IsPointAlongReference (points : List Point) (orientation side : ℕ)
+    (positive : Option ℕ) : Type 0 where
   pub two : length points ≡ 2
   pub linked : AreLinked points
   pub orientation_in_range : orientation < 4
@@ -82,7 +91,8 @@ pub record IsPointAlongReference (points : List Point) (orientation side : ℕ) 
 -- a reference with its ranges; those of the points' fields are kept by their types
 abbrev pub IsReference : Reference → Type 0
 IsReference (Line points positive negative) = IsLineReference points.items positive negative
-IsReference (PointAlong points orientation side positive) = IsPointAlongReference points.items orientation side positive
+IsReference (PointAlong points orientation side positive) =
+    IsPointAlongReference points.items orientation side positive
 
 -- the points of a reference, in order
 abbrev pub points_of : Reference → List Point

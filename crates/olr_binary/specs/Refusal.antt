@@ -44,8 +44,8 @@ pub record IsFirstOutOfRange (bytes : List ℕ) (i : ℕ) : Type 0 where
   pub beyond : IsInRange (place_of bytes first i) → ⊥
   pub before : (j : ℕ) → j < i → IsInRange (place_of bytes first j)
 
--- The conditions on the bytes of a text, in their order. Each counts only where none before it holds. Refusals count
--- points from 1.
+-- The conditions on the bytes of a text, in their order. Each counts only where none before it
+-- holds. Refusals count points from 1.
 abbrev pub BytesCondition : List ℕ → Refused → Type 0
 BytesCondition bytes Empty = bytes ≡ []
 BytesCondition bytes (BadVersion version) = (version ≡ version_of (status_of bytes)) × (version ≢ 3)

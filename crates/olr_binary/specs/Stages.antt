@@ -1,5 +1,6 @@
--- What each stage of decoding has found, and which refusals it has ruled out. Only the contracts of these stages use
--- this file: the rules are in the other files, by the status byte, and here by the location type that it gives.
+-- What each stage of decoding has found, and which refusals it has ruled out. Only the contracts of
+-- these stages use this file: the rules are in the other files, by the status byte, and here by the
+-- location type that it gives.
 use Rattle.std.specs.Prelude.{◌≡◌, ℕ, ◌+◌, ◌<◌, ◌≤◌, List, length}
 use Rattle.olr_binary.specs.declared.status.LocationType.{LocationType}
 use Rattle.olr_binary.specs.declared.status.LocationType.TheVariants.{Line, PointAlong}
@@ -12,7 +13,8 @@ use Rattle.olr_binary.specs.Refusal.{BytesCondition, IsLineSize, IsPointAlongSiz
 
 -- no refusal before this one in the order of the checks holds
 abbrev pub NoneBefore : List ℕ → ℕ → Type 0
-NoneBefore bytes number = (refused : Refused) → order_of refused < number → BytesCondition bytes refused → ⊥
+NoneBefore bytes number = (refused : Refused) → order_of refused < number
+    → BytesCondition bytes refused → ⊥
 
 -- the status byte of a location type
 abbrev pub HasType : ℕ → LocationType → Type 0
@@ -44,4 +46,5 @@ pub record HasCount (bytes : List ℕ) (location : LocationType) (count : ℕ) :
 
 -- the refusal of the first point, of `count`, outside the ranges of coordinates
 abbrev pub IsOutOfRangeAt : List ℕ → ℕ → Refused → Type 0
-IsOutOfRangeAt bytes count refused = (i : ℕ) × (refused ≡ OutOfRange (i + 1)) × (i < count) × IsFirstOutOfRange bytes i
+IsOutOfRangeAt bytes count refused = (i : ℕ) × (refused ≡ OutOfRange (i + 1)) × (i < count)
+    × IsFirstOutOfRange bytes i

@@ -1,5 +1,5 @@
--- The bytes of a text: without the blanks at its ends it is base64 with padding (RFC 4648, section 4). The alphabet
--- and the padding are those that the crate `base64` states for `STANDARD`.
+-- The bytes of a text: without the blanks at its ends it is base64 with padding (RFC 4648, section
+-- 4). The alphabet and the padding are those that the crate `base64` states for `STANDARD`.
 use Rattle.std.specs.Prelude.{◌≡◌, ℕ, ◌<◌, ◌==◌, ◌||◌, Bool, if◌then◌else◌, List, [], ◌∷◌, reverse, slice_index}
 use Rattle.base64.specs.GeneralPurpose.{encode_of}
 use Rattle.base64.specs.Engines.{standard}

@@ -68,9 +68,10 @@ fn outcome_of(text: &str) -> Result<Reference, Refused>
 /// Reads a location reference from its text.
 ///
 /// Spaces, tabs, carriage returns and line feeds at both ends of the text are ignored. The rest is
-/// standard base64 with padding and zero trailing bits (RFC 4648, section 4). Its bytes are a line or
-/// a point along a line in the binary format, version 3, of the OpenLR white paper 1.5. Reserved bits
-/// are ignored, and so is the negative flag of a point along a line. The call allocates nothing.
+/// standard base64 with padding and zero trailing bits (RFC 4648, section 4). Its bytes are a line
+/// or a point along a line in the binary format, version 3, of the OpenLR white paper 1.5. Reserved
+/// bits are ignored, and so is the negative flag of a point along a line. The call allocates
+/// nothing.
 ///
 /// # Errors
 ///

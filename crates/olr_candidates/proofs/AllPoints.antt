@@ -1,10 +1,10 @@
 -- The lists of the points of a reference, from those of each.
+use Rattle.olr_metric.proofs.Contained.{first_or_last}
 use Rattle.olr_candidates.proofs.LineCandidates.{line_at}
-use Rattle.std.proofs.Common.{◌≡◌, ℕ, zero, suc, ◌+◌, ◌<◌, ◌≤◌, List, [], ◌∷◌, ◌++◌, length, get_or, Some, inl, inr, refl, ap, ◌∙◌, arith}
-use Rattle.std.specs.Prelude.{◌⊎◌, slice_get}
+use Rattle.std.proofs.Common.{◌≡◌, ℕ, ◌+◌, ◌<◌, ◌≤◌, List, [], ◌∷◌, ◌++◌, length, get_or, inl, inr, ap, ◌∙◌}
 use Rattle.std.proofs.lemmas.Bool.{cases_order}
 use Rattle.std.proofs.lemmas.List.{length-append, map_push, same_lists}
-use Rattle.std.proofs.lemmas.Option.{same_Some, slice_get-get_or, slice_get_within}
+use Rattle.std.proofs.lemmas.Option.{slice_get-get_or, slice_get_within}
 use Rattle.arrayvec.specs.ArrayVec.{ArrayVec}
 use Rattle.olr_binary.specs.declared.reference.Reference.{Reference}
 use Rattle.olr_binary.specs.Reference.{points_of}
@@ -13,15 +13,6 @@ use Rattle.olr_candidates.specs.declared.candidate.Candidate.{Candidate}
 use Rattle.olr_candidates.specs.declared.tolerances.Tolerances.{Tolerances}
 use Rattle.olr_candidates.specs.Laws.{OneListOfPoint, NoListOfPointAndTooMany}
 use Rattle.olr_candidates.specs.Points.{AreCandidatesOf, AreFirstLists, AreLists, HasTooMany, IsListOf, IsFirstTooMany, lists_of}
-
-first_or_last : {X : Type 0} (xs : List X) (x y : X) (index : ℕ) → slice_get (xs ++ x ∷ []) index ≡ Some y → (slice_get xs index ≡ Some y) ⊎ ((index ≡ length xs) × (x ≡ y))
-first_or_last [] x y zero at = inr (refl, same_Some x y at)
-first_or_last [] x y (suc index) at = absurd (let within = slice_get_within [] index y at in omega arith)
-first_or_last (first ∷ xs) x y zero at = inl at
-first_or_last (first ∷ xs) x y (suc index) at = elim (first_or_last xs x y index at) [
-  | inl before ↦ inl before
-  | inr last ↦ inr (ap suc last.0, last.1)
-]
 
 -- ---- point by point
 
@@ -32,21 +23,28 @@ module _ (tolerances : Tolerances) (reference : Reference) (lines : List RoadLin
     pub counted : length (lists_of lists) ≡ count
 
   -- one point more
-  pub one_more : (count : ℕ) (lists : List (ArrayVec Candidate)) (list : ArrayVec Candidate) → AreListsOf count lists
-      → AreCandidatesOf tolerances reference lines count list.items → length list.items ≤ 64 → AreListsOf (count + 1) (lists ++ list ∷ [])
+  pub one_more : (count : ℕ) (lists : List (ArrayVec Candidate)) (list : ArrayVec Candidate)
+      → AreListsOf count lists
+      → AreCandidatesOf tolerances reference lines count list.items → length list.items ≤ 64
+      → AreListsOf (count + 1) (lists ++ list ∷ [])
   one_more count lists list so_far are at_most =
-      let each : AreFirstLists tolerances reference lines (lists_of lists ++ list.items ∷ []) = λ index other at. elim (first_or_last (lists_of lists) list.items other index at) [
+      let each : AreFirstLists tolerances reference lines (lists_of lists ++ list.items ∷ []) =
+      λ index other at. elim (first_or_last (lists_of lists) list.items other index at) [
         | inl before ↦ so_far.each index other before
         | inr last ↦ rw (last.0, so_far.counted, ← last.1) (are, at_most)
       ] in
-      let counted = length-append (lists_of lists) (list.items ∷ []) ∙ ap (λ n. n + 1) so_far.counted in
+      let counted = length-append (lists_of lists) (list.items ∷ [])
+      ∙ ap (λ n. n + 1) so_far.counted in
       let more = map_push (λ l. l.items) lists list in
       record { each = rw more each; counted = rw more counted }
 
   -- the next point has too many, and none before
-  pub first_too_many : (count : ℕ) (lists : List (ArrayVec Candidate)) → AreListsOf count lists → HasTooMany tolerances reference lines count → IsFirstTooMany tolerances reference lines count
+  pub first_too_many : (count : ℕ) (lists : List (ArrayVec Candidate)) → AreListsOf count lists
+      → HasTooMany tolerances reference lines count
+      → IsFirstTooMany tolerances reference lines count
   first_too_many count lists so_far too_many =
-      let before : (earlier : ℕ) → earlier < count → (list : List Candidate) × IsListOf _ _ _ earlier list =
+      let before : (earlier : ℕ) → earlier < count → (list : List Candidate)
+      × IsListOf _ _ _ earlier list =
       λ earlier lt.
       let at = line_at (lists_of lists) earlier (rw so_far.counted lt) in
       (at.0, so_far.each earlier at.0 at.1) in
@@ -54,23 +52,34 @@ module _ (tolerances : Tolerances) (reference : Reference) (lines : List RoadLin
 
   -- ---- one list of lists, or one first point with too many
 
-  list_of_point : (lists : List (List Candidate)) → AreLists tolerances reference lines lists → (index : ℕ) (d : List Candidate) → index < length lists
+  list_of_point : (lists : List (List Candidate)) → AreLists tolerances reference lines lists
+      → (index : ℕ) (d : List Candidate) → index < length lists
       → IsListOf tolerances reference lines index (get_or lists index d)
-  list_of_point lists are index d within = are.each index (get_or lists index d) (slice_get-get_or _ _ d within)
+  list_of_point lists are index d within =
+      are.each index (get_or lists index d) (slice_get-get_or _ _ d within)
 
-  pub one_lists : OneListOfPoint → (a b : List (List Candidate)) → AreLists tolerances reference lines a → AreLists tolerances reference lines b → a ≡ b
+  pub one_lists : OneListOfPoint → (a b : List (List Candidate))
+      → AreLists tolerances reference lines a → AreLists tolerances reference lines b → a ≡ b
   one_lists law a b is other =
       let many : length a ≡ length b = cc in
-      same_lists a b many (λ k d within. law tolerances reference lines k (get_or a k d) (get_or b k d) (list_of_point a is k d within).0 (list_of_point b other k d (rw (← many) within)).0)
+      same_lists a b many (λ k d within. law tolerances reference lines k (get_or a k d)
+      (get_or b k d) (list_of_point a is k d within).0
+      (list_of_point b other k d (rw (← many) within)).0)
 
-  pub no_lists_and_too_many : NoListOfPointAndTooMany → (lists : List (List Candidate)) (index : ℕ) → AreLists tolerances reference lines lists → HasTooMany tolerances reference lines index → ⊥
+  pub no_lists_and_too_many : NoListOfPointAndTooMany → (lists : List (List Candidate)) (index : ℕ)
+      → AreLists tolerances reference lines lists → HasTooMany tolerances reference lines index → ⊥
   no_lists_and_too_many law lists index are many =
-      let within : index < length lists = rw are.all (slice_get_within (points_of reference) index many.point many.point_is) in
-      law tolerances reference lines index (get_or lists index []) (list_of_point _ are _ [] within) many
+      let within : index < length lists =
+      rw are.all (slice_get_within (points_of reference) index many.point many.point_is) in
+      law tolerances reference lines index (get_or lists index []) (list_of_point _ are _ [] within)
+      many
 
-  pub one_first : NoListOfPointAndTooMany → (a b : ℕ) → IsFirstTooMany tolerances reference lines a → IsFirstTooMany tolerances reference lines b → a ≡ b
+  pub one_first : NoListOfPointAndTooMany → (a b : ℕ) → IsFirstTooMany tolerances reference lines a
+      → IsFirstTooMany tolerances reference lines b → a ≡ b
   one_first law a b is other = elim (cases_order a b) [
     | inl same ↦ same
-    | inr (inl less) ↦ absurd (let list = other.before a less in law tolerances reference lines a list.0 list.1 is.too_many)
-    | inr (inr more) ↦ absurd (let list = is.before b more in law tolerances reference lines b list.0 list.1 other.too_many)
+    | inr (inl less) ↦ absurd (let list = other.before a less in
+        law tolerances reference lines a list.0 list.1 is.too_many)
+    | inr (inr more) ↦ absurd (let list = is.before b more in
+        law tolerances reference lines b list.0 list.1 other.too_many)
   ]

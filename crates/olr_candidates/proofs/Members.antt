@@ -37,13 +37,18 @@ form_at_most a b =
     cond_both (a == 0 || b == 0) 10 _ at_most (λ is. omega arith) (λ is.
     cond_both (is_like a b || is_like b a) 15 30 at_most (λ is. omega arith) (λ is. omega arith)))
 
-away_at_most : (distance radius : ℕ) → 1 ≤ radius → distance ≤ 100 * radius → distance / radius ≤ 100
-away_at_most distance radius positive near = omega (arith, div_below distance radius 101 (omega arith) (omega arith))
+away_at_most : (distance radius : ℕ) → 1 ≤ radius → distance ≤ 100 * radius
+    → distance / radius ≤ 100
+away_at_most distance radius positive near =
+    omega (arith, div_below distance radius 101 (omega arith) (omega arith))
 
 classes_at_most : (a b : ℕ) → a ≤ 7 → b < 8 → abs_diff a b ≤ 7
 classes_at_most a b one other = omega arith
 
-pub penalty_at_most : SectorsAtMost → (tolerances : Tolerances) (point : Point) (is_last : Bool) (line : Line) (projection : Projection) → MeetsConditions tolerances point is_last line projection → line.class ≤ 7
+pub penalty_at_most : SectorsAtMost
+    → (tolerances : Tolerances) (point : Point) (is_last : Bool) (line : Line)
+    (projection : Projection) → MeetsConditions tolerances point is_last line projection
+    → line.class ≤ 7
     → penalty_of tolerances point line projection ≤ 360
 penalty_at_most sectors tolerances point is_last line projection is class =
     omega (
@@ -58,38 +63,49 @@ penalty_at_most sectors tolerances point is_last line projection is class =
 
 -- the plane's laws
 abbrev pub NearestWithin : Type 0
-NearestWithin = (spots : List Spot) (p : Spot) (near : Near) → IsNearest spots p near → near.arc ≤ arc spots
+NearestWithin = (spots : List Spot) (p : Spot) (near : Near) → IsNearest spots p near
+    → near.arc ≤ arc spots
 
 -- a share of a length is no greater
 share_at_most : (part length whole : ℕ) → part ≤ whole → part * length / whole ≤ length
 share_at_most part length zero within = let none : part ≡ 0 = omega arith in rw none (omega arith)
 share_at_most part length (suc w) within =
-    let less : part * length ≤ suc w * length = mul-le part length (suc w) length within (omega arith) in
+    let less = mul-le part length (suc w) length within (omega arith) in
     omega (arith, div_below (part * length) (suc w) (suc length) (omega arith) (omega arith))
 
 -- ---- the candidates of a point
 
-module _ (tolerances : Tolerances) (origin : Coordinates) (point : Point) (is_last : Bool) (lines : List RoadLine) where
-  pub on_a_line : (candidate : Candidate) → IsOneOf tolerances origin point is_last lines candidate → candidate.place.line < length lines
+module _ (tolerances : Tolerances) (origin : Coordinates) (point : Point) (is_last : Bool)
+    (lines : List RoadLine) where
+  pub on_a_line : (candidate : Candidate) → IsOneOf tolerances origin point is_last lines candidate
+      → candidate.place.line < length lines
   on_a_line candidate is = let line = is.1.2.rates.line_is in
       omega (arith, slice_get_within lines is.0 is.1.0 is.1.1)
 
-  pub fits : SectorsAtMost → (nodes : ℕ) → All (IsSoundLine nodes) lines → (candidate : Candidate) → IsOneOf tolerances origin point is_last lines candidate → candidate.penalty ≤ 360
+  pub fits : SectorsAtMost → (nodes : ℕ) → All (IsSoundLine nodes) lines → (candidate : Candidate)
+      → IsOneOf tolerances origin point is_last lines candidate → candidate.penalty ≤ 360
   fits sectors nodes sound candidate is =
       let line = sound_at _ _ _ _ sound is.1.1 in
       omega (arith, penalty_at_most sectors _ _ _ _ _ is.1.2.rates.conditions line.class)
 
   -- its line
-  line_is : (candidate : Candidate) (is : IsOneOf tolerances origin point is_last lines candidate) (line : RoadLine) → slice_get lines candidate.place.line ≡ Some line → is.1.0 ≡ line
+  line_is : (candidate : Candidate) (is : IsOneOf tolerances origin point is_last lines candidate)
+      (line : RoadLine) → slice_get lines candidate.place.line ≡ Some line → is.1.0 ≡ line
   line_is candidate is line at = cc
 
-  pub driven : (candidate : Candidate) → IsOneOf tolerances origin point is_last lines candidate → (line : RoadLine) → slice_get lines candidate.place.line ≡ Some line
+  pub driven : (candidate : Candidate) → IsOneOf tolerances origin point is_last lines candidate
+      → (line : RoadLine) → slice_get lines candidate.place.line ≡ Some line
       → IsOnLine is_last line.length candidate.place.at
   driven candidate is line at =
-      rw (← (line_is _ is _ at)) (subst (λ n. IsOnLine is_last is.1.0.length n) (cc) is.1.2.rates.conditions.on_line)
+      rw (← (line_is _ is _ at)) (subst (λ n. IsOnLine is_last is.1.0.length n) (cc)
+      is.1.2.rates.conditions.on_line)
 
-  pub no_further : NearestWithin → (candidate : Candidate) → IsOneOf tolerances origin point is_last lines candidate → (line : RoadLine) → slice_get lines candidate.place.line ≡ Some line
+  pub no_further : NearestWithin → (candidate : Candidate)
+      → IsOneOf tolerances origin point is_last lines candidate → (line : RoadLine)
+      → slice_get lines candidate.place.line ≡ Some line
       → candidate.place.at ≤ line.length
   no_further within candidate is line at =
       rw (← (line_is _ is _ at)) (rw (is.1.2.rates.at_is, is.1.2.is_projection.at_is)
-      (share_at_most _ _ _ (within (polyline_of origin is.1.0) (spot_of origin (coordinates_of point.at)) is.1.2.is_projection.near is.1.2.is_projection.nearest)))
+      (share_at_most _ _ _ (within (polyline_of origin is.1.0)
+      (spot_of origin (coordinates_of point.at)) is.1.2.is_projection.near
+      is.1.2.is_projection.nearest)))

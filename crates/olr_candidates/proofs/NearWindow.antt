@@ -1,4 +1,5 @@
--- The lines that meet a window around a point are, among others, all lines that lie within the radius.
+-- The lines that meet a window around a point are, among others, all lines that lie within the
+-- radius.
 use Rattle.std.proofs.Common.{ℕ, List, get_or, All, arith}
 use Rattle.std.proofs.lemmas.Option.{slice_get_within}
 use Rattle.olr_metric.specs.Coordinates.{coordinates_of, IsInRange}
@@ -10,14 +11,18 @@ use Rattle.olr_candidates.specs.Query.{IsNear}
 use Rattle.olr_candidates.proofs.LineCandidates.{sound_at}
 use Rattle.olr_candidates.proofs.WindowAround.{FootBetween, NoShorter, meets_window}
 
-pub covers_radius : FootBetween (λ s. s.x) → FootBetween (λ s. s.y) → NoShorter (λ s. s.x) → NoShorter (λ s. s.y)
+pub covers_radius : FootBetween (λ s. s.x) → FootBetween (λ s. s.y) → NoShorter (λ s. s.x)
+    → NoShorter (λ s. s.y)
     → (query : Query) (radius : ℕ) (lines : List RoadLine) (nodes : ℕ) (ranks : List ℕ)
-    → All (IsSoundLine nodes) lines → IsNear query lines radius ranks → CoverRadius query lines radius ranks
+    → All (IsSoundLine nodes) lines → IsNear query lines radius ranks
+    → CoverRadius query lines radius ranks
 covers_radius between_x between_y shorter_x shorter_y query radius lines nodes ranks sound near =
-    let here : IsInRange (coordinates_of query.point.at) = record { lon = query.point.at.lon_in_range; lat = query.point.at.lat_in_range } in
+    let here : IsInRange (coordinates_of query.point.at) =
+    record { lon = query.point.at.lon_in_range; lat = query.point.at.lat_in_range } in
     record {
       once = near.meeting.once;
-      known = λ k d inside. let meets = near.meeting.only k d inside in slice_get_within lines (get_or ranks k d) meets.0 meets.1;
+      known = λ k d inside. let meets = near.meeting.only k d inside in
+          slice_get_within lines (get_or ranks k d) meets.0 meets.1;
       each = λ rank item found within.
           let projection = found.2.is_projection in
           near.meeting.each rank (

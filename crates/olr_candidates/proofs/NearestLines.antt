@@ -31,29 +31,35 @@ use Rattle.olr_candidates.proofs.SeenLines.{one_seen, still_seen, now_seen}
 -- ---- the beginning of a list in order
 
 -- what is cut off comes after all that is kept
-cut : {X : Type 0} (R : X → X → Type 0) (xs : List X) (count : ℕ) (x : X) → AllPairs R xs → Contains xs x
-    → Contains (take count xs) x ⊎ ((count ≤ length (take count xs)) × All (λ y. R y x) (take count xs))
+cut : {X : Type 0} (R : X → X → Type 0) (xs : List X) (count : ℕ) (x : X) → AllPairs R xs
+    → Contains xs x
+    → Contains (take count xs) x ⊎ ((count ≤ length (take count xs))
+    × All (λ y. R y x) (take count xs))
 cut {X} R xs count x rise (k, inside, is) = elim (cases_lt k count) [
   | inl less ↦ inl (k, omega (arith, length-take count xs), get_or-take count xs k x less ∙ is)
   | inr no_less ↦ inr (
     omega (arith, length-take count xs),
     λ j d within.
         let lt : j < count = omega (arith, length-take count xs) in
-        let before : R (get_or xs j d) (get_or xs k d) = rise j k d (omega arith) inside in
+        let before = rise j k d (omega arith) inside in
         rw (get_or-take count xs j d lt) (rw (← (get_or_default xs k d x inside ∙ is)) before),
   )
 ]
 
-taken_rise : {X : Type 0} (R : X → X → Type 0) (xs : List X) (count : ℕ) → AllPairs R xs → AllPairs R (take count xs)
+taken_rise : {X : Type 0} (R : X → X → Type 0) (xs : List X) (count : ℕ) → AllPairs R xs
+    → AllPairs R (take count xs)
 taken_rise {X} R xs count rise i j d lt inside =
     let few = length-take count xs in
-    rw (get_or-take count xs i d (omega (arith, lt, inside, few)))
-    (rw (get_or-take count xs j d (omega (arith, inside, few))) (rise i j d lt (omega arith)))
+    rw (get_or-take count xs i d (omega arith))
+    (rw (get_or-take count xs j d (omega arith)) (rise i j d lt (omega arith)))
 
-all_inserted : {X : Type 0} (P : X → Type 0) (xs : List X) (i : ℕ) (y : X) → P y → All P xs → All P (insert xs i y)
-all_inserted P xs i y one all = All-append P _ _ (All-take P i _ all) (All-cons P y _ one (All-drop P i _ all))
+all_inserted : {X : Type 0} (P : X → Type 0) (xs : List X) (i : ℕ) (y : X) → P y → All P xs
+    → All P (insert xs i y)
+all_inserted P xs i y one all =
+    All-append P _ _ (All-take P i _ all) (All-cons P y _ one (All-drop P i _ all))
 
-contains_inserted : {X : Type 0} (xs : List X) (i : ℕ) (y x : X) → Contains (y ∷ xs) x → Contains (insert xs i y) x
+contains_inserted : {X : Type 0} (xs : List X) (i : ℕ) (y x : X) → Contains (y ∷ xs) x
+    → Contains (insert xs i y) x
 contains_inserted xs i y x is = Contains-permutation _ _ x (IsPermutation-insert _ i y) is
 
 near_through : (a b c : NearLine) → IsNearer a b → IsNearer b c → IsNearer a c
@@ -64,14 +70,16 @@ near_one_way = one_way _ _
 
 -- ---- no more ranks than lines
 
-no_more : (n : ℕ) (ranks : List ℕ) → AllPairs (λ a b. a ≢ b) ranks → All (λ rank. rank < n) ranks → length ranks ≤ n
+no_more : (n : ℕ) (ranks : List ℕ) → AllPairs (λ a b. a ≢ b) ranks → All (λ rank. rank < n) ranks
+    → length ranks ≤ n
 no_more n ranks once known =
     omega (
       arith,
       length-range_with_len 0 n,
       no_longer _ (range_with_len 0 n) once (λ k d inside.
           let below = known k d inside in
-          let place : get_or (range_with_len 0 n) (get_or ranks k d) (get_or ranks k d) ≡ get_or ranks k d =
+          let place : get_or (range_with_len 0 n) (get_or ranks k d) (get_or ranks k d)
+          ≡ get_or ranks k d =
           omega (arith, get_or-range_with_len 0 n (get_or ranks k d) (get_or ranks k d) below) in
           (get_or ranks k d, omega (arith, length-range_with_len 0 n), place)),
     )
@@ -82,7 +90,8 @@ pub record AreFirstRanks (n : ℕ) (ranks : List ℕ) : Type 0 where
   pub only : (rank : ℕ) → Contains ranks rank → rank < n
   pub each : (rank : ℕ) → rank < n → Contains ranks rank
 
-pub next_rank : (n : ℕ) (ranks : List ℕ) → AreFirstRanks n ranks → AreFirstRanks (n + 1) (ranks ++ n ∷ [])
+pub next_rank : (n : ℕ) (ranks : List ℕ) → AreFirstRanks n ranks
+    → AreFirstRanks (n + 1) (ranks ++ n ∷ [])
 next_rank n ranks are = record {
   counted = omega (arith, length-append ranks (n ∷ []));
   only = λ rank is. elim (one_seen _ n _ is) [
@@ -108,8 +117,10 @@ module _ (query : Query) (lines : List RoadLine) where
   }
 
   -- one more that is farther away than the last of so many
-  pub nearest_still : (seen : List ℕ) (rank count : ℕ) (old : List NearLine) → AreNearestAmong query lines seen count old
-      → IsBehindLast query lines rank count old → AreNearestAmong query lines (seen ++ rank ∷ []) count old
+  pub nearest_still : (seen : List ℕ) (rank count : ℕ) (old : List NearLine)
+      → AreNearestAmong query lines seen count old
+      → IsBehindLast query lines rank count old
+      → AreNearestAmong query lines (seen ++ rank ∷ []) count old
   nearest_still seen rank count old so_far is = record {
     only = All-weaker (IsAmong query _ seen) (IsAmong query _ (seen ++ rank ∷ []))
         (λ near among. (still_seen seen rank near.line among.0, among.1)) old so_far.only;
@@ -122,9 +133,11 @@ module _ (query : Query) (lines : List RoadLine) where
           inr (omega arith, λ k d inside. inl (omega (arith, up_to_last k d inside)))
     ];
   } where
-    up_to_last : (k : ℕ) (d : NearLine) → k < length old → (get_or old k d).distance ≤ is.last.distance
+    up_to_last : (k : ℕ) (d : NearLine) → k < length old
+        → (get_or old k d).distance ≤ is.last.distance
     up_to_last k d inside =
-        let at : get_or old (length old - 1) d ≡ is.last = get_or_from_slice_get old _ _ d is.last_is in
+        let at : get_or old (length old - 1) d ≡ is.last =
+        get_or_from_slice_get old _ _ d is.last_is in
         let at_last : (get_or old (length old - 1) d).distance ≡ is.last.distance = cc in
         elim (cases_lt k (length old - 1)) [
           | inl less ↦ elim (so_far.rise k (length old - 1) d less (omega arith)) [
@@ -138,12 +151,14 @@ module _ (query : Query) (lines : List RoadLine) where
         ]
 
   -- one more
-  module _ (one : OneProjection) (seen : List ℕ) (rank count : ℕ) (old : List NearLine) (next : NearLine) (so_far : AreNearestAmong query lines seen count old)
+  module _ (one : OneProjection) (seen : List ℕ) (rank count : ℕ) (old : List NearLine)
+      (next : NearLine) (so_far : AreNearestAmong query lines seen count old)
       (unseen : Contains seen rank → ⊥) (is : FindsNear query lines rank next) where
     differ : (other : NearLine) → IsAmong query lines seen other → other.line ≢ next.line
     differ other among same = unseen (subst (λ r. Contains seen r) (cc) among.0)
 
-    among_still : (other : NearLine) → IsAmong query lines seen other → IsAmong query lines (seen ++ rank ∷ []) other
+    among_still : (other : NearLine) → IsAmong query lines seen other
+        → IsAmong query lines (seen ++ rank ∷ []) other
     among_still other among = (still_seen _ _ _ among.0, among.1)
 
     among_now : IsAmong query lines (seen ++ rank ∷ []) next
@@ -152,24 +167,29 @@ module _ (query : Query) (lines : List RoadLine) where
       subst (λ r. FindsNear query lines r next) (cc) is,
     )
 
-    is_next : (other : NearLine) → FindsNear query lines other.line other → other.line ≡ rank → other ≡ next
+    is_next : (other : NearLine) → FindsNear query lines other.line other → other.line ≡ rank
+        → other ≡ next
     is_next other found same =
         one_near one _ _ _ _ _ _ _ _
         (subst (λ (r : ℕ). FindsNear query lines r other) same found) is
 
-    before_or_next : (other : NearLine) → IsAmong query lines (seen ++ rank ∷ []) other → IsAmong query lines seen other ⊎ (other ≡ next)
+    before_or_next : (other : NearLine) → IsAmong query lines (seen ++ rank ∷ []) other
+        → IsAmong query lines seen other ⊎ (other ≡ next)
     before_or_next other among = elim (one_seen _ _ _ among.0) [
       | inl before ↦ inl (before, among.1)
       | inr same ↦ inr (is_next _ among.1 same)
     ]
 
     -- its place in the list
-    module _ (index : ℕ) (within : index ≤ length old) (before : (d : NearLine) → 0 < index → IsNearer next (get_or old (index - 1) d) → ⊥)
-        (behind : (k : ℕ) (d : NearLine) → index ≤ k → k < length old → IsNearer next (get_or old k d)) where
+    module _ (index : ℕ) (within : index ≤ length old) (before : (d : NearLine) → 0 < index
+        → IsNearer next (get_or old (index - 1) d) → ⊥)
+        (behind : (k : ℕ) (d : NearLine) → index ≤ k → k < length old
+        → IsNearer next (get_or old k d)) where
       before_it : (d : NearLine) → 0 < index → IsNearer (get_or old (index - 1) d) next
       before_it d positive =
           not_before (λ n. n.distance) (λ n. n.line) next (get_or old (index - 1) d)
-          (λ same. differ _ (so_far.only (index - 1) d (omega arith)) (sym same)) (before d positive)
+          (λ same. differ _ (so_far.only (index - 1) d (omega arith)) (sym same))
+          (before d positive)
 
       all_before : (k : ℕ) (d : NearLine) → k < index → IsNearer (get_or old k d) next
       all_before k d less = elim (cases_lt k (index - 1)) [
@@ -190,17 +210,20 @@ module _ (query : Query) (lines : List RoadLine) where
           let Before : NearLine → Type 0 = λ item. IsNearer item near in
           elim (cases_lt index count) [
             | inl less ↦ All-take Before _ _ (all_inserted Before _ _ _
-                (near_through next (get_or old index near) near (behind index near (omega arith) (omega arith))
+                (near_through next (get_or old index near) near
+                (behind index near (omega arith) (omega arith))
                 (after index near (omega arith))) after)
-            | inr no_less ↦ rw (take-append-le count (take index old) (next ∷ drop index old) (omega (
-              arith,
-              length-take index old,
-              no_less,
-              within,
-            ))) (All-take Before _ _ (All-take Before _ _ after))
+            | inr no_less ↦ rw (take-append-le count (take index old) (next ∷ drop index old)
+                (omega (
+                  arith,
+                  length-take index old,
+                  no_less,
+                  within,
+                ))) (All-take Before _ _ (All-take Before _ _ after))
           ]
 
-      kept : AreNearestAmong query lines (seen ++ rank ∷ []) count (take count (insert old index next))
+      kept : AreNearestAmong query lines (seen ++ rank ∷ []) count
+          (take count (insert old index next))
       kept = record {
         only = All-take (IsAmong query _ (seen ++ rank ∷ [])) _ _
             (all_inserted (IsAmong query _ (seen ++ rank ∷ [])) _ _ _ among_now
@@ -216,7 +239,12 @@ module _ (query : Query) (lines : List RoadLine) where
           | inl earlier ↦ elim (so_far.others near earlier) [
             | inl there ↦ cut IsNearer _ _ _ rises (contains_inserted _ _ _ _ (further _ _ _ there))
             | inr after ↦ inr (
-              omega (arith, length-take count (insert old index next), length-insert old index next within),
+              omega (
+                arith,
+                length-take count (insert old index next),
+                length-insert old index next
+                    within,
+              ),
               still_after near after.0 after.1,
             )
           ]
@@ -225,7 +253,8 @@ module _ (query : Query) (lines : List RoadLine) where
         ];
       }
 
-    pub nearest_more : (new : List NearLine) → Keeps old next count new → AreNearestAmong query lines (seen ++ rank ∷ []) count new
+    pub nearest_more : (new : List NearLine) → Keeps old next count new
+        → AreNearestAmong query lines (seen ++ rank ∷ []) count new
     nearest_more new keeps =
         subst (λ l. AreNearestAmong query lines (seen ++ rank ∷ []) count l) (cc)
         (kept keeps.index keeps.within keeps.before keeps.behind)
@@ -233,7 +262,8 @@ module _ (query : Query) (lines : List RoadLine) where
   -- ---- all lines
 
   -- what was not tested comes after the nearest of what was
-  answers : (ranks : List ℕ) (count : ℕ) (nearest : List NearLine) → AreNearestAmong query lines ranks count nearest
+  answers : (ranks : List ℕ) (count : ℕ) (nearest : List NearLine)
+      → AreNearestAmong query lines ranks count nearest
       → min count (length ranks) ≡ min count (length lines)
       → ((near : NearLine) → FindsNear query lines near.line near
       → Contains ranks near.line ⊎ All (λ item. IsNearer item near) nearest)
@@ -244,7 +274,8 @@ module _ (query : Query) (lines : List RoadLine) where
     rise = among.rise;
     counted = cc;
     others = λ near is.
-        let found : FindsNear query _ near.line near = subst (λ r. FindsNear query _ r near) (cc) is.1 in
+        let found : FindsNear query _ near.line near =
+        subst (λ r. FindsNear query _ r near) (cc) is.1 in
         elim (reached near found) [
           | inl tested ↦ elim (among.others near (tested, found)) [
             | inl there ↦ inl there
@@ -255,29 +286,40 @@ module _ (query : Query) (lines : List RoadLine) where
   }
 
   -- so many of the lines around the point lie within the radius
-  pub nearest_within : (radius count : ℕ) (nearest : List NearLine) → AreNearestWithin query lines radius count nearest → length nearest ≡ count
-      → All (λ near. near.distance ≤ 100 * radius) nearest → AnswersNearest query lines count nearest
+  pub nearest_within : (radius count : ℕ) (nearest : List NearLine)
+      → AreNearestWithin query lines radius count nearest → length nearest ≡ count
+      → All (λ near. near.distance ≤ 100 * radius) nearest
+      → AnswersNearest query lines count nearest
   nearest_within radius count nearest (ranks, covers, among) full inside =
       let few : length ranks ≤ length lines = no_more _ _ covers.once covers.known in
-      answers _ _ _ among (omega arith) (λ near found. elim (cases_lt (100 * radius) near.distance) [
+      answers _ _ _ among (omega arith)
+      (λ near found. elim (cases_lt (100 * radius) near.distance) [
         | inl beyond ↦ inr (λ k d lt. inl (omega (arith, inside k d lt)))
         | inr no_further ↦ inl (covers.each near.line near found no_further)
       ])
 
   -- every line was tested
-  pub nearest_of_all : (ranks : List ℕ) (count : ℕ) (nearest : List NearLine) → AreNearestAmong query lines ranks count nearest → length ranks ≡ length lines
-      → ((rank : ℕ) → rank < length lines → Contains ranks rank) → AnswersNearest query lines count nearest
+  pub nearest_of_all : (ranks : List ℕ) (count : ℕ) (nearest : List NearLine)
+      → AreNearestAmong query lines ranks count nearest → length ranks ≡ length lines
+      → ((rank : ℕ) → rank < length lines → Contains ranks rank)
+      → AnswersNearest query lines count nearest
   nearest_of_all ranks count nearest among counted each =
-      answers _ _ _ among (cc) (λ near found. inl (each near.line (slice_get_within lines near.line found.0 found.1)))
+      answers _ _ _ among (cc) (λ near found. inl
+      (each near.line (slice_get_within lines near.line found.0 found.1)))
 
 -- ---- one list
 
-first_of : (tolerances : Tolerances) (origin : Coordinates) (point : Point) (is_last : Bool) (lines : List RoadLine) (count : ℕ) (nearest : List NearLine)
-    → AreNearest tolerances origin point is_last lines count nearest → AreFirst IsNearer near_one_way (IsOneNear tolerances origin point is_last lines) nearest
-first_of tolerances origin point is_last lines count nearest are = record { only = are.only; rise = are.rise; others = are.others }
+first_of : (tolerances : Tolerances) (origin : Coordinates) (point : Point) (is_last : Bool)
+    (lines : List RoadLine) (count : ℕ) (nearest : List NearLine)
+    → AreNearest tolerances origin point is_last lines count nearest
+    → AreFirst IsNearer near_one_way (IsOneNear tolerances origin point is_last lines) nearest
+first_of tolerances origin point is_last lines count nearest are =
+    record { only = are.only; rise = are.rise; others = are.others }
 
-one_nearest : (tolerances : Tolerances) (origin : Coordinates) (point : Point) (is_last : Bool) (lines : List RoadLine) (count : ℕ) (a b : List NearLine)
-    → AreNearest tolerances origin point is_last lines count a → AreNearest tolerances origin point is_last lines count b → a ≡ b
+one_nearest : (tolerances : Tolerances) (origin : Coordinates) (point : Point) (is_last : Bool)
+    (lines : List RoadLine) (count : ℕ) (a b : List NearLine)
+    → AreNearest tolerances origin point is_last lines count a
+    → AreNearest tolerances origin point is_last lines count b → a ≡ b
 one_nearest tolerances origin point is_last lines count a b is other =
     same_beginning _ _ a b _ (cc)
     (first_of _ _ _ _ _ _ a is) (first_of _ _ _ _ _ _ b other)
@@ -305,10 +347,16 @@ nearest_are_near tolerances reference lines index count nearest are k d inside =
     }
 
 pub near_is_of_lines : NearIsOfLines
-near_is_of_lines tolerances reference lines index rank near is = (is.just.2.describes.line_is, slice_get_within lines rank is.just.0 is.just.1)
+near_is_of_lines tolerances reference lines index rank near is =
+    (is.just.2.describes.line_is, slice_get_within lines rank is.just.0 is.just.1)
 
 pub nearest_in_order : NearestAreInOrderOfIds
-nearest_in_order tolerances reference road index count nearest sound are i j d less inside first second at_first at_second = elim (are.just.rise i j d less inside) [
-  | inl distance ↦ inl distance
-  | inr line ↦ inr (line.0, lesser_id road.lines sound.lines.rise (get_or nearest i d).line (get_or nearest j d).line first second line.1 at_first at_second)
-]
+nearest_in_order tolerances reference road index count nearest sound are i j d less inside first
+    second at_first at_second = elim (are.just.rise i j d less inside) [
+      | inl distance ↦ inl distance
+      | inr line ↦ inr (
+        line.0,
+        lesser_id road.lines sound.lines.rise (get_or nearest i d).line
+            (get_or nearest j d).line first second line.1 at_first at_second,
+      )
+    ]

@@ -8,31 +8,36 @@ use Rattle.olr_map.specs.declared.Extent.{Extent}
 use Rattle.olr_map.specs.Rows.{RoadLine}
 use Rattle.olr_map.specs.RoadMap.{IsWindowOf, RankMeetsWindow}
 
-pub one_seen : (seen : List ℕ) (rank other : ℕ) → Contains (seen ++ rank ∷ []) other → Contains seen other ⊎ (other ≡ rank)
+pub one_seen : (seen : List ℕ) (rank other : ℕ) → Contains (seen ++ rank ∷ []) other
+    → Contains seen other ⊎ (other ≡ rank)
 one_seen seen rank other is = elim (Contains-push_cases _ _ _ is) [
   | inl before ↦ inl before
   | inr same ↦ inr (sym same)
 ]
 
-pub still_seen : (seen : List ℕ) (rank other : ℕ) → Contains seen other → Contains (seen ++ rank ∷ []) other
+pub still_seen : (seen : List ℕ) (rank other : ℕ) → Contains seen other
+    → Contains (seen ++ rank ∷ []) other
 still_seen seen rank other is = Contains-append_left _ _ _ is
 
 pub now_seen : (seen : List ℕ) (rank : ℕ) → Contains (seen ++ rank ∷ []) rank
 now_seen seen rank = Contains-push _ _
 
 -- no rank comes twice
-pub not_seen : (seen : List ℕ) (rank : ℕ) (rest : List ℕ) → AllPairs (λ a b. a ≢ b) (seen ++ rank ∷ rest)
+pub not_seen : (seen : List ℕ) (rank : ℕ) (rest : List ℕ)
+    → AllPairs (λ a b. a ≢ b) (seen ++ rank ∷ rest)
     → Contains seen rank → ⊥
 not_seen [] rank rest once is = omega arith
 not_seen (x ∷ seen) rank rest once (zero, inside, same) =
-    once 0 (suc (length seen)) rank (omega arith) (omega (arith, length-append seen (rank ∷ rest))) (same ∙ sym (get_or-append_seam seen rank rest rank))
+    once 0 (suc (length seen)) rank (omega arith) (omega (arith, length-append seen (rank ∷ rest)))
+    (same ∙ sym (get_or-append_seam seen rank rest rank))
 not_seen (x ∷ seen) rank rest once (suc k, inside, same) =
     not_seen seen rank rest (λ i j d lt within. once (suc i) (suc j) d (omega arith) (omega arith))
     (k, omega arith, same)
 
 -- the ranks of a window are those of lines
-pub rank_within : (lines : List RoadLine) (window : Extent) (seen : List ℕ) (rank : ℕ) (rest : List ℕ) → IsWindowOf lines window (seen ++ rank ∷ rest) → rank < length lines
+pub rank_within : (lines : List RoadLine) (window : Extent) (seen : List ℕ) (rank : ℕ)
+    (rest : List ℕ) → IsWindowOf lines window (seen ++ rank ∷ rest) → rank < length lines
 rank_within lines window seen rank rest meeting =
-    let meets : RankMeetsWindow lines window rank = All-contains (RankMeetsWindow lines window) _ _ meeting.only
+    let meets = All-contains (RankMeetsWindow lines window) _ _ meeting.only
     (Contains-append_right seen (rank ∷ rest) rank (0, omega arith, refl)) in
     slice_get_within lines rank meets.0 meets.1

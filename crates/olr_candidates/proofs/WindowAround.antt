@@ -38,20 +38,29 @@ floor_high : (z : ℤ) → z <ℤ (floor z 1000 *ℤ pos 1000 +ℤ pos 1000)
 floor_high (pos a) = omega (arith, ints)
 floor_high (negsuc a) = omega (arith, ints)
 
--- what lies no further north in the plane than 100 r from p lies no further north in latitude than 9 r + 1 from it
-pub not_north : (lat p o : ℤ) (r : ℕ) → floor ((lat -ℤ o) *ℤ pos 11132) 1000 ≤ℤ (floor ((p -ℤ o) *ℤ pos 11132) 1000 +ℤ pos (100 * r)) → lat ≤ℤ (p +ℤ pos (9 * r + 1))
-not_north lat p o r near = omega (arith, ints, near, floor_high ((lat -ℤ o) *ℤ pos 11132), floor_low ((p -ℤ o) *ℤ pos 11132))
+-- what lies no further north in the plane than 100 r from p lies no further north in latitude than
+-- 9 r + 1 from it
+pub not_north : (lat p o : ℤ) (r : ℕ)
+    → floor ((lat -ℤ o) *ℤ pos 11132) 1000 ≤ℤ (floor ((p -ℤ o) *ℤ pos 11132) 1000 +ℤ pos (100 * r))
+    → lat ≤ℤ (p +ℤ pos (9 * r + 1))
+not_north lat p o r near = omega
+    (arith, ints, near, floor_high ((lat -ℤ o) *ℤ pos 11132), floor_low ((p -ℤ o) *ℤ pos 11132))
 
-pub not_south : (lat p o : ℤ) (r : ℕ) → (floor ((p -ℤ o) *ℤ pos 11132) 1000 -ℤ pos (100 * r)) ≤ℤ floor ((lat -ℤ o) *ℤ pos 11132) 1000 → (p -ℤ pos (9 * r + 1)) ≤ℤ lat
-not_south lat p o r near = omega (arith, ints, near, floor_low ((lat -ℤ o) *ℤ pos 11132), floor_high ((p -ℤ o) *ℤ pos 11132))
+pub not_south : (lat p o : ℤ) (r : ℕ)
+    → (floor ((p -ℤ o) *ℤ pos 11132) 1000 -ℤ pos (100 * r)) ≤ℤ floor ((lat -ℤ o) *ℤ pos 11132) 1000
+    → (p -ℤ pos (9 * r + 1)) ≤ℤ lat
+not_south lat p o r near = omega
+    (arith, ints, near, floor_low ((lat -ℤ o) *ℤ pos 11132), floor_high ((p -ℤ o) *ℤ pos 11132))
 
 -- ---- longitudes and the plane
 
 times_rises : (a b : ℤ) (k : ℕ) → a ≤ℤ b → (a *ℤ pos k) ≤ℤ (b *ℤ pos k)
-times_rises (pos a) (pos b) k le = omega (arith, ints, mul-le a k b k (omega (arith, ints, le)) (omega arith))
+times_rises (pos a) (pos b) k le =
+    omega (arith, ints, mul-le a k b k (omega (arith, ints, le)) (omega arith))
 times_rises (pos a) (negsuc b) k le = absurd (omega arith)
 times_rises (negsuc a) (pos b) k le = omega (arith, ints)
-times_rises (negsuc a) (negsuc b) k le = omega (arith, ints, mul-le (suc b) k (suc a) k (omega (arith, ints, le)) (omega arith))
+times_rises (negsuc a) (negsuc b) k le =
+    omega (arith, ints, mul-le (suc b) k (suc a) k (omega (arith, ints, le)) (omega arith))
 
 floor_rises : (z w : ℤ) → z ≤ℤ w → floor z 10000000 ≤ℤ floor w 10000000
 floor_rises (pos a) (pos b) le = omega (arith, ints, le)
@@ -63,27 +72,35 @@ floor_rises (negsuc a) (negsuc b) le = omega (arith, ints, le)
 pub x_rises : (origin : Coordinates) (a b : ℤ) → a ≤ℤ b → x_of origin a ≤ℤ x_of origin b
 x_rises origin a b le =
     floor_rises _ _
-    (times_rises (a -ℤ origin.lon) (b -ℤ origin.lon) (11132 * scale_of origin.lat) (omega (arith, ints, le)))
+    (times_rises (a -ℤ origin.lon) (b -ℤ origin.lon) (11132 * scale_of origin.lat)
+    (omega (arith, ints, le)))
 
--- what is west of an edge is no further east than a longitude whose next one is east of that edge, and the other way round
-pub not_east : (origin : Coordinates) (lon bound edge : ℤ) → edge <ℤ x_of origin (bound +ℤ pos 1) → x_of origin lon ≤ℤ edge → lon ≤ℤ bound
+-- what is west of an edge is no further east than a longitude whose next one is east of that edge,
+-- and the other way round
+pub not_east : (origin : Coordinates) (lon bound edge : ℤ) → edge <ℤ x_of origin (bound +ℤ pos 1)
+    → x_of origin lon ≤ℤ edge → lon ≤ℤ bound
 not_east origin lon bound edge beyond within =
     by_lt_z _ _
-    (λ lt. let more = x_rises origin (bound +ℤ pos 1) lon (omega (arith, ints, lt)) in absurd (omega (arith, ints, more, beyond, within)))
+    (λ lt. let more = x_rises origin (bound +ℤ pos 1) lon (omega (arith, ints, lt)) in
+    absurd (omega (arith, ints, more, beyond, within)))
     (λ ge. ge)
 
-pub not_west : (origin : Coordinates) (lon bound edge : ℤ) → x_of origin (bound -ℤ pos 1) <ℤ edge → edge ≤ℤ x_of origin lon → bound ≤ℤ lon
+pub not_west : (origin : Coordinates) (lon bound edge : ℤ) → x_of origin (bound -ℤ pos 1) <ℤ edge
+    → edge ≤ℤ x_of origin lon → bound ≤ℤ lon
 not_west origin lon bound edge beyond within =
     by_lt_z _ _
-    (λ lt. let less = x_rises origin lon (bound -ℤ pos 1) (omega (arith, ints, lt)) in absurd (omega (arith, ints, less, beyond, within)))
+    (λ lt. let less = x_rises origin lon (bound -ℤ pos 1) (omega (arith, ints, lt)) in
+    absurd (omega (arith, ints, less, beyond, within)))
     (λ ge. ge)
 
 -- ---- lines
 
-member : (points : List Coordinates) (i : ℕ) (p : Coordinates) → slice_get points i ≡ Some p → Contains points p
+member : (points : List Coordinates) (i : ℕ) (p : Coordinates) → slice_get points i ≡ Some p
+    → Contains points p
 member points i p at = (i, slice_get_within points i p at, get_or_from_slice_get _ i p p at)
 
--- two places of a line, of which one coordinate in the plane is no greater than a number, and no less
+-- two places of a line, of which one coordinate in the plane is no greater than a number, and no
+-- less
 record AreBeside (of : Spot → ℤ) (origin : Coordinates) (line : RoadLine) (f : ℤ) : Type 0 where
   low : Coordinates
   high : Coordinates
@@ -93,12 +110,13 @@ record AreBeside (of : Spot → ℤ) (origin : Coordinates) (line : RoadLine) (f
   no_less : f ≤ℤ of (spot_of origin high)
 
 -- those beside the nearest spot
-beside : (of : Spot → ℤ) → FootBetween of → (origin p : Coordinates) (line : RoadLine) (near : Near) → IsNearest (polyline_of origin line) (spot_of origin p) near
+beside : (of : Spot → ℤ) → FootBetween of → (origin p : Coordinates) (line : RoadLine) (near : Near)
+    → IsNearest (polyline_of origin line) (spot_of origin p) near
     → AreBeside of origin line (of near.spot)
 beside of between origin p line near is =
     let first = place_at (spot_of origin) line.points is.i is.a is.nearest.segment.start in
     let second = place_at (spot_of origin) line.points (suc is.i) is.b is.nearest.segment.end in
-    let lies : IsBetween (of is.a) (of is.b) (of near.spot) = subst (λ s. IsBetween (of is.a) (of is.b) (of s)) (cc)
+    let lies = subst (λ s. IsBetween (of is.a) (of is.b) (of s)) (cc)
     (between (spot_of origin p) is.a is.b) in
     let first_is : of (spot_of origin first.0) ≡ of is.a = cc in
     let second_is : of (spot_of origin second.0) ≡ of is.b = cc in
@@ -137,36 +155,49 @@ itself_below p r = omega (arith, ints)
 itself_above : (p : ℤ) (r : ℕ) → (p -ℤ pos r) ≤ℤ p
 itself_above p r = omega (arith, ints)
 
-pub meets_window : FootBetween (λ s. s.x) → FootBetween (λ s. s.y) → NoShorter (λ s. s.x) → NoShorter (λ s. s.y)
-    → (query : Query) (radius : ℕ) (line : RoadLine) (near : Near) (window : Extent) → CoversRadius query radius window → IsInRange (coordinates_of query.point.at) → All IsInRange line.points
-    → IsNearest (polyline_of (coordinates_of query.plane) line) (spot_of (coordinates_of query.plane) (coordinates_of query.point.at)) near
+pub meets_window : FootBetween (λ s. s.x) → FootBetween (λ s. s.y) → NoShorter (λ s. s.x)
+    → NoShorter (λ s. s.y)
+    → (query : Query) (radius : ℕ) (line : RoadLine) (near : Near) (window : Extent)
+    → CoversRadius query radius window → IsInRange (coordinates_of query.point.at)
+    → All IsInRange line.points
+    → IsNearest (polyline_of (coordinates_of query.plane) line)
+    (spot_of (coordinates_of query.plane) (coordinates_of query.point.at)) near
     → near.distance ≤ 100 * radius → MeetsWindow window line
-meets_window between_x between_y shorter_x shorter_y query radius line near window covers here inside is within =
+meets_window between_x between_y shorter_x shorter_y query radius line near window covers here
+    inside is within =
     let origin = coordinates_of query.plane in
     let point = coordinates_of query.point.at in
-    let p : Spot = spot_of origin point in
-    let r : ℕ = 100 * radius in
+    let p = spot_of origin point in
+    let r = 100 * radius in
     let xs = beside _ between_x origin point line _ is in
     let ys = beside _ between_y _ _ line _ is in
     let close_x : nat_abs (p.x -ℤ near.spot.x) ≤ r = omega (arith, shorter_x p near.spot) in
     let close_y : nat_abs (p.y -ℤ near.spot.y) ≤ r = omega (arith, shorter_y p near.spot) in
     record {
       lats = record {
-        band = up _ _ _ (covers.south point here (itself_above _ r)) (covers.north point here (itself_below _ r));
+        band = up _ _ _ (covers.south point here (itself_above _ r))
+            (covers.north point here (itself_below _ r));
         southern = ys.low;
         northern = ys.high;
         one = ys.has_low;
         other = ys.has_high;
-        not_north = covers.north ys.low (All-contains IsInRange line.points ys.low inside ys.has_low) (below (spot_of origin ys.low).y near.spot.y p.y r close_y ys.no_greater);
-        not_south = covers.south ys.high (All-contains IsInRange line.points ys.high inside ys.has_high) (above (spot_of origin ys.high).y near.spot.y p.y r close_y ys.no_less);
+        not_north = covers.north ys.low
+            (All-contains IsInRange line.points ys.low inside ys.has_low)
+            (below (spot_of origin ys.low).y near.spot.y p.y r close_y ys.no_greater);
+        not_south = covers.south ys.high
+            (All-contains IsInRange line.points ys.high inside ys.has_high)
+            (above (spot_of origin ys.high).y near.spot.y p.y r close_y ys.no_less);
       };
       lons = record {
-        band = up _ _ _ (covers.west point here (itself_above _ r)) (covers.east point here (itself_below _ r));
+        band = up _ _ _ (covers.west point here (itself_above _ r))
+            (covers.east point here (itself_below _ r));
         western = xs.low;
         eastern = xs.high;
         one = xs.has_low;
         other = xs.has_high;
-        not_east = covers.east xs.low (All-contains IsInRange line.points xs.low inside xs.has_low) (below (spot_of origin xs.low).x near.spot.x p.x r close_x xs.no_greater);
-        not_west = covers.west xs.high (All-contains IsInRange line.points xs.high inside xs.has_high) (above (spot_of origin xs.high).x near.spot.x p.x r close_x xs.no_less);
+        not_east = covers.east xs.low (All-contains IsInRange line.points xs.low inside xs.has_low)
+            (below (spot_of origin xs.low).x near.spot.x p.x r close_x xs.no_greater);
+        not_west = covers.west xs.high (All-contains IsInRange line.points xs.high inside
+            xs.has_high) (above (spot_of origin xs.high).x near.spot.x p.x r close_x xs.no_less);
       };
     }

@@ -1,4 +1,5 @@
--- The lines nearest to a point of a reference, candidates or not, and the conditions that each of them fails.
+-- The lines nearest to a point of a reference, candidates or not, and the conditions that each of
+-- them fails.
 use Rattle.std.specs.Prelude.{◌≡◌, ℕ, ◌+◌, ◌<◌, ◌⊎◌, ◌==◌, Bool, false, MatchBool, min, List, length, Option, Some, MatchOption, slice_get, All, AllPairs, Contains}
 use Rattle.olr_metric.specs.Coordinates.{Coordinates, coordinates_of}
 use Rattle.olr_metric.specs.Plane.{spot_of}
@@ -21,8 +22,10 @@ use Rattle.olr_candidates.specs.Projection.{polyline_of, IsProjection}
 abbrev pub FailsExactly : Bool → Type 0 → Type 0
 FailsExactly flag Condition = MatchBool flag (Condition → ⊥) Condition
 
--- which of the four conditions on a candidate (`MeetsConditions`) a line fails, by the projection of the point onto it
-pub record AreFailed (tolerances : Tolerances) (point : Point) (is_last : Bool) (line : Line) (projection : Projection) (failed : FailedConditions) : Type 0 where
+-- which of the four conditions on a candidate (`MeetsConditions`) a line fails, by the projection
+-- of the point onto it
+pub record AreFailed (tolerances : Tolerances) (point : Point) (is_last : Bool) (line : Line)
+    (projection : Projection) (failed : FailedConditions) : Type 0 where
   pub radius : FailsExactly failed.radius (IsWithinRadius tolerances projection)
   pub bearing : FailsExactly failed.bearing (IsAlikeInBearing tolerances point projection)
   pub class : FailsExactly failed.class (IsAlikeInClass tolerances point line)
@@ -36,10 +39,13 @@ none_failed = record { radius = false; bearing = false; class = false; end = fal
 abbrev pub HasPenalty : Tolerances → Point → Bool → Line → Projection → Option ℕ → Type 0
 HasPenalty tolerances point is_last line projection penalty = MatchOption penalty
     (MeetsConditions tolerances point is_last line projection → ⊥)
-    (λ value. MeetsConditions tolerances point is_last line projection × (value ≡ penalty_of tolerances point line projection))
+    (λ value. MeetsConditions tolerances point is_last line projection
+    × (value ≡ penalty_of tolerances point line projection))
 
--- what is said of the line of a rank, by the projection of the point onto it: the projection, the conditions that the line fails, and its penalty
-pub record Describes (tolerances : Tolerances) (point : Point) (is_last : Bool) (line : Line) (rank : ℕ) (projection : Projection) (near : NearLine) : Type 0 where
+-- what is said of the line of a rank, by the projection of the point onto it: the projection, the
+-- conditions that the line fails, and its penalty
+pub record Describes (tolerances : Tolerances) (point : Point) (is_last : Bool) (line : Line)
+    (rank : ℕ) (projection : Projection) (near : NearLine) : Type 0 where
   pub line_is : near.line ≡ rank
   pub distance_is : near.distance ≡ projection.distance
   pub at_is : near.at ≡ projection.at
@@ -47,35 +53,41 @@ pub record Describes (tolerances : Tolerances) (point : Point) (is_last : Bool) 
   pub failed : AreFailed tolerances point is_last line projection near.failed
   pub penalty : HasPenalty tolerances point is_last line projection near.penalty
 
--- a line of a rank is this line near a point of the reference that has its first point at the origin
-pub record IsNearLine (tolerances : Tolerances) (origin : Coordinates) (point : Point) (is_last : Bool) (line : RoadLine) (rank : ℕ) (near : NearLine) : Type 0 where
+-- a line of a rank is this line near a point of the reference that has its first point at the
+-- origin
+pub record IsNearLine (tolerances : Tolerances) (origin : Coordinates) (point : Point)
+    (is_last : Bool) (line : RoadLine) (rank : ℕ) (near : NearLine) : Type 0 where
   pub projection : Projection
-  pub is_projection : IsProjection (polyline_of origin line) line.length is_last (spot_of origin (coordinates_of point.at)) projection
+  pub is_projection : IsProjection (polyline_of origin line) line.length is_last
+      (spot_of origin (coordinates_of point.at)) projection
   pub describes : Describes tolerances point is_last (head_of line) rank projection near
 
 -- ---- the nearest lines
 
--- The order of lines near a point: by distance and then by rank. In a map the ranks of lines rise with their ids, so there it is the
--- order by distance and then by id.
+-- The order of lines near a point: by distance and then by rank. In a map the ranks of lines rise
+-- with their ids, so there it is the order by distance and then by id.
 abbrev pub IsNearer : NearLine → NearLine → Type 0
 IsNearer a b = (a.distance < b.distance) ⊎ ((a.distance ≡ b.distance) × (a.line < b.line))
 
-module _ (tolerances : Tolerances) (origin : Coordinates) (point : Point) (is_last : Bool) (lines : List RoadLine) where
+module _ (tolerances : Tolerances) (origin : Coordinates) (point : Point) (is_last : Bool)
+    (lines : List RoadLine) where
   -- the line of a rank is this line near the point
   abbrev pub IsNearLineAt : ℕ → NearLine → Type 0
-  IsNearLineAt rank near = (line : RoadLine) × (slice_get lines rank ≡ Some line) × IsNearLine tolerances origin point is_last line rank near
+  IsNearLineAt rank near = (line : RoadLine) × (slice_get lines rank ≡ Some line)
+      × IsNearLine tolerances origin point is_last line rank near
 
   -- some line of the map is
   abbrev pub IsOneNear : NearLine → Type 0
   IsOneNear near = (rank : ℕ) × IsNearLineAt rank near
 
-  -- The first lines of the map in this order, `count` of them, or all where the map has fewer: every line is one of them or comes
-  -- after each of them.
+  -- The first lines of the map in this order, `count` of them, or all where the map has fewer:
+  -- every line is one of them or comes after each of them.
   pub record AreNearest (count : ℕ) (nearest : List NearLine) : Type 0 where
     pub only : All IsOneNear nearest
     pub rise : AllPairs IsNearer nearest
     pub counted : length nearest ≡ min count (length lines)
-    pub others : (near : NearLine) → IsOneNear near → Contains nearest near ⊎ All (λ (item : NearLine). IsNearer item near) nearest
+    pub others : (near : NearLine) → IsOneNear near → Contains nearest near
+        ⊎ All (λ (item : NearLine). IsNearer item near) nearest
 
 -- ---- the points of a reference, counted from 0; the first one is the origin of the plane
 
@@ -86,12 +98,15 @@ module _ (tolerances : Tolerances) (reference : Reference) (lines : List RoadLin
     pub point : Point
     pub first_is : slice_get (points_of reference) 0 ≡ Some first
     pub point_is : slice_get (points_of reference) index ≡ Some point
-    pub just : IsNearLineAt tolerances (coordinates_of first.at) point (index + 1 == length (points_of reference)) lines rank near
+    pub just : IsNearLineAt tolerances (coordinates_of first.at) point
+        (index + 1 == length (points_of reference)) lines rank near
 
-  -- the first `count` lines of the map by their distance from a point, or all where the map has fewer
+  -- the first `count` lines of the map by their distance from a point, or all where the map has
+  -- fewer
   pub record AreNearestOf (index count : ℕ) (nearest : List NearLine) : Type 0 where
     pub first : Point
     pub point : Point
     pub first_is : slice_get (points_of reference) 0 ≡ Some first
     pub point_is : slice_get (points_of reference) index ≡ Some point
-    pub just : AreNearest tolerances (coordinates_of first.at) point (index + 1 == length (points_of reference)) lines count nearest
+    pub just : AreNearest tolerances (coordinates_of first.at) point
+        (index + 1 == length (points_of reference)) lines count nearest

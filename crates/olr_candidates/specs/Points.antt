@@ -21,7 +21,8 @@ module _ (tolerances : Tolerances) (reference : Reference) (lines : List RoadLin
     pub point : Point
     pub first_is : slice_get (points_of reference) 0 ≡ Some first
     pub point_is : slice_get (points_of reference) index ≡ Some point
-    pub just : IsCandidateAt tolerances (coordinates_of first.at) point (index + 1 == length (points_of reference)) lines rank candidate
+    pub just : IsCandidateAt tolerances (coordinates_of first.at) point
+        (index + 1 == length (points_of reference)) lines rank candidate
 
   -- the line of a rank is no candidate of a point for this reason
   pub record IsRejectionOf (index rank : ℕ) (rejection : Rejection) : Type 0 where
@@ -29,7 +30,8 @@ module _ (tolerances : Tolerances) (reference : Reference) (lines : List RoadLin
     pub point : Point
     pub first_is : slice_get (points_of reference) 0 ≡ Some first
     pub point_is : slice_get (points_of reference) index ≡ Some point
-    pub just : IsRejectionAt tolerances (coordinates_of first.at) point (index + 1 == length (points_of reference)) lines rank rejection
+    pub just : IsRejectionAt tolerances (coordinates_of first.at) point
+        (index + 1 == length (points_of reference)) lines rank rejection
 
   -- exactly the candidates of a point, in their order
   pub record AreCandidatesOf (index : ℕ) (candidates : List Candidate) : Type 0 where
@@ -37,7 +39,8 @@ module _ (tolerances : Tolerances) (reference : Reference) (lines : List RoadLin
     pub point : Point
     pub first_is : slice_get (points_of reference) 0 ≡ Some first
     pub point_is : slice_get (points_of reference) index ≡ Some point
-    pub just : AreCandidates tolerances (coordinates_of first.at) point (index + 1 == length (points_of reference)) lines candidates
+    pub just : AreCandidates tolerances (coordinates_of first.at) point
+        (index + 1 == length (points_of reference)) lines candidates
 
   -- a point has more than 64
   pub record HasTooMany (index : ℕ) : Type 0 where
@@ -45,7 +48,8 @@ module _ (tolerances : Tolerances) (reference : Reference) (lines : List RoadLin
     pub point : Point
     pub first_is : slice_get (points_of reference) 0 ≡ Some first
     pub point_is : slice_get (points_of reference) index ≡ Some point
-    pub many : AreTooMany tolerances (coordinates_of first.at) point (index + 1 == length (points_of reference)) lines
+    pub many : AreTooMany tolerances (coordinates_of first.at) point
+        (index + 1 == length (points_of reference)) lines
 
   -- exactly the candidates of a point, of which there are at most 64
   abbrev pub IsListOf : ℕ → List Candidate → Type 0
@@ -53,7 +57,8 @@ module _ (tolerances : Tolerances) (reference : Reference) (lines : List RoadLin
 
   -- the candidates of each of the first points, point by point
   abbrev pub AreFirstLists : List (List Candidate) → Type 0
-  AreFirstLists lists = (index : ℕ) (list : List Candidate) → slice_get lists index ≡ Some list → IsListOf index list
+  AreFirstLists lists = (index : ℕ) (list : List Candidate) → slice_get lists index ≡ Some list
+      → IsListOf index list
 
   -- the candidates of every point, point by point
   pub record AreLists (lists : List (List Candidate)) : Type 0 where
@@ -69,7 +74,8 @@ module _ (tolerances : Tolerances) (reference : Reference) (lines : List RoadLin
   -- time; or a point, the first such, has more than 64 candidates. Its number counts from 1.
   abbrev pub IsLayersFault : LayersFault → Type 0
   IsLayersFault NoMemory = ⊤
-  IsLayersFault (TooManyCandidates number) = (index : ℕ) × IsFirstTooMany index × (number ≡ index + 1)
+  IsLayersFault (TooManyCandidates number) = (index : ℕ) × IsFirstTooMany index
+      × (number ≡ index + 1)
 
 -- what lists of bounded length hold
 abbrev pub lists_of : List (ArrayVec Candidate) → List (List Candidate)

@@ -17,7 +17,8 @@ use Rattle.olr_candidates.specs.Projection.{polyline_of, IsProjection}
 use Rattle.olr_candidates.specs.Candidates.{IsBefore, IsCandidateAt, IsRejectionAt, IsOneOf, AreCandidates, AreTooMany}
 
 -- the query for a point of a reference, counted from 0
-pub record IsQueryOf (tolerances : Tolerances) (reference : Reference) (index : ℕ) (query : Query) : Type 0 where
+pub record IsQueryOf (tolerances : Tolerances) (reference : Reference) (index : ℕ)
+    (query : Query) : Type 0 where
   pub first : Point
   pub first_is : slice_get (points_of reference) 0 ≡ Some first
   pub point_is : slice_get (points_of reference) index ≡ Some query.point
@@ -29,28 +30,35 @@ module _ (query : Query) (lines : List RoadLine) where
   -- the projection of the query's point onto the line of a rank
   abbrev pub Projects : ℕ → Projection → Type 0
   Projects rank projection = (line : RoadLine) × (slice_get lines rank ≡ Some line)
-      × IsProjection (polyline_of (coordinates_of query.plane) line) line.length query.is_last (spot_of (coordinates_of query.plane) (coordinates_of query.point.at)) projection
+      × IsProjection (polyline_of (coordinates_of query.plane) line) line.length query.is_last
+      (spot_of (coordinates_of query.plane) (coordinates_of query.point.at)) projection
 
   -- the line of a rank is this candidate of the query's point
   abbrev pub Finds : ℕ → Candidate → Type 0
-  Finds rank candidate = IsCandidateAt query.tolerances (coordinates_of query.plane) query.point query.is_last lines rank candidate
+  Finds rank candidate = IsCandidateAt query.tolerances (coordinates_of query.plane) query.point
+      query.is_last lines rank candidate
 
   -- the line of a rank is no candidate of the query's point for this reason
   abbrev pub Rejects : ℕ → Rejection → Type 0
-  Rejects rank rejection = IsRejectionAt query.tolerances (coordinates_of query.plane) query.point query.is_last lines rank rejection
+  Rejects rank rejection = IsRejectionAt query.tolerances (coordinates_of query.plane) query.point
+      query.is_last lines rank rejection
 
   -- exactly the candidates of the query's point, in their order
   abbrev pub Answers : List Candidate → Type 0
-  Answers candidates = AreCandidates query.tolerances (coordinates_of query.plane) query.point query.is_last lines candidates
+  Answers candidates = AreCandidates query.tolerances (coordinates_of query.plane) query.point
+      query.is_last lines candidates
 
   -- the query's point has more than 64
   abbrev pub FindsTooMany : Type 0
-  FindsTooMany = AreTooMany query.tolerances (coordinates_of query.plane) query.point query.is_last lines
+  FindsTooMany = AreTooMany query.tolerances (coordinates_of query.plane) query.point query.is_last
+      lines
 
   -- exactly the candidates among the lines of these ranks, each once, in their order
   pub record AreFound (ranks : List ℕ) (candidates : List Candidate) : Type 0 where
-    pub only : All (IsOneOf query.tolerances (coordinates_of query.plane) query.point query.is_last lines) candidates
-    pub each : (rank : ℕ) (candidate : Candidate) → Contains ranks rank → Finds rank candidate → Contains candidates candidate
+    pub only : All (IsOneOf query.tolerances (coordinates_of query.plane) query.point query.is_last
+        lines) candidates
+    pub each : (rank : ℕ) (candidate : Candidate) → Contains ranks rank → Finds rank candidate
+        → Contains candidates candidate
     pub rise : AllPairs IsBefore candidates
     pub among : All (λ (candidate : Candidate). Contains ranks candidate.place.line) candidates
 
@@ -62,13 +70,24 @@ x_of origin lon = (spot_of origin (record { lon = lon; lat = pos 0 })).x
 -- at most a radius: such a place lies to none of its sides. The radius has metres, and the plane
 -- centimetres.
 pub record CoversRadius (query : Query) (radius : ℕ) (window : Extent) : Type 0 where
-  pub south : (place : Coordinates) → IsInRange place → ((spot_of (coordinates_of query.plane) (coordinates_of query.point.at)).y -ℤ pos (100 * radius)) ≤ℤ (spot_of (coordinates_of query.plane) place).y → window.south ≤ℤ place.lat
-  pub north : (place : Coordinates) → IsInRange place → (spot_of (coordinates_of query.plane) place).y ≤ℤ ((spot_of (coordinates_of query.plane) (coordinates_of query.point.at)).y +ℤ pos (100 * radius)) → place.lat ≤ℤ window.north
-  pub west : (place : Coordinates) → IsInRange place → ((spot_of (coordinates_of query.plane) (coordinates_of query.point.at)).x -ℤ pos (100 * radius)) ≤ℤ (spot_of (coordinates_of query.plane) place).x → window.west ≤ℤ place.lon
-  pub east : (place : Coordinates) → IsInRange place → (spot_of (coordinates_of query.plane) place).x ≤ℤ ((spot_of (coordinates_of query.plane) (coordinates_of query.point.at)).x +ℤ pos (100 * radius)) → place.lon ≤ℤ window.east
+  pub south : (place : Coordinates) → IsInRange place
+      → ((spot_of (coordinates_of query.plane) (coordinates_of query.point.at)).y -ℤ pos
+      (100 * radius)) ≤ℤ (spot_of (coordinates_of query.plane) place).y → window.south ≤ℤ place.lat
+  pub north : (place : Coordinates) → IsInRange place
+      → (spot_of (coordinates_of query.plane) place).y
+      ≤ℤ ((spot_of (coordinates_of query.plane) (coordinates_of query.point.at)).y +ℤ pos
+      (100 * radius)) → place.lat ≤ℤ window.north
+  pub west : (place : Coordinates) → IsInRange place
+      → ((spot_of (coordinates_of query.plane) (coordinates_of query.point.at)).x -ℤ pos
+      (100 * radius)) ≤ℤ (spot_of (coordinates_of query.plane) place).x → window.west ≤ℤ place.lon
+  pub east : (place : Coordinates) → IsInRange place
+      → (spot_of (coordinates_of query.plane) place).x
+      ≤ℤ ((spot_of (coordinates_of query.plane) (coordinates_of query.point.at)).x +ℤ pos
+      (100 * radius)) → place.lon ≤ℤ window.east
 
 -- the ranks of the lines that meet such a window
-pub record IsNear (query : Query) (lines : List RoadLine) (radius : ℕ) (ranks : List ℕ) : Type 0 where
-  pub window : Extent
-  pub covers : CoversRadius query radius window
-  pub meeting : IsWindowOf lines window ranks
+pub record IsNear (query : Query) (lines : List RoadLine) (radius : ℕ) (ranks : List ℕ) : Type 0
+  where
+    pub window : Extent
+    pub covers : CoversRadius query radius window
+    pub meeting : IsWindowOf lines window ranks

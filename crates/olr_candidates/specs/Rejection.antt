@@ -34,7 +34,9 @@ IsFirstFailed tolerances point is_last line projection (Position at) =
     × IsAlikeInClass tolerances point line
 
 -- why a line is no candidate of a point of the reference that has its first point at the origin
-pub record IsRejection (tolerances : Tolerances) (origin : Coordinates) (point : Point) (is_last : Bool) (line : RoadLine) (rejection : Rejection) : Type 0 where
+pub record IsRejection (tolerances : Tolerances) (origin : Coordinates) (point : Point)
+    (is_last : Bool) (line : RoadLine) (rejection : Rejection) : Type 0 where
   pub projection : Projection
-  pub is_projection : IsProjection (polyline_of origin line) line.length is_last (spot_of origin (coordinates_of point.at)) projection
+  pub is_projection : IsProjection (polyline_of origin line) line.length is_last
+      (spot_of origin (coordinates_of point.at)) projection
   pub failed : IsFirstFailed tolerances point is_last (head_of line) projection rejection

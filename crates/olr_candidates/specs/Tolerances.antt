@@ -4,7 +4,8 @@ use Rattle.std.specs.Prelude.{ℕ, ◌<◌, ◌≤◌}
 use Rattle.olr_candidates.specs.declared.tolerances.Name.{Name}
 use Rattle.olr_candidates.specs.declared.tolerances.Name.TheVariants.{Radius, Bearing, Class, Lowest, Percent, Slack}
 
--- the least value of each: the radius in metres, the bearing in sectors, classes in steps, the percent, the slack in decimetres
+-- the least value of each: the radius in metres, the bearing in sectors, classes in steps, the
+-- percent, the slack in decimetres
 abbrev pub least_of : Name → ℕ
 least_of Radius = 1
 least_of other = 0

@@ -82,8 +82,8 @@ fn bearing(polyline: &[Spot], is_last: bool, near: &Near, whole: u64) -> Option<
     sector(near.spot, ahead)
 }
 
-/// The projection onto the polyline of a line of `length` decimetres of a spot to which it is nearest
-/// at this place.
+/// The projection onto the polyline of a line of `length` decimetres of a spot to which it is
+/// nearest at this place.
 pub(crate) fn projection_by(
     polyline: &[Spot],
     length: u32,

@@ -53,7 +53,8 @@ fn reach_in_longitude(query: &Query, radius: u32) -> i32
 fn eastern_bound(query: &Query, radius: u32) -> i32
     requires { radius ≤ 1000000 }
     ensures { (lon : ℤ) → IsLongitude lon
-        → x_of (coordinates_of query.now.plane) lon ≤ℤ (x_of (coordinates_of query.now.plane) query.now.point.at.lon +ℤ pos (100 * radius))
+        → x_of (coordinates_of query.now.plane) lon
+        ≤ℤ (x_of (coordinates_of query.now.plane) query.now.point.at.lon +ℤ pos (100 * radius))
         → lon ≤ℤ result }
 {
     let lon = query.point.at.lon;
@@ -73,7 +74,8 @@ fn eastern_bound(query: &Query, radius: u32) -> i32
 fn western_bound(query: &Query, radius: u32) -> i32
     requires { radius ≤ 1000000 }
     ensures { (lon : ℤ) → IsLongitude lon
-        → (x_of (coordinates_of query.now.plane) query.now.point.at.lon -ℤ pos (100 * radius)) ≤ℤ x_of (coordinates_of query.now.plane) lon
+        → (x_of (coordinates_of query.now.plane) query.now.point.at.lon -ℤ pos (100 * radius))
+        ≤ℤ x_of (coordinates_of query.now.plane) lon
         → result ≤ℤ lon }
 {
     let lon = query.point.at.lon;

@@ -1,12 +1,11 @@
 -- Ids in buckets.
-use Rattle.std.proofs.Common.{◌≡◌, ℕ, ◌+◌, ◌-◌, ◌/◌, ◌^◌, ◌<◌, ◌≤◌, List, map, length, drop, get_or, Result, Ok, Err, MatchResult, sym, ap, ◌∙◌, inl, inr, arith}
+use Rattle.std.proofs.Common.{◌≡◌, ℕ, ◌+◌, ◌-◌, ◌/◌, ◌^◌, ◌<◌, ◌≤◌, List, map, length, drop, get_or, Result, Ok, Err, MatchResult, sym, ap, ◌∙◌, arith}
 use Rattle.std.specs.Prelude.{slice_index, slice_range, slice_get, Contains, Some}
 use Rattle.std.specs.Ordering.{nat_cmp}
 use Rattle.std.specs.List.Sorted.{IsBinarySearchResult, IsSearchInRange, IsStrictlyIncreasing}
 use Rattle.std.proofs.Math.Nat.{div-mul-le_self}
 use Rattle.std.proofs.lemmas.Nat.{le-div, pow_pos}
 use Rattle.olr_index.specs.Buckets.{IsHead, AreHeads, IsIndex}
-use Rattle.std.proofs.lemmas.Bool.{cases_lt}
 use Rattle.std.proofs.lemmas.List.{length-take, length-drop, get_or-take, get_or-drop, get_or_default}
 use Rattle.std.proofs.lemmas.Option.{get_or_from_slice_get, slice_get-get_or, slice_get_within}
 use Rattle.olr_index.proofs.Finding.{found_by_key, part_keys, rises}
@@ -47,39 +46,36 @@ index_of keys shift last heads rise few small heads_of count most = record {
 -- a bucket begins where the one before it ends, or further on
 pub heads_rise : (shift : ℕ) (keys : List ℕ) (bucket low high : ℕ) → IsHead shift keys bucket low
     → IsHead shift keys (bucket + 1) high → low ≤ high
-heads_rise shift keys bucket low high at_low at_high = elim (cases_lt high low) [
-  | inl less ↦
-      let early = at_low.below high less in
-      absurd (omega arith)
-  | inr le ↦ le
-]
+heads_rise shift keys bucket low high at_low at_high =
+    let no : high < low → ⊥ = λ less. let early = at_low.below high less in omega arith in
+    omega arith
 
--- a part of numbers that rise
-part_at : (keys : List ℕ) (low high k : ℕ) → low + k < high → high ≤ length keys
-    → get_or (slice_range keys low high) k 0 ≡ get_or keys (low + k) 0
-part_at keys low high k inside within =
-    get_or-take (high - low) (drop low keys) k 0 (omega arith) ∙ get_or-drop low keys k 0
+-- a part of a list
+pub part_at : {X : Type 0} (xs : List X) (low high k : ℕ) (d : X) → k < high - low
+    → get_or (slice_range xs low high) k d ≡ get_or xs (low + k) d
+part_at xs low high k d inside =
+    get_or-take (high - low) (drop low xs) k d inside ∙ get_or-drop low xs k d
 
-part_length : (keys : List ℕ) (low high : ℕ) → low ≤ high → high ≤ length keys
-    → length (slice_range keys low high) ≡ high - low
-part_length keys low high le within =
-    omega (arith, length-take (high - low) (drop low keys), length-drop low keys)
+pub part_length : {X : Type 0} (xs : List X) (low high : ℕ) → high ≤ length xs
+    → length (slice_range xs low high) ≡ high - low
+part_length xs low high within =
+    omega (arith, length-take (high - low) (drop low xs), length-drop low xs)
 
 pub part_rises : (keys : List ℕ) (low high : ℕ) → low ≤ high → high ≤ length keys
     → IsStrictlyIncreasing keys → IsStrictlyIncreasing (slice_range keys low high)
 part_rises keys low high le within up k inside =
-    let size = part_length _ _ _ le within in
-    let here = part_at keys low high k (omega arith) within in
-    let next = part_at keys low high (k + 1) (omega arith) within in
+    let size = part_length keys low high within in
+    let here = part_at keys low high k 0 (omega arith) in
+    let next = part_at keys low high (k + 1) 0 (omega arith) in
     let same : low + k + 1 ≡ low + (k + 1) = omega arith in
     omega (arith, ap (λ (i : ℕ). get_or keys i 0) same)
 
 found_there : (keys : List ℕ) (low high place id : ℕ) → low ≤ high → high ≤ length keys
     → slice_get (slice_range keys low high) place ≡ Some id → slice_get keys (low + place) ≡ Some id
 found_there keys low high place id le within is =
-    let size = part_length _ _ _ le within in
+    let size = part_length keys low high within in
     let inside = slice_get_within (slice_range keys low high) place id is in
-    let here = part_at keys low high place (omega arith) within in
+    let here = part_at keys low high place 0 (omega arith) in
     let there = get_or_from_slice_get (slice_range keys low high) place id 0 is in
     slice_get-get_or keys (low + place) 0 (omega arith) ∙ ap Some (sym here ∙ there)
 
@@ -89,27 +85,20 @@ nowhere : (shift : ℕ) (keys : List ℕ) (low high id : ℕ) → IsHead shift k
     → (Contains (slice_range keys low high) id → ⊥) → Contains keys id → ⊥
 nowhere shift keys low high id at_low at_high none has =
     let k = has.0 in
-    let le = heads_rise _ _ _ _ _ at_low at_high in
     let is = get_or_default keys k 0 id has.1 ∙ has.2 in
     let bucket = ap (λ (n : ℕ). n / 2 ^ shift) is in
-    elim (cases_lt k low) [
-      | inl before ↦ let early = at_low.below k before in omega arith
-      | inr from ↦ elim (cases_lt k high) [
-        | inl inside ↦
-            let j : ℕ = k - low in
-            let there : low + j ≡ k = omega arith in
-            let at = part_at _ _ _ j (omega arith) at_high.within in
-            let size = part_length _ _ _ le at_high.within in
-            let below : j < length (slice_range keys low high) = omega arith in
-            none (
-              j,
-              below,
-              get_or_default (slice_range keys low high) j id 0 below ∙ at
-                  ∙ ap (λ (i : ℕ). get_or keys i 0) there ∙ is,
-            )
-        | inr behind ↦ omega arith
-      ]
-    ]
+    let from : k < low → ⊥ = λ before. let early = at_low.below k before in omega arith in
+    let inside : high ≤ k → ⊥ = λ behind. omega (arith, at_high.above k behind has.1) in
+    let there : low + (k - low) ≡ k = omega arith in
+    let at = part_at keys low high (k - low) 0 (omega arith) in
+    let below : k - low < length (slice_range keys low high) =
+    omega (arith, part_length keys low high at_high.within) in
+    none (
+      k - low,
+      below,
+      get_or_default (slice_range keys low high) (k - low) id 0 below ∙ at
+          ∙ ap (λ (i : ℕ). get_or keys i 0) there ∙ is,
+    )
 
 -- what a search in the bucket of an id finds among all items
 pub found_between : {X : Type 0} (f : X → ℕ) (xs : List X) (shift low high id : ℕ) (r : Result ℕ ℕ)

@@ -1,13 +1,12 @@
 -- The items of a first number are those of one bucket.
-use Rattle.std.proofs.Common.{◌≡◌, ℕ, ◌+◌, ◌-◌, ◌<◌, ◌≤◌, List, [], map, length, drop, get_or, inl, inr, ap, ◌∙◌, arith}
+use Rattle.std.proofs.Common.{◌≡◌, ℕ, ◌+◌, ◌-◌, ◌<◌, ◌≤◌, List, [], map, length, get_or, ap, ◌∙◌, arith}
 use Rattle.std.specs.Prelude.{slice_index, slice_range}
 use Rattle.std.specs.List.Sorted.{IsStrictlyIncreasing}
-use Rattle.std.proofs.lemmas.Bool.{cases_lt}
-use Rattle.std.proofs.lemmas.List.{length-map, length-take-le, length-drop, get_or-map, get_or-take, get_or-drop}
+use Rattle.std.proofs.lemmas.List.{length-map, get_or-map}
 use Rattle.std.proofs.lemmas.List.Elements.{Contains-get_or}
 use Rattle.olr_index.specs.Buckets.{IsHead, AreHeads, IsIndex}
 use Rattle.olr_index.specs.Pairs.{first_of, AreOfFirst}
-use Rattle.olr_index.proofs.Buckets.{heads_rise, part_rises}
+use Rattle.olr_index.proofs.Buckets.{heads_rise, part_at, part_length, part_rises}
 use Rattle.olr_index.proofs.Finding.{part_keys}
 
 -- where the items of a first number begin and end, as it was read
@@ -48,14 +47,6 @@ module _ {T : Type 0} (key_of : T → ℕ) (items : List T) (first : ℕ) where
     pub inside_all : high ≤ length items
     inside_all = omega (arith, length-map items key_of)
 
-    part_at : (k : ℕ) (d : T) → k < high - low
-        → get_or (slice_range items low high) k d ≡ get_or items (low + k) d
-    part_at k d lt = get_or-take (high - low) (drop low items) k d lt ∙ get_or-drop low items k d
-
-    part_length : length (slice_range items low high) ≡ high - low
-    part_length = length-take-le (high - low) (drop low items)
-        (omega (arith, length-drop low items, inside_all, ordered))
-
     first_is : (k : ℕ) (d : T) → k < high - low
         → first_of (key_of (get_or items (low + k) d)) ≡ first
     first_is k d lt =
@@ -73,8 +64,8 @@ module _ {T : Type 0} (key_of : T → ℕ) (items : List T) (first : ℕ) where
         → AreOfFirst key_of items first (slice_range items low high)
     are_of_first rise = record {
       only = λ k d lt.
-          let small : k < high - low = omega (arith, lt, part_length) in
-          rw (part_at k d small) (
+          let small : k < high - low = omega (arith, part_length items low high inside_all) in
+          rw (part_at items low high k d small) (
             Contains-get_or items (low + k) d (omega (arith, small, inside_all)),
             first_is k d
                 small,
@@ -82,19 +73,13 @@ module _ {T : Type 0} (key_of : T → ℕ) (items : List T) (first : ℕ) where
       each = λ item (k, inside, same) is.
           let size = length-map items key_of in
           let here = first_at k item inside ∙ ap (λ (i : T). first_of (key_of i)) same ∙ is in
-          let from : low ≤ k = elim (cases_lt k low) [
-            | inl lt ↦ absurd (omega (arith, at_low.below k lt))
-            | inr ge ↦ ge
-          ] in
-          let below : k < high = elim (cases_lt k high) [
-            | inl lt ↦ lt
-            | inr ge ↦ absurd (omega (arith, at_high.above k ge (omega (arith, inside, size))))
-          ] in
+          let from : k < low → ⊥ = λ lt. omega (arith, at_low.below k lt) in
+          let below : high ≤ k → ⊥ = λ ge. omega (arith, at_high.above k ge (omega arith)) in
           let small : k - low < high - low = omega arith in
           let place : low + (k - low) ≡ k = omega arith in (
             k - low,
-            omega (arith, small, part_length),
-            part_at (k - low) item small
+            omega (arith, part_length items low high inside_all),
+            part_at items low high (k - low) item small
                 ∙ ap (λ (n : ℕ). get_or items n item) place ∙ same,
           );
       rising = rw (part_keys key_of items low high)

@@ -25,26 +25,33 @@ nothing_known ids known empty = record {
 }
 
 -- the id at the place, which the set lacks, comes in
-pub one_more_known : (ids : List ℕ) (place : ℕ) (known more : BTreeSet ℕ) → IsKnown ids place known → place < length ids
-    → contains nat_cmp known (get_or ids place 0) ≡ false → Updates nat_cmp known more (get_or ids place 0) true → IsKnown ids (place + 1) more
+pub one_more_known : (ids : List ℕ) (place : ℕ) (known more : BTreeSet ℕ) → IsKnown ids place known
+    → place < length ids
+    → contains nat_cmp known (get_or ids place 0) ≡ false
+    → Updates nat_cmp known more (get_or ids place 0) true → IsKnown ids (place + 1) more
 one_more_known ids place known more is inside new updates = record {
-  differ = rw longer (all_pairs_push (λ (a b : ℕ). a ≢ b) (take place ids) (get_or ids place 0) is.differ apart);
+  differ = rw longer (all_pairs_push (λ (a b : ℕ). a ≢ b) (take place ids) (get_or ids place 0)
+      is.differ apart);
   same = λ id. step id ∙ sym (cc longer);
 }
   where
     longer : take (place + 1) ids ≡ take place ids ++ get_or ids place 0 ∷ []
     longer = take_more ids place 0 inside
 
-    step : (id : ℕ) → contains nat_cmp more id ≡ list_any (eqb id) (take place ids ++ get_or ids place 0 ∷ [])
+    step : (id : ℕ) → contains nat_cmp more id
+        ≡ list_any (eqb id) (take place ids ++ get_or ids place 0 ∷ [])
     step id = grind (arith, common_steps, list_any-append, updates.0 id, is.same id)
 
-    apart : (k d : ℕ) → k < length (take place ids) → get_or (take place ids) k d ≢ get_or ids place 0
+    apart : (k d : ℕ) → k < length (take place ids)
+        → get_or (take place ids) k d ≢ get_or ids place 0
     apart k d below e =
         let found = rw e at (Contains-get_or (take place ids) k d below) in
-        false≢true (sym new ∙ is.same (get_or ids place 0) ∙ list_any-from_Contains nat_eq_equiv (get_or ids place 0) (take place ids) found)
+        false≢true (sym new ∙ is.same (get_or ids place 0)
+        ∙ list_any-from_Contains nat_eq_equiv (get_or ids place 0) (take place ids) found)
 
 -- the set has the id at the place already
-pub known_again : (ids : List ℕ) (place : ℕ) (known : BTreeSet ℕ) → IsKnown ids place known → place < length ids → contains nat_cmp known (get_or ids place 0) ≡ true
+pub known_again : (ids : List ℕ) (place : ℕ) (known : BTreeSet ℕ) → IsKnown ids place known
+    → place < length ids → contains nat_cmp known (get_or ids place 0) ≡ true
     → IsFirstRepeat ids place
 known_again ids place known is inside old = record {
   inside = inside;
@@ -53,5 +60,6 @@ known_again ids place known is inside old = record {
 }
 
 -- all ids came in
-pub all_known : (ids : List ℕ) (place : ℕ) (known : BTreeSet ℕ) → IsKnown ids place known → length ids ≤ place → AllDiffer ids
+pub all_known : (ids : List ℕ) (place : ℕ) (known : BTreeSet ℕ) → IsKnown ids place known
+    → length ids ≤ place → AllDiffer ids
 all_known ids place known is past = rw (← (take_all place ids past)) is.differ

@@ -22,7 +22,8 @@ if_le a b h = grind (arith, ints)
 pub meets_if : (window extent : Extent) → meets window extent ≡ true → Meets window extent
 meets_if window extent h =
     let both = and_parts (meets_in_latitude window extent) (meets_in_longitude window extent) h in
-    let lats = and_parts (int_le extent.south window.north) (int_le window.south extent.north) both.0 in
+    let lats = and_parts (int_le extent.south window.north) (int_le window.south extent.north)
+    both.0 in
     let lons = and_parts (int_le extent.west window.east) (int_le window.west extent.east) both.1 in
     record {
       not_north = le_if _ _ lats.0;
@@ -38,7 +39,8 @@ if_meets window extent h =
     (and_from _ _ (if_le _ _ h.not_east) (if_le _ _ h.not_west))
 
 -- the extent of a rank that meets a window
-pub met_extent : (o : Option Extent) (P : Extent → Type 0) → IsSomeAnd o P → (extent : Extent) × (o ≡ Some extent) × P extent
+pub met_extent : (o : Option Extent) (P : Extent → Type 0) → IsSomeAnd o P → (extent : Extent)
+    × (o ≡ Some extent) × P extent
 met_extent None P h = absurd h
 met_extent (Some extent) P h = (extent, refl, h)
 
@@ -56,7 +58,8 @@ wider window outer inner covers h =
     }
 
 -- what lies within an extent that doesn't meet a window doesn't meet it
-pub none_within : (window outer inner : Extent) → Covers outer inner → meets window outer ≡ false → meets window inner ≡ false
+pub none_within : (window outer inner : Extent) → Covers outer inner → meets window outer ≡ false
+    → meets window inner ≡ false
 none_within window outer inner covers none =
     by_test _ (λ h. let yes = if_meets _ _ (wider _ _ _ covers (meets_if _ _ h)) in absurd (cc))
 
@@ -66,23 +69,36 @@ pub ranks_in-nil : (window : Extent) → ranks_in window [] ≡ []
 unfolding ranks_in
 ranks_in-nil window = refl
 
-pub ranks_in-met : (window : Extent) (line : PlacedLine) (lines all : List PlacedLine) → all ≡ line ∷ lines → meets window line.extent ≡ true → ranks_in window all ≡ line.rank ∷ ranks_in window lines
+pub ranks_in-met : (window : Extent) (line : PlacedLine) (lines all : List PlacedLine)
+    → all ≡ line ∷ lines → meets window line.extent ≡ true
+    → ranks_in window all ≡ line.rank ∷ ranks_in window lines
 unfolding ranks_in
 ranks_in-met window line lines all e h = rw (e, h) refl
 
-pub ranks_in-passed : (window : Extent) (line : PlacedLine) (lines all : List PlacedLine) → all ≡ line ∷ lines → meets window line.extent ≡ false → ranks_in window all ≡ ranks_in window lines
+pub ranks_in-passed : (window : Extent) (line : PlacedLine) (lines all : List PlacedLine)
+    → all ≡ line ∷ lines → meets window line.extent ≡ false
+    → ranks_in window all ≡ ranks_in window lines
 unfolding ranks_in
 ranks_in-passed window line lines all e h = rw (e, h) refl
 
-pub ranks_in-append : (window : Extent) (xs ys : List PlacedLine) → ranks_in window (xs ++ ys) ≡ ranks_in window xs ++ ranks_in window ys
+pub ranks_in-append : (window : Extent) (xs ys : List PlacedLine)
+    → ranks_in window (xs ++ ys) ≡ ranks_in window xs ++ ranks_in window ys
 unfolding ranks_in
 ranks_in-append window xs ys =
     let test : PlacedLine → Bool = λ line. meets window line.extent in
-    cc (filter-append test xs ys, map-append (λ (line : PlacedLine). line.rank) (filter test xs) (filter test ys))
+    cc (
+      filter-append test xs ys,
+      map-append (λ (line : PlacedLine). line.rank) (filter test xs)
+          (filter test ys),
+    )
 
 -- a block that doesn't meet the window has no line that does
-pub ranks_in-covered : (window block : Extent) (lines : List PlacedLine) → All (λ line. Covers block line.extent) lines → meets window block ≡ false → ranks_in window lines ≡ []
-ranks_in-covered window block [] covers none = ranks_in-nil window
+pub ranks_in-covered : (window block : Extent) (lines : List PlacedLine)
+    → All (λ line. Covers block line.extent) lines → meets window block ≡ false
+    → ranks_in window lines ≡ []
+ranks_in-covered window block [] covers none = ranks_in-nil _
 ranks_in-covered window block (line ∷ lines) covers none =
-    ranks_in-passed _ _ _ _ refl (none_within window block line.extent (All-head (λ (l : PlacedLine). Covers block l.extent) line _ covers) none)
-    ∙ ranks_in-covered _ _ _ (All-tail (λ (l : PlacedLine). Covers block l.extent) line _ covers) none
+    ranks_in-passed _ _ _ _ refl (none_within _ _ _
+    (All-head (λ (l : PlacedLine). Covers block l.extent) line _ covers) none)
+    ∙ ranks_in-covered _ _ _ (All-tail (λ (l : PlacedLine). Covers block l.extent) line _ covers)
+    none

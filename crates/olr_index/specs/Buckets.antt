@@ -1,5 +1,5 @@
--- Keys in buckets, each of those keys that are the same but for so many of their last bits. `heads` has for each bucket
--- how many keys are in buckets before it.
+-- Keys in buckets, each of those keys that are the same but for so many of their last bits. `heads`
+-- has for each bucket how many keys are in buckets before it.
 use Rattle.std.specs.Prelude.{ℕ, ◌+◌, ◌/◌, ◌^◌, ◌<◌, ◌≤◌, List, length, slice_index}
 use Rattle.std.specs.List.Sorted.{IsStrictlyIncreasing}
 
@@ -11,11 +11,13 @@ pub record IsHead (shift : ℕ) (keys : List ℕ) (bucket head : ℕ) : Type 0 w
 
 -- the same of each bucket
 abbrev pub AreHeads : ℕ → List ℕ → List ℕ → Type 0
-AreHeads shift keys heads = (bucket : ℕ) → bucket < length heads → IsHead shift keys bucket (slice_index heads bucket)
+AreHeads shift keys heads = (bucket : ℕ) → bucket < length heads
+    → IsHead shift keys bucket (slice_index heads bucket)
 
 -- each key has a bucket with a head, and a head behind it
 abbrev pub FitsBuckets : ℕ → List ℕ → ℕ → Type 0
-FitsBuckets shift keys count = (k : ℕ) → k < length keys → slice_index keys k / 2 ^ shift + 1 < count
+FitsBuckets shift keys count = (k : ℕ) → k < length keys
+    → slice_index keys k / 2 ^ shift + 1 < count
 
 -- what an index of rising keys keeps
 pub record IsIndex (keys : List ℕ) (shift : ℕ) (heads : List ℕ) : Type 0 where

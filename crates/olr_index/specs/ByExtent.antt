@@ -6,7 +6,8 @@ use Rattle.olr_index.specs.declared.window.PlacedLine.{PlacedLine}
 
 -- the tests of whether an extent meets a window in latitude, in longitude, and in both
 abbrev pub meets_in_latitude : Extent → Extent → Bool
-meets_in_latitude window extent = int_le extent.south window.north && int_le window.south extent.north
+meets_in_latitude window extent =
+    int_le extent.south window.north && int_le window.south extent.north
 
 abbrev pub meets_in_longitude : Extent → Extent → Bool
 meets_in_longitude window extent = int_le extent.west window.east && int_le window.west extent.east
@@ -38,7 +39,8 @@ extents_of lines = map (λ line. line.extent) lines
 -- the lines that have these extents, by rank from this one on
 abbrev pub placed_from : ℕ → List Extent → List PlacedLine
 placed_from rank [] = []
-placed_from rank (extent ∷ extents) = record { rank = rank; extent = extent } ∷ placed_from (rank + 1) extents
+placed_from rank (extent ∷ extents) =
+    record { rank = rank; extent = extent } ∷ placed_from (rank + 1) extents
 
 -- each line's rank is its place
 abbrev pub AreInOrder : List PlacedLine → Type 0
@@ -61,10 +63,12 @@ pub record Covers (outer inner : Extent) : Type 0 where
   pub west : outer.west ≤ℤ inner.west
   pub east : inner.east ≤ℤ outer.east
 
--- the extents of the lines of each of the first `count` blocks, of so many lines each, lie within that of the block
+-- the extents of the lines of each of the first `count` blocks, of so many lines each, lie within
+-- that of the block
 abbrev pub AreBlocksBelow : ℕ → ℕ → List PlacedLine → List Extent → Type 0
 AreBlocksBelow size count lines blocks =
-    (b i : ℕ) (d : PlacedLine) (e : Extent) → b < count → i < size → size * b + i < length lines → Covers (slice_index_or blocks b e) (slice_index_or lines (size * b + i) d).extent
+    (b i : ℕ) (d : PlacedLine) (e : Extent) → b < count → i < size → size * b + i < length lines
+    → Covers (slice_index_or blocks b e) (slice_index_or lines (size * b + i) d).extent
 
 -- the extents of the lines of each block of so many lines lie within that of the block
 pub record AreBlocks (size : ℕ) (lines : List PlacedLine) (blocks : List Extent) : Type 0 where
@@ -75,6 +79,7 @@ pub record AreBlocks (size : ℕ) (lines : List PlacedLine) (blocks : List Exten
 abbrev pub NoneMeets : Extent → List Extent → Type 0
 NoneMeets window extents = All (λ extent. meets window extent ≡ false) extents
 
--- the items of some parts of a list, each part `size` items long: from part `first` on, and before part `end`
+-- the items of some parts of a list, each part `size` items long: from part `first` on, and before
+-- part `end`
 abbrev pub between : {X : Type 0} → ℕ → ℕ → ℕ → List X → List X
 between size first end items = drop (size * first) (take (size * end) items)

@@ -1,5 +1,6 @@
--- The lines of a map that meet a window, after the latitudes and longitudes of their points. A window is an extent as those of lines are: all
--- places between two latitudes and between two longitudes. Both are in microdegrees; a line is named by its rank.
+-- The lines of a map that meet a window, after the latitudes and longitudes of their points. A
+-- window is an extent as those of lines are: all places between two latitudes and between two
+-- longitudes. Both are in microdegrees; a line is named by its rank.
 use Rattle.std.specs.Prelude.{◌≢◌, ℕ, ℤ, ◌≤ℤ◌, List, map, slice_get, IsSomeAnd}
 use Rattle.std.specs.List.{All, AllPairs, Contains}
 use Rattle.olr_metric.specs.declared.degrees.Degrees.{Degrees}
@@ -24,15 +25,17 @@ pub record IsExtent (points : List Degrees) (extent : Extent) : Type 0 where
   pub lats : IsSpan (latitudes points) extent.south extent.north
   pub lons : IsSpan (longitudes points) extent.west extent.east
 
--- The extent begins no farther north than the window ends and ends no farther south than it begins, and likewise from west to east. So for a window
--- that doesn't end before it begins, some latitude of the extent is one of the window, and so is some longitude.
+-- The extent begins no farther north than the window ends and ends no farther south than it begins,
+-- and likewise from west to east. So for a window that doesn't end before it begins, some latitude
+-- of the extent is one of the window, and so is some longitude.
 pub record Meets (window extent : Extent) : Type 0 where
   pub not_north : extent.south ≤ℤ window.north
   pub not_south : window.south ≤ℤ extent.north
   pub not_east : extent.west ≤ℤ window.east
   pub not_west : window.west ≤ℤ extent.east
 
--- there is a line of this rank, and its extent meets the window; `extents` holds the extent of each line, by rank
+-- there is a line of this rank, and its extent meets the window; `extents` holds the extent of each
+-- line, by rank
 abbrev pub MeetsAt : List Extent → Extent → ℕ → Type 0
 MeetsAt extents window rank = IsSomeAnd (slice_get extents rank) (Meets window)
 

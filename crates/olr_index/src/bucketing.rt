@@ -1,4 +1,5 @@
-//! Items by rising key, in buckets. Keys that differ only in their last bits, a fixed number of them, are in one bucket.
+//! Items by rising key, in buckets. Keys that differ only in their last bits, a fixed number of
+//! them, are in one bucket.
 
 ghost use Rattle.std.specs.Prelude.{◌≡◌, ℕ, ◌+◌, ◌/◌, ◌^◌, ◌<◌, ◌≤◌, ◌⊎◌, length, map, slice_get, slice_index, IfOk, IfSome, MatchOption, Some, Contains};
 ghost use Rattle.std.specs.List.Sorted.{IsStrictlyIncreasing};
@@ -93,9 +94,9 @@ fn is_less<T: Keyed>(item: &T, key: u64) -> usize
     usize::from(item.key() < key)
 }
 
-/// The rank of the item of a key, where it is one of the four from `low` on and no lesser key is among
-/// those behind it. It is guessed without a branch, so that the look-ups of several keys wait for
-/// memory side by side; `None` says nothing.
+/// The rank of the item of a key, where it is one of the four from `low` on and no lesser key is
+/// among those behind it. It is guessed without a branch, so that the look-ups of several keys wait
+/// for memory side by side; `None` says nothing.
 #[inline(always)]
 fn find_near<T: Keyed>(items: &[T], low: usize, key: u64) -> Option<u32>
     requires at_most { length items.now < 2 ^ 32 }

@@ -2,8 +2,10 @@
 //!
 //! - [`by_node`]: lines by the node at which they start, or end.
 //! - [`window`]: lines by extent, so that those near a place are found without a look at each.
-//! - [`keyed`]: what has a key; [`sorting`]: items by rising key; [`repeats`]: numbers that occur twice.
-//! - [`look_up`]: the rank of a key among sorted items; [`key_index`]: the same with an index, which [`bucketing`] makes.
+//! - [`keyed`]: what has a key; [`sorting`]: items by rising key; [`repeats`]: numbers that occur
+//!   twice.
+//! - [`look_up`]: the rank of a key among sorted items; [`key_index`]: the same with an index,
+//!   which [`bucketing`] makes.
 //! - [`pair_index`]: items by a pair of numbers, and those of a first number at once.
 #![tactic(auto)]
 

@@ -13,15 +13,16 @@ use std::marker::Model;
 /// How many bits of a key the second number of a pair takes.
 const SECOND: u32 = 32;
 
-/// Items by rising key, where a key is a pair of numbers packed into one: the first foremost, and the second in the last
-/// 32 bits.
+/// Items by rising key, where a key is a pair of numbers packed into one: the first foremost, and
+/// the second in the last 32 bits.
 ///
-/// It takes 4 bytes for each first number up to the greatest, whether or not an item has it. Contracts see the list of
-/// the items.
+/// It takes 4 bytes for each first number up to the greatest, whether or not an item has it.
+/// Contracts see the list of the items.
 #[derive(Drop)]
 pub struct PairIndex<T: Keyed> {
     items: Vec<T>,
-    /// Of each first number up to the greatest, and of the one behind it, how many items have a lesser one.
+    /// Of each first number up to the greatest, and of the one behind it, how many items have a
+    /// lesser one.
     heads: Vec<u32>,
 }
 

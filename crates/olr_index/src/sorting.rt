@@ -18,8 +18,8 @@ fn sort<T: Keyed>(items: &mut Vec<T>)
     items.sort_unstable_by_key(|item| item.key());
 }
 
-/// Sorts items by rising key. Where a key occurs twice they can't rise; the answer is then the place,
-/// in the order in which they came, of the first item whose key an earlier one has.
+/// Sorts items by rising key. Where a key occurs twice they can't rise; the answer is then the
+/// place, in the order in which they came, of the first item whose key an earlier one has.
 ///
 /// # Errors
 ///

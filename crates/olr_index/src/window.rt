@@ -20,8 +20,8 @@ const GROUP: usize = 64;
 /// A cell of the index is 2 to this power microdegrees high and wide: some 900 metres high.
 const CELL_BITS: u32 = 13;
 
-/// The places between two latitudes and between two longitudes, all in microdegrees and included. The
-/// extent of a line is the least one that has all its points.
+/// The places between two latitudes and between two longitudes, all in microdegrees and included.
+/// The extent of a line is the least one that has all its points.
 #[derive(Clone, Copy)]
 pub struct Extent {
     /// The least latitude, in microdegrees.

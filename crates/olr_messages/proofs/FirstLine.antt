@@ -7,22 +7,26 @@ use Rattle.olr_messages.specs.Lines.{lines_of, onto}
 use Rattle.olr_messages.specs.Messages.{HasNoLf, IsNext}
 
 -- a byte that isn't LF goes to the front of the first line
-lines_of-other : (byte : ℕ) (rest : List ℕ) → byte ≢ 10 → lines_of (byte ∷ rest) ≡ onto byte (lines_of rest)
+lines_of-other : (byte : ℕ) (rest : List ℕ) → byte ≢ 10
+    → lines_of (byte ∷ rest) ≡ onto byte (lines_of rest)
 unfolding lines_of
-lines_of-other byte rest other = elim (eqb_tells byte 10) [ inl same ↦ absurd (other same.1) | inr differs ↦ rw differs.0 refl ]
+lines_of-other byte rest other =
+    elim (eqb_tells byte 10) [ inl same ↦ absurd (other same.1) | inr differs ↦ rw differs.0 refl ]
 
 no_lf_head : (byte : ℕ) (rest : List ℕ) → HasNoLf (byte ∷ rest) → byte ≢ 10
-no_lf_head byte rest free = All-head (λ b. b ≢ 10) byte rest free
+no_lf_head = All-head (λ b. b ≢ 10)
 
 no_lf_tail : (byte : ℕ) (rest : List ℕ) → HasNoLf (byte ∷ rest) → HasNoLf rest
-no_lf_tail byte rest free = All-tail (λ b. b ≢ 10) byte rest free
+no_lf_tail = All-tail (λ b. b ≢ 10)
 
 -- a line before an LF
-pub lines_of-lf : (line rest : List ℕ) → HasNoLf line → lines_of (line ++ 10 ∷ rest) ≡ line ∷ lines_of rest
+pub lines_of-lf : (line rest : List ℕ) → HasNoLf line
+    → lines_of (line ++ 10 ∷ rest) ≡ line ∷ lines_of rest
 unfolding lines_of
 lines_of-lf [] rest free = refl
 lines_of-lf (byte ∷ line) rest free =
-    lines_of-other _ (line ++ 10 ∷ rest) (no_lf_head _ _ free) ∙ ap (onto byte) (lines_of-lf _ rest (no_lf_tail _ _ free))
+    lines_of-other _ (line ++ 10 ∷ rest) (no_lf_head _ _ free)
+    ∙ ap (onto byte) (lines_of-lf _ rest (no_lf_tail _ _ free))
 
 -- a last line, which no LF ends
 pub lines_of-last : (line : List ℕ) → HasNoLf line → line ≢ [] → lines_of line ≡ line ∷ []
@@ -34,10 +38,12 @@ lines_of-last (byte ∷ next ∷ line) free some =
     ∙ ap (onto byte) (lines_of-last _ (no_lf_tail _ (next ∷ line) free) (λ e. absurd cc))
 
 -- what is consumed up to an LF is the next line
-pub next_of_lf : (line : List ℕ) (a b : Option (List ℕ)) → HasNoLf line → Consumes a b (line ++ 10 ∷ []) → IsNext line a b
+pub next_of_lf : (line : List ℕ) (a b : Option (List ℕ)) → HasNoLf line
+    → Consumes a b (line ++ 10 ∷ []) → IsNext line a b
 next_of_lf line None b free consumed = tt
 next_of_lf line (Some xs) None free consumed = absurd consumed
-next_of_lf line (Some xs) (Some ys) free consumed = ap lines_of (consumed ∙ append_assoc line (10 ∷ []) ys) ∙ lines_of-lf _ _ free
+next_of_lf line (Some xs) (Some ys) free consumed =
+    ap lines_of (consumed ∙ append_assoc line (10 ∷ []) ys) ∙ lines_of-lf _ _ free
 
 -- an empty input
 pub no_more : lines_of [] ≡ []
@@ -45,9 +51,11 @@ unfolding lines_of
 no_more = refl
 
 -- what is consumed up to the end is the next line, where it isn't empty
-pub next_of_end : {line : List ℕ} (a b : Option (List ℕ)) → HasNoLf line → line ≢ [] → Consumes a b line → IsAtEnd b → IsNext line a b
+pub next_of_end : {line : List ℕ} (a b : Option (List ℕ)) → HasNoLf line → line ≢ []
+    → Consumes a b line → IsAtEnd b → IsNext line a b
 next_of_end None b free some consumed ended = tt
 next_of_end (Some xs) None free some consumed ended = absurd consumed
 next_of_end {line = line} (Some xs) (Some ys) free some consumed ended =
-    ap lines_of (consumed ∙ ap (λ (l : List ℕ). line ++ l) ended ∙ append-nil line) ∙ lines_of-last _ free some
+    ap lines_of (consumed ∙ ap (λ (l : List ℕ). line ++ l) ended ∙ append-nil line)
+    ∙ lines_of-last _ free some
     ∙ ap (λ (l : List (List ℕ)). line ∷ l) (sym (ap lines_of ended ∙ no_more))

@@ -1,18 +1,19 @@
 -- The front of a line, and why it tells the message of the line.
-use Rattle.std.proofs.Common.{◌≡◌, ℕ, ◌+◌, ◌-◌, ◌<◌, ◌≤◌, min, List, [], ◌∷◌, ◌++◌, length, length-append, take, get_or, append-nil, refl, sym, ap, ◌∙◌, subst, inl, inr, arith}
+use Rattle.std.proofs.Common.{◌≡◌, ℕ, zero, suc, ◌+◌, ◌-◌, ◌<◌, ◌≤◌, min, List, [], ◌∷◌, ◌++◌, length, length-append, take, get_or, append-nil, refl, sym, ap, ◌∙◌, inl, inr, arith}
 use Rattle.std.proofs.lemmas.Bool.{cases_lt, eq-eqb}
 use Rattle.std.proofs.lemmas.Bool.Decides.{eqb_tells}
-use Rattle.std.proofs.lemmas.List.{length-take-le, take_all, take-append-le}
+use Rattle.std.proofs.lemmas.List.{length-take, take_all, take-append-le}
 use Rattle.std.proofs.Math.Seq.{get_or-append-add, take-append-add, take-append_seam}
-use Rattle.olr_messages.specs.Content.{IsMessage, Message, Empty, Long, NotText, Text}
+use Rattle.olr_messages.specs.Content.{IsMessage, Message, Empty, Long}
 use Rattle.olr_messages.specs.Lines.{record_of}
 use Rattle.olr_messages.specs.Messages.{front_of}
 
 take-take-append : (n : ℕ) (xs ys : List ℕ) → take n (take n xs ++ ys) ≡ take n (xs ++ ys)
 take-take-append n xs ys = elim (cases_lt n (length xs)) [
   | inl short ↦
-      let size : length (take n xs) ≡ n = length-take-le n xs (omega (arith, short)) in
-      take-append-le n (take n xs) ys (omega arith) ∙ take_all n (take n xs) (omega arith) ∙ sym (take-append-le n xs ys (omega arith))
+      let size = length-take n xs in
+      take-append-le n (take n xs) ys (omega arith) ∙ take_all n (take n xs) (omega arith)
+      ∙ sym (take-append-le n xs ys (omega arith))
   | inr all ↦ ap (λ (l : List ℕ). take n (l ++ ys)) (take_all n xs all)
 ]
 
@@ -28,38 +29,34 @@ take-min n xs = elim (cases_lt n (length xs)) [
 ]
 
 -- so much of what is appended is held
-pub held_front : (line part : List ℕ) → length line ≤ 65538 → line ++ take (min (length part) (65538 - length line)) part ≡ front_of (line ++ part)
+pub held_front : (line part : List ℕ) → length line ≤ 65538
+    → line ++ take (min (length part) (65538 - length line)) part ≡ front_of (line ++ part)
 unfolding front_of
 held_front line part held =
     let room = take-append-add line part (65538 - length line) in
     let whole : length line + (65538 - length line) ≡ 65538 = omega arith in
-    ap (λ (l : List ℕ). line ++ l) (take-min _ _) ∙ sym room ∙ ap (λ (k : ℕ). take k (line ++ part)) whole
+    ap (λ (l : List ℕ). line ++ l) (take-min _ _) ∙ sym room
+    ∙ ap (λ (k : ℕ). take k (line ++ part)) whole
 
 -- the front of a front is that front
 pub front_again : (line : List ℕ) → front_of (front_of line) ≡ front_of line
 front_again line =
-    ap (λ (l : List ℕ). front_of l) (sym (append-nil (front_of line))) ∙ front_of-front_of _ _ ∙ ap (λ (l : List ℕ). front_of l) (append-nil line)
+    ap front_of (sym (append-nil (front_of line))) ∙ front_of-front_of _ _
+    ∙ ap front_of (append-nil line)
 
 pub front_short : (line : List ℕ) → length (front_of line) ≤ 65538
 unfolding front_of
-front_short line = elim (cases_lt 65538 (length line)) [
-  | inl short ↦ let size = length-take-le 65538 line (omega arith) in omega arith
-  | inr all ↦ let same = ap (λ (l : List ℕ). length l) (take_all 65538 line all) in omega arith
-]
+front_short line = omega (arith, length-take 65538 line)
 
-front_some : (byte : ℕ) (line : List ℕ) → take 65538 (byte ∷ line) ≡ [] → ⊥
-front_some byte line none = elim (cases_lt 65538 (length (byte ∷ line))) [
-  | inl short ↦
-      let size = length-take-le 65538 (byte ∷ line) (omega arith) in
-      let zero = ap (λ (l : List ℕ). length l) none in omega arith
-  | inr all ↦ let same = sym (take_all 65538 (byte ∷ line) all) ∙ none in absurd cc
-]
+take_none : (n : ℕ) (line : List ℕ) → 0 < n → take n line ≡ [] → line ≡ []
+take_none n [] some none = refl
+take_none zero (byte ∷ line) some none = absurd (omega arith)
+take_none (suc n) (byte ∷ line) some none = absurd cc
 
 -- a line is empty where its front is
 pub front_none : (line : List ℕ) → front_of line ≡ [] → line ≡ []
 unfolding front_of
-front_none [] none = refl
-front_none (byte ∷ line) none = absurd (front_some _ _ none)
+front_none line none = take_none 65538 line (omega arith) none
 
 -- ---- the message of a line
 
@@ -69,30 +66,31 @@ record_of-cr bytes =
     let line = bytes ++ 13 ∷ [] in
     let size : length line - 1 ≡ length bytes = omega (arith, length-append bytes (13 ∷ [])) in
     let place : length bytes ≡ length bytes + 0 = omega arith in
-    let last = ap (λ (k : ℕ). get_or line k 0) (size ∙ place) ∙ get_or-append-add bytes (13 ∷ []) 0 0 in
+    let last = ap (λ (k : ℕ). get_or line k 0) (size ∙ place)
+    ∙ get_or-append-add bytes (13 ∷ []) 0 0 in
     let ends = eq-eqb (get_or line (length line - 1) 0) 13 last in
     rw ends (ap (λ (k : ℕ). take k line) size ∙ take-append_seam bytes (13 ∷ []))
 
 -- a line has one byte more than its record at most
 record_short : (line : List ℕ) → length line ≤ length (record_of line) + 1
 record_short line = elim (eqb_tells (get_or line (length line - 1) 0) 13) [
-  | inl same ↦ rw same.0 (let size = length-take-le (length line - 1) line (omega arith) in omega arith)
+  | inl same ↦ rw same.0 (omega (arith, length-take (length line - 1) line))
   | inr differs ↦ rw differs.0 (omega arith)
 ]
 
-only_long : (bytes line : List ℕ) (message : Message) → 65536 < length bytes → 65536 < length line → IsMessage bytes message → IsMessage line message
-only_long bytes line Empty long more is = absurd (let none = ap (λ (l : List ℕ). length l) is in omega arith)
+only_long : (bytes line : List ℕ) (message : Message) → 65536 < length bytes → 65536 < length line
+    → IsMessage bytes message → IsMessage line message
+only_long bytes line Empty long more is = absurd (omega (arith, ap length is))
 only_long bytes line Long long more is = more
-only_long bytes line NotText long more is = absurd (omega arith)
-only_long bytes line (Text key text) long more is = absurd (omega arith)
+only_long bytes line _ long more is = absurd (omega arith)
 
 -- the front of a line has the message of the line
-pub message_of_front : (line : List ℕ) (message : Message) → IsMessage (record_of (front_of line)) message → IsMessage (record_of line) message
+pub message_of_front : (line : List ℕ) (message : Message)
+    → IsMessage (record_of (front_of line)) message → IsMessage (record_of line) message
 unfolding front_of
 message_of_front line message is = elim (cases_lt 65538 (length line)) [
-  | inl short ↦
-      let size = length-take-le 65538 line (omega arith) in
-      only_long _ _ _
-      (omega (arith, record_short (take 65538 line))) (omega (arith, record_short line)) is
+  | inl short ↦ only_long _ _ _
+      (omega (arith, length-take 65538 line, record_short (take 65538 line)))
+      (omega (arith, record_short line)) is
   | inr all ↦ rw (← (take_all 65538 line all)) is
 ]

@@ -1,5 +1,5 @@
 -- A record says one thing.
-use Rattle.std.proofs.Common.{◌≡◌, ◌≢◌, ℕ, ◌<◌, List, [], length, refl, sym, ap, ◌∙◌, subst, arith, Option, Some, None}
+use Rattle.std.proofs.Common.{◌≡◌, ◌≢◌, ℕ, ◌<◌, List, [], length, refl, sym, ap, ◌∙◌, arith, Option, Some, None}
 use Rattle.std.specs.Prelude.{All, IsUtf8}
 use Rattle.std.proofs.lemmas.Str.{IsUtf8-nil}
 use Rattle.olr_records.proofs.Cuts.{Avoids, one_way, not_avoided}
@@ -8,7 +8,8 @@ use Rattle.olr_messages.specs.Content.{IsMessage, IsSplitAtTab, Message, Empty, 
 avoids_tab : (bytes : List ℕ) → All (λ byte. byte ≢ 9) bytes → Avoids 9 bytes
 avoids_tab bytes free k inside = free k 0 inside
 
-same_text : (bytes : List ℕ) (k l : Option (List ℕ)) (s t : List ℕ) → IsSplitAtTab bytes k s → IsSplitAtTab bytes l t → Text k s ≡ Text l t
+same_text : (bytes : List ℕ) (k l : Option (List ℕ)) (s t : List ℕ) → IsSplitAtTab bytes k s
+    → IsSplitAtTab bytes l t → Text k s ≡ Text l t
 same_text bytes None None s t a b = ap (λ (x : List ℕ). Text None x) (a.0 ∙ sym b.0)
 same_text bytes None (Some l) s t a b = absurd (not_avoided 9 _ l t b.0 (avoids_tab _ a.1))
 same_text bytes (Some k) None s t a b = absurd (not_avoided 9 _ k s a.0 (avoids_tab _ b.1))
@@ -17,7 +18,7 @@ same_text bytes (Some k) (Some l) s t a b =
     ap (λ (x : List ℕ). Text (Some x) s) same.0 ∙ ap (λ (x : List ℕ). Text (Some l) x) same.1
 
 not_long : {bytes : List ℕ} → bytes ≡ [] → 65536 < length bytes → ⊥
-not_long none long = let size = ap (λ (l : List ℕ). length l) none in omega arith
+not_long none long = omega (arith, ap length none)
 
 not_utf8_if_empty : {bytes : List ℕ} → bytes ≡ [] → ¬ (IsUtf8 bytes) → ⊥
 not_utf8_if_empty none not_utf8 = not_utf8 (rw none IsUtf8-nil)

@@ -24,7 +24,8 @@ no_front = refl
 
 -- ---- what the bytes at hand, or those that a source gives, are of all that is left
 
-hand_to_lf : {hand : List ℕ} (part rest : List ℕ) (left : Option (List ℕ)) → hand ≡ part ++ 10 ∷ rest
+hand_to_lf : {hand : List ℕ} (part rest : List ℕ) (left : Option (List ℕ))
+    → hand ≡ part ++ 10 ∷ rest
     → Consumes (prepend_known hand left) (prepend_known rest left) (part ++ 10 ∷ [])
 hand_to_lf part rest None split = tt
 hand_to_lf part rest (Some xs) split =

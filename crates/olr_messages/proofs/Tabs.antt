@@ -4,7 +4,7 @@ use Rattle.std.specs.Prelude.{All, Bool}
 use Rattle.std.specs.List.{position_or_len, before_first, after_first}
 use Rattle.std.proofs.Math.Dec.{eqb}
 use Rattle.std.proofs.lemmas.Bool.{eqb-false, eqb-true}
-use Rattle.std.proofs.lemmas.List.{get_or-take, length-take-le}
+use Rattle.std.proofs.lemmas.List.{get_or-take, length-take}
 use Rattle.std.proofs.lemmas.List.Elements.{All-from_get_or}
 use Rattle.std.proofs.lemmas.List.Sums.{fails_before_first, passes_at_first, split_at_first}
 
@@ -13,24 +13,32 @@ abbrev pub is_tab : ℕ → Bool
 is_tab byte = eqb byte 9
 
 before_tab : (bytes : List ℕ) (i : ℕ) → i < position_or_len is_tab bytes → get_or bytes i 0 ≢ 9
-before_tab bytes i before tab = eqb-false (get_or bytes i 0) 9 (fails_before_first is_tab bytes i 0 before) tab
+before_tab bytes i before tab =
+    eqb-false (get_or bytes i 0) 9 (fails_before_first is_tab bytes i 0 before) tab
 
 -- a record without a TAB
-pub no_tab : (bytes : List ℕ) → position_or_len is_tab bytes ≡ length bytes → All (λ byte. byte ≢ 9) bytes
-no_tab bytes none = All-from_get_or (λ byte. byte ≢ 9) bytes 0 (λ i inside. before_tab _ i (omega arith))
+pub no_tab : (bytes : List ℕ) → position_or_len is_tab bytes ≡ length bytes
+    → All (λ byte. byte ≢ 9) bytes
+no_tab bytes none = All-from_get_or (λ byte. byte ≢ 9) bytes 0
+    (λ i inside. before_tab _ i (omega arith))
 
-key_has_none : (bytes : List ℕ) → position_or_len is_tab bytes < length bytes → All (λ byte. byte ≢ 9) (before_first is_tab bytes)
+key_has_none : (bytes : List ℕ) → position_or_len is_tab bytes < length bytes
+    → All (λ byte. byte ≢ 9) (before_first is_tab bytes)
 key_has_none bytes some =
-    let size = length-take-le (position_or_len is_tab bytes) bytes (omega arith) in
+    let size = length-take (position_or_len is_tab bytes) bytes in
     All-from_get_or (λ byte. byte ≢ 9) (before_first is_tab bytes) 0
-    (λ i inside tab. before_tab _ i (omega arith) (sym (get_or-take (position_or_len is_tab bytes) bytes i 0 (omega arith)) ∙ tab))
+    (λ i inside tab. before_tab _ i (omega arith)
+    (sym (get_or-take (position_or_len is_tab bytes) bytes i 0 (omega arith)) ∙ tab))
 
 -- a record with a TAB
-pub at_tab : (bytes : List ℕ) {key text : List ℕ} → position_or_len is_tab bytes < length bytes → key ≡ before_first is_tab bytes → text ≡ after_first is_tab bytes
+pub at_tab : (bytes : List ℕ) {key text : List ℕ} → position_or_len is_tab bytes < length bytes
+    → key ≡ before_first is_tab bytes → text ≡ after_first is_tab bytes
     → (bytes ≡ key ++ 9 ∷ text) × All (λ byte. byte ≢ 9) key
 at_tab bytes some is_key is_text =
-    let tab = eqb-true (get_or bytes (position_or_len is_tab bytes) 0) 9 (passes_at_first is_tab bytes 0 some) in
+    let tab = eqb-true (get_or bytes (position_or_len is_tab bytes) 0) 9
+    (passes_at_first is_tab bytes 0 some) in
     let whole = split_at_first is_tab bytes 0 some in (
-      rw (is_key, is_text) (whole ∙ ap (λ (b : ℕ). before_first is_tab bytes ++ (b ∷ after_first is_tab bytes)) tab),
+      rw (is_key, is_text) (whole ∙ ap
+          (λ (b : ℕ). before_first is_tab bytes ++ (b ∷ after_first is_tab bytes)) tab),
       rw is_key (key_has_none _ some),
     )

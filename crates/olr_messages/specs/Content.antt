@@ -5,14 +5,16 @@ use Rattle.olr_messages.specs.Lines.{record_of}
 use Rattle.olr_messages.specs.declared.content.Content.{Content}
 use Rattle.olr_messages.specs.declared.content.Content.TheVariants as content
 
--- what a record says: nothing; or it is too long; or it isn't text; or it has a text, with a key or without one
+-- what a record says: nothing; or it is too long; or it isn't text; or it has a text, with a key or
+-- without one
 pub data Message : Type 0 where
   Empty : Message
   Long : Message
   NotText : Message
   Text : Option (List ℕ) → List ℕ → Message
 
--- the key is what stands before the first TAB, and the text is what stands behind it; without a TAB there is no key
+-- the key is what stands before the first TAB, and the text is what stands behind it; without a TAB
+-- there is no key
 abbrev pub IsSplitAtTab : List ℕ → Option (List ℕ) → List ℕ → Type 0
 IsSplitAtTab bytes None text = (text ≡ bytes) × All (λ byte. byte ≢ 9) bytes
 IsSplitAtTab bytes (Some key) text = (bytes ≡ key ++ 9 ∷ text) × All (λ byte. byte ≢ 9) key
@@ -39,4 +41,5 @@ abbrev pub message_of : Content → Message
 message_of content.Empty = Empty
 message_of content.Long = Long
 message_of content.NotText = NotText
-message_of (content.Text key text) = Text (option_map (λ (part : Bor (List ℕ)). part.now) key) text.now
+message_of (content.Text key text) =
+    Text (option_map (λ (part : Bor (List ℕ)). part.now) key) text.now

@@ -7,7 +7,8 @@ abbrev pub onto : ℕ → List (List ℕ) → List (List ℕ)
 onto byte [] = (byte ∷ []) ∷ []
 onto byte (line ∷ lines) = (byte ∷ line) ∷ lines
 
--- the lines of an input, which is split at each LF; what follows the last LF is a line where it isn't empty
+-- the lines of an input, which is split at each LF; what follows the last LF is a line where it
+-- isn't empty
 unfoldable pub lines_of : List ℕ → List (List ℕ)
 lines_of [] = []
 lines_of (byte ∷ rest) = if byte == 10 then [] ∷ lines_of rest else onto byte (lines_of rest)

@@ -19,7 +19,8 @@ front_of line = take 65538 line
 abbrev pub HasNoLf : List ℕ → Type 0
 HasNoLf bytes = All (λ byte. byte ≢ 10) bytes
 
--- what is left of an input: the bytes at hand, and those that its source has left, where they are known
+-- what is left of an input: the bytes at hand, and those that its source has left, where they are
+-- known
 abbrev pub left_of : Reading → Option (List ℕ) → Option (List ℕ)
 left_of reading left = prepend_known reading.at_hand left
 
@@ -40,8 +41,9 @@ pub record IsOver (old new : Option (List ℕ)) : Type 0 where
   pub none_left : Consumes old new []
   pub at_end : IsAtEnd new
 
--- Reading stops in the middle of a line: these bytes of what was left are lost, and none of them is LF. One call of the source
--- failed, and was counted. Or none failed, and the line has 2 ^ 64 - 1 bytes at least, with those that are at hand.
+-- Reading stops in the middle of a line: these bytes of what was left are lost, and none of them is
+-- LF. One call of the source failed, and was counted. Or none failed, and the line has 2 ^ 64 - 1
+-- bytes at least, with those that are at hand.
 pub record IsCutOff (old new : Option (List ℕ)) (at_hand : List ℕ)
     (old_failed new_failed : ℕ) : Type 0 where
   pub lost : List ℕ
@@ -52,7 +54,8 @@ pub record IsCutOff (old new : Option (List ℕ)) (at_hand : List ℕ)
 
 -- ---- the parts of a step
 
--- where the bytes at hand stand in a chunk, and how many bytes of a line are held, for which there is room
+-- where the bytes at hand stand in a chunk, and how many bytes of a line are held, for which there
+-- is room
 pub record IsSound (chunk : List ℕ) (start stop : ℕ) (line : List ℕ) (room : ℕ) : Type 0 where
   pub ordered : start ≤ stop
   pub inside : stop ≤ length chunk

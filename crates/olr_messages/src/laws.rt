@@ -8,7 +8,8 @@ ghost use Rattle.olr_messages.specs.Messages.{HasNoLf};
 /// The first line is what stands before the first LF, and the other lines are those of what stands
 /// behind it. Where there is no LF, all of the input is a line, unless it is empty.
 pub fn lines()
-    ensures first { (line rest : List ℕ) → HasNoLf line → lines_of (line ++ 10 ∷ rest) ≡ line ∷ lines_of rest }
+    ensures first { (line rest : List ℕ) → HasNoLf line
+        → lines_of (line ++ 10 ∷ rest) ≡ line ∷ lines_of rest }
     ensures last { (line : List ℕ) → HasNoLf line → line ≢ [] → lines_of line ≡ line ∷ [] }
     ensures empty { lines_of [] ≡ [] }
 {}
@@ -20,5 +21,6 @@ pub fn record_before_cr()
 
 /// A line says one thing.
 pub fn one_message()
-    ensures { (line : List ℕ) (message other : Message) → IsMessageOfLine line message → IsMessageOfLine line other → message ≡ other }
+    ensures { (line : List ℕ) (message other : Message) → IsMessageOfLine line message
+        → IsMessageOfLine line other → message ≡ other }
 {}

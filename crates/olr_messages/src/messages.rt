@@ -26,7 +26,8 @@ fn chunk() -> usize
 }
 
 /// The most bytes that are held of a line: one more than the longest line of a record that isn't
-/// long, so that a line of which more is left out has a long record, whether it ends with a CR or not.
+/// long, so that a line of which more is left out has a long record, whether it ends with a CR or
+/// not.
 const HELD: usize = 65_538;
 
 const LF: u8 = b'\n';
@@ -63,7 +64,10 @@ impl Model for Messages {
 
     ghost Value = { Reading };
 
-    ghost view = { λ m. record { at_hand = slice_range m.chunk.items m.from m.to; front = m.line.items } };
+    ghost view = { λ m. record {
+      at_hand = slice_range m.chunk.items m.from m.to;
+      front = m.line.items;
+    } };
 
     ghost invariant = { λ m. IsSound m.chunk.items m.from m.to m.line.items (vec_capacity m.line) };
 }
@@ -85,30 +89,33 @@ impl Messages {
         })
     }
 
-    /// Whether the bytes at hand hold the next line as a whole, with its LF. [`next`](Messages::next)
-    /// doesn't ask the source for more then.
+    /// Whether the bytes at hand hold the next line as a whole, with its LF.
+    /// [`next`](Messages::next) doesn't ask the source for more then.
     pub fn holds_whole(&self) -> bool
         ensures { IsTrue result ↔ Contains self.now.at_hand LF }
     {
         memchr(LF, &self.chunk[self.from..self.to]).is_some()
     }
 
-    /// Moves on to the next line, and answers whether there was one. It asks the source for more only
-    /// while the bytes at hand have no LF. After an error, the bytes that were read of the line are lost.
+    /// Moves on to the next line, and answers whether there was one. It asks the source for more
+    /// only while the bytes at hand have no LF. After an error, the bytes that were read of the
+    /// line are lost.
     ///
     /// # Errors
     ///
-    /// [`Failed`] where a call of the source failed, or where the line has more bytes than any machine
-    /// holds.
+    /// [`Failed`] where a call of the source failed, or where the line has more bytes than any
+    /// machine holds.
     pub fn next<S: Source>(&mut self, source: &mut S) -> Result<bool, Failed>
         // What was left, at hand and in the source, is the next line and what is left now.
         ensures moves { IfOk result (λ found. MatchBool found
-            (ReadsLine (left_of self.old (S.left source.old)) (left_of self.new (S.left source.new)) self.new.front)
-            (IsOver (left_of self.old (S.left source.old)) (left_of self.new (S.left source.new)))) }
+            (ReadsLine (left_of self.old (S.left source.old)) (left_of self.new (S.left source.new))
+            self.new.front)
+            (IsOver (left_of self.old (S.left source.old))
+            (left_of self.new (S.left source.new)))) }
         ensures none_failed { OnOk result (S.failed source.new ≡ S.failed source.old) }
         ensures cut_off { OnErr result (IsCutOff
-            (left_of self.old (S.left source.old)) (left_of self.new (S.left source.new)) self.new.at_hand
-            (S.failed source.old) (S.failed source.new)) }
+            (left_of self.old (S.left source.old)) (left_of self.new (S.left source.new))
+            self.new.at_hand (S.failed source.old) (S.failed source.new)) }
         ensures none_at_hand { OnErr result (self.new.at_hand ≡ []) }
 
         // A line that is at hand as a whole is answered from the bytes at hand alone.

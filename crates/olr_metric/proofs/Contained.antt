@@ -1,6 +1,7 @@
 -- The members of a list, and how many of them can differ.
-use Rattle.std.proofs.Common.{◌≡◌, ◌≢◌, ℕ, zero, suc, ◌<◌, ◌≤◌, List, [], ◌∷◌, length, get_or, All, inl, inr, sym, refl, arith}
-use Rattle.std.specs.Prelude.{◌⊎◌, AllPairs, Contains}
+use Rattle.std.proofs.Common.{◌≡◌, ◌≢◌, ℕ, zero, suc, ◌<◌, ◌≤◌, List, [], ◌∷◌, ◌++◌, Some, length, get_or, All, inl, inr, sym, ap, refl, arith}
+use Rattle.std.specs.Prelude.{◌⊎◌, slice_get, AllPairs, Contains}
+use Rattle.std.proofs.lemmas.Option.{same_Some, slice_get_within}
 use Rattle.std.specs.List.{remove}
 use Rattle.std.proofs.lemmas.List.Edits.{length-remove}
 use Rattle.std.proofs.lemmas.List.Sorted.{IsPermutation-remove, Contains-permutation}
@@ -17,6 +18,19 @@ here x xs = (0, omega arith, refl)
 
 pub further : {X : Type 0} (x : X) (xs : List X) (z : X) → Contains xs z → Contains (x ∷ xs) z
 further x xs z (k, inside, is) = (suc k, omega arith, is)
+
+-- an element of a list with one more at its end is of the list, or the last
+pub first_or_last : {X : Type 0} (xs : List X) (x y : X) (index : ℕ)
+    → slice_get (xs ++ x ∷ []) index ≡ Some y
+    → (slice_get xs index ≡ Some y) ⊎ ((index ≡ length xs) × (x ≡ y))
+first_or_last [] x y zero at = inr (refl, same_Some x y at)
+first_or_last [] x y (suc index) at =
+    absurd (omega (arith, slice_get_within [] index y at))
+first_or_last (first ∷ xs) x y zero at = inl at
+first_or_last (first ∷ xs) x y (suc index) at = elim (first_or_last xs x y index at) [
+  | inl before ↦ inl before
+  | inr last ↦ inr (ap suc last.0, last.1)
+]
 
 -- it is still one where another is taken away
 still_contained : {X : Type 0} (ys : List X) (i : ℕ) (x z : X) → i < length ys → x ≡ get_or ys i x

@@ -2,7 +2,6 @@
 use Rattle.std.proofs.Common.{◌≡◌, ℕ, ◌+◌, ◌-◌, ◌*◌, ◌^◌, ◌<◌, ◌≤◌, List, ◌++◌, length, take, drop, get_or, sym, ap, ◌∙◌, subst, inl, inr, Option, Some, None, arith}
 use Rattle.std.specs.Char.{IsAsciiDigit, IsNotAsciiDigit}
 use Rattle.std.specs.Str.Parse.{digits_value, AllDigits}
-use Rattle.std.proofs.lemmas.Bool.{cases_lt}
 use Rattle.std.proofs.lemmas.List.{length-take-le, length-append, length-drop}
 use Rattle.std.proofs.lemmas.Str.{digit_value_digit}
 use Rattle.std.proofs.lemmas.Str.Parse.{digit_at, digits_value_short, numerals_by_value, tells_digits}
@@ -13,13 +12,16 @@ use Rattle.olr_records.specs.Fields.{IsNumber}
 use Rattle.olr_records.specs.Front.{IsSeparator, behind, Begins}
 
 -- k digits at most spell less than 10^k
-pub small : (text : List ℕ) (i k : ℕ) → i ≤ length text → i ≤ k → AllDigits 10 (take i text) → digits_value 10 (take i text) < 10 ^ k
+pub small : (text : List ℕ) (i k : ℕ) → i ≤ length text → i ≤ k → AllDigits 10 (take i text)
+    → digits_value 10 (take i text) < 10 ^ k
 small text i k inside short digits =
     let size = length-take-le i text inside in
-    digits_value_short (numerals_by_value (AllDigits 10) tells_digits) (take i text) k digits (omega arith)
+    digits_value_short (numerals_by_value (AllDigits 10) tells_digits) (take i text) k digits
+    (omega arith)
 
 -- the value of one digit more
-pub value_after : (text : List ℕ) (i : ℕ) {value : ℕ} → i < length text → IsAsciiDigit (get_or text i 0) → value ≡ digits_value 10 (take i text)
+pub value_after : (text : List ℕ) (i : ℕ) {value : ℕ} → i < length text
+    → IsAsciiDigit (get_or text i 0) → value ≡ digits_value 10 (take i text)
     → 10 * value + (get_or text i 0 - 48) ≡ digits_value 10 (take (i + 1) text)
 value_after text i inside digit same =
     let d = digit_value_digit _ digit in
@@ -38,36 +40,44 @@ not_both : (byte : ℕ) → IsAsciiDigit byte → IsNotAsciiDigit byte → ⊥
 not_both byte digit other = elim other [ inl low ↦ omega arith | inr high ↦ omega arith ]
 
 -- what follows the part that a number spells begins with no digit
-no_digit_behind : {byte : ℕ} (rest : Option (List ℕ)) → IsSeparator byte → 0 < length (behind byte rest) → IsNotAsciiDigit (get_or (behind byte rest) 0 0)
+no_digit_behind : {byte : ℕ} (rest : Option (List ℕ)) → IsSeparator byte
+    → 0 < length (behind byte rest) → IsNotAsciiDigit (get_or (behind byte rest) 0 0)
 no_digit_behind None separates some = absurd (omega arith)
-no_digit_behind (Some rest) separates some = elim separates [ inl low ↦ inl (omega arith) | inr high ↦ inr (omega arith) ]
+no_digit_behind (Some rest) separates some =
+    elim separates [ inl low ↦ inl (omega arith) | inr high ↦ inr (omega arith) ]
 
 -- a number in front of a text has all of these digits
-pub all_digits : (text : List ℕ) (count : ℕ) (byte n : ℕ) (rest : Option (List ℕ)) → IsSeparator byte → AreFirstDigits text count
+pub all_digits : (text : List ℕ) (count : ℕ) (byte n : ℕ) (rest : Option (List ℕ))
+    → IsSeparator byte → AreFirstDigits text count
     → (begins : Begins (λ front. IsNumber front n) byte text rest) → length begins.front ≡ count
 all_digits text count byte n rest separates are begins =
     let front = begins.front in
     let tail = behind _ _ in
-    let size = ap (λ (l : List ℕ). length l) begins.whole ∙ length-append front tail in
+    let size = ap length begins.whole ∙ length-append front tail in
     let fewer : length front < count → ⊥ = λ less.
-    let there = get_or-take count text (length front) 0 less ∙ ap (λ (l : List ℕ). get_or l (length front) 0) begins.whole
+    let there = get_or-take count text (length front) 0 less
+    ∙ ap (λ (l : List ℕ). get_or l (length front) 0) begins.whole
     ∙ ap (λ (k : ℕ). get_or (front ++ tail) k 0) (omega arith) ∙ get_or-append-add front tail 0 0 in
     not_both _
-    (subst IsAsciiDigit there (digit_at (take count text) (length front) are.digits (omega (arith, length-take-le count text are.within))))
+    (subst IsAsciiDigit there (digit_at (take count text) (length front) are.digits
+    (omega (arith, length-take-le count text are.within))))
     (no_digit_behind _ separates (omega arith)) in
     let more : count < length front → ⊥ = λ less.
-    let there = ap (λ (l : List ℕ). get_or l count 0) begins.whole ∙ get_or-append front tail 0 _ less in
+    let there = ap (λ (l : List ℕ). get_or l count 0) begins.whole
+    ∙ get_or-append front tail 0 _ less in
     not_both _ (digit_at front count begins.spelled.digits.1 less)
     (subst IsNotAsciiDigit there (are.all (omega arith) (omega arith))) in
-    elim (cases_lt (length front) count) [
-      | inl less ↦ absurd (fewer less)
-      | inr least ↦ elim (cases_lt count (length front)) [ inl less ↦ absurd (more less) | inr most ↦ omega arith ]
-    ]
+    omega arith
 
 -- and what follows it follows them
-pub behind_digits : (text : List ℕ) (count : ℕ) (byte n : ℕ) (rest : Option (List ℕ)) → IsSeparator byte → AreFirstDigits text count
-    → Begins (λ front. IsNumber front n) byte text rest → take (length text - count) (drop count text) ≡ behind byte rest
+pub behind_digits : (text : List ℕ) (count : ℕ) (byte n : ℕ) (rest : Option (List ℕ))
+    → IsSeparator byte → AreFirstDigits text count
+    → Begins (λ front. IsNumber front n) byte text rest
+    → take (length text - count) (drop count text) ≡ behind byte rest
 behind_digits text count byte n rest separates are begins =
     let count_is = all_digits text count byte n rest separates are begins in
-    ap (λ (k : ℕ). take k (drop count text)) (sym (length-drop count text)) ∙ take-length (drop count text)
-    ∙ ap (λ (k : ℕ). drop k text) (sym count_is) ∙ ap (λ (l : List ℕ). drop (length begins.front) l) begins.whole ∙ drop-append_seam begins.front (behind _ _)
+    ap (λ (k : ℕ). take k (drop count text)) (sym (length-drop count text))
+    ∙ take-length (drop count text)
+    ∙ ap (λ (k : ℕ). drop k text) (sym count_is)
+    ∙ ap (λ (l : List ℕ). drop (length begins.front) l) begins.whole
+    ∙ drop-append_seam begins.front (behind _ _)

@@ -1,4 +1,5 @@
--- What the fields of a map's records spell, according to this project's map format (docs/SPECIFICATION.md, "The files of a map").
+-- What the fields of a map's records spell, according to this project's map format
+-- (docs/SPECIFICATION.md, "The files of a map").
 use Rattle.std.specs.Prelude.{◌≡◌, ℕ, ◌≤◌, List, ◌∷◌, length, ℤ, pos, neg_ℤ, ◌⊎◌}
 use Rattle.std.specs.Str.Parse.{IsNumeral, digits_value}
 use Rattle.olr_metric.specs.Range.{IsLongitude, IsLatitude}
@@ -35,7 +36,8 @@ IsId = IsNumberWithin 1 9007199254740992
 abbrev pub IsKind : List ℕ → ℕ → Type 0
 IsKind = IsNumberWithin 0 7
 
--- the length of a line, in decimetres; 0 is a length here, and in a map a fault of its own (`ZeroLength`)
+-- the length of a line, in decimetres; 0 is a length here, and in a map a fault of its own
+-- (`ZeroLength`)
 abbrev pub IsLength : List ℕ → ℕ → Type 0
 IsLength = IsNumberWithin 0 10000000
 

@@ -10,8 +10,10 @@ abbrev pub behind : ℕ → Option (List ℕ) → List ℕ
 behind byte None = []
 behind byte (Some rest) = byte ∷ rest
 
--- a part of a text spells something; either the text ends there, or this byte follows and then the rest
-pub record Begins (Spells : List ℕ → Type 0) (byte : ℕ) (text : List ℕ) (rest : Option (List ℕ)) : Type 0 where
+-- a part of a text spells something; either the text ends there, or this byte follows and then the
+-- rest
+pub record Begins (Spells : List ℕ → Type 0) (byte : ℕ) (text : List ℕ)
+    (rest : Option (List ℕ)) : Type 0 where
   pub front : List ℕ
   pub whole : text ≡ front ++ behind byte rest
   pub spelled : Spells front

@@ -1,4 +1,5 @@
--- What reading a source to its end does: to the bytes that it has left, and to its count of failures.
+-- What reading a source to its end does: to the bytes that it has left, and to its count of
+-- failures.
 use Rattle.std.specs.Prelude.{◌≡◌, ℕ, List, Option}
 use Rattle.std.specs.Io.KnownBytes.{Consumes, IsAtEnd}
 use Rattle.olr_metric.specs.Counting.{one_more}
@@ -10,7 +11,8 @@ pub record IsWhole (old_left new_left : Option (List ℕ)) (text : List ℕ) : T
   pub consumed : Consumes old_left new_left text
   pub at_end : IsAtEnd new_left
 
--- One call failed and was counted; or, for `NoMemory`, no call failed, and nothing is stated of why there is no memory.
+-- One call failed and was counted; or, for `NoMemory`, no call failed, and nothing is stated of why
+-- there is no memory.
 abbrev pub IsReadFault : ℕ → ℕ → ReadFault → Type 0
 IsReadFault old new Failed = new ≡ one_more old
 IsReadFault old new NoMemory = new ≡ old

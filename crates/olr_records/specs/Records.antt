@@ -1,4 +1,5 @@
--- The records of a CSV text, each a list of fields, as the crate `csv` states them for its default reader.
+-- The records of a CSV text, each a list of fields, as the crate `csv` states them for its default
+-- reader.
 use Rattle.std.specs.Prelude.{◌≡◌, ℕ, ◌+◌, Bool, true, false, List, [], length, Option, Some, None}
 use denote.Ref.{Bor}
 unfoldable pub use Rattle.csv.specs.Records.{field_at}
@@ -8,7 +9,8 @@ use Rattle.csv.specs.declared.parser.State.{State}
 use Rattle.csv.specs.declared.reader.Reader.{Reader}
 use Rattle.csv.specs.declared.reader.Trim.TheVariants as trim
 
--- all the records of a text, the first of which is the header of a file; a byte order mark at the start is no part of them
+-- all the records of a text, the first of which is the header of a file; a byte order mark at the
+-- start is no part of them
 unfoldable pub records_of : List ℕ → List (List (List ℕ))
 records_of text = records default_config (strip_bom text)
 
@@ -30,11 +32,13 @@ abbrev pub records_until : Bool → Reader (Bor (List ℕ)) → List (List (List
 records_until true reader = []
 records_until false reader = records_left reader
 
--- a reader between two records, with the defaults but for records of any length and no row of headers
+-- a reader between two records, with the defaults but for records of any length and no row of
+-- headers
 pub record IsPlain (reader : Reader (Bor (List ℕ))) : Type 0 where
   pub defaults : reader_config reader ≡ default_config
   pub flexible : is_flexible reader ≡ true
   pub untrimmed : reader_trim reader ≡ trim.None
-  pub headers : took_first reader ≡ false → (names_headers reader ≡ false) × (reader_headers reader ≡ None)
+  pub headers : took_first reader ≡ false → (names_headers reader ≡ false)
+      × (reader_headers reader ≡ None)
   pub works : has_failed reader ≡ false
   pub between : ends_at_end (reader_state reader) ≡ false

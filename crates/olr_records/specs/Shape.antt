@@ -15,7 +15,8 @@ pub record IsItem (text : List ℕ) (place : Coordinates) : Type 0 where
 abbrev pub AreItems : List ℕ → List Coordinates → Type 0
 AreItems text [] = ⊥
 AreItems text (place ∷ []) = IsItem text place
-AreItems text (place ∷ next ∷ places) = (item rest : List ℕ) × (text ≡ item ++ 59 ∷ rest) × IsItem item place × AreItems rest (next ∷ places)
+AreItems text (place ∷ next ∷ places) = (item rest : List ℕ) × (text ≡ item ++ 59 ∷ rest)
+    × IsItem item place × AreItems rest (next ∷ places)
 
 -- 1 to 64 items
 abbrev pub AreFewItems : List ℕ → List Coordinates → Type 0

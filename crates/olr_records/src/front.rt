@@ -91,7 +91,8 @@ fn past(text: &[u8], byte: u8) -> Option<Option<&[u8]>>
 pub(crate) fn number_before(text: &[u8], byte: u8) -> Option<(u64, Option<&[u8]>)>
     requires { IsSeparator byte }
     ensures spelled { MatchOption result
-        ((n : ℕ) (rest : Option (List ℕ)) → ¬ (Begins (λ front. IsNumber front n) byte text.now rest))
+        ((n : ℕ) (rest : Option (List ℕ))
+        → ¬ (Begins (λ front. IsNumber front n) byte text.now rest))
         (λ found. Begins (λ front. IsNumber front found.0) byte text.now
         (option_map (λ rest. rest.now) found.1)) }
     ensures small { IfSome result (λ found. found.0 < 10 ^ 16) }

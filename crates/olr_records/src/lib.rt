@@ -5,8 +5,8 @@
 //!
 //! - [`source`]: where the bytes of a file come from, and [`reading`]: all of them.
 //! - [`records`]: the records of a text, of some fields each. No other module knows of `csv`.
-//! - [`front`]: the number before a byte of a text; [`fields`] and [`shape`]: the values that fields
-//!   spell.
+//! - [`front`]: the number before a byte of a text; [`fields`] and [`shape`]: the values that
+//!   fields spell.
 //!
 //! Beside them, [`file`] names the files of a map.
 #![tactic(auto)]

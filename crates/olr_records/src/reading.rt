@@ -62,8 +62,8 @@ fn drain<S: Source>(source: &mut S, buffer: &mut [u8], text: &mut Vec<u8>) -> Re
     }
 }
 
-/// Reads all the bytes that a source has left into `text`, in place of those that it has. A text that
-/// serves for one file after the other asks for memory once.
+/// Reads all the bytes that a source has left into `text`, in place of those that it has. A text
+/// that serves for one file after the other asks for memory once.
 ///
 /// # Errors
 ///

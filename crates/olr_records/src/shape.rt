@@ -11,8 +11,8 @@ use olr_metric::{Degrees, NoMemory};
 /// The most items of a shape.
 const ITEMS: u32 = 64;
 
-/// The place that an item in front of a text spells, and the text behind the `;` that follows it, if
-/// there is one.
+/// The place that an item in front of a text spells, and the text behind the `;` that follows it,
+/// if there is one.
 fn item_before(text: &[u8]) -> Option<(Degrees, Option<&[u8]>)>
     ensures { MatchOption result
         ((place : Coordinates) (rest : Option (List ℕ))

@@ -1,40 +1,37 @@
-use Rattle.std.proofs.Common.{◌≡◌, ◌+◌, ◌-◌, length, refl, sym, ap, subst, ◌∙◌, arith, below_more}
-use Rattle.olr_metric.specs.Coordinates.{Coordinates, IsInRange}
-use Rattle.olr_metric.specs.declared.degrees.Degrees.{Degrees}
-use Rattle.olr_binary.specs.Coordinates.{place_of}
+use Rattle.std.proofs.Common.{◌≡◌, ◌+◌, ◌-◌, length, refl, arith, below_more}
 use Rattle.olr_binary.specs.Point.{IsPoint}
 use Rattle.olr_binary.proofs.Points.{each-push}
 use Rattle.olr_binary.proofs.attributes.read_points.Goals as goal
 
 pub returns-in_default : goal.returns-in_default
 returns-in_default c =
-    let here : c.place_at-place.result ≡ place_of c.args.bytes.now c.first-place.result c.loop-index.index =
-    c.place_at-place.ensures c.first-place.result c.loop-index.invariant.place in (
+    let here = c.place_at-place.ensures c.first-place.result c.loop-index.invariant.place in (
       c.loop-index.index,
       refl,
       c.loop-index-test.true,
       record {
         first = c.first-place.result;
         place = c.first-place.ensures;
-        beyond = λ inside. c.in_default.ensures.none (subst IsInRange (sym here) inside);
+        beyond = λ inside. c.in_default.ensures.none (rw here inside);
         before = c.loop-index.invariant.passed;
       },
     )
 
 pub loop-index-preserved : goal.loop-index-preserved
 loop-index-preserved c =
-    let here : c.place_at-place.result ≡ place_of c.args.bytes.now c.first-place.result c.loop-index.index =
-    c.place_at-place.ensures c.first-place.result c.loop-index.invariant.place in
+    let here = c.place_at-place.ensures c.first-place.result c.loop-index.invariant.place in
     let again : c.loop-index.index + 1 - 1 ≡ c.loop-index.index = omega arith in
-    let point : IsPoint c.args.bytes.now c.first-place.result c.args.count c.loop-index.index c.point_at.result = record {
-      lon = ap (λ (at : Degrees). at.lon) c.point_at.ensures.at ∙ c.in-Some.ensures.found.1 ∙ ap (λ (at : Coordinates). at.lon) here;
-      lat = ap (λ (at : Degrees). at.lat) c.point_at.ensures.at ∙ c.in-Some.ensures.found.2 ∙ ap (λ (at : Coordinates). at.lat) here;
+    let point : IsPoint c.args.bytes.now c.first-place.result c.args.count c.loop-index.index
+    c.point_at.result =
+    record {
+      lon = rw (c.point_at.ensures.at, ← here) c.in-Some.ensures.found.1;
+      lat = rw (c.point_at.ensures.at, ← here) c.in-Some.ensures.found.2;
       attributes = c.point_at.ensures.attributes;
     } in
     record {
       count_so_far = omega arith;
       place = rw again here;
-      passed = below_more _ _ c.loop-index.invariant.passed (subst IsInRange here c.in-Some.ensures.found.0);
+      passed = below_more _ _ c.loop-index.invariant.passed (rw (← here) c.in-Some.ensures.found.0);
       each = rw c.push.ensures.items (each-push _ _ _ _ _
           _ c.loop-index.invariant.count_so_far c.loop-index.invariant.each point);
     }

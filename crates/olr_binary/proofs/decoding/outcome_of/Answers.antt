@@ -1,4 +1,4 @@
-use Rattle.std.proofs.Common.{◌≡◌, ◌≤◌, ap, ◌∙◌, length, arith}
+use Rattle.std.proofs.Common.{◌≡◌, ◌≤◌, length, arith}
 use Rattle.olr_binary.specs.Text.{trimmed}
 use Rattle.olr_binary.proofs.Outcomes.{outcome_from_bytes}
 use Rattle.olr_binary.proofs.decoding.outcome_of.Goals as goal

@@ -1,7 +1,6 @@
-use Rattle.std.proofs.Common.{◌≡◌, length, map, ap, ◌∙◌}
+use Rattle.std.proofs.Common.{◌≡◌, map, ap, ◌∙◌}
 use Rattle.olr_metric.specs.Coordinates.{coordinates_of}
 use Rattle.olr_metric.specs.Plane.{spot_of}
-use Rattle.olr_map.specs.RoadMap.{IsSoundLine}
 use Rattle.olr_candidates.proofs.Polylines.{spots_of, is_polyline}
 use Rattle.olr_candidates.proofs.LineCandidates.{line_at, sound_at, points_at}
 use Rattle.olr_candidates.proofs.line_projection.polyline_at.Goals as goal
@@ -10,12 +9,13 @@ pub returns-clause-spots : goal.returns-clause-spots
 returns-clause-spots c = λ line at.
     let origin = coordinates_of c.args.query.now.plane in
     c.polyline_of.ensures.spots ∙ spots_of origin _
-    ∙ ap (λ l. map (spot_of origin) l) (points_at c.args.map.now.lines c.args.rank _ _ at c.points.ensures.points)
+    ∙ ap (λ l. map (spot_of origin) l)
+    (points_at c.args.map.now.lines c.args.rank _ _ at c.points.ensures.points)
 
 pub returns-clause-polyline : goal.returns-clause-polyline
 returns-clause-polyline c =
     let at = line_at _ _ c.requires in
-    let sound : IsSoundLine (length c.args.map.now.nodes) at.0 =
+    let sound =
     sound_at _ _ _ _ c.points.ensures.sound.lines.each at.1 in
     let points : map coordinates_of c.points.result.now ≡ at.0.points =
     points_at c.args.map.now.lines c.args.rank _ _ at.1 c.points.ensures.points in

@@ -9,15 +9,19 @@ use Rattle.olr_candidates.proofs.LineCandidates.{line_at, head_at}
 use Rattle.olr_candidates.proofs.line_projection.projection_within.Goals as goal
 
 pub nearest-near-requires-clause-polyline : goal.nearest-near-requires-clause-polyline
-nearest-near-requires-clause-polyline c = rw c.deref.ensures.0 c.polyline_at-polyline.ensures.polyline
+nearest-near-requires-clause-polyline c =
+    rw c.deref.ensures.0 c.polyline_at-polyline.ensures.polyline
 
 pub returns-then-near-most-clause-projection : goal.returns-then-near-most-clause-projection
 returns-then-near-most-clause-projection c = λ projection is.
     let origin = coordinates_of c.args.query.now.plane in
-    let spots : c.deref.result.now ≡ polyline_of origin is.0 = cc (c.polyline_at-polyline.ensures.spots is.0 is.1) in
-    let here : IsNearest (polyline_of origin is.0) (spot_of origin (coordinates_of c.args.query.now.point.at)) c.nearest-near.result =
+    let spots : c.deref.result.now ≡ polyline_of origin is.0 =
+    cc (c.polyline_at-polyline.ensures.spots is.0 is.1) in
+    let here : IsNearest (polyline_of origin is.0)
+    (spot_of origin (coordinates_of c.args.query.now.point.at)) c.nearest-near.result =
     rw (← spots, ← c.to_plane-p.ensures.spot) c.nearest-near.ensures.nearest in
-    let same : is.2.near ≡ c.nearest-near.result = c.one_spot.ensures.nearest _ _ is.2.near c.nearest-near.result is.2.nearest here in
+    let same : is.2.near ≡ c.nearest-near.result =
+    c.one_spot.ensures.nearest _ _ is.2.near c.nearest-near.result is.2.nearest here in
     omega (arith, ap (λ (near : Near). near.distance) same)
 
 pub returns-clause-projection : goal.returns-clause-projection
@@ -29,10 +33,12 @@ returns-clause-projection c =
     let polyline = c.polyline_at-polyline.ensures.spots at.0 at.1 in
     let spots : c.deref.result.now ≡ polyline_of origin at.0 = cc in
     let again : c.deref-2.result.now ≡ polyline_of origin at.0 = cc in
-    let here : IsNearest (polyline_of origin at.0) (spot_of origin (coordinates_of c.args.query.now.point.at)) c.nearest-near.result =
+    let here : IsNearest (polyline_of origin at.0)
+    (spot_of origin (coordinates_of c.args.query.now.point.at)) c.nearest-near.result =
     rw (← spots, ← c.to_plane-p.ensures.spot) c.nearest-near.ensures.nearest in (
       at.0,
       at.1,
       rw (← again, ← ap (λ l. l.length) head)
-          (c.projection_by.ensures.projection (spot_of origin (coordinates_of c.args.query.now.point.at)) (rw again here)),
+          (c.projection_by.ensures.projection
+          (spot_of origin (coordinates_of c.args.query.now.point.at)) (rw again here)),
     )

@@ -14,7 +14,8 @@ loop-rank-init c = (
 pub loop-rank-preserved : goal.loop-rank-preserved
 loop-rank-preserved c =
     let seen = c.loop-rank.invariant.0 in
-    let cover : CoverRadius c.args.query.now c.args.map.now.lines c.args.radius (seen ++ c.in-Some.rank ∷ c.next.new.self) =
+    let cover : CoverRadius c.args.query.now c.args.map.now.lines c.args.radius
+    (seen ++ c.in-Some.rank ∷ c.next.new.self) =
     rw (← c.in-Some.ensures.steps) c.loop-rank.invariant.1 in (
       seen ++ c.in-Some.rank ∷ [],
       rw append_assoc cover,

@@ -5,4 +5,5 @@ use Rattle.olr_candidates.proofs.near_search.nearest_of_all.Given as goal
 
 -- the nearest among the lines so far
 abbrev pub invariant-loop-rank : goal.invariant-loop-rank
-invariant-loop-rank l = (seen : List ℕ) × AreFirstRanks l.rank seen × AreNearestAmong l.fn.query l.fn.map.lines seen l.fn.count l.nearest.items
+invariant-loop-rank l = (seen : List ℕ) × AreFirstRanks l.rank seen
+    × AreNearestAmong l.fn.query l.fn.map.lines seen l.fn.count l.nearest.items

@@ -7,7 +7,8 @@ use Rattle.olr_candidates.proofs.nearest.index_for.Given as goal
 abbrev pub invariant-loop-index : goal.invariant-loop-index
 invariant-loop-index l = record {
   within : l.index ≤ length l.fn.list;
-  behind : (k : ℕ) (d : NearLine) → l.index ≤ k → k < length l.fn.list → IsNearer l.fn.near (get_or l.fn.list k d);
+  behind : (k : ℕ) (d : NearLine) → l.index ≤ k → k < length l.fn.list
+      → IsNearer l.fn.near (get_or l.fn.list k d);
 }
 
 abbrev pub decreases-loop-index : goal.decreases-loop-index

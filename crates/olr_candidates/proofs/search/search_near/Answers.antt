@@ -17,21 +17,25 @@ loop-rank-init c = (
 pub add_line-requires : goal.add_line-requires
 add_line-requires c =
     let seen = c.loop-rank.invariant.0 in
-    let near : IsNear c.args.query.now c.args.map.now.lines c.args.query.now.tolerances.radius (seen ++ c.in-Some.rank ∷ c.next.new.self) =
+    let near : IsNear c.args.query.now c.args.map.now.lines c.args.query.now.tolerances.radius
+    (seen ++ c.in-Some.rank ∷ c.next.new.self) =
     rw (← c.in-Some.ensures.steps) c.loop-rank.invariant.1 in
     rank_within _ _ _ _ _ near.meeting
 
 pub returns-in_err-add_line : goal.returns-in_err-add_line
 returns-in_err-add_line c =
     let seen = c.loop-rank.invariant.0 in
-    let near : IsNear c.args.query.now c.args.map.now.lines c.args.query.now.tolerances.radius (seen ++ c.in-Some.rank ∷ c.next.new.self) =
+    let near : IsNear c.args.query.now c.args.map.now.lines c.args.query.now.tolerances.radius
+    (seen ++ c.in-Some.rank ∷ c.next.new.self) =
     rw (← c.in-Some.ensures.steps) c.loop-rank.invariant.1 in
-    rw c.from_residual.ensures (c.in_err-add_line.ensures seen c.loop-rank.invariant.2 (not_seen _ _ _ near.meeting.once))
+    rw c.from_residual.ensures (c.in_err-add_line.ensures seen c.loop-rank.invariant.2
+    (not_seen _ _ _ near.meeting.once))
 
 pub loop-rank-preserved : goal.loop-rank-preserved
 loop-rank-preserved c =
     let seen = c.loop-rank.invariant.0 in
-    let near : IsNear c.args.query.now c.args.map.now.lines c.args.query.now.tolerances.radius (seen ++ c.in-Some.rank ∷ c.next.new.self) =
+    let near : IsNear c.args.query.now c.args.map.now.lines c.args.query.now.tolerances.radius
+    (seen ++ c.in-Some.rank ∷ c.next.new.self) =
     rw (← c.in-Some.ensures.steps) c.loop-rank.invariant.1 in (
       seen ++ c.in-Some.rank ∷ [],
       rw append_assoc near,
@@ -41,15 +45,21 @@ loop-rank-preserved c =
 pub returns : goal.returns
 returns c =
     let seen = c.loop-rank.invariant.0 in
-    let near : IsNear c.args.query.now c.args.map.now.lines c.args.query.now.tolerances.radius seen =
+    let near =
     subst (λ l. IsNear c.args.query.now c.args.map.now.lines c.args.query.now.tolerances.radius l)
     (cc (c.in-None.ensures.steps.0, append-nil seen)) c.loop-rank.invariant.1 in
-    let here : IsInRange (coordinates_of c.args.query.now.point.at) = record { lon = c.args.query.now.point.at.lon_in_range; lat = c.args.query.now.point.at.lat_in_range } in
+    let here : IsInRange (coordinates_of c.args.query.now.point.at) =
+    record {
+      lon = c.args.query.now.point.at.lon_in_range;
+      lat =
+          c.args.query.now.point.at.lat_in_range;
+    } in
     found_all _ _ _ _ c.loop-rank.invariant.2
     (λ rank candidate at. near.meeting.each rank (
       at.0,
       at.1,
-      meets_window c.foot_on_segment.ensures.x c.foot_on_segment.ensures.y c.no_shorter_than_east.ensures c.no_shorter_than_north.ensures _ _ _ _ _ near.covers here
+      meets_window c.foot_on_segment.ensures.x c.foot_on_segment.ensures.y
+          c.no_shorter_than_east.ensures c.no_shorter_than_north.ensures _ _ _ _ _ near.covers here
           (sound_at _ _ _ _ c.near_lines-rank-items.ensures.sound.lines.each at.1).inside
           at.2.is_projection.nearest (omega arith),
     ))

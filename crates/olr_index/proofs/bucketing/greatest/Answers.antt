@@ -8,4 +8,4 @@ returns-clause-at_least c = λ k inside.
     let keys = c.args.keys.now in
     let last = length keys - 1 in
     rw (← (get_or_from_slice_get keys last c.in-Some.field-0.now 0 (sym c.in-Some.ensures.value)))
-    (rises keys c.requires.rise k last (omega arith) (omega arith))
+    (rises _ c.requires.rise k _ (omega arith) (omega arith))

@@ -14,7 +14,8 @@ returns-then-not-is_new c =
 pub loop-place-preserved : goal.loop-place-preserved
 loop-place-preserved c =
     one_more_known _ _ _ _ c.loop-place.invariant c.loop-place-test.true
-    (not-true _ (sym c.in_ok-is_new.ensures.added ∙ c.if-not-is_new.false)) c.in_ok-is_new.ensures.updates
+    (not-true _ (sym c.in_ok-is_new.ensures.added ∙ c.if-not-is_new.false))
+    c.in_ok-is_new.ensures.updates
 
 pub returns : goal.returns
 returns c = all_known _ _ _ c.loop-place.invariant c.loop-place-test.false

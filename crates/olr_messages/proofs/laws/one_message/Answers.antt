@@ -1,4 +1,3 @@
-use Rattle.olr_messages.specs.Lines.{record_of}
 use Rattle.olr_messages.proofs.Once.{message_once}
 use Rattle.olr_messages.proofs.laws.one_message.Goals as goal
 

@@ -6,4 +6,5 @@ pub returns-in_default : goal.returns-in_default
 returns-in_default c = λ lon spelled. c.in_default.ensures lon None (whole_begins _ _ _ spelled)
 
 pub returns-in-Some-rest : goal.returns-in-Some-rest
-returns-in-Some-rest c = λ lon spelled. none_with_more _ _ _ _ _ c.in-Some-rest.is (inl (omega arith)) c.in-Some.ensures spelled.number
+returns-in-Some-rest c = λ lon spelled. none_with_more _ _ _ _ _ c.in-Some-rest.is
+    (inl (omega arith)) c.in-Some.ensures spelled.number

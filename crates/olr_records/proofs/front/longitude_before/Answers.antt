@@ -1,13 +1,16 @@
-use Rattle.std.proofs.Common.{rules, ℤ, subst}
+use Rattle.std.proofs.Common.{rules}
 use Rattle.olr_records.specs.Amount.{IsAmount}
 use Rattle.olr_records.proofs.Signs.{begins_once}
 use Rattle.olr_records.proofs.front.longitude_before.Goals as goal
 
 pub returns-in_default : goal.returns-in_default
-returns-in_default c = λ lon rest begins. c.in_default.ensures lon rest (record { front = begins.front; whole = begins.whole; spelled = begins.spelled.number })
+returns-in_default c = λ lon rest begins. c.in_default.ensures lon rest
+    (record { front = begins.front; whole = begins.whole; spelled = begins.spelled.number })
 
 pub returns-in_default-narrowed : goal.returns-in_default-narrowed
 returns-in_default-narrowed c = λ lon rest begins.
-    let same = begins_once _ _ _ _ _ _ c.requires (record { front = begins.front; whole = begins.whole; spelled = begins.spelled.number }) c.in-Some.ensures in
+    let same = begins_once _ _ _ _ _ _ c.requires
+    (record { front = begins.front; whole = begins.whole; spelled = begins.spelled.number })
+    c.in-Some.ensures in
     let none : IsAmount 180000000 c.in-Some.value → ⊥ = search rules in
     none (rw (← same.0) (begins.spelled.range.west, begins.spelled.range.east))

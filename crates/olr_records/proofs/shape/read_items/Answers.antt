@@ -1,9 +1,9 @@
-use Rattle.std.proofs.Common.{ℕ, List, [], ◌∷◌, Option, Bor, option_map, map, subst, sym, refl, arith}
+use Rattle.std.proofs.Common.{ℕ, List, [], ◌∷◌, Option, Bor, option_map, subst, refl, arith}
 use Rattle.std.proofs.lemmas.List.{map-append, length-append}
-use Rattle.olr_metric.specs.Coordinates.{Coordinates, coordinates_of}
+use Rattle.olr_metric.specs.Coordinates.{coordinates_of}
 use Rattle.olr_records.specs.Front.{Begins}
 use Rattle.olr_records.specs.Shape.{IsItem}
-use Rattle.olr_records.proofs.Items.{Continues, at_start, one_more_item, no_item}
+use Rattle.olr_records.proofs.Items.{at_start, one_more_item, no_item}
 use Rattle.olr_records.proofs.shape.read_items.Goals as goal
 
 pub loop-init : goal.loop-init
@@ -15,7 +15,13 @@ returns-in_default c = λ places are. no_item _ _ c.loop.invariant.1 c.in_defaul
 pub loop-preserved : goal.loop-preserved
 loop-preserved c =
     let items = c.in_ok-push.ensures.items in
-    let begins = subst (λ (part : Option (Bor (List ℕ))). Begins (λ front. IsItem front (coordinates_of c.in-Some.place)) 59 c.loop.rest.now (option_map (λ part. part.now) part))
+    let begins = subst (λ (part : Option (Bor (List ℕ))). Begins
+    (λ front. IsItem front (coordinates_of c.in-Some.place)) 59 c.loop.rest.now
+    (option_map (λ part. part.now) part))
     c.in-Some-others.is c.in-Some.ensures in
     let more = one_more_item _ _ _ _ _ c.loop.invariant.1 begins in
-    rw items (omega (arith, length-append c.loop.shape.items (c.in-Some.place ∷ [])), rw (map-append coordinates_of c.loop.shape.items (c.in-Some.place ∷ [])) more)
+    rw items (
+      omega (arith, length-append c.loop.shape.items (c.in-Some.place ∷ [])),
+      rw
+          (map-append coordinates_of c.loop.shape.items (c.in-Some.place ∷ [])) more,
+    )

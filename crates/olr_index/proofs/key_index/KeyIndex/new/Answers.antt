@@ -6,7 +6,8 @@ use Rattle.olr_index.proofs.key_index.KeyIndex.new.Goals as goal
 pub invariant_of-result : goal.invariant_of-result
 invariant_of-result g c =
     let items = c.args.items.items in
-    let keys : c.in_ok-keys.keys.items ≡ map g.T.Keyed.key_of items = cc (c.in_ok-keys.ensures, c.deref.ensures.value) in
+    let keys : c.in_ok-keys.keys.items ≡ map g.T.Keyed.key_of items =
+    cc (c.in_ok-keys.ensures, c.deref.ensures.value) in
     index_of _ _ _ _
     c.requires.rise
     (omega (arith, length-map items g.T.Keyed.key_of))

@@ -6,7 +6,8 @@ pub returns-in_err-block-clause-steps : goal.returns-in_err-block-clause-steps
 returns-in_err-block-clause-steps c =
     rw c.from_residual.ensures
     (over _ _ _ _ _
-    c.loop-rank.invariant.covered c.in_err-block.ensures.cases c.in_default.ensures c.loop-rank.invariant.left)
+    c.loop-rank.invariant.covered c.in_err-block.ensures.cases c.in_default.ensures
+    c.loop-rank.invariant.left)
 
 pub loop-rank-preserved : goal.loop-rank-preserved
 loop-rank-preserved c =

@@ -6,7 +6,8 @@ use Rattle.olr_index.proofs.window.WindowIterator.next.Given as goal
 abbrev pub invariant-loop-rank : goal.invariant-loop-rank
 invariant-loop-rank l = record {
   covered : AreBlocks 64 l.self-inside.next_lines.now l.self-inside.next_blocks.now;
-  left : ranks_in l.self-inside.bounds l.self-inside.at_hand.now ++ ranks_in l.self-inside.bounds l.self-inside.next_lines.now ≡ l.fn.self;
+  left : ranks_in l.self-inside.bounds l.self-inside.at_hand.now
+      ++ ranks_in l.self-inside.bounds l.self-inside.next_lines.now ≡ l.fn.self;
 }
 
 abbrev pub decreases-loop-rank : goal.decreases-loop-rank

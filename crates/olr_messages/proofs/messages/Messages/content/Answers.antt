@@ -9,4 +9,5 @@ pub returns : goal.returns
 returns c line is =
     let message = message_of c.content_of_line.result in
     let front = c.deref.ensures.value ∙ ap (λ (r : Reading). r.front) c.self.view_is ∙ is in
-    message_of_front _ _ (subst (λ (l : List ℕ). IsMessage (record_of l) message) front c.content_of_line.ensures)
+    message_of_front _ _ (subst (λ (l : List ℕ). IsMessage (record_of l) message) front
+    c.content_of_line.ensures)

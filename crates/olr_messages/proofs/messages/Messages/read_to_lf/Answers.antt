@@ -1,6 +1,6 @@
-use Rattle.std.proofs.Common.{List, ℕ, ◌+◌, ◌≤◌, ◌++◌, ◌∷◌, length, take, ap, sym, ◌∙◌, subst, arith}
+use Rattle.std.proofs.Common.{List, ℕ, ◌+◌, ◌≤◌, ◌++◌, ◌∷◌, length, take, ap, sym, ◌∙◌, arith}
 use Rattle.std.specs.Prelude.{slice_range}
-use Rattle.olr_messages.specs.Messages.{HasNoLf, Reading, front_of}
+use Rattle.olr_messages.specs.Messages.{Reading, front_of}
 use Rattle.olr_messages.proofs.Chunks.{behind_lf, lf_found, no_lf_before, no_lf_found, none_at_hand, rest_at_hand}
 use Rattle.olr_messages.proofs.Fronts.{front_short}
 use Rattle.olr_messages.proofs.messages.Messages.read_to_lf.Goals as goal
@@ -21,7 +21,8 @@ pub returns-in_default : goal.returns-in_default
 returns-in_default c =
     let it = c.self.inside in
     let hand = slice_range c.deref.result.now it.from it.to in
-    let old_hand = ap (λ (l : List ℕ). slice_range l it.from it.to) c.deref.ensures.value ∙ ap (λ (r : Reading). r.at_hand) c.self.view_is in
+    let old_hand = ap (λ (l : List ℕ). slice_range l it.from it.to) c.deref.ensures.value
+    ∙ ap (λ (r : Reading). r.at_hand) c.self.view_is in
     let old_front = ap (λ (r : Reading). r.front) c.self.view_is in
     record {
       none_at_hand = none_at_hand it.chunk.items it.to;
@@ -49,15 +50,19 @@ returns c =
     let it = c.self.inside in
     let end = c.in-Some.end in
     let hand = slice_range c.deref.result.now it.from it.to in
-    let old_hand = ap (λ (l : List ℕ). slice_range l it.from it.to) c.deref.ensures.value ∙ ap (λ (r : Reading). r.at_hand) c.self.view_is in
+    let old_hand = ap (λ (l : List ℕ). slice_range l it.from it.to) c.deref.ensures.value
+    ∙ ap (λ (r : Reading). r.at_hand) c.self.view_is in
     let old_front = ap (λ (r : Reading). r.front) c.self.view_is in
-    let inside : it.to ≤ length c.deref.result.now = rw c.deref.ensures.value c.self.invariant.inside in
+    let inside : it.to ≤ length c.deref.result.now =
+    rw c.deref.ensures.value c.self.invariant.inside in
     let behind = behind_lf _ c.self.invariant.ordered inside c.in-Some.ensures.0.high in
     let rest =
-    rest_at_hand _ _ _ _ behind ∙ ap (λ (l : List ℕ). slice_range l (it.from + (end + 1)) it.to) c.deref.ensures.value in
+    rest_at_hand _ _ _ _ behind ∙ ap (λ (l : List ℕ). slice_range l (it.from + (end + 1)) it.to)
+    c.deref.ensures.value in
     record {
       part = take end hand;
-      split = sym old_hand ∙ lf_found _ _ c.in-Some.ensures.0 c.in-Some.ensures.1 ∙ ap (λ (l : List ℕ). take end hand ++ 10 ∷ l) rest;
+      split = sym old_hand ∙ lf_found _ _ c.in-Some.ensures.0 c.in-Some.ensures.1
+          ∙ ap (λ (l : List ℕ). take end hand ++ 10 ∷ l) rest;
       no_lf = no_lf_before _ _ c.in-Some.ensures.0;
       front = c.hold-2.ensures.front ∙ ap (λ (l : List ℕ). front_of (l ++ take end hand)) old_front;
     }

@@ -13,7 +13,8 @@ invariant_of-self-2 c = λ goes.
     let plain = c.self.invariant c.if-self.false in
     let h = c.in-Ok.ensures in
     let step = read_one _ _ _ (fields_of c.read_byte_record.new.row) plain
-    (h.reads plain.untrimmed (plain_ready c.self.inside.reader plain)) (h.ready plain.untrimmed) h.goes h.flexible in
+    (h.reads plain.untrimmed (plain_ready c.self.inside.reader plain)) (h.ready plain.untrimmed)
+    h.goes h.flexible in
     step.0 (found_if _ goes)
 
 pub returns-clause-found : goal.returns-clause-found
@@ -21,6 +22,7 @@ returns-clause-found c =
     let plain = c.self.invariant c.if-self.false in
     let h = c.in-Ok.ensures in
     let step = read_one _ _ _ _ plain
-    (h.reads plain.untrimmed (plain_ready c.self.inside.reader plain)) (h.ready plain.untrimmed) h.goes h.flexible in
+    (h.reads plain.untrimmed (plain_ready c.self.inside.reader plain)) (h.ready plain.untrimmed)
+    h.goes h.flexible in
     after_read _ _ _ _
     _ c.if-self.false c.self.view_is step.1
