@@ -24,7 +24,7 @@ pub pages-smaller : goal.pages-smaller
 pages-smaller g c =
     fewer_left _ _ c.pages.invariant.0 None
     _ _ _ c.keys-count.ensures.keys _ _ c.deref.ensures.value c.last_key.ensures c.pages.invariant.1
-    (g.met.F.Finder.rise c.args.finder.now) _ c.in_ok-page.ensures.page _ c.in_ok-push.ensures.items c.keys-count.ensures.at_least c.if-not-more.false
+    (g.met.F.Finder.rise c.args.finder.now) _ c.in_ok-page.ensures.page _ c.in_ok-push.ensures.items c.if-not-more.false
 
 pub pages-preserved : goal.pages-preserved
 pages-preserved g c = (
