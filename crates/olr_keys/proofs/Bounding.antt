@@ -70,7 +70,7 @@ module _ (p : Penalties) {second : ℕ} (layer rank penalty : ℕ) where
         λ other (leg', rest, joined', on', sum'). omega (
           arith,
           least rest on',
-          same_some _ leg' leg joined' joined,
+          same_some leg' leg joined' joined,
         ),
       )
 

@@ -19,8 +19,8 @@ use Rattle.olr_keys.specs.Laws.{SizesAgree}
 pub one_rest : (answers : List KeyValue) (after : Option KeyValue) {a b : List KeyValue} → AllPairs IsBefore answers → IsRestAfter answers after a → IsRestAfter answers after b → a ≡ b
 one_rest answers after rise one other =
     same_list IsBefore asymmetric _ _ (rest_rises_too _ rise _ _ one) (rest_rises_too _ rise _ _ other)
-    (λ key there. let is = in_answers _ rise _ _ _ one there in in_rest _ rise _ _ _ other is.0 is.1)
-    (λ key there. let is = in_answers _ rise _ _ _ other there in in_rest _ rise _ _ _ one is.0 is.1)
+    (λ key there. let is = in_answers _ rise _ _ one there in in_rest _ rise _ _ _ other is.0 is.1)
+    (λ key there. let is = in_answers _ rise _ _ other there in in_rest _ rise _ _ _ one is.0 is.1)
 
 -- ---- the last key
 
@@ -52,8 +52,8 @@ short_rest rest size page is last = elim (cases_lt size (length rest)) [
   | inr at_most ↦ at_most
 ]
 
-page_and_rest : (rest : List KeyValue) (size : ℕ) {page : PageValue} → IsPageOf rest size page → page.keys ++ drop size rest ≡ rest
-page_and_rest rest size is = ap (λ (l : List KeyValue). l ++ drop size rest) is.keys ∙ take-append-drop _ _
+page_and_rest : {rest : List KeyValue} {size : ℕ} {page : PageValue} → IsPageOf rest size page → page.keys ++ drop size rest ≡ rest
+page_and_rest {rest} {size} is = ap (λ (l : List KeyValue). l ++ drop size rest) is.keys ∙ take-append-drop _ _
 
 module _ (answers : List KeyValue) (size : ℕ) (rise : AllPairs IsBefore answers) where
   pub pages_join : (after : Option KeyValue) (pages : List PageValue) → AreResumed answers after size pages → AreEnded pages → IsRestAfter answers after (joined pages)
@@ -65,7 +65,7 @@ module _ (answers : List KeyValue) (size : ℕ) (rise : AllPairs IsBefore answer
       ) in
       rw all first.is_rest
   pages_join after (page ∷ next ∷ pages) (first, resumed) (more, ended) =
-      let parts : page.keys ++ drop size first.rest ≡ first.rest = page_and_rest _ _ first.is_page in
+      let parts : page.keys ++ drop size first.rest ≡ first.rest = page_and_rest first.is_page in
       let left : IsRestAfter answers (last_of after page.keys) (drop size first.rest) =
       after_keys _ _ page.keys (drop size first.rest) (rw parts first.is_rest) in
       let same : joined (next ∷ pages) ≡ drop size first.rest =
@@ -114,7 +114,7 @@ module _ (answers : List KeyValue) (after : Option KeyValue) (size : ℕ) (pages
       let some : 1 ≤ length page.keys = omega (arith, ap (λ (l : List KeyValue). length l) is_page.keys, length-take size so_far.left) in
       let position : last_of (last_key_of after pages) page.keys ≡ last_key_of after (pages ++ page ∷ []) =
       last_of_some _ after _ some ∙ sym (last_key_more after pages page) in
-      let parts : page.keys ++ drop size so_far.left ≡ so_far.left = page_and_rest _ _ is_page in
+      let parts : page.keys ++ drop size so_far.left ≡ so_far.left = page_and_rest is_page in
       record {
         left = drop size so_far.left;
         rest = rw (← position) (after_keys _ _ page.keys (drop size so_far.left) (rw parts so_far.rest));
@@ -134,7 +134,7 @@ module _ (answers : List KeyValue) (after : Option KeyValue) (size : ℕ) (pages
 
 -- ---- the same for what calls answer
 
-module _ (now answers : List KeyValue) (same : now ≡ answers) (after position : Option KeyValue) (size count : ℕ) (counted : count ≡ size) (pages items : List Page) (are : items ≡ pages)
+module _ {now answers : List KeyValue} (same : now ≡ answers) {position : Option KeyValue} (after : Option KeyValue) {size count : ℕ} (counted : count ≡ size) {pages items : List Page} (are : items ≡ pages)
     (at : position ≡ last_key_of after (map page_of items)) (so_far : IsChainSoFar answers after size (map page_of pages)) where
   position_is : position ≡ last_key_of after (map page_of pages)
   position_is = cc
@@ -143,7 +143,7 @@ module _ (now answers : List KeyValue) (same : now ≡ answers) (after position 
   position_found =
       rw position_is (rw same (position_within _ _ so_far.left so_far.rest))
 
-  module _ (rise : AllPairs IsBefore answers) (page : Page) (next : IsPageAfter now position count (page_of page)) (grown : List Page) (grows : grown ≡ pages ++ page ∷ []) where
+  module _ (rise : AllPairs IsBefore answers) (page : Page) (next : IsPageAfter now position count (page_of page)) {grown : List Page} (grows : grown ≡ pages ++ page ∷ []) where
     next_page : IsPageAfter answers (last_key_of after (map page_of pages)) size (page_of page)
     next_page =
         rw (← same) (rw (← position_is) (rw (← counted) next))

@@ -42,15 +42,15 @@ completion_at_most p layer before (rank ∷ ranks) sound (leg, penalty, rest, jo
 
 -- ---- one total
 
-pub same_some : {X : Type 0} (o : Option X) (x y : X) → o ≡ Some x → o ≡ Some y → x ≡ y
-same_some o x y one other = cc
+pub same_some : {X : Type 0} {o : Option X} (x y : X) → o ≡ Some x → o ≡ Some y → x ≡ y
+same_some x y one other = cc
 
 pub one_total : (p : Penalties) (layer : ℕ) (before : Option ℕ) (ranks : List ℕ) (a b : ℕ) → IsCompletion p layer before ranks a → IsCompletion p layer before ranks b → a ≡ b
 one_total p layer before [] a b one other = omega arith
 one_total p layer before (rank ∷ ranks) a b (leg, penalty, rest, joined, there, later, sum) (leg', penalty', rest', joined', there', later', sum') = omega (
   arith,
-  same_some _ leg leg' joined joined',
-  same_some _ penalty penalty' there there',
+  same_some leg leg' joined joined',
+  same_some penalty penalty' there there',
   one_total p (layer + 1) (Some rank) ranks rest rest' later later',
 )
 

@@ -28,9 +28,9 @@ pub record HasParts (key : KeyValue) (mark : Option Mark) (front digits : List �
   pub digits_are : digits ≡ hexadecimal its.0
 
 pub parts_of : {text front digits : List ℕ} → IsCut 64 text front digits → {key : KeyValue} (mark : Option Mark) → IsCursorOf key mark text → HasParts key mark front digits
-parts_of cut None cursor = absurd (not_cut _ _ _ _ (lacks_key _ cursor.in_range) (sym cursor.same ∙ cut.whole))
+parts_of cut None cursor = absurd (not_cut _ _ _ _ (lacks_key cursor.in_range) (sym cursor.same ∙ cut.whole))
 parts_of cut (Some mark) cursor =
-    let parts = one_cut _ _ _ _ _ cut.lacks (lacks_key _ cursor.in_range) (cc (at_sign _ _)) in
+    let parts = one_cut _ _ _ _ cut.lacks (lacks_key cursor.in_range) (cc (at_sign _ _)) in
     record { its = mark; is = refl; is_mark = cursor.is_mark; key_is = parts.0; digits_are = parts.1 }
 
 -- ---- cursors have one text
@@ -39,15 +39,15 @@ same_mark : {mark mark' : Mark} → mark.0 ≡ mark'.0 → Some mark ≡ Some ma
 same_mark same = ap (λ (bytes : List ℕ). Some (record { 0 = bytes })) same
 
 pub one_cursor : OneCursor
-one_cursor text key key' None None one other = (one_key _ _ one.in_range other.in_range (cc), refl)
+one_cursor text key key' None None one other = (one_key one.in_range other.in_range (cc), refl)
 one_cursor text key key' None (Some mark') one other =
-    absurd (not_cut _ _ _ _ (lacks_key _ one.in_range) (sym one.same ∙ other.same ∙ at_sign _ _))
+    absurd (not_cut _ _ _ _ (lacks_key one.in_range) (sym one.same ∙ other.same ∙ at_sign _ _))
 one_cursor text key key' (Some mark) None one other =
-    absurd (not_cut _ _ _ _ (lacks_key _ other.in_range) (sym other.same ∙ one.same ∙ at_sign _ _))
+    absurd (not_cut _ _ _ _ (lacks_key other.in_range) (sym other.same ∙ one.same ∙ at_sign _ _))
 one_cursor text key key' (Some mark) (Some mark') one other =
-    let parts = one_cut _ _ _ _ _ (lacks_key _ one.in_range) (lacks_key _ other.in_range)
+    let parts = one_cut _ _ _ _ (lacks_key one.in_range) (lacks_key other.in_range)
     (cc (at_sign _ _)) in
-    (one_key _ _ one.in_range other.in_range parts.0, same_mark (one_bytes _ _ one.is_mark.bytes other.is_mark.bytes parts.1))
+    (one_key one.in_range other.in_range parts.0, same_mark (one_bytes _ _ one.is_mark.bytes other.is_mark.bytes parts.1))
 
 abbrev read_as : KeyValue → Option Mark → Result CursorRead BadCursor
 read_as key mark = Ok record { key = key; mark = mark }

@@ -23,7 +23,7 @@ module _ (p : Penalties) (layer : ℕ) (before : Option ℕ) {own : ℕ} (rest :
   own_inside = let (left, step, on) = step_of_completion _ _ _ _ _ _ cursor_completion in step_inside _ 0 _ _ _ step
 
   pub own_layer : layer < length p.candidates
-  own_layer = let (left, step, on) = step_of_completion _ _ _ _ _ _ cursor_completion in step_layer _ _ _ _ _ _ step
+  own_layer = let (left, step, on) = step_of_completion _ _ _ _ _ _ cursor_completion in step_layer step
 
   pub own_step : ((left : ℕ) → IsStep p layer before own rest left → ⊥) → ⊥
   own_step none = let (left, step, on) = step_of_completion _ _ _ _ _ _ cursor_completion in none left step

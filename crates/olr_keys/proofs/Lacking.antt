@@ -13,8 +13,8 @@ pub record Lacks (byte : ℕ) (text : List ℕ) : Type 0 where
   pub each : All (λ (other : ℕ). other ≢ byte) text
 
 -- a number in decimal has no other bytes than digits
-pub lacks_decimal : (byte n : ℕ) → (48 ≤ byte → 57 < byte) → n < 2 ^ 64 → Lacks byte (decimal n)
-lacks_decimal byte n other small = record {
+pub lacks_decimal : {byte n : ℕ} → (48 ≤ byte → 57 < byte) → n < 2 ^ 64 → Lacks byte (decimal n)
+lacks_decimal {n} other small = record {
   each = λ i d inside same.
       let numeral = decimal_is_IsNumeral n small in
       let digit = digit_at (decimal n) i numeral.0.1 inside in
@@ -22,14 +22,14 @@ lacks_decimal byte n other small = record {
 }
 
 -- a text is cut in one way at the first of a byte
-pub one_cut : (byte : ℕ) (front later front' later' : List ℕ) → Lacks byte front → Lacks byte front' → front ++ byte ∷ later ≡ front' ++ byte ∷ later'
+pub one_cut : {byte : ℕ} (front later front' later' : List ℕ) → Lacks byte front → Lacks byte front' → front ++ byte ∷ later ≡ front' ++ byte ∷ later'
     → (front ≡ front') × (later ≡ later')
-one_cut byte [] later [] later' lacks lacks' same = (refl, cc)
-one_cut byte [] later (first ∷ front') later' lacks lacks' same = let is : first ≡ byte = cc in absurd (lacks'.each 0 0 (omega arith) is)
-one_cut byte (first ∷ front) later [] later' lacks lacks' same = let is : first ≡ byte = cc in absurd (lacks.each 0 0 (omega arith) is)
-one_cut byte (first ∷ front) later (first' ∷ front') later' lacks lacks' same =
+one_cut [] later [] later' lacks lacks' same = (refl, cc)
+one_cut {byte} [] later (first ∷ front') later' lacks lacks' same = let is : first ≡ byte = cc in absurd (lacks'.each 0 0 (omega arith) is)
+one_cut {byte} (first ∷ front) later [] later' lacks lacks' same = let is : first ≡ byte = cc in absurd (lacks.each 0 0 (omega arith) is)
+one_cut {byte} (first ∷ front) later (first' ∷ front') later' lacks lacks' same =
     let others : front ++ byte ∷ later ≡ front' ++ byte ∷ later' = cc in
-    let rest : (front ≡ front') × (later ≡ later') = one_cut _ _ _ _ _ (record { each = All-tail (λ (other : ℕ). other ≢ byte) first _ lacks.each }) (record { each = All-tail (λ (other : ℕ). other ≢ byte) first' _ lacks'.each }) others in
+    let rest : (front ≡ front') × (later ≡ later') = one_cut _ _ _ _ (record { each = All-tail (λ (other : ℕ). other ≢ byte) first _ lacks.each }) (record { each = All-tail (λ (other : ℕ). other ≢ byte) first' _ lacks'.each }) others in
     let front_is : front ≡ front' = rest.0 in (cc, rest.1)
 
 -- a text that lacks a byte isn't one that is cut at it

@@ -28,11 +28,11 @@ use Rattle.olr_keys.specs.Laws.{OneList, HasList}
 
 -- ---- at most one
 
-contained : (p : Penalties) (a b : List KeyValue) → AreAnswers p a → AreAnswers p b → (key : KeyValue) → Contains a key → Contains b key
-contained p a b one other key there = other.each key (All-contains (IsKey p) a _ one.only there)
+contained : {p : Penalties} {a b : List KeyValue} → AreAnswers p a → AreAnswers p b → (key : KeyValue) → Contains a key → Contains b key
+contained {p} {a} one other key there = other.each key (All-contains (IsKey p) a _ one.only there)
 
 pub one_list : OneList
-one_list p a b one other = same_list IsBefore asymmetric _ _ one.rise other.rise (contained _ _ _ one other) (contained _ _ _ other one)
+one_list p a b one other = same_list IsBefore asymmetric _ _ one.rise other.rise (contained one other) (contained other one)
 
 -- ---- in order
 
@@ -102,21 +102,21 @@ within_map f (y ∷ xs) x there = elim (member y _ x there) [
   | inr later ↦ further (f y) _ (f x) (within_map f xs x later)
 ]
 
-from_completions_with : (leg penalty : Option ℕ) (rank : ℕ) (later : List KeyValue) (z : KeyValue) → Contains (completions_with leg penalty rank later) z
+from_completions_with : (leg penalty : Option ℕ) {rank : ℕ} (later : List KeyValue) {z : KeyValue} → Contains (completions_with leg penalty rank later) z
     → (l : ℕ) × (q : ℕ) × (key : KeyValue) × (leg ≡ Some l) × (penalty ≡ Some q) × Contains later key × (longer l q rank key ≡ z)
 unfolding completions_with
-from_completions_with None penalty rank later z there = absurd (omega arith)
-from_completions_with (Some l) None rank later z there = absurd (omega arith)
-from_completions_with (Some l) (Some q) rank later z there = let found = from_map _ _ z there in (l, q, found.0, refl, refl, found.1, found.2)
+from_completions_with None penalty later there = absurd (omega arith)
+from_completions_with (Some l) None later there = absurd (omega arith)
+from_completions_with (Some l) (Some q) later {z} there = let found = from_map _ _ z there in (l, q, found.0, refl, refl, found.1, found.2)
 
-within_completions_with : (leg penalty : Option ℕ) (l q rank : ℕ) (later : List KeyValue) (key : KeyValue) → leg ≡ Some l → penalty ≡ Some q → Contains later key
+within_completions_with : (leg penalty : Option ℕ) {l q rank : ℕ} (later : List KeyValue) {key : KeyValue} → leg ≡ Some l → penalty ≡ Some q → Contains later key
     → Contains (completions_with leg penalty rank later) (longer l q rank key)
 unfolding completions_with
-within_completions_with None penalty l q rank later key joined found there = absurd cc
-within_completions_with (Some m) None l q rank later key joined found there = absurd cc
-within_completions_with (Some m) (Some r) l q rank later key joined found there =
-    let leg : m ≡ l = same_some _ _ _ refl joined in
-    let penalty : r ≡ q = same_some _ _ _ refl found in
+within_completions_with None penalty later joined found there = absurd cc
+within_completions_with (Some m) None later joined found there = absurd cc
+within_completions_with (Some m) (Some r) {l} {q} later {key} joined found there =
+    let leg : m ≡ l = same_some _ _ refl joined in
+    let penalty : r ≡ q = same_some _ _ refl found in
     rw (← leg) (rw (← penalty) (within_map _ _ key there))
 
 from_completions : (p : Penalties) (left layer : ℕ) (before : Option ℕ) (z : KeyValue) → layer + left ≡ length p.candidates → Contains (completions p left layer before) z → IsCompletion p layer before z.ranks z.total
@@ -128,7 +128,7 @@ from_completions p zero layer before z reaches there = elim (member (record { to
 from_completions p (suc left) layer before z reaches there =
     let in_list = from_lists _ _ z there in
     let rank : ℕ = in_list.0 in
-    let with_rank = from_completions_with _ _ _ _ _ in_list.1 in
+    let with_rank = from_completions_with _ _ _ in_list.1 in
     let later = from_completions p left (layer + 1) (Some rank) with_rank.2 (omega arith) with_rank.5 in
     rw (← with_rank.6) (with_rank.0, with_rank.1, with_rank.2.total, with_rank.3, with_rank.4, later, refl)
 
@@ -145,7 +145,7 @@ within_completions p zero layer before (rank ∷ ranks) total reaches (leg, pena
 within_completions p (suc left) layer before [] total reaches completion = absurd (omega arith)
 within_completions p (suc left) layer before (rank ∷ ranks) total reaches (leg, penalty, rest, joined, there, later, sum) =
     let inside = rank_inside p layer _ _ there in
-    let found = within_completions_with _ _ _ _ _ _ _ joined there
+    let found = within_completions_with _ _ _ joined there
     (within_completions p left (layer + 1) (Some rank) ranks rest (omega arith) later) in
     rw sum (within_lists _ _ (record { total = leg + penalty + rest; ranks = rank ∷ ranks }) _ inside.0 inside.1 found)
 

@@ -176,9 +176,9 @@ last_row p layer rank penalty last there =
 
 -- ---- the rows of a layer
 
-pub next_row : (p : Penalties) (layer : ℕ) (rows : List (Vec ℕ)) (index : ℕ) (row : Vec ℕ) → AreRowsOf p layer (rows_of rows) → index < length rows → row ≡ get_or rows index row
+pub next_row : {p : Penalties} (layer : ℕ) (rows : List (Vec ℕ)) {index : ℕ} {row : Vec ℕ} → AreRowsOf p layer (rows_of rows) → index < length rows → row ≡ get_or rows index row
     → IsRowOf (IsRemainingTotal p layer (index + 1)) (width_of p) row.items
-next_row p layer rows index row they inside is =
+next_row layer rows {index} {row} they inside is =
     let items : Vec ℕ → List ℕ = λ v. v.items in
     let here : slice_index_or (rows_of rows) index [] ≡ row.items = cc (get_or-map items rows index row [] inside) in
     rw (← here) (they.each index (omega (arith, length-map rows items)))

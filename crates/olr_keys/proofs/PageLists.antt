@@ -68,9 +68,9 @@ module _ (answers : List KeyValue) (rise : AllPairs IsBefore answers) where
       rest_rises IsBefore after _ (later_rises front (after ∷ rest) all)
 
   -- the members of the rest are the keys after the position
-  pub in_answers : (after : Option KeyValue) (rest : List KeyValue) (key : KeyValue) → IsRestAfter answers after rest → Contains rest key → Contains answers key × IsAfter after key
-  in_answers None rest key is there = (rw (← is) there, tt)
-  in_answers (Some after) rest key (front, is) there =
+  pub in_answers : (after : Option KeyValue) (rest : List KeyValue) {key : KeyValue} → IsRestAfter answers after rest → Contains rest key → Contains answers key × IsAfter after key
+  in_answers None rest is there = (rw (← is) there, tt)
+  in_answers (Some after) rest {key} (front, is) there =
       let all : AllPairs IsBefore (front ++ after ∷ rest) = rw (← is) rise in (
         rw is (Contains-append_right front (after ∷ rest) _ (further after _ key there)),
         after_first IsBefore after _ (later_rises front (after ∷ rest) all) key there,
@@ -92,8 +92,8 @@ module _ (answers : List KeyValue) (rise : AllPairs IsBefore answers) where
   pub next_is : (after : Option KeyValue) (rest : List KeyValue) (found : Option KeyValue) → IsRestAfter answers after rest → IsNext answers after found → found ≡ slice_get rest 0
   next_is after [] None is next = refl
   next_is after [] (Some key) is next = let there = in_rest _ [] _ is next.0.0 next.0.1 in absurd (omega arith)
-  next_is after (first ∷ others) None is next = absurd (next first (in_answers _ _ _ is (here first _)))
-  next_is after (first ∷ others) (Some key) is next = elim (next.1 first (in_answers _ _ _ is (here first _))) [
+  next_is after (first ∷ others) None is next = absurd (next first (in_answers _ _ is (here first _)))
+  next_is after (first ∷ others) (Some key) is next = elim (next.1 first (in_answers _ _ is (here first _))) [
     | inl same ↦ ap Some (sym same)
     | inr before ↦ elim (member first _ key (in_rest _ _ _ is next.0.0 next.0.1)) [
       | inl same ↦ ap Some (sym same)

@@ -9,7 +9,7 @@ use Rattle.olr_keys.specs.Key.{IsRank}
 use Rattle.olr_keys.proofs.Lacking.{Lacks, IsCut, lacks_decimal, one_cut, not_cut}
 
 lacks_rank : {rank : ℕ} → IsRank rank → Lacks 46 (decimal rank)
-lacks_rank in_range = lacks_decimal _ _ (λ high. absurd (omega arith)) (omega arith)
+lacks_rank in_range = lacks_decimal (λ high. absurd (omega arith)) (omega arith)
 
 tail : {most rank next : ℕ} {more : List ℕ} → AreRanks most (rank ∷ next ∷ more) → AreRanks (most - 1) (next ∷ more)
 tail {rank} {next} {more} are = record { at_least = omega arith; at_most = omega arith; each = All-tail IsRank rank (next ∷ more) are.each }
@@ -35,27 +35,27 @@ head_of text piece rest most cut [] are same = absurd (omega arith)
 head_of text piece rest most cut (rank ∷ []) are same = absurd (not_cut _ _ _ _ (lacks_rank (are.each 0 0 (omega arith))) (sym same ∙ cut.whole))
 head_of text piece rest most cut (rank ∷ next ∷ more) are same =
     let in_range : IsRank rank = are.each 0 0 (omega arith) in
-    let parts = one_cut _ _ _ _ _ cut.lacks (lacks_rank in_range) (cc) in
+    let parts = one_cut _ _ _ _ cut.lacks (lacks_rank in_range) (cc) in
     record { rank = rank; others = next ∷ more; in_range = in_range; first = parts.0; later = parts.1; are = tail are }
 
 -- ranks have one text
-pub one_ranks : (most : ℕ) (a b : List ℕ) → AreRanks most a → AreRanks most b → ranks_text a ≡ ranks_text b → a ≡ b
-one_ranks most [] b are are' same = absurd (omega arith)
-one_ranks most (rank ∷ ranks) [] are are' same = absurd (omega arith)
-one_ranks most (rank ∷ []) (rank' ∷ []) are are' same =
+pub one_ranks : {most : ℕ} (a b : List ℕ) → AreRanks most a → AreRanks most b → ranks_text a ≡ ranks_text b → a ≡ b
+one_ranks [] b are are' same = absurd (omega arith)
+one_ranks (rank ∷ ranks) [] are are' same = absurd (omega arith)
+one_ranks (rank ∷ []) (rank' ∷ []) are are' same =
     let in_range : IsRank rank = are.each 0 0 (omega arith) in
     let in_range' : IsRank rank' = are'.each 0 0 (omega arith) in
     ap (λ (n : ℕ). n ∷ []) (decimal_injective _ _ (omega arith) (omega arith) same)
-one_ranks most (rank ∷ []) (rank' ∷ next' ∷ more') are are' same =
+one_ranks (rank ∷ []) (rank' ∷ next' ∷ more') are are' same =
     absurd (not_cut _ _ _ _ (lacks_rank (are.each 0 0 (omega arith))) same)
-one_ranks most (rank ∷ next ∷ more) (rank' ∷ []) are are' same =
+one_ranks (rank ∷ next ∷ more) (rank' ∷ []) are are' same =
     absurd (not_cut _ _ _ _ (lacks_rank (are'.each 0 0 (omega arith))) (sym same))
-one_ranks most (rank ∷ next ∷ more) (rank' ∷ next' ∷ more') are are' same =
+one_ranks {most} (rank ∷ next ∷ more) (rank' ∷ next' ∷ more') are are' same =
     let in_range : IsRank rank = are.each 0 0 (omega arith) in
     let in_range' : IsRank rank' = are'.each 0 0 (omega arith) in
-    let parts = one_cut _ _ _ _ _ (lacks_rank in_range) (lacks_rank in_range') same in
+    let parts = one_cut _ _ _ _ (lacks_rank in_range) (lacks_rank in_range') same in
     let first : rank ≡ rank' = decimal_injective _ _ (omega arith) (omega arith) parts.0 in
-    let others : next ∷ more ≡ next' ∷ more' = one_ranks (most - 1) (next ∷ more) (next' ∷ more') (tail are) (tail are') parts.1 in cc
+    let others : next ∷ more ≡ next' ∷ more' = one_ranks {most = most - 1} (next ∷ more) (next' ∷ more') (tail are) (tail are') parts.1 in cc
 
 fewer : {most count : ℕ} {ranks : List ℕ} → AreRanks most ranks → most ≡ count → AreRanks count ranks
 fewer are same = rw (← same) are

@@ -12,7 +12,7 @@ remaining_last p layer penalty last there = ([], (0, penalty, 0, refl, there, (l
 
 pub only_last : (p : Penalties) {rank total : ℕ} (layer penalty : ℕ) → layer + 1 ≡ length p.candidates → penalty_at p layer rank ≡ Some penalty → IsRemainingTotal p layer rank total → total ≡ penalty
 only_last p layer penalty last there ([], (leg, own, rest, joined, here, later, sum)) =
-    let none : 0 ≡ leg = cc in omega (arith, same_some _ own penalty here there)
+    let none : 0 ≡ leg = cc in omega (arith, same_some own penalty here there)
 only_last p layer penalty last there (second ∷ ranks, (leg, own, rest, joined, here, (leg', next, rest', joined', here', later, sum'), sum)) =
     absurd (omega (arith, layer_inside p (layer + 1) second next here'))
 
@@ -44,5 +44,5 @@ by_remaining p layer penalty inside there (second ∷ ranks, (leg, own, rest, jo
       position.1,
       joined',
       (ranks, (0, next, rest', refl, here', later, omega arith)),
-      omega (arith, same_some _ own penalty here there),
+      omega (arith, same_some own penalty here there),
     )

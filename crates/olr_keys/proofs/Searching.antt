@@ -31,28 +31,28 @@ module _ {p : Penalties} {layer : ℕ} (before : Option ℕ) (above rest : ℕ) 
   none_at_all all none rank left later step = none rank left later (omega (arith, step_inside _ _ step)) step
 
 -- what is left is known from the rank
-same_left : (p : Penalties) (layer : ℕ) (before : Option ℕ) (rank rest a b : ℕ) → IsStep p layer before rank rest a → IsStep p layer before rank rest b → a ≡ b
-same_left p layer before rank rest a b one other = omega (
+same_left : {p : Penalties} {layer : ℕ} {before : Option ℕ} {rank rest a b : ℕ} → IsStep p layer before rank rest a → IsStep p layer before rank rest b → a ≡ b
+same_left one other = omega (
   arith,
-  same_some _ one.leg other.leg one.joined other.joined,
-  same_some _ one.penalty other.penalty one.there other.there,
+  same_some one.leg other.leg one.joined other.joined,
+  same_some one.penalty other.penalty one.there other.there,
 )
 
 -- ---- completions and steps
 
 -- after a step there is a completion
-completion_of_remaining : (p : Penalties) (layer rank penalty left : ℕ) → penalty_at p layer rank ≡ Some penalty → IsRemainingTotal p layer rank (penalty + left) → HasCompletion p (layer + 1) (Some rank) left
-completion_of_remaining p layer rank penalty left there (ranks, (leg, own, rest, joined, here, completion, sum)) =
+completion_of_remaining : (p : Penalties) {left : ℕ} (layer rank penalty : ℕ) → penalty_at p layer rank ≡ Some penalty → IsRemainingTotal p layer rank (penalty + left) → HasCompletion p (layer + 1) (Some rank) left
+completion_of_remaining p layer rank penalty there (ranks, (leg, own, rest, joined, here, completion, sum)) =
     let none : 0 ≡ leg = cc in
-    (ranks, subst (IsCompletion p (layer + 1) (Some rank) ranks) {x = rest} (omega (arith, same_some _ own penalty here there)) completion)
+    (ranks, subst (IsCompletion p (layer + 1) (Some rank) ranks) {x = rest} (omega (arith, same_some own penalty here there)) completion)
 
-pub later_completion : (p : Penalties) (layer : ℕ) (before : Option ℕ) (rank rest left : ℕ) → IsStep p layer before rank rest left → HasCompletion p (layer + 1) (Some rank) left
-later_completion p layer before rank rest left step = completion_of_remaining _ _ _ _ _ step.there step.remaining
+pub later_completion : {p : Penalties} {layer : ℕ} {before : Option ℕ} {rank rest left : ℕ} → IsStep p layer before rank rest left → HasCompletion p (layer + 1) (Some rank) left
+later_completion step = completion_of_remaining _ _ _ _ step.there step.remaining
 
 -- a step and a completion after it
-pub completion_of_step : (p : Penalties) (layer : ℕ) (before : Option ℕ) (rank rest left : ℕ) (ranks : List ℕ) → IsStep p layer before rank rest left → IsCompletion p (layer + 1) (Some rank) ranks left
+pub completion_of_step : {p : Penalties} {layer : ℕ} {before : Option ℕ} {rank rest left : ℕ} (ranks : List ℕ) → IsStep p layer before rank rest left → IsCompletion p (layer + 1) (Some rank) ranks left
     → IsCompletion p layer before (rank ∷ ranks) rest
-completion_of_step p layer before rank rest left ranks step completion = (step.leg, step.penalty, left, step.joined, step.there, completion, step.sum)
+completion_of_step {left} ranks step completion = (step.leg, step.penalty, left, step.joined, step.there, completion, step.sum)
 
 -- a completion begins with a step
 abbrev pub Begins : Penalties → ℕ → Option ℕ → ℕ → List ℕ → ℕ → Type 0
@@ -73,38 +73,38 @@ step_of_completion p layer before rank rest ranks (leg, penalty, left, joined, t
 )
 
 -- a layer with a step is in the table
-pub step_layer : (p : Penalties) (layer : ℕ) (before : Option ℕ) (rank rest left : ℕ) → IsStep p layer before rank rest left → layer < length p.candidates
-step_layer p layer before rank rest left step = layer_inside p _ _ _ step.there
+pub step_layer : {p : Penalties} {layer : ℕ} {before : Option ℕ} {rank rest left : ℕ} → IsStep p layer before rank rest left → layer < length p.candidates
+step_layer {p} step = layer_inside p _ _ _ step.there
 
-only_empty : (p : Penalties) (layer : ℕ) (before : Option ℕ) (rest : ℕ) (other : List ℕ) → layer ≡ length p.candidates → IsCompletion p layer before other rest → (other ≡ []) ⊎ AreBefore [] other
-only_empty p layer before rest [] last there = inl refl
-only_empty p layer before rest (rank ∷ ranks) last there = inr tt
+only_empty : (p : Penalties) {layer : ℕ} (before : Option ℕ) (rest : ℕ) (other : List ℕ) → layer ≡ length p.candidates → IsCompletion p layer before other rest → (other ≡ []) ⊎ AreBefore [] other
+only_empty p before rest [] last there = inl refl
+only_empty p before rest (rank ∷ ranks) last there = inr tt
 
 -- in a layer of the table a completion begins with a step, after the last one it is empty
-pub empty_completion : (p : Penalties) (layer : ℕ) (before : Option ℕ) (rest : ℕ) → layer ≡ length p.candidates → HasCompletion p layer before rest → IsFirstCompletion p layer before rest []
-empty_completion p layer before rest last ([], completion) = record {
+pub empty_completion : {p : Penalties} {layer : ℕ} {before : Option ℕ} {rest : ℕ} → layer ≡ length p.candidates → HasCompletion p layer before rest → IsFirstCompletion p layer before rest []
+empty_completion last ([], completion) = record {
   completion = completion;
-  first = λ other there. only_empty _ _ _ _ _ last there;
+  first = λ other there. only_empty _ _ _ _ last there;
 }
-empty_completion p layer before rest last (rank ∷ ranks, completion) =
+empty_completion last (rank ∷ ranks, completion) =
     let (left, step, later) = step_of_completion _ _ _ _ _ _ completion in
-    absurd (omega (arith, step_layer _ _ _ _ _ _ step))
+    absurd (omega (arith, step_layer step))
 
-pub some_step : (p : Penalties) (layer : ℕ) (before : Option ℕ) (rest : ℕ) → layer < length p.candidates → HasCompletion p layer before rest → HasNoStep p layer before 0 rest → ⊥
-some_step p layer before rest inside ([], completion) none = omega arith
-some_step p layer before rest inside (rank ∷ ranks, completion) none =
+pub some_step : {p : Penalties} {layer : ℕ} {before : Option ℕ} {rest : ℕ} → layer < length p.candidates → HasCompletion p layer before rest → HasNoStep p layer before 0 rest → ⊥
+some_step inside ([], completion) none = omega arith
+some_step {before} {rest} inside (rank ∷ ranks, completion) none =
     let (left, step, later) = step_of_completion _ _ _ _ _ _ completion in
     none rank left (step_inside before 0 rest rank left step).0 step
 
-first_of : (p : Penalties) (layer : ℕ) (before : Option ℕ) (rest rank left : ℕ) (ranks other : List ℕ) → IsFirstStep p layer before 0 rest rank left → IsFirstCompletion p (layer + 1) (Some rank) left ranks
+first_of : {p : Penalties} {layer : ℕ} {before : Option ℕ} {rest rank left : ℕ} {ranks : List ℕ} (other : List ℕ) → IsFirstStep p layer before 0 rest rank left → IsFirstCompletion p (layer + 1) (Some rank) left ranks
     → IsCompletion p layer before other rest → (other ≡ rank ∷ ranks) ⊎ AreBefore (rank ∷ ranks) other
-first_of p layer before rest rank left ranks [] step on there = absurd (omega (arith, step_layer _ _ _ _ _ _ step.step))
-first_of p layer before rest rank left ranks (second ∷ others) step on there =
+first_of [] step on there = absurd (omega (arith, step_layer step.step))
+first_of {p} {layer} {before} {rest} {rank} {left} (second ∷ others) step on there =
     let (less, other_step, later) = step_of_completion _ _ _ _ _ _ there in
     elim (cases_order second rank) [
       | inl same ↦
           let again : IsStep p layer before rank rest less = subst (λ (n : ℕ). IsStep p layer before n rest less) same other_step in
-          let left_same : less ≡ left = same_left _ _ _ _ _ _ _ again step.step in
+          let left_same : less ≡ left = same_left again step.step in
           let completion : IsCompletion p (layer + 1) (Some rank) others left =
           rw (← left_same) (rw (← same) later) in
           elim (on.first others completion) [
@@ -119,8 +119,8 @@ first_of p layer before rest rank left ranks (second ∷ others) step on there =
 pub first_completion : {p : Penalties} {layer : ℕ} {before : Option ℕ} {rest rank left : ℕ} {ranks : List ℕ} → IsFirstStep p layer before 0 rest rank left → IsFirstCompletion p (layer + 1) (Some rank) left ranks
     → IsFirstCompletion p layer before rest (rank ∷ ranks)
 first_completion step on = record {
-  completion = completion_of_step _ _ _ _ _ _ _ step.step on.completion;
-  first = λ other there. first_of _ _ _ _ _ _ _ _ step on there;
+  completion = completion_of_step _ step.step on.completion;
+  first = λ other there. first_of _ step on there;
 }
 
 -- ---- the next completion
@@ -130,7 +130,7 @@ pub no_next_at_end : (p : Penalties) (layer : ℕ) (before : Option ℕ) (rest :
 no_next_at_end p layer before rest completion [] there later = later
 no_next_at_end p layer before rest completion (rank ∷ ranks) there later =
     let (left, step, on) = step_of_completion _ _ _ _ _ _ there in
-    absurd (omega (arith, step_layer _ _ _ _ _ _ step))
+    absurd (omega (arith, step_layer step))
 
 -- another completion with the same first rank has what is left after it
 pub same_later : {p : Penalties} {layer : ℕ} {before : Option ℕ} {own rank rest left : ℕ} (ranks : List ℕ) → IsStep p layer before own rest left → own ≡ rank → IsCompletion p layer before (rank ∷ ranks) rest
@@ -138,7 +138,7 @@ pub same_later : {p : Penalties} {layer : ℕ} {before : Option ℕ} {own rank r
 same_later {p} {layer} {before} {own} {rest} ranks step same there =
     let (less, other, on) = step_of_completion _ _ _ _ _ _ there in
     let again : IsStep p layer before own rest less = subst (λ (n : ℕ). IsStep p layer before n rest less) (sym same) other in
-    rw (← (same_left _ _ _ _ _ _ _ again step)) (
+    rw (← (same_left again step)) (
     rw same on)
 
 -- the next completion has the same first rank, and then the next completion after it
@@ -155,7 +155,7 @@ deeper_first (rank ∷ ranks) step next there (inr (same, later)) =
 pub next_deeper : {p : Penalties} {layer : ℕ} {before : Option ℕ} {own rest left : ℕ} {others found : List ℕ} → IsStep p layer before own rest left → IsNextCompletion p (layer + 1) (Some own) left others found
     → IsNextCompletion p layer before rest (own ∷ others) (own ∷ found)
 next_deeper step next = record {
-  completion = completion_of_step _ _ _ _ _ _ _ step next.completion;
+  completion = completion_of_step _ step next.completion;
   later = inr (refl, next.later);
   first = λ other there later. deeper_first _ step next there later;
 }
@@ -181,7 +181,7 @@ above_first {rank} (second ∷ ranks) step none first_above on there (inl higher
 pub next_above : {p : Penalties} {layer : ℕ} {before : Option ℕ} {own rest left rank less : ℕ} {others found : List ℕ} → IsStep p layer before own rest left → HasNoNextCompletion p (layer + 1) (Some own) left others
     → IsFirstStep p layer before own rest rank less → IsFirstCompletion p (layer + 1) (Some rank) less found → IsNextCompletion p layer before rest (own ∷ others) (rank ∷ found)
 next_above step none first_above on = record {
-  completion = completion_of_step _ _ _ _ _ _ _ first_above.step on.completion;
+  completion = completion_of_step _ first_above.step on.completion;
   later = inl first_above.greater;
   first = λ other there later. above_first _ step none first_above on there later;
 }

@@ -35,8 +35,8 @@ module _ (p : Penalties) (layer : ℕ) (before : Option ℕ) (rank rest leg pena
 
   left_of_step : (left : ℕ) → IsStep p layer before rank rest left → IsLeft leg penalty row rest left
   left_of_step left step =
-      let same : step.penalty ≡ penalty = same_some _ step.penalty penalty step.there there in record {
-        sum = omega (arith, same_some _ step.leg leg step.joined joined);
+      let same : step.penalty ≡ penalty = same_some step.penalty penalty step.there there in record {
+        sum = omega (arith, same_some step.leg leg step.joined joined);
         marked = marks.each (penalty + left) (rw (← same) step.remaining);
       }
 
@@ -54,5 +54,5 @@ look p layer before rank rest leg penalty rows shown found joined there all posi
     let marks : IsRowOf (IsRemainingTotal p layer rank) (width_of p) shown =
     rw (← position) (
     rw shown_is (
-    next_row _ _ _ _ _ all (omega (arith, length-map rows (λ (v : Vec ℕ). v.items))) row_is)) in
+    next_row _ _ all (omega (arith, length-map rows (λ (v : Vec ℕ). v.items))) row_is)) in
     step_by _ layer before rank rest leg penalty shown joined there marks found

@@ -6,7 +6,7 @@ use Rattle.olr_keys.proofs.search.+descend.Goals as goal
 
 pub returns-then-layer-layers-clause-found : goal.returns-then-layer-layers-clause-found
 returns-then-layer-layers-clause-found t c =
-    appends_nothing _ (empty_completion _ _ _ _ (omega arith) c.requires.completion)
+    appends_nothing _ (empty_completion (omega arith) c.requires.completion)
 
 pub descend-requires : goal.descend-requires
 descend-requires t c =
@@ -22,7 +22,7 @@ descend-requires t c =
         (
           rw same leads,
           (
-            rw same (later_completion _ _ _ _ _ _ step.step),
+            rw same (later_completion step.step),
             omega arith,
           ),
         ),
@@ -44,7 +44,7 @@ returns-in-Some-clause-probes t c =
     (cc)
 
 pub returns-in_default-clause-found : goal.returns-in_default-clause-found
-returns-in_default-clause-found t c = absurd (some_step _ _ _ _ (omega arith) c.requires.completion c.in_default.ensures.step)
+returns-in_default-clause-found t c = absurd (some_step (omega arith) c.requires.completion c.in_default.ensures.step)
 
 pub returns-in_default-clause-probes : goal.returns-in_default-clause-probes
-returns-in_default-clause-probes t c = absurd (some_step _ _ _ _ (omega arith) c.requires.completion c.in_default.ensures.step)
+returns-in_default-clause-probes t c = absurd (some_step (omega arith) c.requires.completion c.in_default.ensures.step)

@@ -15,7 +15,7 @@ descend-requires c =
     record {
       layer = omega arith;
       before = rw same (is_predecessor step.step);
-      completion = rw same (later_completion _ _ _ _ _ _ step.step);
+      completion = rw same (later_completion step.step);
       ranks = omega (
         arith,
         ap length c.push.ensures.items,

@@ -18,7 +18,7 @@ overflow_add-second c = record {
 
 pub or_shifted-requires : goal.or_shifted-requires
 or_shifted-requires c =
-    let it = next_row _ _ _ _ _ c.requires.next c.loop-other-test.true c.other-item.is in
+    let it = next_row _ _ c.requires.next c.loop-other-test.true c.other-item.is in
     omega (arith, ap length c.deref.ensures.value)
 
 pub loop-other-init : goal.loop-other-init
@@ -31,7 +31,7 @@ pub loop-other-preserved : goal.loop-other-preserved
 loop-other-preserved c =
     let p = c.args.table.now in
     let layer = c.args.layer in
-    let it = next_row _ _ _ _ _ c.requires.next c.loop-other-test.true c.other-item.is in
+    let it = next_row _ _ c.requires.next c.loop-other-test.true c.other-item.is in
     let that : IsRowOf (IsRemainingTotal p (layer + 1) (c.loop-other.second + 1)) (width_of p) c.other-item.result.items =
     rw c.loop-other.invariant.0 it in (
       omega arith,
