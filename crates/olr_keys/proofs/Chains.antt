@@ -1,5 +1,5 @@
 -- Pages, one after the other, of a rising list.
-use Rattle.std.proofs.Common.{◌≡◌, ℕ, zero, suc, ◌-◌, ◌<◌, ◌≤◌, ◌++◌, true, false, List, [], ◌∷◌, length, map, take, drop, Option, Some, None, inl, inr, refl, sym, ap, ◌∙◌, subst, append_assoc, length-append, length-take, arith}
+use Rattle.std.proofs.Common.{◌≡◌, ℕ, zero, suc, ◌+◌, ◌-◌, ◌<◌, ◌≤◌, ◌++◌, true, false, List, [], ◌∷◌, length, map, drop, Option, Some, None, inl, inr, refl, sym, ap, ◌∙◌, append_assoc, length-append, length-drop, length-take, arith}
 use Rattle.std.specs.Prelude.{AllPairs, slice_get}
 use Rattle.std.proofs.lemmas.Bool.{cases_lt}
 use Rattle.std.proofs.lemmas.List.{append-nil, map-append, take-append-drop, take_all}
@@ -16,58 +16,64 @@ use Rattle.olr_keys.specs.Laws.{SizesAgree}
 
 -- ---- one rest
 
-pub one_rest : (answers : List KeyValue) (after : Option KeyValue) {a b : List KeyValue} → AllPairs IsBefore answers → IsRestAfter answers after a → IsRestAfter answers after b → a ≡ b
+pub one_rest : (answers : List KeyValue) (after : Option KeyValue) {a b : List KeyValue}
+    → AllPairs IsBefore answers → IsRestAfter answers after a → IsRestAfter answers after b → a ≡ b
 one_rest answers after rise one other =
-    same_list IsBefore asymmetric _ _ (rest_rises_too _ rise _ _ one) (rest_rises_too _ rise _ _ other)
-    (λ key there. let is = in_answers _ rise _ _ _ one there in in_rest _ rise _ _ _ other is.0 is.1)
-    (λ key there. let is = in_answers _ rise _ _ _ other there in in_rest _ rise _ _ _ one is.0 is.1)
+    same_list IsBefore asymmetric _ _ (rest_rises_too _ rise _ _ one)
+    (rest_rises_too _ rise _ _ other)
+    (λ key there. let is = in_answers _ rise _ _ one there in in_rest _ rise _ _ _ other is.0 is.1)
+    (λ key there. let is = in_answers _ rise _ _ other there in in_rest _ rise _ _ _ one is.0 is.1)
 
--- ---- joined pages
+-- ---- the last key
 
-joined_more : (pages : List PageValue) (page : PageValue) → joined (pages ++ page ∷ []) ≡ joined pages ++ page.keys
-joined_more [] page = append-nil page.keys
-joined_more (first ∷ pages) page = cc (
-  joined_more pages page,
-  append_assoc first.keys (joined pages) page.keys,
-)
-
-last_of_both : (before : Option KeyValue) (front back : List KeyValue) → last_of before (front ++ back) ≡ last_of (last_of before front) back
-last_of_both before [] back = refl
-last_of_both before (key ∷ front) back = last_of_both (Some key) front back
-
-last_of_some : (before other : Option KeyValue) (keys : List KeyValue) → 1 ≤ length keys → last_of before keys ≡ last_of other keys
+last_of_some : (before other : Option KeyValue) (keys : List KeyValue) → 1 ≤ length keys
+    → last_of before keys ≡ last_of other keys
 last_of_some before other [] some = absurd (omega arith)
 last_of_some before other (key ∷ keys) some = refl
 
-last_key_more : (before : Option KeyValue) (pages : List PageValue) (page : PageValue) → last_key_of before (pages ++ page ∷ []) ≡ last_of before page.keys
+last_key_more : (before : Option KeyValue) (pages : List PageValue) (page : PageValue)
+    → last_key_of before (pages ++ page ∷ []) ≡ last_of before page.keys
 last_key_more before [] page = refl
 last_key_more before (first ∷ []) page = refl
 last_key_more before (first ∷ second ∷ pages) page = last_key_more before (second ∷ pages) page
 
-found_at : (before : Option KeyValue) (pages : List Page) (index : ℕ) (page : Page) → suc index ≡ length pages → Some page ≡ slice_get pages index → last_of before page.keys.items ≡ last_key_of before (map page_of pages)
+found_at : (before : Option KeyValue) (pages : List Page) (index : ℕ) (page : Page)
+    → suc index ≡ length pages → Some page ≡ slice_get pages index
+    → last_of before page.keys.items ≡ last_key_of before (map page_of pages)
 found_at before [] index page last is = absurd (omega arith)
-found_at before (first ∷ []) zero page last is = let same : page ≡ first = cc in ap (λ (p : Page). last_of before p.keys.items) same
+found_at before (first ∷ []) zero page last is = let same : page ≡ first = cc in
+    ap (λ (p : Page). last_of before p.keys.items) same
 found_at before (first ∷ []) (suc index) page last is = absurd (omega arith)
 found_at before (first ∷ second ∷ pages) zero page last is = absurd (omega arith)
-found_at before (first ∷ second ∷ pages) (suc index) page last is = found_at before (second ∷ pages) index page (omega arith) is
+found_at before (first ∷ second ∷ pages) (suc index) page last is =
+    found_at before (second ∷ pages) index page (omega arith) is
 
-pub last_key_found : (before : Option KeyValue) (pages : List Page) (page : Page) → Some page ≡ slice_get pages (length pages - 1) → last_of before page.keys.items ≡ last_key_of before (map page_of pages)
-last_key_found before pages page is = found_at before pages (length pages - 1) page (omega (arith, slice_get_within pages (length pages - 1) page (sym is))) is
+pub last_key_found : (before : Option KeyValue) (pages : List Page) (page : Page)
+    → Some page ≡ slice_get pages (length pages - 1)
+    → last_of before page.keys.items ≡ last_key_of before (map page_of pages)
+last_key_found before pages page is =
+    found_at before pages (length pages - 1) page
+    (omega (arith, slice_get_within pages (length pages - 1) page (sym is))) is
 
 -- ---- pages that are resumed and end
 
 -- a page without more has all that is left
-short_rest : (rest : List KeyValue) (size : ℕ) (page : PageValue) → IsPageOf rest size page → page.more ≡ false → length rest ≤ size
+short_rest : (rest : List KeyValue) (size : ℕ) (page : PageValue) → IsPageOf rest size page
+    → page.more ≡ false → length rest ≤ size
 short_rest rest size page is last = elim (cases_lt size (length rest)) [
   | inl longer ↦ let more : page.more ≡ true = is.more.1 longer in absurd cc
   | inr at_most ↦ at_most
 ]
 
-page_and_rest : (rest : List KeyValue) (size : ℕ) {page : PageValue} → IsPageOf rest size page → page.keys ++ drop size rest ≡ rest
-page_and_rest rest size is = ap (λ (l : List KeyValue). l ++ drop size rest) is.keys ∙ take-append-drop _ _
+page_and_rest : {rest : List KeyValue} {size : ℕ} {page : PageValue} → IsPageOf rest size page
+    → page.keys ++ drop size rest ≡ rest
+page_and_rest {rest} {size} is = ap (λ (l : List KeyValue). l ++ drop size rest) is.keys
+    ∙ take-append-drop _ _
 
 module _ (answers : List KeyValue) (size : ℕ) (rise : AllPairs IsBefore answers) where
-  pub pages_join : (after : Option KeyValue) (pages : List PageValue) → AreResumed answers after size pages → AreEnded pages → IsRestAfter answers after (joined pages)
+  pub pages_join : (after : Option KeyValue) (pages : List PageValue)
+      → AreResumed answers after size pages → AreEnded pages
+      → IsRestAfter answers after (joined pages)
   pages_join after [] resumed ended = absurd ended
   pages_join after (page ∷ []) (first, none) last =
       let all : page.keys ++ [] ≡ first.rest = cc (
@@ -76,7 +82,7 @@ module _ (answers : List KeyValue) (size : ℕ) (rise : AllPairs IsBefore answer
       ) in
       rw all first.is_rest
   pages_join after (page ∷ next ∷ pages) (first, resumed) (more, ended) =
-      let parts : page.keys ++ drop size first.rest ≡ first.rest = page_and_rest _ _ first.is_page in
+      let parts : page.keys ++ drop size first.rest ≡ first.rest = page_and_rest first.is_page in
       let left : IsRestAfter answers (last_of after page.keys) (drop size first.rest) =
       after_keys _ _ page.keys (drop size first.rest) (rw parts first.is_rest) in
       let same : joined (next ∷ pages) ≡ drop size first.rest =
@@ -85,62 +91,18 @@ module _ (answers : List KeyValue) (size : ℕ) (rise : AllPairs IsBefore answer
 
 -- ---- a chain so far
 
--- each page has more
-abbrev AllHaveMore : List PageValue → Type 0
-AllHaveMore [] = Unit {0}
-AllHaveMore (page ∷ pages) = (page.more ≡ true) × AllHaveMore pages
-
 -- the pages so far, and what is left of the keys after them
-pub record IsChainSoFar (answers : List KeyValue) (after : Option KeyValue) (size : ℕ) (pages : List PageValue) : Type 0 where
+pub record IsChainSoFar (answers : List KeyValue) (after : Option KeyValue) (size : ℕ)
+    (pages : List PageValue) : Type 0 where
   pub left : List KeyValue
-  pub rest : IsRestAfter answers after (joined pages ++ left)
-  pub resumed : AreResumed answers after size pages
-  pub have_more : AllHaveMore pages
-  pub position : last_key_of after pages ≡ last_of after (joined pages)
+  pub rest : IsRestAfter answers (last_key_of after pages) left
+  pub at_most : length pages + length left ≤ length answers
+  pub goes_on : (others : List PageValue) → AreResumed answers (last_key_of after pages) size others
+      → AreEnded others
+      → AreResumed answers after size (pages ++ others) × AreEnded (pages ++ others)
 
-pub chain_start : {answers : List KeyValue} (after : Option KeyValue) {size : ℕ} → IsPosition answers after → IsChainSoFar answers after size []
-chain_start after position = let rest = rest_of _ _ position in record { left = rest.0; rest = rest.1; resumed = tt; have_more = tt; position = refl }
-
-pub chain_position : (answers : List KeyValue) (after : Option KeyValue) (size : ℕ) (pages : List PageValue) → IsChainSoFar answers after size pages → IsPosition answers (last_key_of after pages)
-chain_position answers after size pages so_far =
-    rw so_far.position (position_within _ _ so_far.left (after_keys _ _ (joined pages) so_far.left so_far.rest))
-
--- the next page is that of what is left
-page_of_left : (answers : List KeyValue) (after : Option KeyValue) (size : ℕ) (pages : List PageValue) (page : PageValue) → AllPairs IsBefore answers → (so_far : IsChainSoFar answers after size pages)
-    → IsPageAfter answers (last_key_of after pages) size page → IsPageOf so_far.left size page
-page_of_left answers after size pages page rise so_far next =
-    let later : IsRestAfter answers (last_of after (joined pages)) next.rest = rw (← so_far.position) next.is_rest in
-    let same : next.rest ≡ so_far.left = one_rest _ _ rise later (after_keys _ _ (joined pages) so_far.left so_far.rest) in
-    rw (← same) next.is_page
-
--- the keys with those of the next page
-with_page : (size : ℕ) (left : List KeyValue) (pages : List PageValue) (page : PageValue) → page.keys ≡ take size left → joined (pages ++ page ∷ []) ++ drop size left ≡ joined pages ++ left
-with_page size left pages page is =
-    ap (λ (l : List KeyValue). l ++ drop size left) (joined_more pages page)
-    ∙ append_assoc (joined pages) page.keys (drop size left)
-    ∙ ap (λ (l : List KeyValue). joined pages ++ l) (ap (λ (l : List KeyValue). l ++ drop size left) is ∙ take-append-drop _ _)
-
-all_have_more : (pages : List PageValue) (page : PageValue) → AllHaveMore pages → page.more ≡ true → AllHaveMore (pages ++ page ∷ [])
-all_have_more [] page have_more more = (more, tt)
-all_have_more (first ∷ pages) page have_more more = (have_more.0, all_have_more pages page have_more.1 more)
-
-ended : (pages : List PageValue) (page : PageValue) → AllHaveMore pages → page.more ≡ false → AreEnded (pages ++ page ∷ [])
-ended [] page have_more last = last
-ended (first ∷ []) page have_more last = (have_more.0, last)
-ended (first ∷ second ∷ pages) page have_more last = (have_more.0, ended (second ∷ pages) page have_more.1 last)
-
-resumed_more : (answers : List KeyValue) (after : Option KeyValue) (size : ℕ) (pages : List PageValue) (page : PageValue) → AreResumed answers after size pages
-    → IsPageAfter answers (last_of after (joined pages)) size page → AreResumed answers after size (pages ++ page ∷ [])
-resumed_more answers after size [] page resumed next = (next, tt)
-resumed_more answers after size (first ∷ pages) page resumed next =
-    let later = subst (λ (o : Option KeyValue). IsPageAfter answers o size page) (last_of_both after first.keys (joined pages)) next in
-    (resumed.0, resumed_more answers (last_of after first.keys) size pages page resumed.1 later)
-
-some_keys : (size : ℕ) (left : List KeyValue) (page : PageValue) → 1 ≤ size → IsPageOf left size page → page.more ≡ true → 1 ≤ length page.keys
-some_keys size left page least is more =
-    omega (arith, ap (λ (l : List KeyValue). length l) is.keys, length-take size left)
-
-rest_at_most : (answers : List KeyValue) (after : Option KeyValue) (rest : List KeyValue) → IsRestAfter answers after rest → length rest ≤ length answers
+rest_at_most : (answers : List KeyValue) (after : Option KeyValue) (rest : List KeyValue)
+    → IsRestAfter answers after rest → length rest ≤ length answers
 rest_at_most answers None rest is = omega (arith, ap length is)
 rest_at_most answers (Some after) rest (front, is) = omega (
   arith,
@@ -148,59 +110,93 @@ rest_at_most answers (Some after) rest (front, is) = omega (
   length-append front (after ∷ rest),
 )
 
-module _ (answers : List KeyValue) (after : Option KeyValue) (size : ℕ) (pages : List PageValue) (page : PageValue) (rise : AllPairs IsBefore answers) (so_far : IsChainSoFar answers after size pages)
+pub chain_start : {answers : List KeyValue} (after : Option KeyValue) {size : ℕ}
+    → IsPosition answers after → IsChainSoFar answers after size []
+chain_start after position =
+    let rest = rest_of _ _ position in record {
+      left = rest.0;
+      rest = rest.1;
+      at_most = omega (arith, rest_at_most _ _ _ rest.1);
+      goes_on = λ others resumed ended. (resumed, ended);
+    }
+
+ended_later : (page : PageValue) (others : List PageValue) → page.more ≡ true → AreEnded others
+    → AreEnded (page ∷ others)
+ended_later page [] more ended = absurd ended
+ended_later page (next ∷ others) more ended = (more, ended)
+
+module _ (answers : List KeyValue) (after : Option KeyValue) (size : ℕ) (pages : List PageValue)
+    (page : PageValue) (rise : AllPairs IsBefore answers)
+    (so_far : IsChainSoFar answers after size pages)
     (next : IsPageAfter answers (last_key_of after pages) size page) where
-  with_next : AreResumed answers after size (pages ++ page ∷ [])
-  with_next = resumed_more _ _ _ _ _ so_far.resumed (rw (← so_far.position) next)
+  is_page : IsPageOf so_far.left size page
+  is_page = let same : next.rest ≡ so_far.left = one_rest _ _ rise next.is_rest so_far.rest in
+      rw (← same) next.is_page
 
   chain_more : 1 ≤ size → page.more ≡ true → IsChainSoFar answers after size (pages ++ page ∷ [])
   chain_more least more =
-      let is = page_of_left _ _ _ _ _ rise so_far next in
+      let longer = is_page.more.0 more in
+      let some : 1 ≤ length page.keys =
+      omega (
+        arith,
+        ap (λ (l : List KeyValue). length l) is_page.keys,
+        length-take size
+            so_far.left,
+      ) in
+      let position : last_of (last_key_of after pages) page.keys
+      ≡ last_key_of after (pages ++ page ∷ []) =
+      last_of_some _ after _ some ∙ sym (last_key_more after pages page) in
+      let parts : page.keys ++ drop size so_far.left ≡ so_far.left = page_and_rest is_page in
       record {
         left = drop size so_far.left;
-        rest = rw (with_page _ _ pages page is.keys) so_far.rest;
-        resumed = with_next;
-        have_more = all_have_more _ _ so_far.have_more more;
-        position =
-            cc (
-              last_key_more after pages page,
-              last_of_some after (last_of after (joined pages)) _ (some_keys _ _ _ least is more),
-              last_of_both after (joined pages) page.keys,
-              joined_more pages page,
-            );
+        rest = rw (← position) (after_keys _ _ page.keys (drop size so_far.left)
+            (rw parts so_far.rest));
+        at_most = omega (
+          arith,
+          so_far.at_most,
+          length-append pages (page ∷ []),
+          length-drop size
+              so_far.left,
+        );
+        goes_on = λ others resumed ended.
+            rw (append_assoc pages (page ∷ []) others)
+            (so_far.goes_on (page ∷ others) (next, rw position resumed)
+            (ended_later page others more ended));
       }
 
   chain_end : page.more ≡ false → AreAllPages answers after size (pages ++ page ∷ [])
   chain_end last =
-      let end = ended _ _ so_far.have_more last in
-      record { keys = pages_join _ _ rise after (pages ++ page ∷ []) with_next end; resumed = with_next; ended = end }
+      let (resumed, ended) = so_far.goes_on (page ∷ []) (next, tt) last in
+      record {
+        keys = pages_join _ _ rise after (pages ++ page ∷ []) resumed ended;
+        resumed =
+            resumed;
+        ended = ended;
+      }
 
-  -- how many keys there are yet
-  chain_smaller : 1 ≤ size → page.more ≡ true → length answers - length (joined (pages ++ page ∷ [])) < length answers - length (joined pages)
-  chain_smaller least more =
-      let is = page_of_left _ _ _ _ _ rise so_far next in
-      let grown = chain_more least more in
-      omega (
-        arith,
-        rest_at_most _ _ _ grown.rest,
-        length-append (joined (pages ++ page ∷ [])) grown.left,
-        ap length (joined_more pages page),
-        length-append (joined pages) page.keys,
-        some_keys _ _ _ least is more,
-      )
+  -- how many pages there may be yet
+  chain_smaller : page.more ≡ true
+      → length answers - length (pages ++ page ∷ []) < length answers - length pages
+  chain_smaller more =
+      omega (arith, is_page.more.0 more, so_far.at_most, length-append pages (page ∷ []))
 
 -- ---- the same for what calls answer
 
-module _ (now answers : List KeyValue) (same : now ≡ answers) (after position : Option KeyValue) (size count : ℕ) (counted : count ≡ size) (pages items : List Page) (are : items ≡ pages)
-    (at : position ≡ last_key_of after (map page_of items)) (so_far : IsChainSoFar answers after size (map page_of pages)) where
+module _ {now answers : List KeyValue} (same : now ≡ answers) {position : Option KeyValue}
+    (after : Option KeyValue) {size count : ℕ} (counted : count ≡ size) {pages items : List Page}
+    (are : items ≡ pages)
+    (at : position ≡ last_key_of after (map page_of items))
+    (so_far : IsChainSoFar answers after size (map page_of pages)) where
   position_is : position ≡ last_key_of after (map page_of pages)
   position_is = cc
 
   pub position_found : IsPosition now position
   position_found =
-      rw position_is (rw same (chain_position _ _ _ _ so_far))
+      rw position_is (rw same (position_within _ _ so_far.left so_far.rest))
 
-  module _ (rise : AllPairs IsBefore answers) (page : Page) (next : IsPageAfter now position count (page_of page)) (grown : List Page) (grows : grown ≡ pages ++ page ∷ []) where
+  module _ (rise : AllPairs IsBefore answers) (page : Page)
+      (next : IsPageAfter now position count (page_of page)) {grown : List Page}
+      (grows : grown ≡ pages ++ page ∷ []) where
     next_page : IsPageAfter answers (last_key_of after (map page_of pages)) size (page_of page)
     next_page =
         rw (← same) (rw (← position_is) (rw (← counted) next))
@@ -208,15 +204,22 @@ module _ (now answers : List KeyValue) (same : now ≡ answers) (after position 
     grown_pages : map page_of grown ≡ map page_of pages ++ page_of page ∷ []
     grown_pages = cc (map-append page_of pages (page ∷ []))
 
-    pub continues : 1 ≤ count → page.more ≡ true → IsChainSoFar answers after size (map page_of grown)
-    continues least more = rw grown_pages (chain_more answers after size (map page_of pages) (page_of page) rise so_far next_page (omega arith) more)
+    pub continues : 1 ≤ count → page.more ≡ true
+        → IsChainSoFar answers after size (map page_of grown)
+    continues least more = rw grown_pages
+        (chain_more answers after size (map page_of pages) (page_of page) rise so_far next_page
+        (omega arith) more)
 
     pub ends : page.more ≡ false → AreAllPages answers after size (map page_of grown)
-    ends last = rw grown_pages (chain_end answers after size (map page_of pages) (page_of page) rise so_far next_page last)
+    ends last = rw grown_pages (chain_end answers after size (map page_of pages) (page_of page) rise
+        so_far next_page last)
 
-    pub fewer_left : 1 ≤ count → page.more ≡ true → length answers - length (joined (map page_of grown)) < length answers - length (joined (map page_of pages))
-    fewer_left least more =
-        rw grown_pages (chain_smaller answers after size (map page_of pages) (page_of page) rise so_far next_page (omega arith) more)
+    pub fewer_left : page.more ≡ true
+        → length answers - length (map page_of grown) < length answers - length (map page_of pages)
+    fewer_left more = rw grown_pages
+        (chain_smaller answers after size (map page_of pages) (page_of page) rise so_far next_page
+        more)
 
 pub sizes_agree : SizesAgree
-sizes_agree penalties answers after size other pages others list one two = one_rest _ _ list.rise one.keys two.keys
+sizes_agree penalties answers after size other pages others list one two =
+    one_rest _ _ list.rise one.keys two.keys

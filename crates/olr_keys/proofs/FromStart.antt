@@ -14,13 +14,21 @@ completes : (p : Penalties) (key : KeyValue) → IsKey p key → Completes p Non
 completes p key is = (key.ranks, key.total, is, same_key _ _ _ _ (omega arith) refl)
 
 matching : (p : Penalties) {key : KeyValue} → Completes p None 0 [] key → IsKey p key
-matching p (rest, more, completion, same) = subst (λ (k : KeyValue). IsKey p k) (sym (same ∙ same_key _ _ _ _ (omega arith) refl)) completion
+matching p (rest, more, completion, same) =
+    subst (λ (k : KeyValue). IsKey p k) (sym (same ∙ same_key _ _ _ _ (omega arith) refl))
+    completion
 
-pub next_of : (p : Penalties) (after : Option KeyValue) {ranks : List ℕ} (found : Option KeyValue) → ranks ≡ []
-    → IsLeastOf (λ (key : KeyValue). IsHeld None key ⊎ (Completes p None 0 ranks key × IsAfter after key)) found → IsNext (answers_of p) after found
+pub next_of : (p : Penalties) (after : Option KeyValue) {ranks : List ℕ} (found : Option KeyValue)
+    → ranks ≡ []
+    → IsLeastOf (λ (key : KeyValue). IsHeld None key
+    ⊎ (Completes p None 0 ranks key × IsAfter after key)) found
+    → IsNext (answers_of p) after found
 next_of p after found none is =
-    let P : KeyValue → Type 0 = λ key. IsHeld None key ⊎ (Completes p None 0 [] key × IsAfter after key) in
-    let start : IsLeastOf P found = subst (λ (r : List ℕ). IsLeastOf (λ (key : KeyValue). IsHeld None key ⊎ (Completes p None 0 r key × IsAfter after key)) found) none is in
+    let P : KeyValue → Type 0 = λ key. IsHeld None key
+    ⊎ (Completes p None 0 [] key × IsAfter after key) in
+    let start : IsLeastOf P found =
+    subst (λ (r : List ℕ). IsLeastOf (λ (key : KeyValue). IsHeld None key
+    ⊎ (Completes p None 0 r key × IsAfter after key)) found) none is in
     next_listed _ _ _ (same_least P _
     (λ key there. elim there [
       | inl held ↦ absurd held

@@ -10,7 +10,9 @@ use Rattle.olr_keys.specs.Table.{Penalties, count_of}
 use Rattle.olr_keys.proofs.Sizes.{sum_more}
 
 -- rows of one width
-rows_bytes : (width : ℕ) (rows : List (List ℕ)) → ((index : ℕ) → index < length rows → length (get_or rows index []) ≡ width) → sum_by length rows ≡ length rows * width
+rows_bytes : (width : ℕ) (rows : List (List ℕ))
+    → ((index : ℕ) → index < length rows → length (get_or rows index []) ≡ width)
+    → sum_by length rows ≡ length rows * width
 rows_bytes width [] each = omega arith
 rows_bytes width (row ∷ rows) each = omega (
   arith,
@@ -20,8 +22,10 @@ rows_bytes width (row ∷ rows) each = omega (
   suc-mul (length rows) width,
 )
 
-module _ {p : Penalties} {marks : List (List (List ℕ))} (they : AreLastLayers p (length p.candidates) marks) where
-  layer_bytes : (later left : ℕ) → later + (left + 1) ≡ length p.candidates → sum_by length (slice_index_or marks later []) ≡ count_of p left * width_of p
+module _ {p : Penalties} {marks : List (List (List ℕ))}
+    (they : AreLastLayers p (length p.candidates) marks) where
+  layer_bytes : (later left : ℕ) → later + (left + 1) ≡ length p.candidates
+      → sum_by length (slice_index_or marks later []) ≡ count_of p left * width_of p
   layer_bytes later left all =
       let it = they.each later (omega arith) in
       let position : length p.candidates - 1 - later ≡ left = omega arith in
@@ -30,10 +34,13 @@ module _ {p : Penalties} {marks : List (List (List ℕ))} (they : AreLastLayers 
 
   -- the rows of the last layers, and of those that are left
   layers_bytes : (later left : ℕ) → later + left ≡ length p.candidates
-      → sum_by (λ (rows : List (List ℕ)). sum_by length rows) (take later marks) + sum_by length (take left p.candidates) * width_of p ≡ sum_by length p.candidates * width_of p
+      → sum_by (λ (rows : List (List ℕ)). sum_by length rows) (take later marks)
+      + sum_by length (take left p.candidates) * width_of p
+      ≡ sum_by length p.candidates * width_of p
   layers_bytes zero left all = omega (
     arith,
-    ap (λ (l : List (List ℕ)). sum_by length l * width_of p) (take_all left p.candidates (omega arith)),
+    ap (λ (l : List (List ℕ)). sum_by length l * width_of p)
+        (take_all left p.candidates (omega arith)),
   )
   layers_bytes (suc later) left all =
       let bytes : List (List ℕ) → ℕ = λ rows. sum_by length rows in
@@ -46,11 +53,15 @@ module _ {p : Penalties} {marks : List (List (List ℕ))} (they : AreLastLayers 
         layers_bytes later (left + 1) (omega arith),
       )
 
--- the rows that are held have so many bytes: a row of the width for each candidate, and one for the totals
-pub held_is : {p : Penalties} {marks : List (List (List ℕ))} {totals : List ℕ} → AreLastLayers p (length p.candidates) marks → IsRowOf (IsTotal p) (width_of p) totals → held_bytes marks totals ≡ bytes_of p
+-- the rows that are held have so many bytes: a row of the width for each candidate, and one for the
+-- totals
+pub held_is : {p : Penalties} {marks : List (List (List ℕ))} {totals : List ℕ}
+    → AreLastLayers p (length p.candidates) marks → IsRowOf (IsTotal p) (width_of p) totals
+    → held_bytes marks totals ≡ bytes_of p
 held_is {p} {marks} they whole = omega (
   arith,
   layers_bytes they (length p.candidates) 0 (omega arith),
-  ap (λ (l : List (List (List ℕ))). sum_by (λ (rows : List (List ℕ)). sum_by length rows) l) (take_all (length p.candidates) marks (omega (arith, they.layers))),
+  ap (λ (l : List (List (List ℕ))). sum_by (λ (rows : List (List ℕ)). sum_by length rows) l)
+      (take_all (length p.candidates) marks (omega (arith, they.layers))),
   suc-mul (sum_by length p.candidates) (width_of p),
 )

@@ -9,17 +9,23 @@ use Rattle.std.proofs.lemmas.Simd.{length-put_chunk, length-chunk, length-zip2, 
 -- how far the joining has come: below an index each byte is joined, from there on it is as it was
 pub record IsJoinedBelow (before other : List ℕ) (count : ℕ) (after : List ℕ) : Type 0 where
   pub same_length : length after ≡ length before
-  pub joined : (m : ℕ) → m < count → slice_index after m ≡ bit_or (slice_index before m) (slice_index other m)
+  pub joined : (m : ℕ) → m < count
+      → slice_index after m ≡ bit_or (slice_index before m) (slice_index other m)
   pub same : (m : ℕ) → count ≤ m → slice_index after m ≡ slice_index before m
 
 -- the chunk at an index
-pub chunk_at : (size count index : ℕ) (xs : List ℕ) → index < count → get_or (first_chunks size count xs) index [] ≡ chunk (size * index) size xs
+pub chunk_at : (size count index : ℕ) (xs : List ℕ) → index < count
+    → get_or (first_chunks size count xs) index [] ≡ chunk (size * index) size xs
 chunk_at size zero index xs inside = absurd (omega arith)
-chunk_at size (suc count) zero xs inside = ap (λ (n : ℕ). take size (drop n xs)) {x = 0} (omega arith)
+chunk_at size (suc count) zero xs inside =
+    ap (λ (n : ℕ). take size (drop n xs)) {x = 0} (omega arith)
 chunk_at size (suc count) (suc index) xs inside =
-    chunk_at size count index (drop size xs) (omega arith) ∙ ap (take size) (drop-drop (size * index) size xs ∙ ap (λ (n : ℕ). drop n xs) {x = size + size * index} (omega arith))
+    chunk_at size count index (drop size xs) (omega arith)
+    ∙ ap (take size) (drop-drop (size * index) size xs
+    ∙ ap (λ (n : ℕ). drop n xs) {x = size + size * index} (omega arith))
 
-module _ (before other now : List ℕ) (at size : ℕ) (as_long : length other ≡ length before) (room : at + size ≤ length other) (so_far : IsJoinedBelow before other at now) where
+module _ (before other now : List ℕ) (at size : ℕ) (as_long : length other ≡ length before)
+    (room : at + size ≤ length other) (so_far : IsJoinedBelow before other at now) where
   lanes : List ℕ
   lanes = zip2 bit_or (chunk at size now) (chunk at size other)
 
@@ -30,38 +36,51 @@ module _ (before other now : List ℕ) (at size : ℕ) (as_long : length other �
       let right = length-chunk at size other room in
       length-zip2 bit_or (chunk at size now) (chunk at size other) (omega arith) ∙ left
 
-  lane_at : (j : ℕ) → j < size → get_or lanes j 0 ≡ bit_or (get_or now (at + j) 0) (get_or other (at + j) 0)
+  lane_at : (j : ℕ) → j < size → get_or lanes j 0
+      ≡ bit_or (get_or now (at + j) 0) (get_or other (at + j) 0)
   unfolding lanes
   lane_at j inside =
       let left = length-chunk at size now (omega arith) in
       let right = length-chunk at size other room in
-      get_or-zip2 bit_or (chunk at size now) (chunk at size other) j 0 0 0 (omega arith) (omega arith)
-      ∙ ap (λ (x : ℕ). bit_or x (get_or (chunk at size other) j 0)) (get_or-chunk at size now j 0 inside)
+      get_or-zip2 bit_or (chunk at size now) (chunk at size other) j 0 0 0 (omega arith)
+      (omega arith)
+      ∙ ap (λ (x : ℕ). bit_or x (get_or (chunk at size other) j 0))
+      (get_or-chunk at size now j 0 inside)
       ∙ ap (bit_or (get_or now (at + j) 0)) (get_or-chunk at size other j 0 inside)
 
-  joined_at : (j : ℕ) → j < size → get_or (put_chunk at now lanes) (at + j) 0 ≡ bit_or (get_or before (at + j) 0) (get_or other (at + j) 0)
+  joined_at : (j : ℕ) → j < size → get_or (put_chunk at now lanes) (at + j) 0
+      ≡ bit_or (get_or before (at + j) 0) (get_or other (at + j) 0)
   joined_at j inside =
       cc (
-        get_or-put_chunk_at at now lanes j 0 (omega (arith, lanes_length)) (omega (arith, lanes_length, so_far.same_length)),
+        get_or-put_chunk_at at now lanes j 0 (omega (arith, lanes_length))
+            (omega (arith, lanes_length, so_far.same_length)),
         lane_at _ inside,
         so_far.same (at + j) (omega arith),
       )
 
-  pub chunk_joined : IsJoinedBelow before other (at + size) (put_chunk at now (zip2 bit_or (chunk at size now) (chunk at size other)))
+  pub chunk_joined : IsJoinedBelow before other (at + size)
+      (put_chunk at now (zip2 bit_or (chunk at size now) (chunk at size other)))
   unfolding lanes
   chunk_joined = record {
     same_length = cc (length-put_chunk at now lanes);
     joined = λ m below. elim (cases_lt m at) [
       | inl earlier ↦ get_or-put_chunk_below _ _ _ m 0 earlier ∙ so_far.joined m earlier
-      | inr here ↦ subst (λ (n : ℕ). get_or (put_chunk at now lanes) n 0 ≡ bit_or (get_or before n 0) (get_or other n 0)) {x = at + (m - at)} (omega arith) (joined_at _ (omega arith))
+      | inr here ↦ subst (λ (n : ℕ). get_or (put_chunk at now lanes) n 0
+          ≡ bit_or (get_or before n 0) (get_or other n 0)) {x = at + (m - at)} (omega arith)
+          (joined_at _ (omega arith))
     ];
-    same = λ m above. get_or-put_chunk_above _ _ _ m 0 (omega (arith, lanes_length, above)) ∙ so_far.same m (omega arith);
+    same = λ m above. get_or-put_chunk_above _ _ _ m 0 (omega (arith, lanes_length, above))
+        ∙ so_far.same m (omega arith);
   }
 
-pub lanes_joined : (before other now loaded : List ℕ) (at size count index : ℕ) → length before ≡ length other → count * size ≤ length other → index < count → at ≡ size * index
-    → loaded ≡ get_or (first_chunks size count other) index [] → IsJoinedBelow before other at now → IsJoinedBelow before other (at + size) (put_chunk at now (zip2 bit_or (chunk at size now) loaded))
+pub lanes_joined : (before other now loaded : List ℕ) (at size count index : ℕ)
+    → length before ≡ length other → count * size ≤ length other → index < count → at ≡ size * index
+    → loaded ≡ get_or (first_chunks size count other) index [] → IsJoinedBelow before other at now
+    → IsJoinedBelow before other (at + size)
+    (put_chunk at now (zip2 bit_or (chunk at size now) loaded))
 lanes_joined before other now loaded at size count index as_long room inside position is so_far =
-    let here : loaded ≡ chunk at size other = is ∙ chunk_at _ _ _ _ inside ∙ ap (λ (n : ℕ). chunk n size other) {x = size * index} (omega arith) in
+    let here : loaded ≡ chunk at size other = is ∙ chunk_at _ _ _ _ inside
+    ∙ ap (λ (n : ℕ). chunk n size other) {x = size * index} (omega arith) in
     let whole : at + size ≤ length other = omega (
       arith,
       mul-le-mul_left {m = index + 1} {n = count} size (omega arith),

@@ -12,43 +12,62 @@ use Rattle.olr_keys.specs.Table.{Penalties, count_of}
 use Rattle.olr_keys.specs.Rows.{AreRowsOf, AreLastLayers, rows_of, layers_of}
 
 -- the rows of a layer at an index
-pub layer_at : (marks : List (Vec (Vec ℕ))) (index : ℕ) → slice_index_or (layers_of marks) index [] ≡ rows_of (slice_index_or (map (λ (rows : Vec (Vec ℕ)). rows.items) marks) index [])
+pub layer_at : (marks : List (Vec (Vec ℕ))) (index : ℕ)
+    → slice_index_or (layers_of marks) index []
+    ≡ rows_of (slice_index_or (map (λ (rows : Vec (Vec ℕ)). rows.items) marks) index [])
 layer_at marks index =
     let items : Vec (Vec ℕ) → List (Vec ℕ) = λ rows. rows.items in
-    ap (λ (l : List (List (List ℕ))). slice_index_or l index []) (sym (map-map rows_of items marks)) ∙ map_at rows_of (map items marks) index []
+    ap (λ (l : List (List (List ℕ))). slice_index_or l index []) (sym (map-map rows_of items marks))
+    ∙ map_at rows_of (map items marks) index []
 
 -- after the last layer there are no candidates
 none_later : (p : Penalties) (layer : ℕ) → layer ≡ length p.candidates → AreRowsOf p layer []
 none_later p layer is =
-    let none : 0 ≡ count_of p layer = sym (ap length (get_or-eq_default p.candidates [] {n = layer} (omega arith))) in
+    let none : 0 ≡ count_of p layer =
+    sym (ap length (get_or-eq_default p.candidates [] {n = layer} (omega arith))) in
     record { count = none; each = λ index inside. absurd (omega arith) }
 
 -- the rows of the first of the last layers
-pub last_rows : {p : Penalties} {count : ℕ} (marks : List (Vec (Vec ℕ))) {rows : List (Vec ℕ)} → AreLastLayers p count (layers_of marks) → 0 < count
-    → rows ≡ slice_index_or (map (λ (rows : Vec (Vec ℕ)). rows.items) marks) (length marks - 1) [] → AreRowsOf p (length p.candidates - 1 - (count - 1)) (rows_of rows)
+pub last_rows : {p : Penalties} {count : ℕ} (marks : List (Vec (Vec ℕ))) {rows : List (Vec ℕ)}
+    → AreLastLayers p count (layers_of marks) → 0 < count
+    → rows ≡ slice_index_or (map (λ (rows : Vec (Vec ℕ)). rows.items) marks) (length marks - 1) []
+    → AreRowsOf p (length p.candidates - 1 - (count - 1)) (rows_of rows)
 last_rows {count} marks {rows} they some is =
-    let long : length marks ≡ count = cc (length-map marks (λ (rows : Vec (Vec ℕ)). rows_of rows.items)) in
-    let same : slice_index_or (layers_of marks) (length marks - 1) [] ≡ rows_of rows = cc (layer_at marks (length marks - 1)) in
-    rw (← (ap (λ (n : ℕ). slice_index_or (layers_of marks) (n - 1) []) (sym long) ∙ same)) (they.each (count - 1) (omega arith))
+    let long : length marks ≡ count =
+    cc (length-map marks (λ (rows : Vec (Vec ℕ)). rows_of rows.items)) in
+    let same : slice_index_or (layers_of marks) (length marks - 1) [] ≡ rows_of rows =
+    cc (layer_at marks (length marks - 1)) in
+    rw (← (ap (λ (n : ℕ). slice_index_or (layers_of marks) (n - 1) []) (sym long) ∙ same))
+    (they.each (count - 1) (omega arith))
 
 -- the rows of the layer after the next one
-pub next_rows : (p : Penalties) {layer : ℕ} (later : ℕ) (marks : List (Vec (Vec ℕ))) (rows : List (Vec ℕ)) → AreLastLayers p later (layers_of marks) → later < length p.candidates
-    → layer ≡ length p.candidates - 1 - later → rows ≡ slice_index_or (map (λ (rows : Vec (Vec ℕ)). rows.items) marks) (length marks - 1) [] → AreRowsOf p (layer + 1) (rows_of rows)
+pub next_rows : (p : Penalties) {layer : ℕ} (later : ℕ) (marks : List (Vec (Vec ℕ)))
+    (rows : List (Vec ℕ)) → AreLastLayers p later (layers_of marks) → later < length p.candidates
+    → layer ≡ length p.candidates - 1 - later
+    → rows ≡ slice_index_or (map (λ (rows : Vec (Vec ℕ)). rows.items) marks) (length marks - 1)
+    [] → AreRowsOf p (layer + 1) (rows_of rows)
 next_rows p later marks rows they inside position is = elim (cases_lt 0 later) [
   | inl some ↦
-      subst (λ (n : ℕ). AreRowsOf p n (rows_of rows)) {x = length p.candidates - 1 - (later - 1)} (omega arith) (last_rows _ they some is)
+      subst (λ (n : ℕ). AreRowsOf p n (rows_of rows)) {x = length p.candidates - 1 - (later - 1)}
+      (omega arith) (last_rows _ they some is)
   | inr none ↦
-      let same : slice_index_or (layers_of marks) (length marks - 1) [] ≡ rows_of rows = cc (layer_at marks (length marks - 1)) in
-      let empty : slice_index_or (layers_of marks) (length marks - 1) [] ≡ [] = get_or-eq_default (layers_of marks) [] {n = length marks - 1} (omega arith) in
+      let same : slice_index_or (layers_of marks) (length marks - 1) [] ≡ rows_of rows =
+      cc (layer_at marks (length marks - 1)) in
+      let empty : slice_index_or (layers_of marks) (length marks - 1) [] ≡ [] =
+      get_or-eq_default (layers_of marks) [] {n = length marks - 1} (omega arith) in
       rw (← (sym empty ∙ same)) (none_later _ _ (omega arith))
 ]
 
-pub push_layer : (p : Penalties) {layer : ℕ} (later : ℕ) (marks pushed : List (Vec (Vec ℕ))) (rows : Vec (Vec ℕ)) → AreLastLayers p later (layers_of marks)
-    → layer ≡ length p.candidates - 1 - later → AreRowsOf p layer (rows_of rows.items) → pushed ≡ marks ++ rows ∷ [] → AreLastLayers p (later + 1) (layers_of pushed)
+pub push_layer : (p : Penalties) {layer : ℕ} (later : ℕ) (marks pushed : List (Vec (Vec ℕ)))
+    (rows : Vec (Vec ℕ)) → AreLastLayers p later (layers_of marks)
+    → layer ≡ length p.candidates - 1 - later → AreRowsOf p layer (rows_of rows.items)
+    → pushed ≡ marks ++ rows ∷ [] → AreLastLayers p (later + 1) (layers_of pushed)
 push_layer p later marks pushed rows they position it is =
     let lists : Vec (Vec ℕ) → List (List ℕ) = λ v. rows_of v.items in
-    let same : layers_of pushed ≡ layers_of marks ++ rows_of rows.items ∷ [] = cc (map-append lists marks (rows ∷ [])) in
+    let same : layers_of pushed ≡ layers_of marks ++ rows_of rows.items ∷ [] =
+    cc (map-append lists marks (rows ∷ [])) in
     rw same (record {
       layers = omega (arith, length-append (layers_of marks) (rows_of rows.items ∷ []));
-      each = each_more (λ k. AreRowsOf p (length p.candidates - 1 - k)) [] later (layers_of marks) (rows_of rows.items) they.layers they.each (rw (← position) it);
+      each = each_more (λ k. AreRowsOf p (length p.candidates - 1 - k)) [] later (layers_of marks)
+          (rows_of rows.items) they.layers they.each (rw (← position) it);
     })

@@ -18,11 +18,13 @@ use Rattle.olr_keys.proofs.Sizes.{remaining_below}
 zero_at : (width number : ℕ) → slice_index (replicate width 0) number ≡ 0
 zero_at width number = elim (cases_lt number width) [
   | inl inside ↦ get_or-replicate width number 0 0 inside
-  | inr outside ↦ get_or-eq_default (replicate width 0) 0 {n = number} (omega (arith, length-replicate {A = ℕ} width 0))
+  | inr outside ↦ get_or-eq_default (replicate width 0) 0 {n = number}
+      (omega (arith, length-replicate {A = ℕ} width 0))
 ]
 
 -- a row of zeros marks nothing
-pub empty_row : {P : ℕ → Type 0} (width : ℕ) → ((number : ℕ) → P number → ⊥) → IsRowOf P width (replicate width 0)
+pub empty_row : {P : ℕ → Type 0} (width : ℕ) → ((number : ℕ) → P number → ⊥)
+    → IsRowOf P width (replicate width 0)
 empty_row width none = record {
   wide = length-replicate {A = ℕ} width 0;
   only = λ number marked. absurd (omega (arith, zero_at width number));
@@ -30,7 +32,8 @@ empty_row width none = record {
 }
 
 -- a row with one byte
-pub one_row : {P : ℕ → Type 0} (width one : ℕ) → one < width → P one → ((number : ℕ) → P number → number ≡ one) → IsRowOf P width (set (replicate width 0) one 1)
+pub one_row : {P : ℕ → Type 0} (width one : ℕ) → one < width → P one
+    → ((number : ℕ) → P number → number ≡ one) → IsRowOf P width (set (replicate width 0) one 1)
 one_row width one inside holds only = record {
   wide = length-set {A = ℕ} (replicate width 0) one 1 ∙ length-replicate {A = ℕ} width 0;
   only = λ number marked. elim (cases_eq number one) [
@@ -42,7 +45,9 @@ one_row width one inside holds only = record {
     ))
   ];
   each = λ number holds.
-      let here : slice_index (set _ _ 1) one ≡ 1 = get_or-set_same {A = ℕ} (replicate width 0) one 1 0 (omega (arith, length-replicate {A = ℕ} width 0)) in
+      let here : slice_index (set _ _ 1) one ≡ 1 =
+      get_or-set_same {A = ℕ} (replicate width 0) one 1 0
+      (omega (arith, length-replicate {A = ℕ} width 0)) in
       rw (only number holds) (omega arith);
 }
 
@@ -62,50 +67,57 @@ joined_some a b some = elim (cases_lt 0 a) [
 
 -- a row joined with another one
 pub row_joined : {P Q R : ℕ → Type 0} {width : ℕ} (shift : ℕ) {row other after : List ℕ}
-    → ((number : ℕ) → P number → R number) → ((number : ℕ) → Q number → R (number + shift)) → ((number : ℕ) → R number → number < width)
+    → ((number : ℕ) → P number → R number) → ((number : ℕ) → Q number → R (number + shift))
+    → ((number : ℕ) → R number → number < width)
     → ((number : ℕ) → R number → P number ⊎ ((rest : ℕ) × (Q rest × (number ≡ rest + shift))))
-    → IsRowOf P width row → IsRowOf Q width other → IsOrShifted row other shift after → IsRowOf R width after
-row_joined {R} {width} shift {row} {other} {after} from_row from_other below split it that joined = record {
-  wide = cc;
-  only = λ number marked. elim (cases_lt number shift) [
-    | inl before ↦ from_row number (it.only number (omega (arith, joined.same number before)))
-    | inr later ↦ elim (cases_lt number width) [
-      | inl inside ↦
-          elim (joined_some _ _ (omega arith)) [
-            | inl left ↦ from_row number (it.only number left)
-            | inr right ↦ subst R {x = number - shift + shift} (omega arith) (from_other (number - shift) (that.only (number - shift) right))
-          ]
-      | inr outside ↦
-          let none : slice_index after number ≡ 0 = get_or-eq_default after 0 {n = number} (omega arith) in
-          absurd (omega arith)
-    ]
-  ];
-  each = λ number holds.
-      let inside = below number holds in
-      elim (split _ holds) [
-        | inl left ↦ elim (cases_lt number shift) [
-          | inl before ↦ omega (arith, joined.same number before, it.each number left)
-          | inr later ↦ omega (
-            arith,
-            joined.joined number later (omega arith),
-            it.each number left,
-            le_or_l (slice_index row number) (slice_index other (number - shift)),
-          )
+    → IsRowOf P width row → IsRowOf Q width other → IsOrShifted row other shift after
+    → IsRowOf R width after
+row_joined {R} {width} shift {row} {other} {after} from_row from_other below split it that joined =
+    record {
+      wide = cc;
+      only = λ number marked. elim (cases_lt number shift) [
+        | inl before ↦ from_row number (it.only number (omega (arith, joined.same number before)))
+        | inr later ↦ elim (cases_lt number width) [
+          | inl inside ↦
+              elim (joined_some _ _ (omega arith)) [
+                | inl left ↦ from_row number (it.only number left)
+                | inr right ↦ subst R {x = number - shift + shift} (omega arith)
+                    (from_other (number - shift) (that.only (number - shift) right))
+              ]
+          | inr outside ↦
+              let none : slice_index after number ≡ 0 =
+              get_or-eq_default after 0 {n = number} (omega arith) in
+              absurd (omega arith)
         ]
-        | inr right ↦
-            let later : shift ≤ number = omega arith in
-            let position : right.0 ≡ number - shift = omega arith in
-            let there : 0 < slice_index other (number - shift) = rw (← position) (that.each right.0 right.1.0) in
-            omega (
-              arith,
-              joined.joined number later (omega (arith, inside, it.wide)),
-              le_or_r (slice_index row number) (slice_index other (number - shift)),
-            )
       ];
-}
+      each = λ number holds.
+          let inside = below number holds in
+          elim (split _ holds) [
+            | inl left ↦ elim (cases_lt number shift) [
+              | inl before ↦ omega (arith, joined.same number before, it.each number left)
+              | inr later ↦ omega (
+                arith,
+                joined.joined number later (omega arith),
+                it.each number left,
+                le_or_l (slice_index row number) (slice_index other (number - shift)),
+              )
+            ]
+            | inr right ↦
+                let later : shift ≤ number = omega arith in
+                let position : right.0 ≡ number - shift = omega arith in
+                let there : 0 < slice_index other (number - shift) =
+                rw (← position) (that.each right.0 right.1.0) in
+                omega (
+                  arith,
+                  joined.joined number later (omega (arith, inside, it.wide)),
+                  le_or_r (slice_index row number) (slice_index other (number - shift)),
+                )
+          ];
+    }
 
 -- a row of a property marks what is the same
-pub row_same : {P Q : ℕ → Type 0} {width : ℕ} {row : List ℕ} → ((number : ℕ) → P number → Q number) → ((number : ℕ) → Q number → P number) → IsRowOf P width row → IsRowOf Q width row
+pub row_same : {P Q : ℕ → Type 0} {width : ℕ} {row : List ℕ} → ((number : ℕ) → P number → Q number)
+    → ((number : ℕ) → Q number → P number) → IsRowOf P width row → IsRowOf Q width row
 row_same to from it = record {
   wide = it.wide;
   only = λ number marked. to number (it.only number marked);
@@ -115,34 +127,44 @@ row_same to from it = record {
 -- ---- the totals with one candidate more
 
 module _ (p : Penalties) (layer rank penalty count : ℕ) where
-  more : (total : ℕ) → IsTotalBy p layer rank penalty count total → IsTotalBy p layer rank penalty (count + 1) total
-  more total (second, leg, rest, least, most, joined, on, sum) = (second, leg, rest, least, omega arith, joined, on, sum)
+  more : (total : ℕ) → IsTotalBy p layer rank penalty count total
+      → IsTotalBy p layer rank penalty (count + 1) total
+  more total (second, leg, rest, least, most, joined, on, sum) =
+      (second, leg, rest, least, omega arith, joined, on, sum)
 
   -- with one of the first candidates, or with the next one
   split : (total : ℕ) → IsTotalBy p layer rank penalty (count + 1) total
       → IsTotalBy p layer rank penalty count total
-      ⊎ ((leg : ℕ) × (rest : ℕ) × (leg_at p (layer + 1) rank (count + 1) ≡ Some leg) × IsRemainingTotal p (layer + 1) (count + 1) rest × (total ≡ rest + (penalty + leg)))
-  split total (second, leg, rest, least, most, joined, on, sum) = elim (cases_eq second (count + 1)) [
-    | inl same ↦ inr (
-      leg,
-      rest,
-      rw (← same) joined,
-      rw (← same) on,
-      sum,
-    )
-    | inr other ↦ inl (second, leg, rest, least, omega arith, joined, on, sum)
-  ]
+      ⊎ ((leg : ℕ) × (rest : ℕ) × (leg_at p (layer + 1) rank (count + 1) ≡ Some leg)
+      × IsRemainingTotal p (layer + 1) (count + 1) rest × (total ≡ rest + (penalty + leg)))
+  split total (second, leg, rest, least, most, joined, on, sum) =
+      elim (cases_eq second (count + 1)) [
+        | inl same ↦ inr (
+          leg,
+          rest,
+          rw (← same) joined,
+          rw (← same) on,
+          sum,
+        )
+        | inr other ↦ inl (second, leg, rest, least, omega arith, joined, on, sum)
+      ]
 
   -- there is no leg to the next one
-  pub row_without : {width : ℕ} {row : List ℕ} → leg_at p (layer + 1) rank (count + 1) ≡ None → IsRowOf (IsTotalBy p layer rank penalty count) width row → IsRowOf (IsTotalBy p layer rank penalty (count + 1)) width row
+  pub row_without : {width : ℕ} {row : List ℕ} → leg_at p (layer + 1) rank (count + 1) ≡ None
+      → IsRowOf (IsTotalBy p layer rank penalty count) width row
+      → IsRowOf (IsTotalBy p layer rank penalty (count + 1)) width row
   row_without none = row_same more (λ total holds. elim (split _ holds) [
     | inl before ↦ before
     | inr (leg, rest, joined, on, sum) ↦ absurd cc
   ])
 
   -- there is a leg to it
-  pub row_with : (width leg : ℕ) (row other after : List ℕ) → leg_at p (layer + 1) rank (count + 1) ≡ Some leg → ((total : ℕ) → IsTotalBy p layer rank penalty (count + 1) total → total < width)
-      → IsRowOf (IsTotalBy p layer rank penalty count) width row → IsRowOf (IsRemainingTotal p (layer + 1) (count + 1)) width other → IsOrShifted row other (penalty + leg) after
+  pub row_with : (width leg : ℕ) (row other after : List ℕ)
+      → leg_at p (layer + 1) rank (count + 1) ≡ Some leg
+      → ((total : ℕ) → IsTotalBy p layer rank penalty (count + 1) total → total < width)
+      → IsRowOf (IsTotalBy p layer rank penalty count) width row
+      → IsRowOf (IsRemainingTotal p (layer + 1) (count + 1)) width other
+      → IsOrShifted row other (penalty + leg) after
       → IsRowOf (IsTotalBy p layer rank penalty (count + 1)) width after
   row_with width leg row other after is below = row_joined _
       more
@@ -150,25 +172,33 @@ module _ (p : Penalties) (layer rank penalty count : ℕ) where
       below
       (λ total holds. elim (split _ holds) [
         | inl before ↦ inl before
-        | inr (leg', rest, joined, on, sum) ↦ let same : leg' ≡ leg = cc in inr (rest, (on, omega arith))
+        | inr (leg', rest, joined, on, sum) ↦ let same : leg' ≡ leg = cc in
+            inr (rest, (on, omega arith))
       ])
 
 -- ---- the row of a candidate
 
 -- a candidate with a leg to none of no candidates: the row is empty
-pub start_row : (p : Penalties) {width : ℕ} (layer rank penalty count : ℕ) → count ≡ 0 → IsRowOf (IsTotalBy p layer rank penalty count) width (replicate width 0)
-start_row p layer rank penalty count is = empty_row _ (λ total (second, leg, rest, least, most, joined, on, sum). absurd (omega arith))
+pub start_row : (p : Penalties) {width : ℕ} (layer rank penalty count : ℕ) → count ≡ 0
+    → IsRowOf (IsTotalBy p layer rank penalty count) width (replicate width 0)
+start_row p layer rank penalty count is =
+    empty_row _ (λ total (second, leg, rest, least, most, joined, on, sum). absurd (omega arith))
 
 -- with all candidates of the next layer
-pub whole_row : (p : Penalties) {rank penalty count : ℕ} (layer : ℕ) {row : List ℕ} → layer + 1 < length p.candidates → penalty_at p layer rank ≡ Some penalty → count ≡ count_of p (layer + 1)
-    → IsRowOf (IsTotalBy p layer rank penalty count) (width_of p) row → IsRowOf (IsRemainingTotal p layer rank) (width_of p) row
+pub whole_row : (p : Penalties) {rank penalty count : ℕ} (layer : ℕ) {row : List ℕ}
+    → layer + 1 < length p.candidates → penalty_at p layer rank ≡ Some penalty
+    → count ≡ count_of p (layer + 1)
+    → IsRowOf (IsTotalBy p layer rank penalty count) (width_of p) row
+    → IsRowOf (IsRemainingTotal p layer rank) (width_of p) row
 whole_row p layer inside there all = row_same
     (λ total by. remaining_by _ _ _ _ _ _ there by)
     (λ total on. rw all (by_remaining _ _ _ inside there on))
 
 -- the row of a candidate of the last layer
-pub last_row : (p : Penalties) (layer rank penalty : ℕ) → layer + 1 ≡ length p.candidates → penalty_at p layer rank ≡ Some penalty
-    → (penalty < width_of p) × IsRowOf (IsRemainingTotal p layer rank) (width_of p) (set (replicate (width_of p) 0) penalty 1)
+pub last_row : (p : Penalties) (layer rank penalty : ℕ) → layer + 1 ≡ length p.candidates
+    → penalty_at p layer rank ≡ Some penalty
+    → (penalty < width_of p) × IsRowOf (IsRemainingTotal p layer rank) (width_of p)
+    (set (replicate (width_of p) 0) penalty 1)
 last_row p layer rank penalty last there =
     let on = remaining_last _ _ _ last there in
     let inside = remaining_below _ _ _ _ on in
@@ -176,17 +206,23 @@ last_row p layer rank penalty last there =
 
 -- ---- the rows of a layer
 
-pub next_row : (p : Penalties) (layer : ℕ) (rows : List (Vec ℕ)) (index : ℕ) (row : Vec ℕ) → AreRowsOf p layer (rows_of rows) → index < length rows → row ≡ get_or rows index row
+pub next_row : {p : Penalties} (layer : ℕ) (rows : List (Vec ℕ)) {index : ℕ} {row : Vec ℕ}
+    → AreRowsOf p layer (rows_of rows) → index < length rows → row ≡ get_or rows index row
     → IsRowOf (IsRemainingTotal p layer (index + 1)) (width_of p) row.items
-next_row p layer rows index row they inside is =
+next_row layer rows {index} {row} they inside is =
     let items : Vec ℕ → List ℕ = λ v. v.items in
-    let here : slice_index_or (rows_of rows) index [] ≡ row.items = cc (get_or-map items rows index row [] inside) in
+    let here : slice_index_or (rows_of rows) index [] ≡ row.items =
+    cc (get_or-map items rows index row [] inside) in
     rw (← here) (they.each index (omega (arith, length-map rows items)))
 
 -- the totals with one candidate more, where there is a leg to it
-pub row_more : (p : Penalties) {count shift : ℕ} (layer rank penalty leg : ℕ) {other after : List ℕ} (row item written : List ℕ) → penalty_at p layer rank ≡ Some penalty
-    → leg_at p (layer + 1) rank (count + 1) ≡ Some leg → shift ≡ penalty + leg → other ≡ item → after ≡ written
-    → IsRowOf (IsTotalBy p layer rank penalty count) (width_of p) row → IsRowOf (IsRemainingTotal p (layer + 1) (count + 1)) (width_of p) item → IsOrShifted row other shift written
+pub row_more : (p : Penalties) {count shift : ℕ} (layer rank penalty leg : ℕ) {other after : List ℕ}
+    (row item written : List ℕ) → penalty_at p layer rank ≡ Some penalty
+    → leg_at p (layer + 1) rank (count + 1) ≡ Some leg → shift ≡ penalty + leg → other ≡ item
+    → after ≡ written
+    → IsRowOf (IsTotalBy p layer rank penalty count) (width_of p) row
+    → IsRowOf (IsRemainingTotal p (layer + 1) (count + 1)) (width_of p) item
+    → IsOrShifted row other shift written
     → IsRowOf (IsTotalBy p layer rank penalty (count + 1)) (width_of p) after
 row_more p layer rank penalty leg row item written there joined moved same is it that or =
     let moved_by : IsOrShifted row item (penalty + leg) written = rw (← moved) (rw (← same) or) in
@@ -205,26 +241,34 @@ row_more p layer rank penalty leg row item written there joined moved same is it
 -- the rows of the first candidates of a layer
 pub record AreFirstRows (p : Penalties) (layer count : ℕ) (rows : List (List ℕ)) : Type 0 where
   pub long : length rows ≡ count
-  pub each : (index : ℕ) → index < count → IsRowOf (IsRemainingTotal p layer (index + 1)) (width_of p) (slice_index_or rows index [])
+  pub each : (index : ℕ) → index < count
+      → IsRowOf (IsRemainingTotal p layer (index + 1)) (width_of p) (slice_index_or rows index [])
 
-pub push_row : (p : Penalties) (layer index : ℕ) (rows pushed : List (Vec ℕ)) (row : Vec ℕ) → AreFirstRows p layer index (rows_of rows) → IsRowOf (IsRemainingTotal p layer (index + 1)) (width_of p) row.items
+pub push_row : (p : Penalties) (layer index : ℕ) (rows pushed : List (Vec ℕ)) (row : Vec ℕ)
+    → AreFirstRows p layer index (rows_of rows)
+    → IsRowOf (IsRemainingTotal p layer (index + 1)) (width_of p) row.items
     → pushed ≡ rows ++ row ∷ [] → AreFirstRows p layer (index + 1) (rows_of pushed)
 push_row p layer index rows pushed row they it is =
     let items : Vec ℕ → List ℕ = λ v. v.items in
-    let same : rows_of pushed ≡ rows_of rows ++ row.items ∷ [] = cc (map-append items rows (row ∷ [])) in
+    let same : rows_of pushed ≡ rows_of rows ++ row.items ∷ [] =
+    cc (map-append items rows (row ∷ [])) in
     rw same (record {
       long = omega (arith, length-append (rows_of rows) (row.items ∷ []));
-      each = each_more (λ k. IsRowOf (IsRemainingTotal p layer (k + 1)) (width_of p)) [] index (rows_of rows) row.items they.long they.each it;
+      each = each_more (λ k. IsRowOf (IsRemainingTotal p layer (k + 1)) (width_of p)) [] index
+          (rows_of rows) row.items they.long they.each it;
     })
 
 -- ---- the row of all totals
 
 -- the total of a matching by one of the first candidates of the first layer
 abbrev pub IsTotalAmong : Penalties → ℕ → ℕ → Type 0
-IsTotalAmong p count total = (rank : ℕ) × (1 ≤ rank) × (rank ≤ count) × IsRemainingTotal p 0 rank total
+IsTotalAmong p count total = (rank : ℕ) × (1 ≤ rank) × (rank ≤ count)
+    × IsRemainingTotal p 0 rank total
 
-pub total_row_more : (p : Penalties) (count : ℕ) {row item other after : List ℕ} → other ≡ item → IsRowOf (IsTotalAmong p count) (width_of p) row
-    → IsRowOf (IsRemainingTotal p 0 (count + 1)) (width_of p) item → IsOrShifted row other 0 after → IsRowOf (IsTotalAmong p (count + 1)) (width_of p) after
+pub total_row_more : (p : Penalties) (count : ℕ) {row item other after : List ℕ} → other ≡ item
+    → IsRowOf (IsTotalAmong p count) (width_of p) row
+    → IsRowOf (IsRemainingTotal p 0 (count + 1)) (width_of p) item → IsOrShifted row other 0 after
+    → IsRowOf (IsTotalAmong p (count + 1)) (width_of p) after
 total_row_more p count same it that or = row_joined
     0
     (λ total (rank, least, most, on). (rank, least, omega arith, on))
@@ -238,12 +282,15 @@ total_row_more p count same it that or = row_joined
     that
     (rw (← same) or)
 
-among_of : {p : Penalties} {count total : ℕ} (ranks : List ℕ) → IsTable p → count ≡ count_of p 0 → IsCompletion p 0 None ranks total → IsTotalAmong p count total
+among_of : {p : Penalties} {count total : ℕ} (ranks : List ℕ) → IsTable p → count ≡ count_of p 0
+    → IsCompletion p 0 None ranks total → IsTotalAmong p count total
 among_of [] sound all completion = absurd (omega arith)
 among_of {p} (rank ∷ ranks) sound all (leg, penalty, rest, joined, there, later, sum) =
-    let position = rank_inside p 0 rank penalty there in (rank, position.0, omega arith, (ranks, (leg, penalty, rest, joined, there, later, sum)))
+    let position = rank_inside p 0 rank penalty there in
+    (rank, position.0, omega arith, (ranks, (leg, penalty, rest, joined, there, later, sum)))
 
-pub whole_totals : {p : Penalties} {count : ℕ} {row : List ℕ} → IsTable p → count ≡ count_of p 0 → IsRowOf (IsTotalAmong p count) (width_of p) row → IsRowOf (IsTotal p) (width_of p) row
+pub whole_totals : {p : Penalties} {count : ℕ} {row : List ℕ} → IsTable p → count ≡ count_of p 0
+    → IsRowOf (IsTotalAmong p count) (width_of p) row → IsRowOf (IsTotal p) (width_of p) row
 whole_totals sound all = row_same
     (λ total (rank, least, most, (ranks, completion)). (rank ∷ ranks, completion))
     (λ total (ranks, completion). among_of _ sound all completion)

@@ -6,7 +6,8 @@ use Rattle.std.proofs.lemmas.Bool.Decides.{Decides-eqb}
 use Rattle.std.proofs.lemmas.Slice.Eq.{slice_eq-Decides}
 
 -- what has to hold where a call gave none
-pub from_none : {X : Type 0} {P : Type 0} (Q : X → Type 0) {found : Option X} → found ≡ None → P → MatchOption found P Q
+pub from_none : {X : Type 0} {P : Type 0} (Q : X → Type 0) {found : Option X} → found ≡ None → P
+    → MatchOption found P Q
 from_none Q none holds = rw none holds
 
 -- a call gave one value

@@ -9,13 +9,22 @@ use Rattle.olr_keys.specs.Key.{IsRank}
 use Rattle.olr_keys.proofs.Lacking.{Lacks, IsCut, lacks_decimal, one_cut, not_cut}
 
 lacks_rank : {rank : ℕ} → IsRank rank → Lacks 46 (decimal rank)
-lacks_rank in_range = lacks_decimal _ _ (λ high. absurd (omega arith)) (omega arith)
+lacks_rank in_range = lacks_decimal (λ high. absurd (omega arith)) (omega arith)
 
-tail : {most rank next : ℕ} {more : List ℕ} → AreRanks most (rank ∷ next ∷ more) → AreRanks (most - 1) (next ∷ more)
-tail {rank} {next} {more} are = record { at_least = omega arith; at_most = omega arith; each = All-tail IsRank rank (next ∷ more) are.each }
+tail : {most rank next : ℕ} {more : List ℕ} → AreRanks most (rank ∷ next ∷ more)
+    → AreRanks (most - 1) (next ∷ more)
+tail {rank} {next} {more} are =
+    record {
+      at_least = omega arith;
+      at_most = omega arith;
+      each =
+          All-tail IsRank rank (next ∷ more) are.each;
+    }
 
 -- a text without a dot that isn't a rank isn't the text of ranks
-pub no_ranks : {text : List ℕ} {most : ℕ} → Lacks 46 text → ((rank : ℕ) → IsRank rank → text ≢ decimal rank) → (more : List ℕ) → AreRanks most more → text ≢ ranks_text more
+pub no_ranks : {text : List ℕ} {most : ℕ} → Lacks 46 text
+    → ((rank : ℕ) → IsRank rank → text ≢ decimal rank) → (more : List ℕ) → AreRanks most more
+    → text ≢ ranks_text more
 no_ranks lacks other [] are same = absurd (omega arith)
 no_ranks lacks other (rank ∷ []) are same = other rank (are.each 0 0 (omega arith)) same
 no_ranks lacks other (rank ∷ next ∷ more) are same = not_cut _ _ _ _ lacks same
@@ -30,49 +39,71 @@ pub record IsHead (most : ℕ) (piece rest more : List ℕ) : Type 0 where
   pub are : AreRanks (most - 1) others
 
 -- a text that has a dot is that of ranks only if the text before the dot is that of the first
-pub head_of : (text piece rest : List ℕ) (most : ℕ) → IsCut 46 text piece rest → (more : List ℕ) → AreRanks most more → text ≡ ranks_text more → IsHead most piece rest more
+pub head_of : (text piece rest : List ℕ) (most : ℕ) → IsCut 46 text piece rest → (more : List ℕ)
+    → AreRanks most more → text ≡ ranks_text more → IsHead most piece rest more
 head_of text piece rest most cut [] are same = absurd (omega arith)
-head_of text piece rest most cut (rank ∷ []) are same = absurd (not_cut _ _ _ _ (lacks_rank (are.each 0 0 (omega arith))) (sym same ∙ cut.whole))
+head_of text piece rest most cut (rank ∷ []) are same =
+    absurd (not_cut _ _ _ _ (lacks_rank (are.each 0 0 (omega arith))) (sym same ∙ cut.whole))
 head_of text piece rest most cut (rank ∷ next ∷ more) are same =
     let in_range : IsRank rank = are.each 0 0 (omega arith) in
-    let parts = one_cut _ _ _ _ _ cut.lacks (lacks_rank in_range) (cc) in
-    record { rank = rank; others = next ∷ more; in_range = in_range; first = parts.0; later = parts.1; are = tail are }
+    let parts = one_cut _ _ _ _ cut.lacks (lacks_rank in_range) (cc) in
+    record {
+      rank = rank;
+      others = next ∷ more;
+      in_range = in_range;
+      first = parts.0;
+      later =
+          parts.1;
+      are = tail are;
+    }
 
 -- ranks have one text
-pub one_ranks : (most : ℕ) (a b : List ℕ) → AreRanks most a → AreRanks most b → ranks_text a ≡ ranks_text b → a ≡ b
-one_ranks most [] b are are' same = absurd (omega arith)
-one_ranks most (rank ∷ ranks) [] are are' same = absurd (omega arith)
-one_ranks most (rank ∷ []) (rank' ∷ []) are are' same =
+pub one_ranks : {most : ℕ} (a b : List ℕ) → AreRanks most a → AreRanks most b
+    → ranks_text a ≡ ranks_text b → a ≡ b
+one_ranks [] b are are' same = absurd (omega arith)
+one_ranks (rank ∷ ranks) [] are are' same = absurd (omega arith)
+one_ranks (rank ∷ []) (rank' ∷ []) are are' same =
     let in_range : IsRank rank = are.each 0 0 (omega arith) in
     let in_range' : IsRank rank' = are'.each 0 0 (omega arith) in
     ap (λ (n : ℕ). n ∷ []) (decimal_injective _ _ (omega arith) (omega arith) same)
-one_ranks most (rank ∷ []) (rank' ∷ next' ∷ more') are are' same =
+one_ranks (rank ∷ []) (rank' ∷ next' ∷ more') are are' same =
     absurd (not_cut _ _ _ _ (lacks_rank (are.each 0 0 (omega arith))) same)
-one_ranks most (rank ∷ next ∷ more) (rank' ∷ []) are are' same =
+one_ranks (rank ∷ next ∷ more) (rank' ∷ []) are are' same =
     absurd (not_cut _ _ _ _ (lacks_rank (are'.each 0 0 (omega arith))) (sym same))
-one_ranks most (rank ∷ next ∷ more) (rank' ∷ next' ∷ more') are are' same =
+one_ranks {most} (rank ∷ next ∷ more) (rank' ∷ next' ∷ more') are are' same =
     let in_range : IsRank rank = are.each 0 0 (omega arith) in
     let in_range' : IsRank rank' = are'.each 0 0 (omega arith) in
-    let parts = one_cut _ _ _ _ _ (lacks_rank in_range) (lacks_rank in_range') same in
+    let parts = one_cut _ _ _ _ (lacks_rank in_range) (lacks_rank in_range') same in
     let first : rank ≡ rank' = decimal_injective _ _ (omega arith) (omega arith) parts.0 in
-    let others : next ∷ more ≡ next' ∷ more' = one_ranks (most - 1) (next ∷ more) (next' ∷ more') (tail are) (tail are') parts.1 in cc
+    let others : next ∷ more ≡ next' ∷ more' =
+    one_ranks {most = most - 1} (next ∷ more) (next' ∷ more') (tail are) (tail are') parts.1 in
+    cc
 
-fewer : {most count : ℕ} {ranks : List ℕ} → AreRanks most ranks → most ≡ count → AreRanks count ranks
+fewer : {most count : ℕ} {ranks : List ℕ} → AreRanks most ranks → most ≡ count
+    → AreRanks count ranks
 fewer are same = rw (← same) are
 
--- what one rank and a reading of the text after it give together, with the ranks that were there before
-pub joined : (found : Option (Unit {0})) {text piece rest : List ℕ} {rank : ℕ} {pushed : List ℕ} (old new : List ℕ)
-    → IsCut 46 text piece rest → length old < 32 → IsRank rank → piece ≡ decimal rank → pushed ≡ old ++ rank ∷ []
-    → MatchOption found ((more : List ℕ) → AreRanks (32 - length pushed) more → rest ≢ ranks_text more)
-    (λ _. (more : List ℕ) × AreRanks (32 - length pushed) more × (rest ≡ ranks_text more) × (new ≡ pushed ++ more))
+-- what one rank and a reading of the text after it give together, with the ranks that were there
+-- before
+pub joined : (found : Option (Unit {0})) {text piece rest : List ℕ} {rank : ℕ} {pushed : List ℕ}
+    (old new : List ℕ)
+    → IsCut 46 text piece rest → length old < 32 → IsRank rank → piece ≡ decimal rank
+    → pushed ≡ old ++ rank ∷ []
+    → MatchOption found ((more : List ℕ) → AreRanks (32 - length pushed) more
+    → rest ≢ ranks_text more)
+    (λ _. (more : List ℕ) × AreRanks (32 - length pushed) more × (rest ≡ ranks_text more)
+    × (new ≡ pushed ++ more))
     → MatchOption found ((more : List ℕ) → AreRanks (32 - length old) more → text ≢ ranks_text more)
-    (λ _. (more : List ℕ) × AreRanks (32 - length old) more × (text ≡ ranks_text more) × (new ≡ old ++ more))
+    (λ _. (more : List ℕ) × AreRanks (32 - length old) more × (text ≡ ranks_text more)
+    × (new ≡ old ++ more))
 joined None {rank} old new cut room in_range first push inner = λ more are same.
     let head = head_of _ _ _ _ cut _ are same in
     let one_more = ap length push ∙ length-append old (rank ∷ []) in
     inner head.others (fewer head.are (omega arith)) head.later
-joined (Some unit) old new cut room in_range first push ([], are, same, whole) = absurd (omega arith)
-joined (Some unit) {rest} {rank} old new cut room in_range first push (next ∷ more, are, same, whole) =
+joined (Some unit) old new cut room in_range first push ([], are, same, whole) =
+    absurd (omega arith)
+joined (Some unit) {rest} {rank} old new cut room in_range first push
+    (next ∷ more, are, same, whole) =
     let one_more = ap length push ∙ length-append old (rank ∷ []) in (
       rank ∷ next ∷ more,
       record {
@@ -80,8 +111,10 @@ joined (Some unit) {rest} {rank} old new cut room in_range first push (next ∷ 
         at_most = omega arith;
         each = All-cons IsRank rank (next ∷ more) in_range are.each;
       },
-      cut.whole ∙ ap (λ (l : List ℕ). l ++ (46 ∷ rest)) first ∙ ap (λ (l : List ℕ). decimal rank ++ (46 ∷ l)) same,
-      whole ∙ ap (λ (l : List ℕ). l ++ (next ∷ more)) push ∙ append_assoc old (rank ∷ []) (next ∷ more),
+      cut.whole ∙ ap (λ (l : List ℕ). l ++ (46 ∷ rest)) first
+          ∙ ap (λ (l : List ℕ). decimal rank ++ (46 ∷ l)) same,
+      whole ∙ ap (λ (l : List ℕ). l ++ (next ∷ more)) push
+          ∙ append_assoc old (rank ∷ []) (next ∷ more),
     )
 
 -- the text of the ranks after the first one
@@ -89,16 +122,20 @@ abbrev pub later : List ℕ → List ℕ
 later [] = []
 later (rank ∷ ranks) = 46 ∷ decimal rank ++ later ranks
 
-pub ranks_text-cons : (rank : ℕ) (ranks : List ℕ) → ranks_text (rank ∷ ranks) ≡ decimal rank ++ later ranks
+pub ranks_text-cons : (rank : ℕ) (ranks : List ℕ)
+    → ranks_text (rank ∷ ranks) ≡ decimal rank ++ later ranks
 ranks_text-cons rank [] = sym (append-nil (decimal rank))
 ranks_text-cons rank (next ∷ ranks) = cc (ranks_text-cons next ranks)
 
-pub later-push : (ranks : List ℕ) (rank : ℕ) → later (ranks ++ rank ∷ []) ≡ later ranks ++ (46 ∷ decimal rank)
+pub later-push : (ranks : List ℕ) (rank : ℕ)
+    → later (ranks ++ rank ∷ []) ≡ later ranks ++ (46 ∷ decimal rank)
 later-push [] rank = cc (append-nil (decimal rank))
 later-push (first ∷ ranks) rank =
     cc (later-push ranks rank, append_assoc (decimal first) (later ranks) (46 ∷ decimal rank))
 
-pub later-next : (ranks : List ℕ) (i : ℕ) → i < length ranks → later (take (i + 1) ranks) ≡ later (take i ranks) ++ (46 ∷ decimal (get_or ranks i 0))
+pub later-next : (ranks : List ℕ) (i : ℕ) → i < length ranks
+    → later (take (i + 1) ranks) ≡ later (take i ranks) ++ (46 ∷ decimal (get_or ranks i 0))
 later-next ranks i inside =
     let next : i + 1 ≡ suc i = omega arith in
-    ap (λ (n : ℕ). later (take n ranks)) next ∙ ap later (take-suc ranks i 0 inside) ∙ later-push _ _
+    ap (λ (n : ℕ). later (take n ranks)) next ∙ ap later (take-suc ranks i 0 inside)
+    ∙ later-push _ _

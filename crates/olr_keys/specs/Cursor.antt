@@ -1,4 +1,5 @@
--- The text of a cursor: the key of a matching, and perhaps the mark of the inputs that the matching is of.
+-- The text of a cursor: the key of a matching, and perhaps the mark of the inputs that the matching
+-- is of.
 use Rattle.std.specs.Prelude.{◌≡◌, ℕ, ◌/◌, ◌%◌, ◌<◌, ◌≤◌, List, [], ◌∷◌, ◌++◌, length, map, codes, decimal, false, Option, None, Some, All, IfSome, Result, MatchResult}
 use Rattle.std.specs.Fmt.{digit_glyph}
 use Rattle.std.specs.List.{join_with_byte}
@@ -24,9 +25,11 @@ key_text key = decimal key.total ++ codes ":" ++ ranks_text key.ranks
 -- bytes as hexadecimal digits, two for each; letters are in lower case
 abbrev pub hexadecimal : List ℕ → List ℕ
 hexadecimal [] = []
-hexadecimal (byte ∷ bytes) = digit_glyph false (byte / 16) ∷ digit_glyph false (byte % 16) ∷ hexadecimal bytes
+hexadecimal (byte ∷ bytes) = digit_glyph false (byte / 16) ∷ digit_glyph false (byte % 16)
+    ∷ hexadecimal bytes
 
--- the one text of a cursor: that of its key, and then, where there is a mark, `@` and the digits of the mark
+-- the one text of a cursor: that of its key, and then, where there is a mark, `@` and the digits of
+-- the mark
 abbrev pub cursor_text : KeyValue → Option Mark → List ℕ
 cursor_text key None = key_text key
 cursor_text key (Some mark) = key_text key ++ codes "@" ++ hexadecimal mark.0
@@ -42,6 +45,8 @@ pub record IsCursorOf (key : KeyValue) (mark : Option Mark) (text : List ℕ) : 
   pub is_mark : IfSome mark IsMark
   pub same : text ≡ cursor_text key mark
 
--- What reading a text gives: the key, and perhaps the mark, whose cursor it is; and an error exactly where the text isn't a cursor.
+-- What reading a text gives: the key, and perhaps the mark, whose cursor it is; and an error
+-- exactly where the text isn't a cursor.
 abbrev pub IsReading : List ℕ → Result CursorRead BadCursor → Type 0
-IsReading text result = MatchResult result (λ read. IsCursorOf read.key read.mark text) (λ _. (key : KeyValue) (mark : Option Mark) → ¬ (IsCursorOf key mark text))
+IsReading text result = MatchResult result (λ read. IsCursorOf read.key read.mark text)
+    (λ _. (key : KeyValue) (mark : Option Mark) → ¬ (IsCursorOf key mark text))

@@ -16,12 +16,16 @@ IsPosition answers (Some after) = Contains answers after
 
 -- the least of all keys that this holds of; none where it holds of no key
 abbrev pub IsLeastOf : (KeyValue → Type 0) → Option KeyValue → Type 0
-IsLeastOf P found = MatchOption found ((key : KeyValue) → P key → ⊥) (λ least. P least × ((key : KeyValue) → P key → (key ≡ least) ⊎ IsBefore least key))
+IsLeastOf P found = MatchOption found ((key : KeyValue) → P key → ⊥) (λ least. P least
+    × ((key : KeyValue) → P key → (key ≡ least) ⊎ IsBefore least key))
 
 -- the least key of the list after a position; none where no key of the list comes after it
 abbrev pub IsNext : List KeyValue → Option KeyValue → Option KeyValue → Type 0
-IsNext answers after found = IsLeastOf (λ (key : KeyValue). Contains answers key × IsAfter after key) found
+IsNext answers after found = IsLeastOf (λ (key : KeyValue). Contains answers key
+    × IsAfter after key) found
 
--- the same of all matchings of a table: the least key of a matching after a position; none where none comes after it
+-- the same of all matchings of a table: the least key of a matching after a position; none where
+-- none comes after it
 abbrev pub IsNextKey : Penalties → Option KeyValue → Option KeyValue → Type 0
-IsNextKey penalties after found = IsLeastOf (λ (key : KeyValue). IsKey penalties key × IsAfter after key) found
+IsNextKey penalties after found =
+    IsLeastOf (λ (key : KeyValue). IsKey penalties key × IsAfter after key) found

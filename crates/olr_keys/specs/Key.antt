@@ -11,7 +11,8 @@ pub record KeyValue : Type 0 where
 abbrev pub IsRank : ℕ → Type 0
 IsRank rank = (1 ≤ rank) × (rank ≤ 64)
 
--- The ranges of a key: a total of at most `max_total`, which is 14,620, and 2 to 32 ranks, each from 1 to 64. Every matching of a table has such a key.
+-- The ranges of a key: a total of at most `max_total`, which is 14,620, and 2 to 32 ranks, each
+-- from 1 to 64. Every matching of a table has such a key.
 pub record IsInRange (key : KeyValue) : Type 0 where
   pub total_at_most : key.total ≤ max_total
   pub ranks_at_least : 2 ≤ length key.ranks
@@ -22,7 +23,8 @@ pub record IsInRange (key : KeyValue) : Type 0 where
 abbrev pub AreBefore : List ℕ → List ℕ → Type 0
 AreBefore ranks [] = ⊥
 AreBefore [] (other ∷ others) = ⊤
-AreBefore (rank ∷ ranks) (other ∷ others) = (rank < other) ⊎ ((rank ≡ other) × AreBefore ranks others)
+AreBefore (rank ∷ ranks) (other ∷ others) = (rank < other)
+    ⊎ ((rank ≡ other) × AreBefore ranks others)
 
 -- The order of keys: by the total, and then by the ranks.
 abbrev pub IsBefore : KeyValue → KeyValue → Type 0

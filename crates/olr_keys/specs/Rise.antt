@@ -1,5 +1,6 @@
--- A proof that the answers of a table rise strictly. A reader of the contracts may skip this file. It is here because each finder cites it for the
--- law of the trait Finder that its list rises, and such a law may cite only files of specs/.
+-- A proof that the answers of a table rise strictly. A reader of the contracts may skip this file.
+-- It is here because each finder cites it for the law of the trait Finder that its list rises, and
+-- such a law may cite only files of specs/.
 use Rattle.std.proofs.lemmas.List.Kept.{AllPairs-cons}
 use Rattle.std.proofs.Common.{◌≡◌, zero, suc, ◌⊎◌, Bool, true, false, ◌&&◌, List, [], ◌∷◌, map, All, inl, inr, refl, arith}
 use Rattle.std.specs.Prelude.{AllPairs, Contains, T}
@@ -17,7 +18,8 @@ use Rattle.olr_keys.specs.Table.{Penalties}
 -- ---- members
 
 -- a member is the first or a later one
-pub member : {X : Type 0} (x : X) (xs : List X) (z : X) → Contains (x ∷ xs) z → (x ≡ z) ⊎ Contains xs z
+pub member : {X : Type 0} (x : X) (xs : List X) (z : X) → Contains (x ∷ xs) z → (x ≡ z)
+    ⊎ Contains xs z
 member x xs z (zero, inside, is) = inl is
 member x xs z (suc k, inside, is) = inr (k, omega arith, is)
 
@@ -29,10 +31,12 @@ further x xs z (k, inside, is) = (suc k, omega arith, is)
 
 -- ---- order
 
-pub rest_rises : {X : Type 0} (R : X → X → Type 0) (x : X) (xs : List X) → AllPairs R (x ∷ xs) → AllPairs R xs
+pub rest_rises : {X : Type 0} (R : X → X → Type 0) (x : X) (xs : List X) → AllPairs R (x ∷ xs)
+    → AllPairs R xs
 rest_rises R x xs rise i j d below inside = rise (suc i) (suc j) d (omega arith) (omega arith)
 
-pub after_first : {X : Type 0} (R : X → X → Type 0) (x : X) (xs : List X) → AllPairs R (x ∷ xs) → (z : X) → Contains xs z → R x z
+pub after_first : {X : Type 0} (R : X → X → Type 0) (x : X) (xs : List X) → AllPairs R (x ∷ xs)
+    → (z : X) → Contains xs z → R x z
 after_first R x xs rise z (k, inside, is) = rw (← is) (rise 0 (suc k) z (omega arith) (omega arith))
 
 -- ---- the keys of a map in their order
@@ -41,18 +45,22 @@ both : (a b : Bool) → T (a && b) → T a × T b
 both true b are = (tt, are)
 both false b are = absurd are
 
-is_less : (a b : KeyValue) (result : Ordering) → T (is_lt result) → MatchOrdering result (IsBefore a b) (a ≡ b) (IsBefore b a) → IsBefore a b
+is_less : (a b : KeyValue) (result : Ordering) → T (is_lt result)
+    → MatchOrdering result (IsBefore a b) (a ≡ b) (IsBefore b a) → IsBefore a b
 is_less a b Less less before = before
 is_less a b Equal less same = absurd less
 is_less a b Greater less after = absurd less
 
-all_after : (key : KeyValue) (entries : List (KeyValue × Unit {0})) → T (below_all by_key key entries) → All (IsBefore key) (map (λ e. e.0) entries)
+all_after : (key : KeyValue) (entries : List (KeyValue × Unit {0}))
+    → T (below_all by_key key entries) → All (IsBefore key) (map (λ e. e.0) entries)
 all_after key [] below = All-nil (IsBefore key)
 all_after key (entry ∷ entries) below =
     let (first, later) = both _ _ below in
-    All-cons (IsBefore key) entry.0 _ (is_less _ _ _ first (compared_by key entry.0)) (all_after key entries later)
+    All-cons (IsBefore key) entry.0 _ (is_less _ _ _ first (compared_by key entry.0))
+    (all_after key entries later)
 
-in_order : (entries : List (KeyValue × Unit {0})) → T (is_sorted by_key entries) → AllPairs IsBefore (map (λ e. e.0) entries)
+in_order : (entries : List (KeyValue × Unit {0})) → T (is_sorted by_key entries)
+    → AllPairs IsBefore (map (λ e. e.0) entries)
 in_order [] sorted = λ i j d below inside. absurd (omega arith)
 in_order (entry ∷ entries) sorted =
     let (first, later) = both _ _ sorted in

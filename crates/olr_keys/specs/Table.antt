@@ -1,12 +1,14 @@
--- The penalties that a search for matchings goes by. A layer is the candidates of one point of a reference, each named by its rank, from 1; layers are
--- counted from 0. A leg joins a candidate to one of the next layer.
+-- The penalties that a search for matchings goes by. A layer is the candidates of one point of a
+-- reference, each named by its rank, from 1; layers are counted from 0. A leg joins a candidate to
+-- one of the next layer.
 use Rattle.std.specs.Prelude.{◌≡◌, ℕ, zero, suc, ◌+◌, ◌-◌, ◌*◌, ◌≤◌, List, [], length, map, Option, None, Some, IfSome, slice_get, slice_index_or, All}
 use Rattle.std.specs.List.Sorted.{IsNonDecreasing}
 use Rattle.std.specs.Global.{Vec}
 
 -- ---- how great penalties are
 
--- the greatest penalty of a candidate: 100 for its distance, 160 for its bearing, 70 for its class and 30 for its form
+-- the greatest penalty of a candidate: 100 for its distance, 160 for its bearing, 70 for its class
+-- and 30 for its form
 abbrev pub max_penalty : ℕ
 max_penalty = 360
 
@@ -24,15 +26,21 @@ max_total = 32 * max_penalty + 31 * max_leg
 
 -- ---- tables
 
--- The penalty of each candidate of each layer, by rank; and of each two neighbouring layers the penalties of the legs, by the rank of the first candidate
--- and then by that of the second: none where the two aren't joined.
+-- The penalty of each candidate of each layer, by rank; and of each two neighbouring layers the
+-- penalties of the legs, by the rank of the first candidate and then by that of the second: none
+-- where the two aren't joined.
 pub record Penalties : Type 0 where
   pub candidates : List (List ℕ)
   pub legs : List (List (Option ℕ))
 
 -- the penalties of these lists
 abbrev pub penalties_of : List (Vec ℕ) → List (Vec (Option ℕ)) → Penalties
-penalties_of candidates legs = record { candidates = map (λ (layer : Vec ℕ). layer.items) candidates; legs = map (λ (between : Vec (Option ℕ)). between.items) legs }
+penalties_of candidates legs = record {
+  candidates =
+      map (λ (layer : Vec ℕ). layer.items) candidates;
+  legs =
+      map (λ (between : Vec (Option ℕ)). between.items) legs;
+}
 
 -- how many candidates a layer has, 0 where there is no such layer
 abbrev pub count_of : Penalties → ℕ → ℕ
@@ -44,14 +52,16 @@ pub record IsLayer (layer : List ℕ) : Type 0 where
   pub rise : IsNonDecreasing layer
   pub each : All (λ (penalty : ℕ). penalty ≤ max_penalty) layer
 
--- the legs between layers of so many candidates: one entry for each pair, with a penalty where a leg joins the two
+-- the legs between layers of so many candidates: one entry for each pair, with a penalty where a
+-- leg joins the two
 pub record AreLegs (first second : ℕ) (legs : List (Option ℕ)) : Type 0 where
   pub pairs : length legs ≡ first * second
   pub each : All (λ (leg : Option ℕ). IfSome leg (λ penalty. penalty ≤ max_leg)) legs
 
 -- the legs from a layer to the next one
 abbrev pub AreLegsFrom : Penalties → ℕ → Type 0
-AreLegsFrom penalties layer = AreLegs (count_of penalties layer) (count_of penalties (layer + 1)) (slice_index_or penalties.legs layer [])
+AreLegsFrom penalties layer = AreLegs (count_of penalties layer) (count_of penalties (layer + 1))
+    (slice_index_or penalties.legs layer [])
 
 -- penalties of 2 to 32 layers, and of the legs between each two neighbours
 pub record IsTable (penalties : Penalties) : Type 0 where
@@ -59,16 +69,20 @@ pub record IsTable (penalties : Penalties) : Type 0 where
   pub layers_at_most : length penalties.candidates ≤ 32
   pub layers : All IsLayer penalties.candidates
   pub between : length penalties.legs + 1 ≡ length penalties.candidates
-  pub legs : (layer : ℕ) (legs : List (Option ℕ)) → slice_get penalties.legs layer ≡ Some legs → AreLegs (count_of penalties layer) (count_of penalties (layer + 1)) legs
+  pub legs : (layer : ℕ) (legs : List (Option ℕ)) → slice_get penalties.legs layer ≡ Some legs
+      → AreLegs (count_of penalties layer) (count_of penalties (layer + 1)) legs
 
 -- ---- one candidate, one leg
 
 -- the penalty of a candidate, by its layer and rank, if there is one
 abbrev pub penalty_at : Penalties → ℕ → ℕ → Option ℕ
 penalty_at penalties layer zero = None
-penalty_at penalties layer (suc index) = slice_get (slice_index_or penalties.candidates layer []) index
+penalty_at penalties layer (suc index) =
+    slice_get (slice_index_or penalties.candidates layer []) index
 
--- the penalty of the leg to a candidate of a layer from one of the layer before, by rank, if the two are joined
+-- the penalty of the leg to a candidate of a layer from one of the layer before, by rank, if the
+-- two are joined
 abbrev pub leg_at : Penalties → ℕ → ℕ → ℕ → Option ℕ
 leg_at penalties layer before rank =
-    slice_index_or (slice_index_or penalties.legs (layer - 1) []) ((before - 1) * count_of penalties layer + (rank - 1)) None
+    slice_index_or (slice_index_or penalties.legs (layer - 1) [])
+    ((before - 1) * count_of penalties layer + (rank - 1)) None

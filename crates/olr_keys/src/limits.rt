@@ -103,8 +103,8 @@ fn have_lengths(penalties: &[Vec<u16>], legs: &[Vec<Option<u8>>]) -> bool
 
 /// Whether lists are the penalties of a table, as [`Table::new`](crate::Table::new) takes them: 2
 /// to 32 layers of 0 to 64 penalties that don't fall, and for each two neighbouring layers one leg
-/// for each pair of candidates, or none; no penalty is greater than a candidate's or a leg's can be.
-/// It takes no memory.
+/// for each pair of candidates, or none. No penalty is greater than that of a candidate or a leg
+/// can be. It takes no memory.
 pub fn is_table(penalties: &[Vec<u16>], legs: &[Vec<Option<u8>>]) -> bool
     ensures { Decides result (IsTable (penalties_of penalties.now legs.now)) }
 {

@@ -166,7 +166,12 @@ impl<'a> Rows<'a> {
     {
         let joined = self.table.joined(layer, before, rank)?;
         let index = usize::from(rank) - 1;
-        left_by(joined.leg, joined.penalty, &self.layer_rows(layer)[index], rest)
+        left_by(
+            joined.leg,
+            joined.penalty,
+            &self.layer_rows(layer)[index],
+            rest,
+        )
     }
 
     /// The rows of the candidates of a layer, by rank.

@@ -22,7 +22,12 @@ least_from-least-requires t c =
     let more : List ℕ = c.in-Some.more.ranks.items in
     let (sum, step, total_is, ranks_are) = c.in-Some.ensures in
     let at_most = step_at_most _ _ c.args.total _ _ c.layers.ensures.sound step in
-    let count : length more ≡ length ranks + 1 = omega (arith, subst (λ (l : List ℕ). length l ≡ length ranks + 1) (sym ranks_are) (length-append ranks (rank ∷ []))) in (
+    let count : length more ≡ length ranks + 1 =
+    omega (
+      arith,
+      subst (λ (l : List ℕ). length l ≡ length ranks + 1) (sym ranks_are)
+          (length-append ranks (rank ∷ [])),
+    ) in (
       omega arith,
       (
         omega arith,
@@ -43,7 +48,8 @@ loop-index-preserved t c =
           let (sum, step, total_is, ranks_are) = w.in-Some.ensures in
           rw w.least-is (least_with _ _ _ _ _ _ _ _ _ _ _ _ _ refl
           total_is ranks_are step c.loop-index.invariant w.least_from-least.ensures)
-      | in_default w ↦ rw w.least-is (least_left _ _ _ _ _ _ _ _ _ refl w.in_default.ensures c.loop-index.invariant)
+      | in_default w ↦ rw w.least-is (least_left _ _ _ _ _ _ _ _ _ refl w.in_default.ensures
+          c.loop-index.invariant)
     ]
 
 pub returns : goal.returns

@@ -7,4 +7,5 @@ abbrev pub decreases-least_from : goal.decreases-least_from
 decreases-least_from l = length l.bounds.now.candidates - length l.ranks.items
 
 abbrev pub invariant-loop-index : goal.invariant-loop-index
-invariant-loop-index l = IsLeastBelow l.bounds l.before l.total l.ranks.items (option_map (λ at. at.now) l.after) l.fn.held l.index l.least
+invariant-loop-index l = IsLeastBelow l.bounds l.before l.total l.ranks.items
+    (option_map (λ at. at.now) l.after) l.fn.held l.index l.least

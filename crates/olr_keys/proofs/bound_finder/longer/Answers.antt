@@ -10,4 +10,5 @@ returns-in_default c =
 pub returns-then-is_held_before : goal.returns-then-is_held_before
 returns-then-is_held_before c =
     left_by_bound _ _ _ _ _ _
-    (rw (← c.len.ensures.value) c.in-Some.ensures.step.1) refl (cc) (c.is_held_before.ensures.0 c.if-is_held_before.true)
+    (rw (← c.len.ensures.value) c.in-Some.ensures.step.1) refl (cc)
+    (c.is_held_before.ensures.0 c.if-is_held_before.true)

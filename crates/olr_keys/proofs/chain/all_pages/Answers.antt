@@ -8,28 +8,31 @@ pages-init g c =
 
 pub page_after-requires : goal.page_after-requires
 page_after-requires g c =
-    position_found _ _ c.pages.invariant.0 None
-    _ _ _ c.keys-count.ensures.keys _ _ c.deref.ensures.value c.last_key.ensures c.pages.invariant.1
+    position_found c.pages.invariant.0 None c.keys-count.ensures.keys c.deref.ensures.value
+    c.last_key.ensures c.pages.invariant.1
 
 pub returns-then-not-more-clause-pages : goal.returns-then-not-more-clause-pages
 returns-then-not-more-clause-pages g c =
-    ends _ _ c.pages.invariant.0 None
-    _ _ _ c.keys-count.ensures.keys _ _ c.deref.ensures.value c.last_key.ensures c.pages.invariant.1
-    (g.met.F.Finder.rise c.args.finder.now) _ c.in_ok-page.ensures.page _ c.in_ok-push.ensures.items c.if-not-more.true
+    ends c.pages.invariant.0 None c.keys-count.ensures.keys c.deref.ensures.value c.last_key.ensures
+    c.pages.invariant.1
+    (g.met.F.Finder.rise c.args.finder.now) _ c.in_ok-page.ensures.page c.in_ok-push.ensures.items
+    c.if-not-more.true
 
 pub returns-then-not-more-clause-headline : goal.returns-then-not-more-clause-headline
 returns-then-not-more-clause-headline g c = λ penalties are. returns-then-not-more-clause-pages g c
 
 pub pages-smaller : goal.pages-smaller
 pages-smaller g c =
-    fewer_left _ _ c.pages.invariant.0 None
-    _ _ _ c.keys-count.ensures.keys _ _ c.deref.ensures.value c.last_key.ensures c.pages.invariant.1
-    (g.met.F.Finder.rise c.args.finder.now) _ c.in_ok-page.ensures.page _ c.in_ok-push.ensures.items c.keys-count.ensures.at_least c.if-not-more.false
+    fewer_left c.pages.invariant.0 None c.keys-count.ensures.keys c.deref.ensures.value
+    c.last_key.ensures c.pages.invariant.1
+    (g.met.F.Finder.rise c.args.finder.now) _ c.in_ok-page.ensures.page c.in_ok-push.ensures.items
+    c.if-not-more.false
 
 pub pages-preserved : goal.pages-preserved
 pages-preserved g c = (
   c.in_ok-page.ensures.same ∙ c.pages.invariant.0,
-  continues _ _ c.pages.invariant.0 None
-      _ _ _ c.keys-count.ensures.keys _ _ c.deref.ensures.value c.last_key.ensures c.pages.invariant.1
-      (g.met.F.Finder.rise c.args.finder.now) _ c.in_ok-page.ensures.page _ c.in_ok-push.ensures.items c.keys-count.ensures.at_least c.if-not-more.false,
+  continues c.pages.invariant.0 None c.keys-count.ensures.keys c.deref.ensures.value
+      c.last_key.ensures c.pages.invariant.1
+      (g.met.F.Finder.rise c.args.finder.now) _ c.in_ok-page.ensures.page c.in_ok-push.ensures.items
+      c.keys-count.ensures.at_least c.if-not-more.false,
 )

@@ -11,21 +11,26 @@ use Rattle.olr_keys.proofs.limits.is_table.Goals.{then-have_lengths, else-have_l
 
 -- there are 2 to 32 layers, and a list of legs between each two neighbours
 abbrev HaveLengths : List (Vec ℕ) → List (Vec (Option ℕ)) → Type 0
-HaveLengths penalties legs = (2 ≤ length penalties) × (length penalties ≤ 32) × (length legs + 1 ≡ length penalties)
+HaveLengths penalties legs = (2 ≤ length penalties) × (length penalties ≤ 32)
+    × (length legs + 1 ≡ length penalties)
 
 -- each list has the legs from its layer to the next one
 abbrev HaveLegs : List (Vec ℕ) → List (Vec (Option ℕ)) → Type 0
-HaveLegs penalties legs = (layer : ℕ) → layer < length legs → AreLegsFrom (penalties_of penalties legs) layer
+HaveLegs penalties legs = (layer : ℕ) → layer < length legs
+    → AreLegsFrom (penalties_of penalties legs) layer
 
 -- there are as many lists of numbers as layers, and as many lists of entries as lists of legs
-count_is : (penalties : List (Vec ℕ)) (legs : List (Vec (Option ℕ))) → length (penalties_of penalties legs).candidates ≡ length penalties
+count_is : (penalties : List (Vec ℕ)) (legs : List (Vec (Option ℕ)))
+    → length (penalties_of penalties legs).candidates ≡ length penalties
 count_is penalties legs = length-map penalties (λ (layer : Vec ℕ). layer.items)
 
-legs_is : (penalties : List (Vec ℕ)) (legs : List (Vec (Option ℕ))) → length (penalties_of penalties legs).legs ≡ length legs
+legs_is : (penalties : List (Vec ℕ)) (legs : List (Vec (Option ℕ)))
+    → length (penalties_of penalties legs).legs ≡ length legs
 legs_is penalties legs = length-map legs (λ (between : Vec (Option ℕ)). between.items)
 
 -- lists that pass the three tests are a table
-table_from : (penalties : List (Vec ℕ)) (legs : List (Vec (Option ℕ))) → HaveLengths penalties legs → All (λ (layer : Vec ℕ). IsLayer layer.items) penalties
+table_from : (penalties : List (Vec ℕ)) (legs : List (Vec (Option ℕ))) → HaveLengths penalties legs
+    → All (λ (layer : Vec ℕ). IsLayer layer.items) penalties
     → HaveLegs penalties legs → IsTable (penalties_of penalties legs)
 table_from penalties legs lengths layers each =
     let p : Penalties = penalties_of penalties legs in
@@ -35,30 +40,38 @@ table_from penalties legs lengths layers each =
       layers = All-map IsLayer _ _ layers;
       between = omega (arith, count_is penalties legs, legs_is penalties legs);
       legs = λ layer between is.
-          let inside : layer < length legs = omega (arith, legs_is penalties legs, slice_get_within p.legs layer between is) in
+          let inside : layer < length legs =
+          omega (arith, legs_is penalties legs, slice_get_within p.legs layer between is) in
           rw (← (get_or_from_slice_get p.legs layer between [] is)) (each layer inside);
     }
 
 -- the lists of a table pass the three tests
-lengths_of : (penalties : List (Vec ℕ)) (legs : List (Vec (Option ℕ))) → IsTable (penalties_of penalties legs) → HaveLengths penalties legs
+lengths_of : (penalties : List (Vec ℕ)) (legs : List (Vec (Option ℕ)))
+    → IsTable (penalties_of penalties legs) → HaveLengths penalties legs
 lengths_of penalties legs table =
-    let count : length (penalties_of penalties legs).candidates ≡ length penalties = count_is _ legs in
+    let count : length (penalties_of penalties legs).candidates ≡ length penalties =
+    count_is _ legs in
     (omega arith, omega arith, omega (arith, legs_is penalties legs))
 
-layers_of : (penalties : List (Vec ℕ)) (legs : List (Vec (Option ℕ))) → IsTable (penalties_of penalties legs) → All (λ (layer : Vec ℕ). IsLayer layer.items) penalties
+layers_of : (penalties : List (Vec ℕ)) (legs : List (Vec (Option ℕ)))
+    → IsTable (penalties_of penalties legs) → All (λ (layer : Vec ℕ). IsLayer layer.items) penalties
 layers_of penalties legs table = λ k d inside.
-    rw (← (map_at (λ (layer : Vec ℕ). layer.items) penalties k d)) (table.layers k d.items (omega (arith, count_is penalties legs)))
+    rw (← (map_at (λ (layer : Vec ℕ). layer.items) penalties k d))
+    (table.layers k d.items (omega (arith, count_is penalties legs)))
 
-legs_of : (penalties : List (Vec ℕ)) (legs : List (Vec (Option ℕ))) → IsTable (penalties_of penalties legs) → HaveLegs penalties legs
+legs_of : (penalties : List (Vec ℕ)) (legs : List (Vec (Option ℕ)))
+    → IsTable (penalties_of penalties legs) → HaveLegs penalties legs
 legs_of penalties legs table = λ layer inside.
     let p : Penalties = penalties_of penalties legs in
-    table.legs layer (slice_index_or p.legs layer []) (slice_get-get_or p.legs layer [] (omega (arith, legs_is penalties legs)))
+    table.legs layer (slice_index_or p.legs layer [])
+    (slice_get-get_or p.legs layer [] (omega (arith, legs_is penalties legs)))
 
 pub returns-then-are_layers : goal.returns-then-are_layers
 returns-then-are_layers c =
     elim c.if-have_lengths.branch [
       | then-have_lengths w ↦ (
-        λ is. table_from _ _ (c.have_lengths.ensures.0 w.if-have_lengths.true) (w.are_layers.ensures.0 (cc)) (c.are_all_legs.ensures.0 is),
+        λ is. table_from _ _ (c.have_lengths.ensures.0 w.if-have_lengths.true)
+            (w.are_layers.ensures.0 (cc)) (c.are_all_legs.ensures.0 is),
         λ table. c.are_all_legs.ensures.1 (legs_of _ _ table),
       )
       | else-have_lengths w ↦ absurd (true≢false (cc))
@@ -67,8 +80,11 @@ returns-then-are_layers c =
 pub returns-else-are_layers : goal.returns-else-are_layers
 returns-else-are_layers c =
     elim c.if-have_lengths.branch [
-      | then-have_lengths w ↦
-          (λ is. absurd (true≢false (cc)), λ table. w.value-is ∙ w.are_layers.ensures.1 (layers_of _ _ table))
+      | then-have_lengths w ↦ (
+        λ is. absurd (true≢false (cc)),
+        λ table. w.value-is
+            ∙ w.are_layers.ensures.1 (layers_of _ _ table),
+      )
       | else-have_lengths w ↦ (
         λ is. absurd (true≢false (cc)),
         λ table. absurd (true≢false (cc (c.have_lengths.ensures.1 (lengths_of _ _ table)))),

@@ -6,7 +6,9 @@ use Rattle.olr_keys.proofs.matching.+total_from.Goals as goal
 
 pub returns-in_err-joined : goal.returns-in_err-joined
 returns-in_err-joined t c =
-    from_none _ c.from_residual.ensures (rw c.in-Some.ensures.cases.0 (λ total. unjoined _ _ _ _ c.in_err-joined.ensures.joined _ total))
+    from_none _ c.from_residual.ensures
+    (rw c.in-Some.ensures.cases.0 (λ total. unjoined _ _ _ _ c.in_err-joined.ensures.joined _
+    total))
 
 pub overflow_add-result-2 : goal.overflow_add-result-2
 overflow_add-result-2 t c = omega (

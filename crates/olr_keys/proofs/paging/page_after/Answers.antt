@@ -8,24 +8,29 @@ pub loop-taken-init : goal.loop-taken-init
 loop-taken-init g c =
     let answers : List KeyValue = g.F.Finder.answers c.args.finder.now in
     let after = option_map (λ key. key.now) c.args.after in
-    let first = subst (λ (l : List KeyValue). AreFirst answers after l) (cc) (first_none c.requires) in
+    let first = subst (λ (l : List KeyValue). AreFirst answers after l) (cc)
+    (first_none c.requires) in
     (refl, first, ap length c.new-keys.ensures.items)
 
 pub next-requires : goal.next-requires
 next-requires g c =
-    position_read c.loop-taken.invariant.0 c.deref.ensures.value c.last_or.ensures c.loop-taken.invariant.1
+    position_read c.loop-taken.invariant.0 c.deref.ensures.value c.last_or.ensures
+    c.loop-taken.invariant.1
 
 pub returns-in_default-clause-page : goal.returns-in_default-clause-page
 returns-in_default-clause-page g c =
-    page_read c.loop-taken.invariant.0 c.deref.ensures.value c.last_or.ensures c.loop-taken.invariant.1
-    (g.met.F.Finder.rise c.args.finder.now) _ c.in_ok-key.ensures.next (sym (ap is_some c.in_default.is)) (λ more. absurd cc)
+    page_read c.loop-taken.invariant.0 c.deref.ensures.value c.last_or.ensures
+    c.loop-taken.invariant.1
+    (g.met.F.Finder.rise c.args.finder.now) _ c.in_ok-key.ensures.next
+    (sym (ap is_some c.in_default.is)) (λ more. absurd cc)
     (omega arith)
 
 pub loop-taken-preserved : goal.loop-taken-preserved
 loop-taken-preserved g c =
     let more =
     more_read c.loop-taken.invariant.0
-    c.deref.ensures.value c.last_or.ensures c.loop-taken.invariant.1 (g.met.F.Finder.rise c.args.finder.now) _ c.in_ok-key.ensures.next c.in-Some.is
+    c.deref.ensures.value c.last_or.ensures c.loop-taken.invariant.1
+    (g.met.F.Finder.rise c.args.finder.now) _ c.in_ok-key.ensures.next c.in-Some.is
     c.in_ok-push.ensures.items in (
       c.in_ok-key.ensures.same ∙ c.loop-taken.invariant.0,
       more,
@@ -34,9 +39,12 @@ loop-taken-preserved g c =
 
 pub next-requires-2 : goal.next-requires-2
 next-requires-2 g c =
-    position_read c.loop-taken.invariant.0 c.deref-2.ensures.value c.last_or-2.ensures c.loop-taken.invariant.1
+    position_read c.loop-taken.invariant.0 c.deref-2.ensures.value c.last_or-2.ensures
+    c.loop-taken.invariant.1
 
 pub returns-clause-page : goal.returns-clause-page
 returns-clause-page g c =
-    page_read c.loop-taken.invariant.0 c.deref-2.ensures.value c.last_or-2.ensures c.loop-taken.invariant.1
-    (g.met.F.Finder.rise c.args.finder.now) _ c.in_ok-next.ensures.next c.is_some-more.ensures (λ more. omega arith) (omega arith)
+    page_read c.loop-taken.invariant.0 c.deref-2.ensures.value c.last_or-2.ensures
+    c.loop-taken.invariant.1
+    (g.met.F.Finder.rise c.args.finder.now) _ c.in_ok-next.ensures.next c.is_some-more.ensures
+    (λ more. omega arith) (omega arith)

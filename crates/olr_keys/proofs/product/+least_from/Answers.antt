@@ -21,8 +21,10 @@ pub overflow_add-total : goal.overflow_add-total
 overflow_add-total t c =
     let p = c.args.table.now in
     let ranks : List ℕ = c.args.ranks.items in
-    let step : IsJoined p (length ranks) c.args.before (c.loop-index.index + 1) (c.in-Some.joined.leg + c.in-Some.joined.penalty) =
-    rw (← c.len-layer.ensures.value) (_, _, c.in-Some.ensures.joined.0, c.in-Some.ensures.joined.1, refl) in
+    let step : IsJoined p (length ranks) c.args.before (c.loop-index.index + 1)
+    (c.in-Some.joined.leg + c.in-Some.joined.penalty) =
+    rw (← c.len-layer.ensures.value)
+    (_, _, c.in-Some.ensures.joined.0, c.in-Some.ensures.joined.1, refl) in
     omega (arith, step_at_most _ _ c.args.total _ _ c.layers.ensures.sound step)
 
 pub least_from-least-requires : goal.least_from-least-requires
@@ -31,10 +33,17 @@ least_from-least-requires t c =
     let ranks : List ℕ = c.args.ranks.items in
     let rank : ℕ = c.loop-index.index + 1 in
     let longer : List ℕ = c.with_rank-longer.result.items in
-    let step : IsJoined p (length ranks) c.args.before rank (c.in-Some.joined.leg + c.in-Some.joined.penalty) =
-    rw (← c.len-layer.ensures.value) (_, _, c.in-Some.ensures.joined.0, c.in-Some.ensures.joined.1, refl) in
+    let step : IsJoined p (length ranks) c.args.before rank
+    (c.in-Some.joined.leg + c.in-Some.joined.penalty) =
+    rw (← c.len-layer.ensures.value)
+    (_, _, c.in-Some.ensures.joined.0, c.in-Some.ensures.joined.1, refl) in
     let at_most = step_at_most _ _ c.args.total _ _ c.layers.ensures.sound step in
-    let count : length longer ≡ length ranks + 1 = omega (arith, subst (λ (l : List ℕ). length l ≡ length ranks + 1) (sym c.with_rank-longer.ensures) (length-append ranks (rank ∷ []))) in (
+    let count : length longer ≡ length ranks + 1 =
+    omega (
+      arith,
+      subst (λ (l : List ℕ). length l ≡ length ranks + 1)
+          (sym c.with_rank-longer.ensures) (length-append ranks (rank ∷ [])),
+    ) in (
       omega arith,
       (
         omega arith,
@@ -53,13 +62,17 @@ loop-index-preserved t c =
     let after = option_map (λ at. at.now) c.args.after in
     elim c.match-joined.branch [
       | in-Some w ↦
-          let step : IsJoined p (length ranks) c.args.before rank (w.in-Some.joined.leg + w.in-Some.joined.penalty) =
-          rw (← c.len-layer.ensures.value) (_, _, w.in-Some.ensures.joined.0, w.in-Some.ensures.joined.1, refl) in
+          let step : IsJoined p (length ranks) c.args.before rank
+          (w.in-Some.joined.leg + w.in-Some.joined.penalty) =
+          rw (← c.len-layer.ensures.value)
+          (_, _, w.in-Some.ensures.joined.0, w.in-Some.ensures.joined.1, refl) in
           rw w.least-is (least_with _ _ _ _ _ _ _ _ _ _ _ _ _ refl refl
           w.with_rank-longer.ensures step c.loop-index.invariant w.least_from-least.ensures)
       | in_default w ↦
-          let none : (sum : ℕ) → IsJoined p (length ranks) c.args.before rank sum → ⊥ = rw (← c.len-layer.ensures.value) w.in_default.ensures.joined in
-          rw w.least-is (least_left p c.args.before c.args.total ranks after _ _ _ _ refl (left_unjoined p c.args.before _ ranks rank _ none) c.loop-index.invariant)
+          let none : (sum : ℕ) → IsJoined p (length ranks) c.args.before rank sum → ⊥ =
+          rw (← c.len-layer.ensures.value) w.in_default.ensures.joined in
+          rw w.least-is (least_left p c.args.before c.args.total ranks after _ _ _ _ refl
+          (left_unjoined p c.args.before _ ranks rank _ none) c.loop-index.invariant)
     ]
 
 pub returns : goal.returns

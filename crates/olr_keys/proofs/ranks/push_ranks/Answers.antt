@@ -13,7 +13,8 @@ short : {rank : ℕ} → IsRank rank → length (decimal rank) ≤ 2
 short {rank} in_range = length-decimal-le 2 rank (omega arith) (omega arith) (omega arith)
 
 -- the length of the text of the first rank, and of the other ones
-short_first : {ranks others text : List ℕ} {first : ℕ} → ranks ≡ first ∷ others → AreRanks 32 ranks → text ≡ decimal first → length text ≤ 2
+short_first : {ranks others text : List ℕ} {first : ℕ} → ranks ≡ first ∷ others → AreRanks 32 ranks
+    → text ≡ decimal first → length text ≤ 2
 short_first {others} {first} whole are is =
     omega (
       arith,
@@ -21,12 +22,14 @@ short_first {others} {first} whole are is =
       short (All-head IsRank first others (subst (λ (l : List ℕ). All IsRank l) whole are.each)),
     )
 
-short_other : {ranks others text : List ℕ} {first i : ℕ} → ranks ≡ first ∷ others → AreRanks 32 ranks → i < length others → text ≡ decimal (get_or others i 0) → length text ≤ 2
+short_other : {ranks others text : List ℕ} {first i : ℕ} → ranks ≡ first ∷ others
+    → AreRanks 32 ranks → i < length others → text ≡ decimal (get_or others i 0) → length text ≤ 2
 short_other {others} {first} {i} whole are inside is =
     let each = All-tail IsRank first others (subst (λ (l : List ℕ). All IsRank l) whole are.each) in
     omega (arith, ap length is, short (each i 0 inside))
 
-fewer : {ranks others : List ℕ} {first : ℕ} → ranks ≡ first ∷ others → AreRanks 32 ranks → length others ≤ 31
+fewer : {ranks others : List ℕ} {first : ℕ} → ranks ≡ first ∷ others → AreRanks 32 ranks
+    → length others ≤ 31
 fewer whole are = omega (arith, ap (λ (l : List ℕ). length l) whole)
 
 pub push-requires : goal.push-requires
@@ -41,7 +44,8 @@ push-requires c =
       ),
     )
 
-dotted : {new : List ℕ} (text : List ℕ) → (46 < 128 → new ≡ text ++ 46 ∷ []) → length new ≡ length text + 1
+dotted : {new : List ℕ} (text : List ℕ) → (46 < 128 → new ≡ text ++ 46 ∷ [])
+    → length new ≡ length text + 1
 dotted text is = ap length (is (omega arith)) ∙ length-append text (46 ∷ [])
 
 pub push_str-requires-in-loop-rank : goal.push_str-requires-in-loop-rank
@@ -59,8 +63,10 @@ push_str-requires-in-loop-rank c =
     )
 
 -- the text after a dot and the next rank
-pushed : {one two : List ℕ} (text before piece others : List ℕ) (i : ℕ) → i < length others → text ≡ before ++ later (take i others) → (46 < 128 → one ≡ text ++ 46 ∷ [])
-    → two ≡ one ++ piece → piece ≡ decimal (get_or others i 0) → two ≡ before ++ later (take (i + 1) others)
+pushed : {one two : List ℕ} (text before piece others : List ℕ) (i : ℕ) → i < length others
+    → text ≡ before ++ later (take i others) → (46 < 128 → one ≡ text ++ 46 ∷ [])
+    → two ≡ one ++ piece → piece ≡ decimal (get_or others i 0)
+    → two ≡ before ++ later (take (i + 1) others)
 pushed text before piece others i inside is dot second rank =
     let first = dot (omega arith) in
     let next = later-next _ _ inside in
@@ -71,7 +77,8 @@ pub loop-rank-preserved : goal.loop-rank-preserved
 loop-rank-preserved c =
     let whole = c.in-Some.ensures.cases.0 in record {
       text = pushed _ _ _
-          _ _ c.loop-rank-test.true c.loop-rank.invariant.text c.push.ensures.ascii c.push_str-in-loop-rank.ensures.bytes
+          _ _ c.loop-rank-test.true c.loop-rank.invariant.text c.push.ensures.ascii
+          c.push_str-in-loop-rank.ensures.bytes
           c.format-in-loop-rank.ensures.text;
       at_most = omega (
         arith,
@@ -81,7 +88,8 @@ loop-rank-preserved c =
       );
     }
 
-all_pushed : {text start ranks : List ℕ} (old piece others : List ℕ) (first i : ℕ) → ranks ≡ first ∷ others → length others ≤ i → text ≡ start ++ later (take i others)
+all_pushed : {text start ranks : List ℕ} (old piece others : List ℕ) (first i : ℕ)
+    → ranks ≡ first ∷ others → length others ≤ i → text ≡ start ++ later (take i others)
     → start ≡ old ++ piece → piece ≡ decimal first → text ≡ old ++ ranks_text ranks
 all_pushed old piece others first i whole past is before rank =
     let all = take_all i others past in
@@ -90,7 +98,8 @@ all_pushed old piece others first i whole past is before rank =
 
 pub returns-clause-text : goal.returns-clause-text
 returns-clause-text c = all_pushed _ _ _
-    _ _ c.in-Some.ensures.cases.0 c.loop-rank-test.false c.loop-rank.invariant.text c.push_str.ensures.bytes c.format.ensures.text
+    _ _ c.in-Some.ensures.cases.0 c.loop-rank-test.false c.loop-rank.invariant.text
+    c.push_str.ensures.bytes c.format.ensures.text
 
 pub returns-clause-at_most : goal.returns-clause-at_most
 returns-clause-at_most c =

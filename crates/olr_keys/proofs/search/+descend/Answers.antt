@@ -6,13 +6,14 @@ use Rattle.olr_keys.proofs.search.+descend.Goals as goal
 
 pub returns-then-layer-layers-clause-found : goal.returns-then-layer-layers-clause-found
 returns-then-layer-layers-clause-found t c =
-    appends_nothing _ (empty_completion _ _ _ _ (omega arith) c.requires.completion)
+    appends_nothing _ (empty_completion (omega arith) c.requires.completion)
 
 pub descend-requires : goal.descend-requires
 descend-requires t c =
     let p = c.args.rows.now.penalties in
     let same = c.next_step.ensures.same in
-    let step : IsFirstStep p c.args.layer c.args.before 0 c.args.rest c.in-Some.step.rank c.in-Some.step.left = c.in-Some.ensures.step in
+    let step : IsFirstStep p c.args.layer c.args.before 0 c.args.rest c.in-Some.step.rank
+    c.in-Some.step.left = c.in-Some.ensures.step in
     let rank = c.in-Some.step.rank in
     let long : length c.next_step.new.rows.penalties.candidates ≡ length p.candidates = cc in
     let leads = is_predecessor step.step in (
@@ -22,7 +23,7 @@ descend-requires t c =
         (
           rw same leads,
           (
-            rw same (later_completion _ _ _ _ _ _ step.step),
+            rw same (later_completion step.step),
             omega arith,
           ),
         ),
@@ -44,7 +45,9 @@ returns-in-Some-clause-probes t c =
     (cc)
 
 pub returns-in_default-clause-found : goal.returns-in_default-clause-found
-returns-in_default-clause-found t c = absurd (some_step _ _ _ _ (omega arith) c.requires.completion c.in_default.ensures.step)
+returns-in_default-clause-found t c =
+    absurd (some_step (omega arith) c.requires.completion c.in_default.ensures.step)
 
 pub returns-in_default-clause-probes : goal.returns-in_default-clause-probes
-returns-in_default-clause-probes t c = absurd (some_step _ _ _ _ (omega arith) c.requires.completion c.in_default.ensures.step)
+returns-in_default-clause-probes t c =
+    absurd (some_step (omega arith) c.requires.completion c.in_default.ensures.step)

@@ -6,18 +6,21 @@ use Rattle.olr_keys.proofs.Searching.{is_predecessor, popped_back}
 use Rattle.olr_keys.proofs.search.+next_completion.Goals as goal
 
 pub returns-in_default-clause-found : goal.returns-in_default-clause-found
-returns-in_default-clause-found t c = (none_at_end _ _ _ _ _ c.in_default.ensures.cases c.requires.completion, refl)
+returns-in_default-clause-found t c =
+    (none_at_end _ _ _ _ _ c.in_default.ensures.cases c.requires.completion, refl)
 
 pub test-requires-clause-rank : goal.test-requires-clause-rank
 test-requires-clause-rank t c = own_inside _ _ _ _ c.in-Some.ensures.cases.0 c.requires.completion
 
 pub returns-in_default-test-clause-found : goal.returns-in_default-test-clause-found
 returns-in_default-test-clause-found t c =
-    absurd (own_step _ _ _ _ c.in-Some.ensures.cases.0 c.requires.completion c.in_default-test.ensures.step)
+    absurd (own_step _ _ _ _ c.in-Some.ensures.cases.0 c.requires.completion
+    c.in_default-test.ensures.step)
 
 pub returns-in_default-test-clause-probes : goal.returns-in_default-test-clause-probes
 returns-in_default-test-clause-probes t c =
-    absurd (own_step _ _ _ _ c.in-Some.ensures.cases.0 c.requires.completion c.in_default-test.ensures.step)
+    absurd (own_step _ _ _ _ c.in-Some.ensures.cases.0 c.requires.completion
+    c.in_default-test.ensures.step)
 
 pub next_completion-requires : goal.next_completion-requires
 next_completion-requires t c =
@@ -25,9 +28,11 @@ next_completion-requires t c =
     let own = c.in-Some.own.now in
     let left = c.in-Some-test.left in
     let same = c.test.ensures.same in
-    let step : IsStep p c.args.layer c.args.before own c.args.rest left = c.in-Some-test.ensures.step in
+    let step : IsStep p c.args.layer c.args.before own c.args.rest left =
+    c.in-Some-test.ensures.step in
     let long = ap (λ (p : Penalties). length p.candidates) same in
-    let completion = others_completion _ _ _ _ c.in-Some.ensures.cases.0 c.requires.completion step in (
+    let completion = others_completion _ _ _ _ c.in-Some.ensures.cases.0 c.requires.completion
+    step in (
       omega (arith, c.in-Some.ensures.cases.1),
       (
         omega arith,
@@ -47,14 +52,16 @@ next_completion-requires t c =
 
 pub returns-then-next_completion-clause-found : goal.returns-then-next_completion-clause-found
 returns-then-next_completion-clause-found t c =
-    found_deeper _ _ _ _ c.in-Some.ensures.cases.0 c.requires.completion c.in-Some-test.ensures.step _ c.test.ensures.same c.push.ensures.items c.if-next_completion.ensures.found
+    found_deeper _ _ _ _ c.in-Some.ensures.cases.0 c.requires.completion c.in-Some-test.ensures.step
+    _ c.test.ensures.same c.push.ensures.items c.if-next_completion.ensures.found
 
 pub returns-then-next_completion-clause-probes : goal.returns-then-next_completion-clause-probes
 returns-then-next_completion-clause-probes t c =
     let cases = c.in-Some.ensures.cases.0 in
     let within = own_inside _ _ _ _ cases c.requires.completion in
     let inside = own_layer _ _ _ _ cases c.requires.completion in
-    deeper_probes _ inside within.0 within.1 _ c.test.ensures.same (omega arith) c.if-next_completion.ensures.probes
+    deeper_probes _ inside within.0 within.1 _ c.test.ensures.same (omega arith)
+    c.if-next_completion.ensures.probes
 
 pub first_above-requires-clause-above : goal.first_above-requires-clause-above
 first_above-requires-clause-above t c =
@@ -64,7 +71,9 @@ first_above-requires-clause-above t c =
 pub returns-clause-found : goal.returns-clause-found
 returns-clause-found t c =
     let same = c.test.ensures.same in
-    above_found _ _ _ _ c.in-Some.ensures.cases.0 c.requires.completion c.in-Some-test.ensures.step _ _ same (cc) (popped_back _ _ _ c.push.ensures.items c.if-next_completion.ensures.found.1 c.pop.ensures.rest) c.if-next_completion.ensures.found.0 c.first_above.ensures.found
+    above_found _ _ _ _ c.in-Some.ensures.cases.0 c.requires.completion c.in-Some-test.ensures.step
+    _ _ same (cc) (popped_back _ _ _ c.push.ensures.items c.if-next_completion.ensures.found.1
+    c.pop.ensures.rest) c.if-next_completion.ensures.found.0 c.first_above.ensures.found
 
 pub returns-clause-probes : goal.returns-clause-probes
 returns-clause-probes t c =

@@ -10,12 +10,13 @@ descend-requires c =
     let same = c.next_step.ensures.same in
     let rank = c.in-Some.step.rank in
     let left = c.in-Some.step.left in
-    let step : IsFirstStep p c.args.layer c.args.before c.args.above c.args.rest rank left = c.in-Some.ensures.step in
+    let step : IsFirstStep p c.args.layer c.args.before c.args.above c.args.rest rank left =
+    c.in-Some.ensures.step in
     let long = ap (λ (p : Penalties). length p.candidates) same in
     record {
       layer = omega arith;
       before = rw same (is_predecessor step.step);
-      completion = rw same (later_completion _ _ _ _ _ _ step.step);
+      completion = rw same (later_completion step.step);
       ranks = omega (
         arith,
         ap length c.push.ensures.items,

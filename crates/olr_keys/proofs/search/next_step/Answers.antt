@@ -13,7 +13,8 @@ pub loop-index-preserved : goal.loop-index-preserved
 loop-index-preserved c = (
   c.test.ensures.same ∙ c.loop-index.invariant.0,
   omega arith,
-  none_more _ _ _ _ c.loop-index.invariant.2 (rw c.loop-index.invariant.0 at c.in_default.ensures.step),
+  none_more _ _ _ _ c.loop-index.invariant.2
+      (rw c.loop-index.invariant.0 at c.in_default.ensures.step),
   omega arith,
 )
 

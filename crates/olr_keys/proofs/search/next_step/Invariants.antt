@@ -6,5 +6,6 @@ abbrev pub invariant-loop-index : goal.invariant-loop-index
 invariant-loop-index l =
     (l.rows.penalties ≡ l.fn.rows.penalties)
     × (l.rows.probes ≤ l.fn.rows.probes + (l.index - l.above))
-    × ((rank left : ℕ) → l.above < rank → rank ≤ l.index → IsStep l.fn.rows.penalties l.layer l.before rank l.rest left → ⊥)
+    × ((rank left : ℕ) → l.above < rank → rank ≤ l.index
+    → IsStep l.fn.rows.penalties l.layer l.before rank l.rest left → ⊥)
     × (l.fn.rows.probes ≤ l.rows.probes)

@@ -22,7 +22,8 @@ loop-layer-preserved c =
     )
 
 pub returns-clause-value : goal.returns-clause-value
-returns-clause-value c = width_is c.layers-layer-end.ensures.sound (omega arith) c.loop-layer.invariant.0
+returns-clause-value c = width_is c.layers-layer-end.ensures.sound (omega arith)
+    c.loop-layer.invariant.0
 
 pub returns-clause-at_most : goal.returns-clause-at_most
 returns-clause-at_most c =

@@ -5,7 +5,7 @@ use Rattle.olr_keys.proofs.rows.fill.join_all.Goals as goal
 
 pub or_shifted-requires : goal.or_shifted-requires
 or_shifted-requires c =
-    let it = next_row _ 0 _ _ _ c.requires.first (omega (
+    let it = next_row 0 _ c.requires.first (omega (
       arith,
       length-map c.args.first.now (λ row. row.items),
     )) c.index-first-index.is in
@@ -13,7 +13,7 @@ or_shifted-requires c =
 
 pub loop-index-preserved : goal.loop-index-preserved
 loop-index-preserved c =
-    let it = next_row _ 0 _ _ _ c.requires.first (omega (
+    let it = next_row 0 _ c.requires.first (omega (
       arith,
       length-map c.args.first.now (λ row. row.items),
     )) c.index-first-index.is in

@@ -18,7 +18,7 @@ overflow_add-second c = record {
 
 pub or_shifted-requires : goal.or_shifted-requires
 or_shifted-requires c =
-    let it = next_row _ _ _ _ _ c.requires.next c.loop-other-test.true c.other-item.is in
+    let it = next_row _ _ c.requires.next c.loop-other-test.true c.other-item.is in
     omega (arith, ap length c.deref.ensures.value)
 
 pub loop-other-init : goal.loop-other-init
@@ -31,12 +31,15 @@ pub loop-other-preserved : goal.loop-other-preserved
 loop-other-preserved c =
     let p = c.args.table.now in
     let layer = c.args.layer in
-    let it = next_row _ _ _ _ _ c.requires.next c.loop-other-test.true c.other-item.is in
-    let that : IsRowOf (IsRemainingTotal p (layer + 1) (c.loop-other.second + 1)) (width_of p) c.other-item.result.items =
+    let it = next_row _ _ c.requires.next c.loop-other-test.true c.other-item.is in
+    let that : IsRowOf (IsRemainingTotal p (layer + 1) (c.loop-other.second + 1)) (width_of p)
+    c.other-item.result.items =
     rw c.loop-other.invariant.0 it in (
       omega arith,
       elim c.match-leg_to.branch [
-        | in-Some w ↦ row_more _ _ _ _ _ _ _ _ c.requires.penalty (sym c.leg_to.ensures ∙ w.in-Some.is) (omega arith) w.deref.ensures.value w.row-is c.loop-other.invariant.1 that w.or_shifted.ensures
+        | in-Some w ↦ row_more _ _ _ _ _ _ _ _ c.requires.penalty (sym c.leg_to.ensures
+            ∙ w.in-Some.is) (omega arith) w.deref.ensures.value w.row-is c.loop-other.invariant.1
+            that w.or_shifted.ensures
         | in_default w ↦ rw w.row-is (row_without _ _ _ _ _ (cc) c.loop-other.invariant.1)
       ],
     )

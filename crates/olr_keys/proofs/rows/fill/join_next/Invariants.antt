@@ -4,4 +4,5 @@ use Rattle.olr_keys.proofs.Remaining.{IsTotalBy}
 use Rattle.olr_keys.proofs.rows.fill.join_next.Given as goal
 
 abbrev pub invariant-loop-other : goal.invariant-loop-other
-invariant-loop-other l = (l.second ≡ l.other-index) × IsRowOf (IsTotalBy l.table l.layer l.rank l.penalty l.second) (width_of l.table) l.row
+invariant-loop-other l = (l.second ≡ l.other-index)
+    × IsRowOf (IsTotalBy l.table l.layer l.rank l.penalty l.second) (width_of l.table) l.row
