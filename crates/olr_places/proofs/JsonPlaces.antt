@@ -13,8 +13,11 @@ use Rattle.olr_binary.proofs.PlainValues.{IsPlain, all_plain}
 use Rattle.olr_report.proofs.JsonShape.{entry_plain, next_plain}
 
 -- the object of the matching that an opener shows is that of its entry
-pub same_matching : (road : RoadMap) (opener : Opener) (route : List Piece) (located : Located) → route ≡ opener.route.items
-    → located ≡ opener.extent.located → matching_object road opener.key opener.matched route located ≡ entry_object road (entry_of opener)
+pub same_matching : (road : RoadMap) (opener : Opener) (route : List Piece) (located : Located)
+    → route ≡ opener.route.items
+    → located ≡ opener.extent.located
+    → matching_object road opener.key opener.matched route located
+    ≡ entry_object road (entry_of opener)
 same_matching road opener route located route_is located_is = rw (route_is, located_is) refl
 
 opener_plain : (road : RoadMap) (opener : Opener) → IsPlain 4 (opener_object road opener)
