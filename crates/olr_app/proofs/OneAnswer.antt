@@ -26,9 +26,7 @@ use Rattle.olr_keys.specs.declared.mark.Mark.{Mark}
 use Rattle.olr_matching.specs.Layers.{LayersValue}
 use Rattle.olr_matching.specs.Matched.{IsMatchedBy, IsSameMatched}
 use Rattle.olr_matching.specs.declared.matched.Matched.{Matched}
-use Rattle.olr_places.specs.Json.{places_object}
 use Rattle.olr_places.specs.Looking.{IsLooked, Looked}
-use Rattle.olr_places.specs.Text.{places_text}
 use Rattle.olr_places.specs.declared.limits.PlaceLimits.{PlaceLimits}
 use Rattle.olr_why.specs.Json.{why_object}
 use Rattle.olr_why.specs.Text.{why_text}
@@ -267,14 +265,10 @@ listing_in Json road lists text other is again = is.line_is ∙ sym again.line_i
 
 -- ---- places in either format
 
-module _ (road : RoadMap) (limits : PlaceLimits) (looked other : Looked)
-    (texts : places_text road limits looked ≡ places_text road limits other)
-    (values : places_object road limits looked ≡ places_object road limits other) where
-  places_in : (format : Format) (text again : List ℕ) → IsPlacesIn format road limits looked text
-      → IsPlacesIn format road limits other again → text ≡ again
-  places_in Text text again is its = is ∙ texts ∙ sym its
-  places_in Json text again is its =
-      is.line_is ∙ ap (λ (value : Data). compact_text value ++ codes "\n") values ∙ sym its.line_is
+places_in : (limits : PlaceLimits) (looked : Looked) (format : Format) (text again : List ℕ)
+    → IsPlacesIn format limits looked text → IsPlacesIn format limits looked again → text ≡ again
+places_in limits looked Text text again is its = is ∙ sym its
+places_in limits looked Json text again is its = is.line_is ∙ sym its.line_is
 
 shown_places_once : Laws → (format : Format) (limits : PlaceLimits) (road : RoadMap)
     (layers : LayersValue) → IsSoundMap road → IsSingle (ArePlacesOn format limits road layers)
@@ -284,10 +278,10 @@ shown_places_once laws format limits road layers sound (Ok one) (Ok other) is ag
     let its : IsLooked limits road layers is.answers again.looked =
     subst (λ (keys : List KeyValue). IsLooked limits road layers keys again.looked) same
     again.is_looked in
-    let shown = laws.looking limits road layers is.answers is.looked again.looked sound is.is_looked
-    its in
-    ap Ok (places_in road limits is.looked again.looked shown.text shown.object format one other
-    is.output_is again.output_is)
+    let looked = laws.looking limits road layers is.answers again.looked is.looked sound its
+    is.is_looked in
+    ap Ok (places_in limits is.looked format one other is.output_is
+    (subst (λ (l : Looked). IsPlacesIn format limits l other) looked again.output_is))
 shown_places_once laws format limits road layers sound (Ok one) (Err other) is again = absurd again
 shown_places_once laws format limits road layers sound (Err one) other is again = absurd is
 
