@@ -60,7 +60,8 @@ module _ (laws : Laws) where
   -- ---- layers
 
   -- the lists of layers are those of the reference and the tolerances that these are of
-  lists_of : (tolerances : Tolerances) (reference : Reference) (road : RoadMap) (layers : LayersValue)
+  lists_of : (tolerances : Tolerances) (reference : Reference) (road : RoadMap)
+      (layers : LayersValue)
       → AreLayers tolerances reference road (Ok layers)
       → AreLists tolerances reference road.lines layers.candidates
   lists_of tolerances reference road layers are =
@@ -241,7 +242,8 @@ module _ (laws : Laws) where
         (OnLayers asked here road) (layers_once asked.tolerances accepted.reference road)
         (λ layers are. first_then (ArePages asked layers here) (IsPrinted asked road layers)
         (pages_once asked layers here
-        (subst (λ (s : Option CursorRead). IsStart (cursor_in asked.pages) (Ok s)) (sym is.0) begins))
+        (subst (λ (s : Option CursorRead). IsStart (cursor_in asked.pages) (Ok s)) (sym is.0)
+        begins))
         (λ list pages. printed_once road layers sound asked list)))
 
 -- ---- a reference and candidates in either format
@@ -300,7 +302,8 @@ module _ (laws : Laws) where
       (reference : Reference) (road : RoadMap)
       → IsSingle (AreReasons format tolerances nearest reference road)
   reasons_once format tolerances nearest reference road (Ok one) (Ok other) is again =
-      let shown = laws.why road tolerances reference nearest is.why again.why is.is_why again.is_why in
+      let shown = laws.why road tolerances reference nearest is.why again.why is.is_why
+      again.is_why in
       ap Ok (reasons_in road is.why again.why shown.0 shown.1 format one other is.output_is
       again.output_is)
   reasons_once format tolerances nearest reference road (Ok one) (Err other) is again = absurd again
@@ -353,14 +356,19 @@ module _ (laws : Laws) where
         (IsAnswerOn (Candidates text tolerances format) accepted) map_once
         (λ road its. listed_once format tolerances accepted.reference road)
     accepted_has_one (Match asked) accepted is =
-        first_then (IsMapOfFiles (known nodes lines bans)) (IsAnswerOn (Match asked) accepted) map_once
+        first_then (IsMapOfFiles (known nodes lines bans)) (IsAnswerOn (Match asked) accepted)
+        map_once
         (λ road its. matchings_once laws asked road its.sound accepted is.1)
     accepted_has_one (Places asked) accepted is =
-        first_then (IsMapOfFiles (known nodes lines bans)) (IsAnswerOn (Places asked) accepted) map_once
-        (λ road its. places_once asked.format asked.tolerances asked.limits accepted.reference road its.sound)
+        first_then (IsMapOfFiles (known nodes lines bans)) (IsAnswerOn (Places asked) accepted)
+        map_once
+        (λ road its. places_once asked.format asked.tolerances asked.limits accepted.reference road
+        its.sound)
     accepted_has_one (Why asked) accepted is =
-        first_then (IsMapOfFiles (known nodes lines bans)) (IsAnswerOn (Why asked) accepted) map_once
-        (λ road its. reasons_once asked.format asked.tolerances asked.nearest accepted.reference road)
+        first_then (IsMapOfFiles (known nodes lines bans)) (IsAnswerOn (Why asked) accepted)
+        map_once
+        (λ road its. reasons_once asked.format asked.tolerances asked.nearest accepted.reference
+        road)
 
     pub answer_once : (request : Request) → IsSingle (IsAnswer (known nodes lines bans) request)
     answer_once request =
@@ -383,7 +391,8 @@ refused_by_name law texts request refused (Ok output) is its =
     absurd (no_reference law request refused is its.0.reference its.1.0)
 refused_by_name law texts request refused (Err fault) is its = elim its [
   | inl here ↦ elim here [
-    | inl named ↦ ap Err (named.2 ∙ ap fault_of (same_refusal law request refused is named.0 named.1))
+    | inl named ↦ ap Err (named.2 ∙ ap fault_of
+        (same_refusal law request refused is named.0 named.1))
     | inr cursor ↦ absurd (no_reference law request refused is cursor.0 cursor.1)
   ]
   | inr later ↦ absurd (no_reference law request refused is later.0.reference later.1.0)
