@@ -26,7 +26,7 @@ in_stretch : (on at count k : ℕ) → at ≤ k → k < at + count
 in_stretch on at zero k low high = absurd (omega (arith, low, high))
 in_stretch on at (suc count) k low high = elim (cases_eq at k) [
   | inl same ↦ (zero, omega arith, ap (step_at on) same)
-  | inr other ↦ there (step_at on at) (stretch on (at + 1) count) (step_at on k)
+  | inr other ↦ there _ _ _
       (in_stretch on (at + 1) count k (omega (arith, low, other)) (omega (arith, high)))
 ]
 
@@ -43,16 +43,16 @@ of_stretch on at count step has =
 step_of_piece : (piece : Piece) (step : Step) → has_step step piece ≡ true
     → Contains (steps_in piece) step
 step_of_piece piece step is =
-    let parts = has_parts step piece is in
+    let parts = has_parts _ _ is in
     let at : Contains (steps_in piece) (step_at piece.line step.at) =
-    in_stretch piece.line piece.from (piece_length piece) step.at parts.1
+    in_stretch _ _ _ _ parts.1
     (omega (arith, parts.1, parts.2)) in
     subst (λ (on : ℕ). Contains (steps_in piece) (step_at on step.at)) parts.0 at
 
 piece_of_step : (piece : Piece) (step : Step) → Contains (steps_in piece) step
     → has_step step piece ≡ true
 piece_of_step piece step has =
-    let lies = of_stretch piece.line piece.from (piece_length piece) step has in
+    let lies = of_stretch _ _ (piece_length piece) step has in
     has_from step piece (sym lies.0) lies.1 (omega (arith, lies.1, lies.2))
 
 -- ---- the steps of pieces
@@ -61,7 +61,7 @@ pub covered_is : (pieces : List Piece) (step : Step) → covers pieces step ≡ 
     → Contains (steps_of pieces) step
 covered_is [] step is = absurd (cc)
 covered_is (piece ∷ pieces) step is =
-    elim (or_cases (has_step step piece) (covers pieces step) is) [
+    elim (or_cases (has_step step _) (covers pieces step) is) [
       | inl here ↦ Contains-append_left (steps_in piece) (steps_of pieces) step
           (step_of_piece piece step here)
       | inr later ↦ Contains-append_right (steps_in piece) (steps_of pieces) step
@@ -85,7 +85,7 @@ missing_is pieces step not_covered has =
 is_missing : (pieces : List Piece) (step : Step) → ¬ (Contains (steps_of pieces) step)
     → covers pieces step ≡ false
 is_missing pieces step none = elim (cases_Bool (covers pieces step)) [
-  | inl covered ↦ absurd (none (covered_is pieces step covered))
+  | inl covered ↦ absurd (none (covered_is pieces _ covered))
   | inr missing ↦ missing
 ]
 
@@ -100,7 +100,7 @@ computed part other =
         behind = longest.behind;
         neighbours = longest.split;
         missing = All-weaker (λ (step : Step). covers part step ≡ false)
-            (λ (step : Step). ¬ (Contains (steps_of part) step)) (missing_is part) longest.longest
+            (λ (step : Step). ¬ (Contains (steps_of part) step)) (missing_is _) longest.longest
             longest.missing;
       };
       length_is = sym longest.length_is;
@@ -108,7 +108,7 @@ computed part other =
           ≤ longest_run (covers part) 0 steps) (sym is.neighbours)
           (none_is_longer (covers part) is.before run is.behind
           (All-weaker (λ (step : Step). ¬ (Contains (steps_of part) step))
-          (λ (step : Step). covers part step ≡ false) (is_missing part) run is.missing));
+          (λ (step : Step). covers part step ≡ false) (is_missing _) run is.missing));
     }
 
 small : (part other : List Piece) (most : ℕ) → missing_of part other ≤ most
@@ -140,7 +140,7 @@ decides_near apart one other =
     (nat_le one.at (other.at + apart) && nat_le other.at (one.at + apart))
     (Decides-eqb one.line other.line)
     (Decides-and (nat_le one.at (other.at + apart)) (nat_le other.at (one.at + apart))
-    (decides_le one.at (other.at + apart)) (decides_le other.at (one.at + apart))))
+    (decides_le _ _) (decides_le _ _)))
 
 pub tests : TestsCloseness
 tests apart (line one) (line other) =
@@ -168,7 +168,7 @@ symmetric apart (line one) (line other) is = (is.1, is.0)
 symmetric apart (line one) (point earliest latest) is = absurd is
 symmetric apart (point earliest latest) (line one) is = absurd is
 symmetric apart (point earliest latest) (point other_earliest other_latest) is =
-    (near_too apart earliest other_earliest is.0, near_too apart latest other_latest is.1)
+    (near_too _ _ _ is.0, near_too _ _ _ is.1)
 
 -- a part misses nothing of itself
 none_of_itself : (steps : List Step) (apart : ℕ) → MissesAtMost steps steps apart
@@ -176,15 +176,15 @@ none_of_itself steps apart [] is = omega arith
 none_of_itself steps apart (step ∷ run) is =
     let has : Contains steps step = subst (λ (l : List Step). Contains l step) (sym is.neighbours)
     (Contains-append_right is.before ((step ∷ run) ++ is.behind) step (zero, omega arith, refl)) in
-    absurd (All-head (λ (one : Step). ¬ (Contains steps one)) step run is.missing has)
+    absurd (All-head (λ (one : Step). ¬ (Contains steps one)) step _ is.missing has)
 
 near_itself : (apart : ℕ) (one : Place) → IsNear apart one one
 near_itself apart one = record { on_line = refl; behind = omega arith; before = omega arith }
 
 pub reflexive : IsReflexive
 reflexive apart (line one) =
-    (none_of_itself (steps_of one) apart, none_of_itself (steps_of one) apart)
-reflexive apart (point earliest latest) = (near_itself apart earliest, near_itself apart latest)
+    (none_of_itself _ _, none_of_itself _ _)
+reflexive apart (point earliest latest) = (near_itself _ _, near_itself _ _)
 
 still_few : (part other : List Step) (less apart : ℕ) → less ≤ apart → MissesAtMost part other less
     → MissesAtMost part other apart
@@ -224,7 +224,7 @@ split_at [] step has = absurd (omega (arith, has.1))
 split_at (first ∷ steps) step (zero, inside, same) =
     record { before = []; behind = steps; whole = ap (λ (one : Step). one ∷ steps) same }
 split_at (first ∷ steps) step (suc k, inside, same) =
-    let rest = split_at steps step (k, omega (arith, inside), same) in
+    let rest = split_at _ _ (k, omega (arith, inside), same) in
     record {
       before = first ∷ rest.before;
       behind = rest.behind;
@@ -259,7 +259,7 @@ none_missing part other all [] is = omega arith
 none_missing part other all (step ∷ run) is =
     let has : Contains other step = subst (λ (l : List Step). Contains l step) (sym is.neighbours)
     (Contains-append_right is.before ((step ∷ run) ++ is.behind) step (zero, omega arith, refl)) in
-    absurd (All-head (λ (one : Step). ¬ (Contains part one)) step run is.missing (all step has))
+    absurd (All-head (λ (one : Step). ¬ (Contains part one)) step _ is.missing (all step has))
 
 pub at_zero : CloseAtZero
 at_zero one other = (

@@ -18,29 +18,29 @@ step_at line at = record { line = line; at = at }
 
 has : (line at : ℕ) (piece : Piece) → piece.line ≡ line → piece.from ≤ at → at < piece.to
     → has_step (step_at line at) piece ≡ true
-has line at piece on from to = and_from (piece.line == line)
-    (nat_le piece.from at && nat_lt at piece.to) (eq-eqb piece.line line on)
-    (and_from (nat_le piece.from at) (nat_lt at piece.to) (le-leb piece.from at from)
+has line at piece on from to = and_from _
+    _ (eq-eqb piece.line line on)
+    (and_from _ _ (le-leb piece.from at from)
     (lt-ltb at piece.to to))
 
 elsewhere : (line at : ℕ) (piece : Piece) → (piece.line ≡ line → ⊥)
     → has_step (step_at line at) piece ≡ false
-elsewhere line at piece off = and_left (piece.line == line)
-    (nat_le piece.from at && nat_lt at piece.to) (ne_eqb piece.line line off)
+elsewhere line at piece off = and_left _
+    _ (ne_eqb piece.line line off)
 
 ahead : (line at : ℕ) (piece : Piece) → at < piece.from → has_step (step_at line at) piece ≡ false
-ahead line at piece before = and_right (piece.line == line)
-    (nat_le piece.from at && nat_lt at piece.to)
-    (and_left (nat_le piece.from at) (nat_lt at piece.to) (lt-leb piece.from at before))
+ahead line at piece before = and_right _
+    _
+    (and_left _ _ (lt-leb piece.from at before))
 
 behind_it : (line at : ℕ) (piece : Piece) → piece.to ≤ at → has_step (step_at line at) piece ≡ false
-behind_it line at piece past = and_right (piece.line == line)
-    (nat_le piece.from at && nat_lt at piece.to)
-    (and_right (nat_le piece.from at) (nat_lt at piece.to) (le-ltb at piece.to past))
+behind_it line at piece past = and_right _
+    _
+    (and_right _ _ (le-ltb at piece.to past))
 
 pub has_from : (step : Step) (piece : Piece) → piece.line ≡ step.line → piece.from ≤ step.at
     → step.at < piece.to → has_step step piece ≡ true
-has_from step piece on from to = has step.line step.at piece on from to
+has_from step piece on from to = has _ _ _ on from to
 
 pub has_parts : (step : Step) (piece : Piece) → has_step step piece ≡ true
     → (piece.line ≡ step.line) × (piece.from ≤ step.at) × (step.at < piece.to)
@@ -60,7 +60,7 @@ pub all_stretch : (P : Step → Type 0) (line at count : ℕ)
     → ((k : ℕ) → at ≤ k → k < at + count → P (step_at line k)) → All P (stretch line at count)
 all_stretch P line at zero each = All-nil P
 all_stretch P line at (suc count) each =
-    All-cons P (step_at line at) (stretch line (at + 1) count) (each at (omega arith) (omega arith))
+    All-cons P (step_at line at) (stretch line (at + 1) count) (each _ (omega arith) (omega arith))
     (all_stretch P line (at + 1) count
     (λ k low high. each k (omega (arith, low)) (omega (arith, high))))
 
@@ -78,7 +78,7 @@ eq_piece piece other is =
     let parts = and_parts (piece.line == other.line)
     ((piece.from == other.from) && (piece.to == other.to)) (sym is) in
     let ends = and_parts (piece.from == other.from) (piece.to == other.to) parts.1 in
-    same_piece piece.line piece.from piece.to other.line other.from other.to
+    same_piece _ _ _ _ _ _
     (eqb-true piece.line other.line parts.0) (eqb-true piece.from other.from ends.0)
     (eqb-true piece.to other.to ends.1)
 
@@ -92,15 +92,15 @@ pub first_among : (pieces : List Piece) (first : Piece) (behind : List Piece) (p
     → true ≡ ((first.line == piece.line) && ((first.from == piece.from) && (first.to == piece.to)))
     → Contains pieces piece × ((other : Piece) → Contains behind other → Contains pieces other)
 first_among pieces first behind piece is same = rw is (
-  subst (Contains (first ∷ behind)) (eq_piece first piece same) (0, omega arith, refl),
-  behind_first first behind,
+  subst (Contains (first ∷ behind)) (eq_piece _ _ same) (0, omega arith, refl),
+  behind_first _ _,
 )
 
 -- and so are those of a list that lacks one more at the front
 pub behind_among : (pieces : List Piece) (first : Piece) (behind : List Piece)
     → pieces ≡ first ∷ behind
     → (other : Piece) → Contains behind other → Contains pieces other
-behind_among pieces first behind is = rw is (behind_first first behind)
+behind_among pieces first behind is = rw is (behind_first _ _)
 
 -- ---- pieces of which each step is covered
 
@@ -115,8 +115,8 @@ pub piece_covered : (pieces some : List Piece) (piece : Piece) → AreCovered pi
     → All (λ (step : Step). covers pieces step ≡ true)
     (stretch piece.line piece.from (piece.to - piece.from))
 piece_covered pieces some piece are there forwards =
-    all_stretch (λ (step : Step). covers pieces step ≡ true) piece.line piece.from
-    (piece.to - piece.from)
+    all_stretch (λ (step : Step). covers pieces step ≡ true) _ _
+    _
     (λ k low high. are piece there (step_at piece.line k)
     (has piece.line k piece refl low (omega (arith, high, forwards))))
 

@@ -21,7 +21,7 @@ not_above a b is = elim is [
 
 ahead : (key : KeyValue) (keys : List KeyValue) → AllPairs IsBefore (key ∷ keys)
     → All (λ (other : KeyValue). key.total ≤ other.total) keys
-ahead key keys pairs = λ k d inside. not_above key (get_or keys k d)
+ahead key keys pairs = λ k d inside. not_above _ _
     (pairs zero (suc k) d (omega arith) (omega (arith, inside)))
 
 behind : (key : KeyValue) (keys : List KeyValue) → AllPairs IsBefore (key ∷ keys)
@@ -49,7 +49,7 @@ pub rise_of : (entries : List Shown) (left : List KeyValue)
 rise_of [] left pairs = tt
 rise_of (entry ∷ entries) left pairs =
     let keys = keys_of entries ++ left in (
-      all_front (λ (key : KeyValue). entry.key.total ≤ key.total) entries left
+      all_front (λ (key : KeyValue). entry.key.total ≤ key.total) _ left
           (ahead entry.key keys pairs),
       rise_of entries left (behind entry.key keys pairs),
     )
@@ -64,6 +64,6 @@ left_not_below [] left pairs = All-nil (NotBelow left)
 left_not_below (entry ∷ entries) left pairs =
     let keys = keys_of entries ++ left in
     All-cons (NotBelow left) entry entries
-    (all_left (λ (key : KeyValue). entry.key.total ≤ key.total) entries left
+    (all_left (λ (key : KeyValue). entry.key.total ≤ key.total) entries _
     (ahead entry.key keys pairs))
     (left_not_below entries left (behind entry.key keys pairs))

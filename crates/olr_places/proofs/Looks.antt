@@ -212,7 +212,7 @@ any_of (key ∷ keys) = record { key = key; ground = line []; rows = []; object 
 
 pub keys_of_any : (keys : List KeyValue) → keys_of (any_of keys) ≡ keys
 keys_of_any [] = refl
-keys_of_any (key ∷ keys) = ap (λ (l : List KeyValue). key ∷ l) (keys_of_any keys)
+keys_of_any (key ∷ keys) = ap (λ (l : List KeyValue). key ∷ l) (keys_of_any _)
 
 module _ {limits : PlaceLimits} {road : RoadMap} {layers : LayersValue} {answers : List KeyValue}
     {looked : Looked}

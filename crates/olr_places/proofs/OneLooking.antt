@@ -99,10 +99,10 @@ same_parts : (road : RoadMap) (key : KeyValue) (a b : Matched) (route : List Pie
     (located : Located) → IsSameMatched a b
     → matching_object road key a route located ≡ matching_object road key b route located
 same_parts road key a b route (LocatedLine outer inner) same =
-    let legs = same_leg_objects a.legs.items b.legs.items same.same_legs in
+    let legs = same_leg_objects _ _ same.same_legs in
     rw (same.same_candidates, legs) refl
 same_parts road key a b route (LocatedPoint earliest latest) same =
-    let legs = same_leg_objects a.legs.items b.legs.items same.same_legs in
+    let legs = same_leg_objects _ _ same.same_legs in
     rw (same.same_candidates, legs) refl
 
 module _ (one_matched : OneMatched) (one_route : OneRoute) {road : RoadMap} {layers : LayersValue}
@@ -169,6 +169,6 @@ module _ (one_matched : OneMatched) (one_route : OneRoute) {road : RoadMap} {lay
 
 pub one_looking : OneMatched → OneRoute → OneLooking
 one_looking one_matched one_route limits road layers answers looked other sound is is' =
-    let found = in_common one_matched one_route sound is.seen is'.seen is.left is'.left (sym is.keys
+    let found = in_common one_matched one_route sound _ _ _ is'.left (sym is.keys
     ∙ is'.keys) is.each is'.each in
     sym (is.looks found.0 found.2) ∙ ap (looking limits) found.4 ∙ is'.looks found.1 found.3

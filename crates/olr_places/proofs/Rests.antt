@@ -20,14 +20,14 @@ same_behind [] [] key a b rise same = ap (λ (l : List KeyValue). drop 1 l) same
 same_behind [] (one ∷ other) key a b rise same =
     let tails : a ≡ other ++ key ∷ b = ap (λ (l : List KeyValue). drop 1 l) same in
     let within : Contains a key = subst (λ (l : List KeyValue). Contains l key) (sym tails)
-    (Contains-append_right other (key ∷ b) key (here key b)) in
-    absurd (never_itself key (after_first IsBefore key a rise key within))
+    (Contains-append_right other (key ∷ b) key (here _ b)) in
+    absurd (never_itself _ (after_first IsBefore key a rise key within))
 same_behind (first ∷ front) [] key a b rise same =
     let heads : first ≡ key = ap (λ (l : List KeyValue). get_or l 0 key) same in
     let before : IsBefore first key =
     after_first IsBefore first (front ++ key ∷ a) rise key
-    (Contains-append_right front (key ∷ a) key (here key a)) in
-    absurd (never_itself key (subst (λ (k : KeyValue). IsBefore k key) heads before))
+    (Contains-append_right front (key ∷ a) key (here _ a)) in
+    absurd (never_itself _ (subst (λ (k : KeyValue). IsBefore k key) heads before))
 same_behind (first ∷ front) (one ∷ other) key a b rise same =
     same_behind front other key a b (rest_rises IsBefore first (front ++ key ∷ a) rise)
     (ap (λ (l : List KeyValue). drop 1 l) same)
@@ -38,7 +38,7 @@ pub one_rest : (answers : List KeyValue) → AllPairs IsBefore answers
     → IsRestAfter answers after b → a ≡ b
 one_rest answers rise None a b one other = one ∙ sym other
 one_rest answers rise (Some key) a b (front, one) (begin, other) =
-    same_behind front begin key a b (subst (λ (l : List KeyValue). AllPairs IsBefore l) one rise)
+    same_behind _ _ _ a b (subst (λ (l : List KeyValue). AllPairs IsBefore l) one rise)
     (sym one ∙ other)
 
 -- behind further keys
@@ -48,7 +48,7 @@ after_keys answers after [] left rest = rest
 after_keys answers None (key ∷ keys) left rest =
     after_keys answers (Some key) keys left ([], sym rest)
 after_keys answers (Some after) (key ∷ keys) left (front, is) =
-    after_keys answers (Some key) keys left (
+    after_keys _ _ keys left (
       front ++ after ∷ [],
       is
           ∙ sym (append_assoc front (after ∷ []) (key ∷ (keys ++ left))),

@@ -242,4 +242,4 @@ pub missing_same : (pieces other behind : List Piece)
     → ((step : Step) → covers pieces step ≡ covers other step)
     → missing_of pieces behind ≡ missing_of other behind
 missing_same pieces other behind same =
-    same_runs (covers pieces) (covers other) same 0 (steps_of behind)
+    same_runs _ _ same 0 _

@@ -33,7 +33,7 @@ each_fails : {X : Type 0} (p : X → Bool) (xs : List X) → list_any p xs ≡ f
     → All (λ (x : X). p x ≡ false) xs
 each_fails p [] is = All-nil (λ x. p x ≡ false)
 each_fails p (x ∷ xs) is =
-    let parts = or_parts (p x) (list_any p xs) is in
+    let parts = or_parts _ _ is in
     All-cons (λ y. p y ≡ false) x xs parts.0 (each_fails p xs parts.1)
 
 module _ (limits : PlaceLimits) where

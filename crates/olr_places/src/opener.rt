@@ -42,7 +42,8 @@ pub(crate) fn place_of(openers: &[Opener], opener: &Opener, limits: &PlaceLimits
     ensures inside { IfSome result (λ index. index < length openers.now) }
     ensures place { (road : RoadMap) → MatchOption result
         (belongs limits.now (map (shown_by road) openers.now) (shown_by road opener.now) ≡ false)
-        (λ index. (belongs limits.now (map (shown_by road) openers.now) (shown_by road opener.now) ≡ true)
+        (λ index. (belongs limits.now (map (shown_by road) openers.now)
+        (shown_by road opener.now) ≡ true)
         × (place_of limits.now (map (shown_by road) openers.now) (shown_by road opener.now)
         ≡ index)) }
 {

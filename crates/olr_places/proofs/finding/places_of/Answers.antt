@@ -24,7 +24,7 @@ pub loop-looking-init : goal.loop-looking-init
 loop-looking-init c =
     let stands = c.new-looking.ensures c.args.limits.now c.args.map.now in (
       rw (← c.table.ensures) c.in_ok-finder.ensures.answers,
-      at_start c.args.limits.now c.args.map.now c.args.layers.now _ c.new-looking.result stands,
+      at_start _ c.args.map.now c.args.layers.now _ c.new-looking.result stands,
       c.with_searches-routes.ensures,
       λ k d inside. absurd
           (omega (
@@ -40,14 +40,14 @@ loop-looking-init c =
 pub matched-requires : goal.matched-requires
 matched-requires c =
     rw (c.deref.ensures.value, c.loop-looking.invariant.2)
-    (all_on_page (IsKey c.args.layers.now.penalties) _ c.loop-looking.looking.last _
-    (page_of c.in_ok-page.page) c.loop-looking.invariant.0.only c.in_ok-page.ensures.page)
+    (all_on_page (IsKey c.args.layers.now.penalties) _ _ _
+    _ c.loop-looking.invariant.0.only c.in_ok-page.ensures.page)
 
 pub look_at-requires-clause-keys : goal.look_at-requires-clause-keys
 look_at-requires-clause-keys c =
     rw c.deref-in-loop-looking.ensures.value
-    (all_on_page (IsKey c.args.layers.now.penalties) _ c.loop-looking.looking.last _
-    (page_of c.in_ok-page.page) c.loop-looking.invariant.0.only c.in_ok-page.ensures.page)
+    (all_on_page (IsKey c.args.layers.now.penalties) _ _ _
+    _ c.loop-looking.invariant.0.only c.in_ok-page.ensures.page)
 
 pub look_at-requires-clause-all : goal.look_at-requires-clause-all
 look_at-requires-clause-all c =
@@ -87,7 +87,7 @@ returns-then-not-page-clause-places c =
     let looks = rw (c.deref-in-loop-looking.ensures.value, c.in_default.is) at
     c.in_ok-ending.ensures.looks in
     let found =
-    no_more c.args.limits.now c.args.map.now c.args.layers.now _ c.loop-looking.invariant.0.rise
+    no_more _ _ _ _ c.loop-looking.invariant.0.rise
     c.loop-looking.looking c.look_at.new.looking c.loop-looking.invariant.1
     _ (page_of c.in_ok-page.page) c.in_ok-page.ensures.page looks c.if-not-page.true in (
       answers_of c.loop-looking.finder.penalties,

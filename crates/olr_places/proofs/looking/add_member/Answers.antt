@@ -17,5 +17,5 @@ pub returns : goal.returns
 returns c =
     ap (λ (members : ℕ). set c.args.openers.now.items c.args.index
     (record c.index_mut.result.now { members = members })) c.saturating_add.ensures
-    ∙ set_is c.args.index c.args.openers.now.items _ _ c.requires c.index_mut.ensures.value
+    ∙ set_is _ _ _ _ c.requires c.index_mut.ensures.value
     c.index.ensures

@@ -24,6 +24,6 @@ loop-index-preserved c = λ road.
 
 pub returns-clause-place : goal.returns-clause-place
 returns-clause-place c = λ road.
-    none_at (shown_by road) (is_close_to c.args.limits.now (shown_by road c.args.opener.now))
+    none_at _ _
     c.args.openers.now c.loop-index.index
     (omega (arith, c.loop-index-test.false)) (c.loop-index.invariant road)

@@ -49,9 +49,9 @@ opener-requires-clause-matched c =
     let long = AllZip-long _ c.args.keys.now c.args.all.items c.requires.all in
     let inside : c.loop-matched.index < length c.args.keys.now =
     omega (arith, turn.0, c.loop-matched.invariant.0, long) in
-    matched_at (IsMatchedBy c.args.self.now.map.now c.args.self.now.layers.now) c.args.keys.now
-    c.args.all.items c.loop-matched.index
-    c.index-keys-index.result c.in-Some.matched c.requires.all
+    matched_at _ _
+    _ _
+    _ _ c.requires.all
     (omega (arith, turn.0, c.loop-matched.invariant.0)) c.index-keys-index.is
     (turn.1 ∙ ap (λ (i : ℕ). get_or c.args.all.items i c.in-Some.matched)
     (sym c.loop-matched.invariant.0))

@@ -17,7 +17,7 @@ returns g c =
     let looked = c.in_ok-send_member.ensures in
     let margin = c.in_ok-send_member-2.ensures in
     let next = subst (λ (value : Data). SendsMember (codes "next") value after_margin after_next)
-    (same_next _ c.next_cursor-next.result c.next.result _ None c.next_cursor-next.ensures
+    (same_next _ _ c.next.result _ None c.next_cursor-next.ensures
     c.next.ensures) c.in_ok-send_member-3.ensures in
     let verdict =
     subst (λ (word : List ℕ). SendsMember (codes "verdict") (string word) after_places
