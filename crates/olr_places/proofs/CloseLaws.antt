@@ -11,7 +11,7 @@ use Rattle.olr_report.proofs.StepLists.{stretch}
 use Rattle.olr_report.specs.Steps.{Step, steps_in, steps_of}
 use Rattle.olr_places.specs.Closeness.{IsNear, is_near, line, point}
 use Rattle.olr_places.specs.Laws.{CloseAtZero, CloseStaysClose, IsReflexive, IsSymmetric, MissingIsComputed, TestsCloseness}
-use Rattle.olr_places.specs.Missing.{MissesAtMost, covers, has_step, longest_run, missing_of}
+use Rattle.olr_places.specs.Missing.{IsMissingRun, MissesAtMost, covers, has_step, longest_run, missing_of}
 use Rattle.olr_places.proofs.Covering.{all_stretch, has_parts, has_from, step_at}
 use Rattle.olr_places.proofs.Runs.{longest_is, none_is_longer}
 
@@ -19,15 +19,15 @@ use Rattle.olr_places.proofs.Runs.{longest_is, none_is_longer}
 
 there : (first : Step) (steps : List Step) (step : Step) → Contains steps step
     → Contains (first ∷ steps) step
-there first steps step has = (suc has.0, omega (arith, has.1), has.2)
+there first steps step has = (suc has.0, omega arith, has.2)
 
 in_stretch : (on at count k : ℕ) → at ≤ k → k < at + count
     → Contains (stretch on at count) (step_at on k)
-in_stretch on at zero k low high = absurd (omega (arith, low, high))
+in_stretch on at zero k low high = absurd (omega arith)
 in_stretch on at (suc count) k low high = elim (cases_eq at k) [
   | inl same ↦ (zero, omega arith, ap (step_at on) same)
-  | inr other ↦ there _ _ _
-      (in_stretch on (at + 1) count k (omega (arith, low, other)) (omega (arith, high)))
+  | inr other ↦ there (step_at on at) (stretch on (at + 1) count) (step_at on k)
+      (in_stretch on (at + 1) count k (omega arith) (omega arith))
 ]
 
 -- a step lies on a line from one position to another
@@ -43,17 +43,15 @@ of_stretch on at count step has =
 step_of_piece : (piece : Piece) (step : Step) → has_step step piece ≡ true
     → Contains (steps_in piece) step
 step_of_piece piece step is =
-    let parts = has_parts _ _ is in
-    let at : Contains (steps_in piece) (step_at piece.line step.at) =
-    in_stretch _ _ _ _ parts.1
-    (omega (arith, parts.1, parts.2)) in
-    subst (λ (on : ℕ). Contains (steps_in piece) (step_at on step.at)) parts.0 at
+    let parts = has_parts step piece is in
+    rw (← parts.0)
+    (in_stretch piece.line piece.from (piece_length piece) step.at parts.1 (omega arith))
 
 piece_of_step : (piece : Piece) (step : Step) → Contains (steps_in piece) step
     → has_step step piece ≡ true
 piece_of_step piece step has =
-    let lies = of_stretch _ _ (piece_length piece) step has in
-    has_from step piece (sym lies.0) lies.1 (omega (arith, lies.1, lies.2))
+    let lies = of_stretch piece.line piece.from (piece_length piece) step has in
+    has_from step piece (sym lies.0) lies.1 (omega arith)
 
 -- ---- the steps of pieces
 
@@ -70,7 +68,7 @@ covered_is (piece ∷ pieces) step is =
 
 pub is_covered : (pieces : List Piece) (step : Step) → Contains (steps_of pieces) step
     → covers pieces step ≡ true
-is_covered [] step has = absurd (omega (arith, has.1))
+is_covered [] step has = absurd (omega arith)
 is_covered (piece ∷ pieces) step has =
     elim (Contains-append_cases (steps_in piece) (steps_of pieces) step has) [
       | inl here ↦ or_left (has_step step piece) _ (piece_of_step piece step here)
@@ -118,7 +116,7 @@ small part other most few run is = omega (arith, few, (computed part other).at_m
 few : (part other : List Piece) (most : ℕ) → MissesAtMost (steps_of part) (steps_of other) most
     → missing_of part other ≤ most
 few part other most misses =
-    let is = computed part other in omega (arith, is.length_is, misses is.longest is.is_run)
+    let is = computed part other in omega (arith, misses is.longest is.is_run)
 
 decides_le : (a b : ℕ) → Decides (nat_le a b) (a ≤ b)
 decides_le a b = (leb-true a b, le-leb a b)
@@ -170,34 +168,41 @@ symmetric apart (point earliest latest) (line one) is = absurd is
 symmetric apart (point earliest latest) (point other_earliest other_latest) is =
     (near_too _ _ _ is.0, near_too _ _ _ is.1)
 
--- a part misses nothing of itself
-none_of_itself : (steps : List Step) (apart : ℕ) → MissesAtMost steps steps apart
-none_of_itself steps apart [] is = omega arith
-none_of_itself steps apart (step ∷ run) is =
-    let has : Contains steps step = subst (λ (l : List Step). Contains l step) (sym is.neighbours)
-    (Contains-append_right is.before ((step ∷ run) ++ is.behind) step (zero, omega arith, refl)) in
-    absurd (All-head (λ (one : Step). ¬ (Contains steps one)) step _ is.missing has)
+-- the steps of a run are steps
+in_run : {part other run : List Step} {step : Step} → IsMissingRun part other (step ∷ run)
+    → Contains other step
+in_run is = rw is.neighbours (Contains-append_right is.before _ _ (zero, omega arith, refl))
+
+-- where each step of another part is a step of this one, nothing is missing
+none_missing : (part other : List Step) → ((step : Step) → Contains other step → Contains part step)
+    → MissesAtMost part other 0
+none_missing part other all [] is = omega arith
+none_missing part other all (step ∷ run) is =
+    absurd (All-head (λ (one : Step). ¬ (Contains part one)) step run is.missing
+    (all step (in_run is)))
 
 near_itself : (apart : ℕ) (one : Place) → IsNear apart one one
 near_itself apart one = record { on_line = refl; behind = omega arith; before = omega arith }
 
 pub reflexive : IsReflexive
 reflexive apart (line one) =
-    (none_of_itself _ _, none_of_itself _ _)
-reflexive apart (point earliest latest) = (near_itself _ _, near_itself _ _)
+    let none : MissesAtMost (steps_of one) (steps_of one) apart = λ run is.
+    omega (arith, none_missing (steps_of one) (steps_of one) (λ step has. has) run is) in
+    (none, none)
+reflexive apart (point earliest latest) = (near_itself apart earliest, near_itself apart latest)
 
 still_few : (part other : List Step) (less apart : ℕ) → less ≤ apart → MissesAtMost part other less
     → MissesAtMost part other apart
-still_few part other less apart more misses run is = omega (arith, more, misses run is)
+still_few part other less apart more misses run is = omega (arith, misses run is)
 
 still_near : (less apart : ℕ) (one other : Place) → less ≤ apart → IsNear less one other
     → IsNear apart one other
 still_near less apart one other more is =
     record {
       on_line = is.on_line;
-      behind = omega (arith, more, is.behind);
+      behind = omega arith;
       before =
-          omega (arith, more, is.before);
+          omega arith;
     }
 
 pub stays : CloseStaysClose
@@ -220,11 +225,11 @@ record IsSplit (steps : List Step) (step : Step) : Type 0 where
   whole : steps ≡ before ++ ((step ∷ []) ++ behind)
 
 split_at : (steps : List Step) (step : Step) → Contains steps step → IsSplit steps step
-split_at [] step has = absurd (omega (arith, has.1))
+split_at [] step has = absurd (omega arith)
 split_at (first ∷ steps) step (zero, inside, same) =
     record { before = []; behind = steps; whole = ap (λ (one : Step). one ∷ steps) same }
 split_at (first ∷ steps) step (suc k, inside, same) =
-    let rest = split_at _ _ (k, omega (arith, inside), same) in
+    let rest = split_at steps step (k, omega arith, same) in
     record {
       before = first ∷ rest.before;
       behind = rest.behind;
@@ -251,15 +256,6 @@ all_of pieces other misses step has = elim (cases_Bool (covers pieces step)) [
         }),
       ))
 ]
-
--- where each step of another part is a step of this one, nothing is missing
-none_missing : (part other : List Step) → ((step : Step) → Contains other step → Contains part step)
-    → MissesAtMost part other 0
-none_missing part other all [] is = omega arith
-none_missing part other all (step ∷ run) is =
-    let has : Contains other step = subst (λ (l : List Step). Contains l step) (sym is.neighbours)
-    (Contains-append_right is.before ((step ∷ run) ++ is.behind) step (zero, omega arith, refl)) in
-    absurd (All-head (λ (one : Step). ¬ (Contains part one)) step _ is.missing (all step has))
 
 pub at_zero : CloseAtZero
 at_zero one other = (

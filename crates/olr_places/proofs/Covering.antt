@@ -2,7 +2,8 @@
 use Rattle.std.proofs.Common.{◌≡◌, ℕ, zero, suc, ◌+◌, ◌-◌, ◌<◌, ◌≤◌, ◌⊎◌, Bool, true, false, List, ◌∷◌, length, get_or, take, drop, All, refl, sym, ap, subst, ◌∙◌, inl, inr, arith, MatchBool, ◌&&◌, ◌==◌, nat_lt, nat_le}
 use Rattle.std.specs.List.Sorted.{IsPartitionPoint}
 use Rattle.std.specs.Prelude.{Any, Contains}
-use Rattle.std.proofs.lemmas.Bool.{cases_lt, and_from, and_left, and_right, and_parts, eqb-true, leb-true, ltb-true, eq-eqb, ne_eqb, le-leb, lt-ltb, le-ltb, lt-leb}
+use Rattle.std.proofs.lemmas.Bool.{cases_lt, and_parts, eqb-true, leb-true, ltb-true}
+use Rattle.std.proofs.lemmas.Bool.Decides.{nat_tests}
 use Rattle.std.proofs.lemmas.List.{get_or-drop, get_or-take, length-drop, length-take-le}
 use Rattle.std.proofs.lemmas.List.Elements.{All-nil, All-cons, All-from_get_or, All-get_or}
 use Rattle.std.proofs.lemmas.List.Folds.{list_any_none, list_any_at}
@@ -18,25 +19,17 @@ step_at line at = record { line = line; at = at }
 
 has : (line at : ℕ) (piece : Piece) → piece.line ≡ line → piece.from ≤ at → at < piece.to
     → has_step (step_at line at) piece ≡ true
-has line at piece on from to = and_from _
-    _ (eq-eqb piece.line line on)
-    (and_from _ _ (le-leb piece.from at from)
-    (lt-ltb at piece.to to))
+has line at piece on from to = grind (arith, nat_tests)
 
 elsewhere : (line at : ℕ) (piece : Piece) → (piece.line ≡ line → ⊥)
     → has_step (step_at line at) piece ≡ false
-elsewhere line at piece off = and_left _
-    _ (ne_eqb piece.line line off)
+elsewhere line at piece off = grind (arith, nat_tests)
 
 ahead : (line at : ℕ) (piece : Piece) → at < piece.from → has_step (step_at line at) piece ≡ false
-ahead line at piece before = and_right _
-    _
-    (and_left _ _ (lt-leb piece.from at before))
+ahead line at piece before = grind (arith, nat_tests)
 
 behind_it : (line at : ℕ) (piece : Piece) → piece.to ≤ at → has_step (step_at line at) piece ≡ false
-behind_it line at piece past = and_right _
-    _
-    (and_right _ _ (le-ltb at piece.to past))
+behind_it line at piece past = grind (arith, nat_tests)
 
 pub has_from : (step : Step) (piece : Piece) → piece.line ≡ step.line → piece.from ≤ step.at
     → step.at < piece.to → has_step step piece ≡ true
@@ -62,7 +55,7 @@ all_stretch P line at zero each = All-nil P
 all_stretch P line at (suc count) each =
     All-cons P (step_at line at) (stretch line (at + 1) count) (each _ (omega arith) (omega arith))
     (all_stretch P line (at + 1) count
-    (λ k low high. each k (omega (arith, low)) (omega (arith, high))))
+    (λ k low high. each k (omega arith) (omega arith)))
 
 -- ---- pieces among others
 
@@ -84,7 +77,7 @@ eq_piece piece other is =
 
 behind_first : (first : Piece) (behind : List Piece) (other : Piece) → Contains behind other
     → Contains (first ∷ behind) other
-behind_first first behind other there = (suc there.0, omega (arith, there.1), there.2)
+behind_first first behind other there = (suc there.0, omega arith, there.2)
 
 -- a piece that is the first one of some, and those behind it, are among them
 pub first_among : (pieces : List Piece) (first : Piece) (behind : List Piece) (piece : Piece)
@@ -118,7 +111,7 @@ piece_covered pieces some piece are there forwards =
     all_stretch (λ (step : Step). covers pieces step ≡ true) _ _
     _
     (λ k low high. are piece there (step_at piece.line k)
-    (has piece.line k piece refl low (omega (arith, high, forwards))))
+    (has piece.line k piece refl low (omega arith)))
 
 -- ---- the pieces of one line among pieces by line
 
@@ -138,9 +131,9 @@ module _ (pieces : List Piece) (line first behind : ℕ) (inside : behind ≤ le
           arith,
           to_first.0 behind nothing (omega arith) less,
           to_behind.1 behind nothing
-              (omega arith) (omega (arith, less, starts)),
+              (omega arith) (omega arith),
         ))
-    | inr not_less ↦ omega (arith, not_less)
+    | inr not_less ↦ omega arith
   ]
 
   abbrev part : List Piece
@@ -148,7 +141,7 @@ module _ (pieces : List Piece) (line first behind : ℕ) (inside : behind ≤ le
 
   size : length part ≡ behind - first
   size = length-take-le (behind - first) (drop first pieces)
-      (omega (arith, length-drop first pieces, inside, forward))
+      (omega (arith, length-drop first pieces, forward))
 
   item : (k : ℕ) (d : Piece) → k < behind - first → get_or part k d ≡ get_or pieces (first + k) d
   item k d lt = get_or-take (behind - first) (drop first pieces) k d lt
@@ -158,9 +151,9 @@ module _ (pieces : List Piece) (line first behind : ℕ) (inside : behind ≤ le
   on_line k d lt =
       omega (
         arith,
-        to_first.1 (first + k) d (omega arith) (omega (arith, lt, inside)),
+        to_first.1 (first + k) d (omega arith) (omega arith),
         to_behind.0
-            (first + k) d (omega arith) (omega (arith, lt)),
+            (first + k) d (omega arith) (omega arith),
       )
 
   -- ---- a stretch of steps
@@ -169,39 +162,36 @@ module _ (pieces : List Piece) (line first behind : ℕ) (inside : behind ≤ le
     covered : Any (λ (piece : Piece). (piece.from ≤ at) × (end ≤ piece.to)) part → (k : ℕ) → at ≤ k
         → k < end → covers pieces (step_at line k) ≡ true
     covered found k low high =
-        let near : found.0 < behind - first = omega (arith, found.2, size) in
+        let near : found.0 < behind - first = omega (arith, size) in
         let same : get_or pieces (first + found.0) found.1 ≡ found.1 =
         sym (item found.0 found.1 near) ∙ found.3 in
         let on : found.1.line ≡ line = ap (λ (piece : Piece). piece.line) (sym same)
         ∙ on_line found.0 found.1 near in
         list_any_at (has_step (step_at line k)) pieces (first + found.0) found.1
-        (omega (arith, near, inside))
+        (omega arith)
         (ap (has_step (step_at line k)) same
-        ∙ has line k found.1 on (omega (arith, found.4.0, low))
-        (omega (arith, found.4.1, high)))
+        ∙ has line k found.1 on (omega arith)
+        (omega arith))
 
     one_missing : All (λ (piece : Piece). (end ≤ piece.from) ⊎ (piece.to ≤ at)) part → (k : ℕ)
         → at ≤ k → k < end → (i : ℕ) → i < length pieces
         → has_step (step_at line k) (get_or pieces i nothing) ≡ false
     one_missing all k low high i within = elim (cases_lt i first) [
       | inl less ↦ elsewhere line k (get_or pieces i nothing)
-          (λ on. omega (arith, on, to_first.0 i nothing (omega arith) less))
+          (λ on. omega (arith, to_first.0 i nothing (omega arith) less))
       | inr not_less ↦ elim (cases_lt i behind) [
         | inr past ↦ elsewhere line k (get_or pieces i nothing)
-            (λ on. omega (arith, on, to_behind.1 i nothing (omega (arith, past)) within))
+            (λ on. omega (arith, to_behind.1 i nothing (omega (arith, past)) within))
         | inl near ↦
-            let short : i - first < behind - first = omega (arith, near, not_less) in
+            let short : i - first < behind - first = omega arith in
             let same : get_or part (i - first) nothing ≡ get_or pieces i nothing =
             item (i - first) nothing short ∙ ap (λ (j : ℕ). get_or pieces j nothing)
-            (let e : first + (i - first) ≡ i = omega (arith, not_less) in e) in
+            (let e : first + (i - first) ≡ i = omega arith in e) in
             let one = All-get_or (λ (piece : Piece). (end ≤ piece.from) ⊎ (piece.to ≤ at)) part
-            (i - first) nothing (omega (arith, short, size)) all in
-            let here : (end ≤ (get_or pieces i nothing).from)
-            ⊎ ((get_or pieces i nothing).to ≤ at) =
-            subst (λ (piece : Piece). (end ≤ piece.from) ⊎ (piece.to ≤ at)) same one in
-            elim here [
-              | inl later ↦ ahead line k (get_or pieces i nothing) (omega (arith, later, high))
-              | inr over ↦ behind_it line k (get_or pieces i nothing) (omega (arith, over, low))
+            (i - first) nothing (omega (arith, size)) all in
+            elim (rw same at one) [
+              | inl later ↦ ahead line k (get_or pieces i nothing) (omega arith)
+              | inr over ↦ behind_it line k (get_or pieces i nothing) (omega arith)
             ]
       ]
     ]
@@ -217,6 +207,6 @@ module _ (pieces : List Piece) (line first behind : ℕ) (inside : behind ≤ le
         (All (λ (piece : Piece). (end ≤ piece.from) ⊎ (piece.to ≤ at)) part)
         → All (λ (step : Step). covers pieces step ≡ is_covered) (stretch line at (end - at))
     alike true found = all_stretch (λ (step : Step). covers pieces step ≡ true) line at (end - at)
-        (λ k low high. covered found k low (omega (arith, high, before)))
+        (λ k low high. covered found k low (omega arith))
     alike false all = all_stretch (λ (step : Step). covers pieces step ≡ false) line at (end - at)
-        (λ k low high. missing all k low (omega (arith, high, before)))
+        (λ k low high. missing all k low (omega arith))

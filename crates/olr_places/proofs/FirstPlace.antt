@@ -11,13 +11,13 @@ module _ {X Y : Type 0} (f : X → Y) (p : Y → Bool) where
   pub first_at : (xs : List X) (i : ℕ) (x : X) → i < length xs → x ≡ get_or xs i x
       → All Fails (take i xs)
       → p (f x) ≡ true → (list_any p (map f xs) ≡ true) × (position_or_len p (map f xs) ≡ i)
-  first_at [] i x lt is none passes = absurd (omega (arith, lt))
+  first_at [] i x lt is none passes = absurd (omega arith)
   first_at (y ∷ xs) zero x lt is none passes =
       let here : p (f y) ≡ true = ap (λ (z : X). p (f z)) (sym is) ∙ passes in
       (rw here refl, rw here refl)
   first_at (y ∷ xs) (suc i) x lt is none passes =
       let not_here : p (f y) ≡ false = All-head Fails y (take i xs) none in
-      let rest = first_at xs i x (omega (arith, lt)) is (All-tail Fails y (take i xs) none)
+      let rest = first_at xs i x (omega arith) is (All-tail Fails y (take i xs) none)
       passes in
       (rw (not_here, rest.0) refl, rw (not_here, rest.1) (let e : 1 + i ≡ suc i = omega arith in e))
 

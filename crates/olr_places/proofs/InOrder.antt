@@ -15,19 +15,19 @@ Rise (entry ∷ entries) = All (λ (one : Shown). entry.key.total ≤ one.key.to
 
 not_above : (a b : KeyValue) → IsBefore a b → a.total ≤ b.total
 not_above a b is = elim is [
-  | inl less ↦ omega (arith, less)
-  | inr same ↦ omega (arith, same.0)
+  | inl less ↦ omega arith
+  | inr same ↦ omega arith
 ]
 
 ahead : (key : KeyValue) (keys : List KeyValue) → AllPairs IsBefore (key ∷ keys)
     → All (λ (other : KeyValue). key.total ≤ other.total) keys
-ahead key keys pairs = λ k d inside. not_above _ _
-    (pairs zero (suc k) d (omega arith) (omega (arith, inside)))
+ahead key keys pairs = λ k d inside. not_above key (get_or keys k d)
+    (pairs zero (suc k) d (omega arith) (omega arith))
 
 behind : (key : KeyValue) (keys : List KeyValue) → AllPairs IsBefore (key ∷ keys)
     → AllPairs IsBefore keys
-behind key keys pairs = λ i j d less inside. pairs (suc i) (suc j) d (omega (arith, less))
-    (omega (arith, inside))
+behind key keys pairs = λ i j d less inside. pairs (suc i) (suc j) d (omega arith)
+    (omega arith)
 
 all_front : (P : KeyValue → Type 0) (entries : List Shown) (left : List KeyValue)
     → All P (keys_of entries ++ left)

@@ -1,6 +1,5 @@
 -- One step of looking at matchings, whatever was looked at before.
-use Rattle.std.proofs.Common.{◌≡◌, ◌≢◌, ℕ, zero, suc, ◌+◌, ◌-◌, ◌<◌, ◌≤◌, Bool, true, false, List, [], ◌∷◌, ◌++◌, length, length-append, map, get_or, All, Option, Some, None, filter, refl, ap, sym, ◌∙◌, inl, inr, arith, append_assoc, ◌==◌, nat_le, nat_lt, option_map}
-use Rattle.std.specs.Prelude.{slice_get}
+use Rattle.std.proofs.Common.{◌≡◌, ◌≢◌, ℕ, zero, suc, ◌+◌, ◌-◌, ◌<◌, ◌≤◌, Bool, true, false, List, [], ◌∷◌, ◌++◌, length, length-append, map, get_or, All, Option, Some, None, filter, refl, ap, sym, ◌∙◌, inl, inr, arith, append_assoc, ◌==◌, nat_le, nat_lt}
 use Rattle.std.proofs.lemmas.Bool.{cases_Bool, lt-leb}
 use Rattle.std.proofs.lemmas.List.{append-nil, length-map, map-append}
 use Rattle.std.proofs.lemmas.List.Elements.{All-cons, All-head, All-push, All-tail, filter-append}
@@ -135,7 +134,7 @@ module _ {limits : PlaceLimits} {road : RoadMap} {before : List Shown} {old : Lo
   within_still : All (λ (opener : Shown). is_within limits with opener ≡ true) openers
   within_still = λ k d inside.
       ap (λ (n : ℕ). nat_le n limits.within)
-      (gap_still (get_or openers k d).key (omega (arith, inside))) ∙ stands.within k d inside
+      (gap_still (get_or openers k d).key (omega arith)) ∙ stands.within k d inside
 
   -- what it leaves, by what looking gives at it and others behind it
   looks_on : (looked : Looked) (left : List Shown) → looking_on limits before (one ∷ left) ≡ looked
@@ -173,7 +172,6 @@ module _ {limits : PlaceLimits} {road : RoadMap} {before : List Shown} {old : Lo
     gap = was.gap ∙ sym (gap_still opener.key some);
     members = omega (
       arith,
-      was.members,
       members_with index,
       none_here
           (place_of limits (openers_of limits with)) one index other,
@@ -186,14 +184,14 @@ module _ {limits : PlaceLimits} {road : RoadMap} {before : List Shown} {old : Lo
       → AreCounted limits with start l
   all_counted start [] elsewhere inside was = tt
   all_counted start (opener ∷ l) elsewhere inside was = (
-    still_counted start opener (omega (arith, inside)) (elsewhere start (omega arith) (omega arith))
+    still_counted start opener (omega arith) (elsewhere start (omega arith) (omega arith))
         was.0,
-    all_counted (start + 1) l (λ index from to. elsewhere index (omega (arith, from))
-        (omega (arith, to))) (omega (arith, inside)) was.1,
+    all_counted (start + 1) l (λ index from to. elsewhere index (omega arith)
+        (omega arith)) (omega arith) was.1,
   )
 
   count_with : (looked : ℕ) → looked ≡ old.looked + 1 → looked ≡ length with
-  count_with looked more = omega (arith, more, stands.count, length-append before (one ∷ []))
+  count_with looked more = omega (arith, length-append before (one ∷ []))
 
   last_is : (last : Option KeyValue) → last ≡ Some one.key → last ≡ last_of None (keys_of with)
   last_is last is = is ∙ sym (last_with None before one)
@@ -207,26 +205,23 @@ module _ {limits : PlaceLimits} {road : RoadMap} {before : List Shown} {old : Lo
     counted_more start index [] at inside was = tt
     counted_more start zero (opener ∷ l) at inside was = (
       record {
-        gap = was.0.gap ∙ sym (gap_still opener.key (omega (arith, inside)));
+        gap = was.0.gap ∙ sym (gap_still opener.key (omega arith));
         members =
             let one_more = one_here (place_of limits (openers_of limits with)) one start
-            (omega (arith, at)) in
+            (omega arith) in
             omega (
               arith,
-              was.0.members,
               members_with start,
-              one_more,
-              small,
               at_most
                   (place_of limits openers) before start,
             );
       },
-      all_counted (start + 1) l (λ index from to is. omega (arith, from, at, is))
-          (omega (arith, inside)) was.1,
+      all_counted (start + 1) l (λ index from to is. omega arith)
+          (omega arith) was.1,
     )
     counted_more start (suc index) (opener ∷ l) at inside was = (
-      still_counted start opener (omega (arith, inside)) (λ is. omega (arith, at, is)) was.0,
-      counted_more (start + 1) index l (omega (arith, at)) (omega (arith, inside)) was.1,
+      still_counted start opener (omega arith) (λ is. omega arith) was.0,
+      counted_more (start + 1) index l (omega arith) (omega arith) was.1,
     )
 
     pub stands_with_member : (new : Looking) (index : ℕ) → place_of limits openers one ≡ index
@@ -234,7 +229,7 @@ module _ {limits : PlaceLimits} {road : RoadMap} {before : List Shown} {old : Lo
         → new.looked ≡ old.looked + 1 → new.last ≡ Some one.key → Stands limits road with new
     stands_with_member new index at has more last =
         let same = openers_same limits before one here in
-        let at_own : 0 + index ≡ own = rw same (omega (arith, at)) in record {
+        let at_own : 0 + index ≡ own = rw same (omega arith) in record {
           openers = ap (map (shown_by road)) has ∙ same_shown road index items ∙ stands.openers
               ∙ sym same;
           within = rw same within_still;
@@ -257,7 +252,7 @@ module _ {limits : PlaceLimits} {road : RoadMap} {before : List Shown} {old : Lo
 
     counted : AreCounted limits with 0 items
     counted =
-        all_counted 0 items (λ index from to is. omega (arith, to, is, own_is, same_length))
+        all_counted 0 items (λ index from to is. omega (arith, own_is, same_length))
         (omega (arith, same_length)) stands.counted
 
     module _ (opener : Opener) (shown : shown_by road opener ≡ one)
@@ -271,16 +266,16 @@ module _ {limits : PlaceLimits} {road : RoadMap} {before : List Shown} {old : Lo
             (rw same_length (all_placed limits before)) in
             let itself = one_here (place_of limits (openers_of limits with)) one (length items)
             (own_is ∙ sym same_length) in
-            omega (arith, alone, none_before, itself, members_with (length items));
+            omega (arith, members_with (length items));
       }
 
       counted_with : (start : ℕ) (l : List Opener) → start + length l ≡ length items
           → AreCounted limits with start l
           → AreCounted limits with start (l ++ opener ∷ [])
-      counted_with start [] all was = let at : start ≡ length items = omega (arith, all) in
+      counted_with start [] all was = let at : start ≡ length items = omega arith in
           (rw at counted_itself, tt)
       counted_with start (first ∷ l) all was =
-          (was.0, counted_with (start + 1) l (omega (arith, all)) was.1)
+          (was.0, counted_with (start + 1) l (omega arith) was.1)
 
       pub stands_with_opener : (new : Looking)
           → nat_lt limits.within (gap_of before one.key) ≡ false
@@ -334,7 +329,7 @@ module _ {limits : PlaceLimits} {road : RoadMap} {before : List Shown} {old : Lo
           → margin_in l (Beyond (gap_of before one.key)) ≡ margin_of limits with
       margin_beyond [] counted are =
           let none = gap_at_first limits road before [] one.key are in
-          absurd (omega (arith, far, none))
+          absurd (omega arith)
       margin_beyond (first ∷ []) counted are =
           rw (opens, ← are) (ap (λ (n : ℕ). Some n) (sym (gap_of_next before one)))
       margin_beyond (first ∷ second ∷ others) counted are =

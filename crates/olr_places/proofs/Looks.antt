@@ -1,5 +1,5 @@
 -- What looking gives: the first of the matchings, in order; those that are left; and why it ended.
-use Rattle.std.proofs.Common.{◌≡◌, ◌≢◌, ℕ, ◌<◌, ◌≤◌, ◌⊎◌, Bool, true, false, List, [], ◌∷◌, ◌++◌, length, filter, All, refl, sym, ap, ◌∙◌, inl, inr, arith, append_assoc, ◌==◌, nat_lt}
+use Rattle.std.proofs.Common.{◌≡◌, ◌≢◌, ◌<◌, ◌≤◌, Bool, false, List, [], ◌∷◌, ◌++◌, length, filter, All, refl, sym, ap, ◌∙◌, inl, inr, arith, append_assoc, ◌==◌, nat_lt}
 use Rattle.std.specs.Prelude.{Contains}
 use Rattle.std.proofs.lemmas.Bool.{cases_Bool, eqb-false, le-ltb, lt-leb, ltb-true, ne_eqb}
 use Rattle.std.proofs.lemmas.List.{append-nil, length-append, map-append}
@@ -11,7 +11,7 @@ use Rattle.olr_keys.specs.Key.{KeyValue}
 use Rattle.olr_map.specs.RoadMap.{RoadMap}
 use Rattle.olr_matching.specs.Layers.{LayersValue}
 use Rattle.olr_places.specs.Closeness.{line}
-use Rattle.olr_places.specs.Looking.{IsLooked, Looked, belongs, gap_of, is_within, listed_of, looking, looking_on, openers_of, openers_on}
+use Rattle.olr_places.specs.Looking.{IsLooked, Looked, belongs, gap_of, is_within, listed_of, looking, looking_on, openers_of}
 use Rattle.olr_places.specs.Shown.{IsShownAt, Shown, keys_of}
 use Rattle.olr_places.specs.VerdictLaws.{IsAtMost, LooksAtMost}
 use Rattle.olr_places.specs.declared.ending.Ending.{Ending}
@@ -19,19 +19,6 @@ use Rattle.olr_places.specs.declared.ending.Ending.TheVariants.{Beyond, Cut, NoM
 use Rattle.olr_places.specs.declared.limits.PlaceLimits.{PlaceLimits}
 use Rattle.olr_places.proofs.Gaps.{gap_of_next}
 use Rattle.olr_places.proofs.Opening.{openers_more, openers_same}
-
--- ---- openers
-
-module _ (limits : PlaceLimits) where
-  -- the next matching belongs to a place
-  pub at_member : (openers left : List Shown) (one : Shown) → belongs limits openers one ≡ true
-      → openers_on limits openers (one ∷ left) ≡ openers_on limits openers left
-  at_member openers left one is = rw is refl
-
-  -- the next matching opens a place
-  pub at_opener : (openers left : List Shown) (one : Shown) → belongs limits openers one ≡ false
-      → openers_on limits openers (one ∷ left) ≡ openers_on limits (openers ++ one ∷ []) left
-  at_opener openers left one is = rw is refl
 
 -- ---- what looking gives
 
@@ -73,11 +60,7 @@ module _ (limits : PlaceLimits) where
     all_are = refl;
     at_most = record {
       looked_at = roomy.looked;
-      listed = omega (
-        arith,
-        filter_at_most (is_within limits before) (openers_of limits before),
-        roomy.openers,
-      );
+      listed = omega (arith, filter_at_most (is_within limits before) (openers_of limits before));
     };
     ends = ends;
   }
@@ -127,9 +110,9 @@ module _ (limits : PlaceLimits) where
           left = left;
           all_are = refl;
           at_most = record {
-            looked_at = omega (arith, length-append before (one ∷ []), more, roomy.looked);
+            looked_at = omega (arith, length-append before (one ∷ []), more);
             listed = rw listed
-                (omega (arith, filter_at_most (is_within limits with) openers, roomy.openers));
+                (omega (arith, filter_at_most (is_within limits with) openers));
           };
           ends = (one, Contains-push before one, past);
         }
@@ -139,7 +122,7 @@ module _ (limits : PlaceLimits) where
         → IsRoomy with
     still_roomy more openers = record {
       looked =
-          omega (arith, length-append before (one ∷ []), more, roomy.looked);
+          omega (arith, length-append before (one ∷ []), more);
       openers = openers;
     }
 
@@ -166,7 +149,6 @@ module _ (limits : PlaceLimits) where
                     length-append openers (one ∷ []),
                     eqb-false (length openers)
                         limits.most room,
-                    roomy.openers,
                   )) in
                   rw (look, new, near, room) (one_more (looking_on limits with left)
                   (behind (still_roomy more few)))
@@ -189,17 +171,17 @@ module _ (limits : PlaceLimits) where
       × ((looking limits (first ∷ left)).matchings ≡ first ∷ others)
   first_looked_at first left =
       let look : (0 == limits.look) ≡ false =
-      ne_eqb 0 limits.look (λ is. omega (arith, is, limits.look_in_range.least)) in
+      ne_eqb 0 limits.look (λ is. omega arith) in
       let near : nat_lt limits.within 0 ≡ false = le-ltb limits.within 0 (omega arith) in
       let room : (0 == limits.most) ≡ false =
-      ne_eqb 0 limits.most (λ is. omega (arith, is, limits.most_in_range.least)) in
+      ne_eqb 0 limits.most (λ is. omega arith) in
       let start : looking limits (first ∷ left) ≡ looking_on limits (first ∷ []) left =
       rw (look, near, room) refl in
       let rest = splits (first ∷ []) left
       (record {
-        looked = omega (arith, limits.look_in_range.least);
+        looked = omega arith;
         openers =
-            omega (arith, limits.most_in_range.least);
+            omega arith;
       }) in
       (rest.more, ap (λ (l : Looked). l.matchings) start ∙ rest.matchings_are)
 

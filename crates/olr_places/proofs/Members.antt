@@ -37,7 +37,6 @@ module _ (place : Shown → ℕ) where
       let elsewhere = ne_eqb (place one) index
       (λ is. omega (
         arith,
-        is,
         All-head (λ (one : Shown). place one < index) one entries
             all,
       )) in

@@ -1,8 +1,8 @@
 -- The matching of a key is shown in one way, and looking at the matchings of keys gives one value.
-use Rattle.std.proofs.Common.{◌≡◌, ℕ, List, [], ◌∷◌, ◌++◌, All, Option, Some, None, refl, sym, subst, ap, ◌∙◌, arith, append_assoc}
+use Rattle.std.proofs.Common.{◌≡◌, ℕ, List, [], ◌∷◌, ◌++◌, All, Option, Some, None, refl, sym, ap, ◌∙◌, arith}
 use Rattle.std.specs.Global.{Vec}
-use Rattle.std.specs.Prelude.{codes, map}
-use Rattle.std.proofs.lemmas.List.{append-nil, map-append}
+use Rattle.std.specs.Prelude.{codes}
+use Rattle.std.proofs.lemmas.List.{map-append}
 use Rattle.std.proofs.lemmas.List.Elements.{All-head, All-tail}
 use Rattle.std.proofs.lemmas.Option.{same_Some}
 use Rattle.olr_binary.specs.declared.reference.Reference.{Reference}
@@ -22,8 +22,8 @@ use Rattle.olr_report.specs.TextRows.{part_row, pieces_row}
 use Rattle.olr_report.specs.declared.locating.Located.{Located}
 use Rattle.olr_report.specs.declared.locating.Located.TheVariants.{Line as LocatedLine, Point as LocatedPoint}
 use Rattle.olr_places.specs.Closeness.{ground_of, line, pieces_of}
-use Rattle.olr_places.specs.Looking.{Looked, looking}
-use Rattle.olr_places.specs.Shown.{IsEntryAt, IsShownAt, Shown, extent_rows, keys_of, shown_of}
+use Rattle.olr_places.specs.Looking.{looking}
+use Rattle.olr_places.specs.Shown.{IsShownAt, Shown, extent_rows, keys_of}
 use Rattle.olr_places.specs.VerdictLaws.{OneLooking}
 use Rattle.olr_report.proofs.SameParts.{location_of_same, same_leg_objects, same_steps}
 use Rattle.olr_places.proofs.Looks.{any_of, keys_of_any}
@@ -46,8 +46,8 @@ module _ (one_route : OneRoute) (road : RoadMap) where
       → IsPartBetween steps before behind b → SamePart a b
   one_part steps before behind None None is is' =
       record { pieces = refl; rows = λ name. refl; values = refl }
-  one_part steps before behind None (Some b) is is' = absurd (omega (arith, is, is'.0))
-  one_part steps before behind (Some a) None is is' = absurd (omega (arith, is', is.0))
+  one_part steps before behind None (Some b) is is' = absurd (omega arith)
+  one_part steps before behind (Some a) None is is' = absurd (omega arith)
   one_part steps before behind (Some a) (Some b) is is' = let same =
       one_route _ a.items b.items is.1 is'.1 in record {
         pieces = same;

@@ -1,5 +1,5 @@
 -- Looking at the matchings of a reference, page by page.
-use Rattle.std.proofs.Common.{◌≡◌, ℕ, ◌+◌, ◌-◌, ◌<◌, ◌≤◌, true, false, All, List, [], ◌∷◌, ◌++◌, length, take, drop, get_or, Option, Some, None, refl, sym, ap, subst, ◌∙◌, append_assoc, arith, inl, inr}
+use Rattle.std.proofs.Common.{◌≡◌, ℕ, ◌+◌, ◌<◌, ◌≤◌, true, false, All, List, [], ◌∷◌, ◌++◌, length, take, drop, get_or, Option, Some, None, refl, sym, ap, subst, ◌∙◌, append_assoc, arith, inl, inr}
 use Rattle.std.specs.Prelude.{AllPairs}
 use Rattle.std.proofs.lemmas.Bool.{cases_lt, eq-eqb}
 use Rattle.std.proofs.lemmas.List.{append-nil, drop_all, drop_more, length-append, length-drop, length-map, length-take, map-append, take-append-drop, take_all, take_more}
@@ -119,17 +119,18 @@ module _ (limits : PlaceLimits) (road : RoadMap) (layers : LayersValue) (old : L
 
 -- ---- all pages
 
-module _ (limits : PlaceLimits) (road : RoadMap) (layers : LayersValue) where
-  -- how far looking at all matchings is
-  pub record Progress (answers : List KeyValue) (kept : Looking) : Type 0 where
-    pub front : List KeyValue
-    pub left : List KeyValue
-    pub keys_are : answers ≡ front ++ left
-    pub looked_at : AreLookedAt limits road layers front kept
-    pub some_left : 1 ≤ length front → 1 ≤ length left
+-- how far looking at all matchings is
+pub record Progress (limits : PlaceLimits) (road : RoadMap) (layers : LayersValue)
+    (answers : List KeyValue) (kept : Looking) : Type 0 where
+  pub front : List KeyValue
+  pub left : List KeyValue
+  pub keys_are : answers ≡ front ++ left
+  pub looked_at : AreLookedAt limits road layers front kept
+  pub some_left : 1 ≤ length front → 1 ≤ length left
 
+module _ {limits : PlaceLimits} {road : RoadMap} {layers : LayersValue} where
   pub at_start : (answers : List KeyValue) (kept : Looking) → Stands limits road [] kept
-      → Progress answers kept
+      → Progress limits road layers answers kept
   at_start answers kept stands = record {
     front = [];
     left = answers;
@@ -138,10 +139,10 @@ module _ (limits : PlaceLimits) (road : RoadMap) (layers : LayersValue) where
       seen = [];
       keys_are = refl;
       each =
-          λ k d inside. absurd (omega (arith, inside));
+          λ k d inside. absurd (omega arith);
       stands = stands;
     };
-    some_left = λ some. absurd (omega (arith, some));
+    some_left = λ some. absurd (omega arith);
   }
 
   -- looking ends behind these keys
@@ -164,9 +165,9 @@ module _ (limits : PlaceLimits) (road : RoadMap) (layers : LayersValue) where
     ends_here are.stands ending none,
   )
 
-  module _ (answers : List KeyValue) (rise : AllPairs IsBefore answers) (old new : Looking)
-      (progress : Progress answers old)
-      (size : ℕ) (page : PageValue) (is_page : IsPageAfter answers old.last size page) where
+  module _ {answers : List KeyValue} {old : Looking} {size : ℕ} {page : PageValue}
+      (rise : AllPairs IsBefore answers) (progress : Progress limits road layers answers old)
+      (is_page : IsPageAfter answers old.last size page) (new : Looking) where
     abbrev front : List KeyValue
     front = progress.front
 
@@ -222,9 +223,9 @@ module _ (limits : PlaceLimits) (road : RoadMap) (layers : LayersValue) where
 
       longer_than : page.more ≡ true → size < length progress.left
       longer_than more = let longer = is_page.is_page.more.0 more in
-          omega (arith, longer, ap (λ (l : List KeyValue). length l) same_left)
+          omega (arith, ap (λ (l : List KeyValue). length l) same_left)
 
-      pub goes_on : page.more ≡ true → Progress answers new
+      pub goes_on : page.more ≡ true → Progress limits road layers answers new
       goes_on more = record {
         front = front ++ page.keys;
         left = behind;
@@ -246,12 +247,12 @@ module _ (limits : PlaceLimits) (road : RoadMap) (layers : LayersValue) where
       )
 
   -- as many were looked at as are asked for
-  pub enough : (answers : List KeyValue) (kept : Looking) → Progress answers kept
+  pub enough : {answers : List KeyValue} {kept : Looking} → Progress limits road layers answers kept
       → kept.looked ≡ limits.look
       → AreFound limits road layers answers (places_in kept Cut)
-  enough answers kept progress all =
+  enough {answers} {kept} progress all =
       let some : 1 ≤ length progress.front =
-      omega (arith, all, count_is progress.looked_at, limits.look_in_range.least) in
+      omega (arith, count_is progress.looked_at) in
       subst (λ (l : List KeyValue). AreFound limits road layers l (places_in kept Cut))
       (sym progress.keys_are)
       (ends progress.left Cut progress.looked_at refl (λ others same.
@@ -267,8 +268,8 @@ module _ (limits : PlaceLimits) (road : RoadMap) (layers : LayersValue) where
       cut_here : (others : List Shown) → 1 ≤ length others
           → looking_on limits progress.looked_at.seen others
           ≡ record { matchings = progress.looked_at.seen; ending = Cut }
-      cut_here [] some = absurd (omega (arith, some))
+      cut_here [] some = absurd (omega arith)
       cut_here (one ∷ others) some =
           let full = eq-eqb (length progress.looked_at.seen) limits.look
-          (omega (arith, all, progress.looked_at.stands.count)) in
+          (omega arith) in
           rw full refl

@@ -1,5 +1,5 @@
 -- What is left of a rising list of keys.
-use Rattle.std.proofs.Common.{◌≡◌, ℕ, zero, suc, ◌<◌, List, [], ◌∷◌, ◌++◌, length, take, drop, get_or, All, Option, Some, None, refl, sym, ap, subst, ◌∙◌, append_assoc, arith}
+use Rattle.std.proofs.Common.{◌≡◌, ℕ, zero, suc, ◌<◌, List, [], ◌∷◌, ◌++◌, length, drop, get_or, All, Option, Some, None, sym, ap, subst, ◌∙◌, append_assoc, arith}
 use Rattle.std.specs.List.{AllZip}
 use Rattle.std.specs.Prelude.{AllPairs, Contains}
 use Rattle.std.proofs.Math.Seq.{drop-append_seam}
@@ -60,20 +60,20 @@ after_keys answers (Some after) (key ∷ keys) left (front, is) =
 pub matched_at : {K M : Type 0} (R : K → M → Type 0) (keys : List K) (all : List M) (index : ℕ)
     (key : K) (one : M) → AllZip R keys all → index < length all
     → key ≡ get_or keys index key → one ≡ get_or all index one → R key one
-matched_at R keys [] index key one each inside key_is one_is = absurd (omega (arith, inside))
+matched_at R keys [] index key one each inside key_is one_is = absurd (omega arith)
 matched_at R [] (other ∷ all) index key one each inside key_is one_is = absurd each
 matched_at R (first ∷ keys) (other ∷ all) zero key one each inside key_is one_is =
     subst (λ k. R k one) (sym key_is) (subst (λ m. R first m) (sym one_is) each.0)
 matched_at R (first ∷ keys) (other ∷ all) (suc index) key one each inside key_is one_is =
-    matched_at R keys all index key one each.1 (omega (arith, inside)) key_is one_is
+    matched_at R keys all index key one each.1 (omega arith) key_is one_is
 
 -- ---- what holds of all keys
 
 -- holds of those of a page
-pub all_on_page : (P : KeyValue → Type 0) (answers : List KeyValue) (after : Option KeyValue)
-    (size : ℕ) (page : PageValue) → All P answers
+pub all_on_page : (P : KeyValue → Type 0) {answers : List KeyValue} {after : Option KeyValue}
+    {size : ℕ} {page : PageValue} → All P answers
     → IsPageAfter answers after size page → All P page.keys
-all_on_page P answers after size page all is =
+all_on_page P {answers} {after} {size} all is =
     rw is.is_page.keys (All-take P size is.rest (left after is.rest is.is_rest))
   where
     left : (after : Option KeyValue) (rest : List KeyValue) → IsRestAfter answers after rest

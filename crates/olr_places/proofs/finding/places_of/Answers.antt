@@ -1,22 +1,15 @@
-use Rattle.std.proofs.Common.{List, length, All, Option, None, Some, ap, sym, subst, ◌∙◌, arith}
-use Rattle.std.specs.Global.{Vec}
+use Rattle.std.proofs.Common.{List, length, ap, sym, subst, ◌∙◌, arith}
 use Rattle.std.specs.List.{AllZip}
 use Rattle.std.proofs.lemmas.List.{length-map}
 use Rattle.std.proofs.lemmas.List.Elements.{All-weaker}
-use Rattle.olr_keys.specs.Answers.{AreAnswers}
 use Rattle.olr_keys.specs.AnswersOf.{answers_of}
 use Rattle.olr_keys.specs.Key.{KeyValue}
 use Rattle.olr_keys.specs.Matching.{IsKey}
-use Rattle.olr_keys.specs.Page.{page_of}
 use Rattle.olr_matching.specs.Matched.{IsMatchedBy}
 use Rattle.olr_matching.specs.Routes.{RoutesValue}
-use Rattle.olr_report.specs.Entries.{IsOnMap}
-use Rattle.olr_places.specs.Places.{ArePlacesOf, IsOpenerAt, entry_of, shown_by}
+use Rattle.olr_places.specs.Places.{ArePlacesOf, IsOpenerAt, shown_by}
 use Rattle.olr_places.specs.Shown.{Shown}
-use Rattle.olr_places.specs.Steps.{LooksAtAll}
-use Rattle.olr_places.specs.declared.ending.Ending.{Ending}
-use Rattle.olr_places.specs.declared.opener.Opener.{Opener}
-use Rattle.olr_places.proofs.Paging.{Progress, at_start, enough, goes_on, looked_more, no_more, page_ended}
+use Rattle.olr_places.proofs.Paging.{at_start, enough, goes_on, looked_more, no_more, page_ended}
 use Rattle.olr_places.proofs.Rests.{all_on_page}
 use Rattle.olr_places.proofs.finding.places_of.Goals as goal
 
@@ -24,30 +17,29 @@ pub loop-looking-init : goal.loop-looking-init
 loop-looking-init c =
     let stands = c.new-looking.ensures c.args.limits.now c.args.map.now in (
       rw (← c.table.ensures) c.in_ok-finder.ensures.answers,
-      at_start _ c.args.map.now c.args.layers.now _ c.new-looking.result stands,
+      at_start _ c.new-looking.result stands,
       c.with_searches-routes.ensures,
       λ k d inside. absurd
           (omega (
             arith,
-            inside,
             length-map c.new-looking.result.openers.items
                 (shown_by c.args.map.now),
             ap (λ (l : List Shown). length l) stands.openers,
           )),
-      omega (arith, stands.count),
+      omega arith,
     )
 
 pub matched-requires : goal.matched-requires
 matched-requires c =
     rw (c.deref.ensures.value, c.loop-looking.invariant.2)
-    (all_on_page (IsKey c.args.layers.now.penalties) _ _ _
-    _ c.loop-looking.invariant.0.only c.in_ok-page.ensures.page)
+    (all_on_page (IsKey c.args.layers.now.penalties) c.loop-looking.invariant.0.only
+    c.in_ok-page.ensures.page)
 
 pub look_at-requires-clause-keys : goal.look_at-requires-clause-keys
 look_at-requires-clause-keys c =
     rw c.deref-in-loop-looking.ensures.value
-    (all_on_page (IsKey c.args.layers.now.penalties) _ _ _
-    _ c.loop-looking.invariant.0.only c.in_ok-page.ensures.page)
+    (all_on_page (IsKey c.args.layers.now.penalties) c.loop-looking.invariant.0.only
+    c.in_ok-page.ensures.page)
 
 pub look_at-requires-clause-all : goal.look_at-requires-clause-all
 look_at-requires-clause-all c =
@@ -64,9 +56,8 @@ returns-in-Some-clause-places c =
     let looks = rw (c.deref-in-loop-looking.ensures.value, c.in-Some.is) at
     c.in_ok-ending.ensures.looks in
     let found =
-    page_ended c.args.limits.now c.args.map.now c.args.layers.now _ c.loop-looking.invariant.0.rise
-    c.loop-looking.looking c.look_at.new.looking c.loop-looking.invariant.1
-    _ (page_of c.in_ok-page.page) c.in_ok-page.ensures.page c.in-Some.ending looks in (
+    page_ended c.loop-looking.invariant.0.rise c.loop-looking.invariant.1 c.in_ok-page.ensures.page
+    c.look_at.new.looking c.in-Some.ending looks in (
       answers_of c.loop-looking.finder.penalties,
       found.0,
       c.loop-looking.invariant.0,
@@ -87,9 +78,8 @@ returns-then-not-page-clause-places c =
     let looks = rw (c.deref-in-loop-looking.ensures.value, c.in_default.is) at
     c.in_ok-ending.ensures.looks in
     let found =
-    no_more _ _ _ _ c.loop-looking.invariant.0.rise
-    c.loop-looking.looking c.look_at.new.looking c.loop-looking.invariant.1
-    _ (page_of c.in_ok-page.page) c.in_ok-page.ensures.page looks c.if-not-page.true in (
+    no_more c.loop-looking.invariant.0.rise c.loop-looking.invariant.1 c.in_ok-page.ensures.page
+    c.look_at.new.looking looks c.if-not-page.true in (
       answers_of c.loop-looking.finder.penalties,
       found.0,
       c.loop-looking.invariant.0,
@@ -113,23 +103,20 @@ loop-looking-smaller c =
     let looks = rw (c.deref-in-loop-looking.ensures.value, c.in_default.is) at
     c.in_ok-ending.ensures.looks in
     let more =
-    looked_more c.args.limits.now c.args.map.now c.args.layers.now _ c.loop-looking.invariant.0.rise
-    c.loop-looking.looking c.look_at.new.looking c.loop-looking.invariant.1
-    _ (page_of c.in_ok-page.page) c.in_ok-page.ensures.page looks c.if-not-page.false in
-    omega (arith, more, c.size_of_page-size.ensures.at_least, c.size_of_page-size.ensures.at_most)
+    looked_more c.loop-looking.invariant.0.rise c.loop-looking.invariant.1 c.in_ok-page.ensures.page
+    c.look_at.new.looking looks c.if-not-page.false in
+    omega arith
 
 pub loop-looking-preserved : goal.loop-looking-preserved
 loop-looking-preserved c =
     let looks = rw (c.deref-in-loop-looking.ensures.value, c.in_default.is) at
     c.in_ok-ending.ensures.looks in
     let more =
-    looked_more c.args.limits.now c.args.map.now c.args.layers.now _ c.loop-looking.invariant.0.rise
-    c.loop-looking.looking c.look_at.new.looking c.loop-looking.invariant.1
-    _ (page_of c.in_ok-page.page) c.in_ok-page.ensures.page looks c.if-not-page.false in
+    looked_more c.loop-looking.invariant.0.rise c.loop-looking.invariant.1 c.in_ok-page.ensures.page
+    c.look_at.new.looking looks c.if-not-page.false in
     let on =
-    goes_on c.args.limits.now c.args.map.now c.args.layers.now _ c.loop-looking.invariant.0.rise
-    c.loop-looking.looking c.look_at.new.looking c.loop-looking.invariant.1
-    _ (page_of c.in_ok-page.page) c.in_ok-page.ensures.page looks c.if-not-page.false in (
+    goes_on c.loop-looking.invariant.0.rise c.loop-looking.invariant.1 c.in_ok-page.ensures.page
+    c.look_at.new.looking looks c.if-not-page.false in (
       rw c.in_ok-page.ensures.same c.loop-looking.invariant.0,
       rw c.in_ok-page.ensures.same on,
       c.in_ok-all.ensures.same ∙ c.loop-looking.invariant.2,
@@ -140,9 +127,8 @@ loop-looking-preserved c =
 pub returns-clause-places : goal.returns-clause-places
 returns-clause-places c =
     let found =
-    enough c.args.limits.now c.args.map.now c.args.layers.now _ c.loop-looking.looking
-    c.loop-looking.invariant.1
-    (omega (arith, c.loop-looking.invariant.4, c.loop-looking-test.false)) in (
+    enough c.loop-looking.invariant.1
+    (omega arith) in (
       answers_of c.loop-looking.finder.penalties,
       found.0,
       c.loop-looking.invariant.0,

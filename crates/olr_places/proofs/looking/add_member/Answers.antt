@@ -7,11 +7,11 @@ set_is : (index : ℕ) (items : List Opener) (one other : Opener) → index < le
     → one ≡ get_or items index one → other ≡ get_or items index other
     → set items index (record one { members = min (other.members + 1) 4294967295 })
     ≡ one_more_at index items
-set_is index [] one other inside is is' = absurd (omega (arith, inside))
+set_is index [] one other inside is is' = absurd (omega arith)
 set_is zero (opener ∷ items) one other inside is is' = rw (is, is') refl
 set_is (suc index) (opener ∷ items) one other inside is is' =
     ap (λ (l : List Opener). opener ∷ l)
-    (set_is index items one other (omega (arith, inside)) is is')
+    (set_is index items one other (omega arith) is is')
 
 pub returns : goal.returns
 returns c =

@@ -26,4 +26,4 @@ pub returns-clause-place : goal.returns-clause-place
 returns-clause-place c = λ road.
     none_at _ _
     c.args.openers.now c.loop-index.index
-    (omega (arith, c.loop-index-test.false)) (c.loop-index.invariant road)
+    (omega arith) (c.loop-index.invariant road)

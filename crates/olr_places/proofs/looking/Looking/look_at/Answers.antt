@@ -1,13 +1,12 @@
-use Rattle.std.proofs.Common.{◌≡◌, ◌<◌, ◌≤◌, ℕ, List, ◌∷◌, [], ◌++◌, false, length, map, All, ap, sym, ◌∙◌, arith, Some, None, refl, ◌==◌}
+use Rattle.std.proofs.Common.{◌≡◌, ◌<◌, ◌≤◌, List, ◌∷◌, [], ◌++◌, false, length, ap, ◌∙◌, arith, Some, ◌==◌}
 use Rattle.std.proofs.lemmas.Bool.{eq-eqb, le-leb, le-ltb, lt-ltb, ne_eqb}
 use Rattle.std.proofs.lemmas.List.{length-map}
 use Rattle.std.proofs.lemmas.List.Elements.{All-push}
 use Rattle.olr_map.specs.RoadMap.{RoadMap}
-use Rattle.olr_places.specs.Looking.{belongs, gap_of}
+use Rattle.olr_places.specs.Looking.{gap_of}
 use Rattle.olr_places.specs.Places.{IsOpenerAt, shown_by}
 use Rattle.olr_places.specs.Shown.{Shown}
-use Rattle.olr_places.specs.Steps.{LooksAt, Stands, gap_behind, one_more_at, with_gap}
-use Rattle.olr_places.specs.declared.ending.Ending.TheVariants.{Beyond, Cut}
+use Rattle.olr_places.specs.Steps.{Stands, gap_behind, with_gap}
 use Rattle.olr_places.specs.declared.limits.PlaceLimits.{PlaceLimits}
 use Rattle.olr_places.specs.declared.looking.Looking.{Looking}
 use Rattle.olr_places.specs.declared.opener.Opener.{Opener}
@@ -17,10 +16,10 @@ use Rattle.olr_places.proofs.looking.Looking.look_at.Goals as goal
 module _ {limits : PlaceLimits} {road : RoadMap} {before : List Shown} {old : Looking}
     (count : old.looked < limits.look) (stands : Stands limits road before old) where
   more_left : (length before == limits.look) ≡ false
-  more_left = ne_eqb (length before) limits.look (λ same. omega (arith, same, count, stands.count))
+  more_left = ne_eqb (length before) limits.look (λ same. omega arith)
 
   few : length before < 4294967295
-  few = omega (arith, count, stands.count, limits.look_in_range.greatest)
+  few = omega arith
 
   gap_is : (opener : Opener) → gap_behind old.openers.items opener.key ≡ gap_of before opener.key
   gap_is opener = gap_at_first limits road before old.openers.items opener.key stands.openers
@@ -47,7 +46,7 @@ returns-then-gap-limits-clause-looks c = λ road before stands.
     ∙ gap_is c.requires.count stands c.args.opener in
     let new = rw (c.deref.ensures.value, stands.openers) at (c.in_default.ensures.place road) in
     let far : c.args.limits.now.within < gap_of before c.args.opener.key =
-    omega (arith, gap, c.if-gap-limits.true) in
+    omega arith in
     rw gap
     (beyond_ends stands (shown_by road c.args.opener) (more_left c.requires.count stands) new far
     c.count-then-gap-limits.new.self
@@ -63,12 +62,10 @@ returns-then-len-limits-clause-looks c = λ road before stands.
     let new = rw (c.deref.ensures.value, stands.openers) at (c.in_default.ensures.place road) in
     full_ends stands (shown_by road c.args.opener) (more_left c.requires.count stands) new
     (le-ltb c.args.limits.now.within (gap_of before c.args.opener.key)
-    (omega (arith, gap, c.if-gap-limits.false)))
+    (omega arith))
     (eq-eqb _ c.args.limits.now.most
     (omega (
       arith,
-      c.len.ensures,
-      c.if-len-limits.true,
       length-map c.args.self.now.openers.items
           (shown_by road),
       ap (λ (l : List Shown). length l) stands.openers,
@@ -81,7 +78,7 @@ returns-clause-looks c = λ road before stands.
     ∙ gap_is c.requires.count stands c.args.opener in
     let new = rw (c.deref.ensures.value, stands.openers) at (c.in_default.ensures.place road) in
     let near : gap_of before c.args.opener.key ≤ c.args.limits.now.within =
-    omega (arith, gap, c.if-gap-limits.false) in
+    omega arith in
     stands_with_opener stands (shown_by road c.args.opener) (more_left c.requires.count stands) new
     c.with_gap.result
     (ap (shown_by road) c.with_gap.ensures) (ap (λ (o : Opener). o.gap) c.with_gap.ensures ∙ gap)
@@ -97,8 +94,6 @@ returns-clause-looks c = λ road before stands.
     (ne_eqb _ c.args.limits.now.most
     (λ full. c.if-len-limits.false (omega (
       arith,
-      c.len.ensures,
-      full,
       length-map c.args.self.now.openers.items (shown_by road),
       ap
           (λ (l : List Shown). length l) stands.openers,
