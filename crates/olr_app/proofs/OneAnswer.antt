@@ -26,9 +26,7 @@ use Rattle.olr_keys.specs.declared.mark.Mark.{Mark}
 use Rattle.olr_matching.specs.Layers.{LayersValue}
 use Rattle.olr_matching.specs.Matched.{IsMatchedBy, IsSameMatched}
 use Rattle.olr_matching.specs.declared.matched.Matched.{Matched}
-use Rattle.olr_places.specs.Json.{places_object}
 use Rattle.olr_places.specs.Looking.{IsLooked, Looked}
-use Rattle.olr_places.specs.Text.{places_text}
 use Rattle.olr_places.specs.declared.limits.PlaceLimits.{PlaceLimits}
 use Rattle.olr_why.specs.Json.{why_object}
 use Rattle.olr_why.specs.Text.{why_text}
@@ -62,7 +60,8 @@ module _ (laws : Laws) where
   -- ---- layers
 
   -- the lists of layers are those of the reference and the tolerances that these are of
-  lists_of : (tolerances : Tolerances) (reference : Reference) (road : RoadMap) (layers : LayersValue)
+  lists_of : (tolerances : Tolerances) (reference : Reference) (road : RoadMap)
+      (layers : LayersValue)
       → AreLayers tolerances reference road (Ok layers)
       → AreLists tolerances reference road.lines layers.candidates
   lists_of tolerances reference road layers are =
@@ -243,7 +242,8 @@ module _ (laws : Laws) where
         (OnLayers asked here road) (layers_once asked.tolerances accepted.reference road)
         (λ layers are. first_then (ArePages asked layers here) (IsPrinted asked road layers)
         (pages_once asked layers here
-        (subst (λ (s : Option CursorRead). IsStart (cursor_in asked.pages) (Ok s)) (sym is.0) begins))
+        (subst (λ (s : Option CursorRead). IsStart (cursor_in asked.pages) (Ok s)) (sym is.0)
+        begins))
         (λ list pages. printed_once road layers sound asked list)))
 
 -- ---- a reference and candidates in either format
@@ -267,14 +267,10 @@ listing_in Json road lists text other is again = is.line_is ∙ sym again.line_i
 
 -- ---- places in either format
 
-module _ (road : RoadMap) (limits : PlaceLimits) (looked other : Looked)
-    (texts : places_text road limits looked ≡ places_text road limits other)
-    (values : places_object road limits looked ≡ places_object road limits other) where
-  places_in : (format : Format) (text again : List ℕ) → IsPlacesIn format road limits looked text
-      → IsPlacesIn format road limits other again → text ≡ again
-  places_in Text text again is its = is ∙ texts ∙ sym its
-  places_in Json text again is its =
-      is.line_is ∙ ap (λ (value : Data). compact_text value ++ codes "\n") values ∙ sym its.line_is
+places_in : (limits : PlaceLimits) (looked : Looked) (format : Format) (text again : List ℕ)
+    → IsPlacesIn format limits looked text → IsPlacesIn format limits looked again → text ≡ again
+places_in limits looked Text text again is its = is ∙ sym its
+places_in limits looked Json text again is its = is.line_is ∙ sym its.line_is
 
 shown_places_once : Laws → (format : Format) (limits : PlaceLimits) (road : RoadMap)
     (layers : LayersValue) → IsSoundMap road → IsSingle (ArePlacesOn format limits road layers)
@@ -284,10 +280,10 @@ shown_places_once laws format limits road layers sound (Ok one) (Ok other) is ag
     let its : IsLooked limits road layers is.answers again.looked =
     subst (λ (keys : List KeyValue). IsLooked limits road layers keys again.looked) same
     again.is_looked in
-    let shown = laws.looking limits road layers is.answers is.looked again.looked sound is.is_looked
-    its in
-    ap Ok (places_in road limits is.looked again.looked shown.text shown.object format one other
-    is.output_is again.output_is)
+    let looked = laws.looking limits road layers is.answers again.looked is.looked sound its
+    is.is_looked in
+    ap Ok (places_in limits is.looked format one other is.output_is
+    (subst (λ (l : Looked). IsPlacesIn format limits l other) looked again.output_is))
 shown_places_once laws format limits road layers sound (Ok one) (Err other) is again = absurd again
 shown_places_once laws format limits road layers sound (Err one) other is again = absurd is
 
@@ -306,7 +302,8 @@ module _ (laws : Laws) where
       (reference : Reference) (road : RoadMap)
       → IsSingle (AreReasons format tolerances nearest reference road)
   reasons_once format tolerances nearest reference road (Ok one) (Ok other) is again =
-      let shown = laws.why road tolerances reference nearest is.why again.why is.is_why again.is_why in
+      let shown = laws.why road tolerances reference nearest is.why again.why is.is_why
+      again.is_why in
       ap Ok (reasons_in road is.why again.why shown.0 shown.1 format one other is.output_is
       again.output_is)
   reasons_once format tolerances nearest reference road (Ok one) (Err other) is again = absurd again
@@ -359,14 +356,19 @@ module _ (laws : Laws) where
         (IsAnswerOn (Candidates text tolerances format) accepted) map_once
         (λ road its. listed_once format tolerances accepted.reference road)
     accepted_has_one (Match asked) accepted is =
-        first_then (IsMapOfFiles (known nodes lines bans)) (IsAnswerOn (Match asked) accepted) map_once
+        first_then (IsMapOfFiles (known nodes lines bans)) (IsAnswerOn (Match asked) accepted)
+        map_once
         (λ road its. matchings_once laws asked road its.sound accepted is.1)
     accepted_has_one (Places asked) accepted is =
-        first_then (IsMapOfFiles (known nodes lines bans)) (IsAnswerOn (Places asked) accepted) map_once
-        (λ road its. places_once asked.format asked.tolerances asked.limits accepted.reference road its.sound)
+        first_then (IsMapOfFiles (known nodes lines bans)) (IsAnswerOn (Places asked) accepted)
+        map_once
+        (λ road its. places_once asked.format asked.tolerances asked.limits accepted.reference road
+        its.sound)
     accepted_has_one (Why asked) accepted is =
-        first_then (IsMapOfFiles (known nodes lines bans)) (IsAnswerOn (Why asked) accepted) map_once
-        (λ road its. reasons_once asked.format asked.tolerances asked.nearest accepted.reference road)
+        first_then (IsMapOfFiles (known nodes lines bans)) (IsAnswerOn (Why asked) accepted)
+        map_once
+        (λ road its. reasons_once asked.format asked.tolerances asked.nearest accepted.reference
+        road)
 
     pub answer_once : (request : Request) → IsSingle (IsAnswer (known nodes lines bans) request)
     answer_once request =
@@ -389,7 +391,8 @@ refused_by_name law texts request refused (Ok output) is its =
     absurd (no_reference law request refused is its.0.reference its.1.0)
 refused_by_name law texts request refused (Err fault) is its = elim its [
   | inl here ↦ elim here [
-    | inl named ↦ ap Err (named.2 ∙ ap fault_of (same_refusal law request refused is named.0 named.1))
+    | inl named ↦ ap Err (named.2 ∙ ap fault_of
+        (same_refusal law request refused is named.0 named.1))
     | inr cursor ↦ absurd (no_reference law request refused is cursor.0 cursor.1)
   ]
   | inr later ↦ absurd (no_reference law request refused is later.0.reference later.1.0)

@@ -27,7 +27,7 @@ value_of Candidates tolerances road reference output is = (listing_object road i
 value_of (Match size) tolerances road reference output is =
     (page_object road is.2.4.json.entries (next_after is.2.1) None, is.2.4.json.json.line_is)
 value_of (Places limits) tolerances road reference output is =
-    (places_object road limits is.2.looked, is.2.output_is.line_is)
+    (places_object limits is.2.looked, is.2.output_is.line_is)
 value_of (Why nearest) tolerances road reference output is = (why_object road is.why, is.output_is.line_is)
 
 module _ (asked : BatchRequest) (road : RoadMap) (number : ℕ) (key : Option (List ℕ)) (text : List ℕ) where

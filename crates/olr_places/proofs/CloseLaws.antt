@@ -11,64 +11,79 @@ use Rattle.olr_report.proofs.StepLists.{stretch}
 use Rattle.olr_report.specs.Steps.{Step, steps_in, steps_of}
 use Rattle.olr_places.specs.Closeness.{IsNear, is_near, line, point}
 use Rattle.olr_places.specs.Laws.{CloseAtZero, CloseStaysClose, IsReflexive, IsSymmetric, MissingIsComputed, TestsCloseness}
-use Rattle.olr_places.specs.Missing.{MissesAtMost, covers, has_step, longest_run, missing_of}
+use Rattle.olr_places.specs.Missing.{IsMissingRun, MissesAtMost, covers, has_step, longest_run, missing_of}
 use Rattle.olr_places.proofs.Covering.{all_stretch, has_parts, has_from, step_at}
 use Rattle.olr_places.proofs.Runs.{longest_is, none_is_longer}
 
 -- ---- the steps of a piece
 
-there : (first : Step) (steps : List Step) (step : Step) → Contains steps step → Contains (first ∷ steps) step
-there first steps step has = (suc has.0, omega (arith, has.1), has.2)
+there : (first : Step) (steps : List Step) (step : Step) → Contains steps step
+    → Contains (first ∷ steps) step
+there first steps step has = (suc has.0, omega arith, has.2)
 
-in_stretch : (on at count k : ℕ) → at ≤ k → k < at + count → Contains (stretch on at count) (step_at on k)
-in_stretch on at zero k low high = absurd (omega (arith, low, high))
+in_stretch : (on at count k : ℕ) → at ≤ k → k < at + count
+    → Contains (stretch on at count) (step_at on k)
+in_stretch on at zero k low high = absurd (omega arith)
 in_stretch on at (suc count) k low high = elim (cases_eq at k) [
   | inl same ↦ (zero, omega arith, ap (step_at on) same)
-  | inr other ↦ there (step_at on at) (stretch on (at + 1) count) (step_at on k) (in_stretch on (at + 1) count k (omega (arith, low, other)) (omega (arith, high)))
+  | inr other ↦ there (step_at on at) (stretch on (at + 1) count) (step_at on k)
+      (in_stretch on (at + 1) count k (omega arith) (omega arith))
 ]
 
 -- a step lies on a line from one position to another
 abbrev Lies : ℕ → ℕ → ℕ → Step → Type 0
 Lies on at count step = (step.line ≡ on) × (at ≤ step.at) × (step.at < at + count)
 
-of_stretch : (on at count : ℕ) (step : Step) → Contains (stretch on at count) step → Lies on at count step
+of_stretch : (on at count : ℕ) (step : Step) → Contains (stretch on at count) step
+    → Lies on at count step
 of_stretch on at count step has =
-    All-contains (Lies on at count) (stretch on at count) step (all_stretch (Lies on at count) on at count (λ k low high. (refl, low, high))) has
+    All-contains (Lies on at count) (stretch on at count) step
+    (all_stretch (Lies on at count) on at count (λ k low high. (refl, low, high))) has
 
-step_of_piece : (piece : Piece) (step : Step) → has_step step piece ≡ true → Contains (steps_in piece) step
+step_of_piece : (piece : Piece) (step : Step) → has_step step piece ≡ true
+    → Contains (steps_in piece) step
 step_of_piece piece step is =
     let parts = has_parts step piece is in
-    let at : Contains (steps_in piece) (step_at piece.line step.at) =
-    in_stretch piece.line piece.from (piece_length piece) step.at parts.1 (omega (arith, parts.1, parts.2)) in
-    subst (λ (on : ℕ). Contains (steps_in piece) (step_at on step.at)) parts.0 at
+    rw (← parts.0)
+    (in_stretch piece.line piece.from (piece_length piece) step.at parts.1 (omega arith))
 
-piece_of_step : (piece : Piece) (step : Step) → Contains (steps_in piece) step → has_step step piece ≡ true
+piece_of_step : (piece : Piece) (step : Step) → Contains (steps_in piece) step
+    → has_step step piece ≡ true
 piece_of_step piece step has =
     let lies = of_stretch piece.line piece.from (piece_length piece) step has in
-    has_from step piece (sym lies.0) lies.1 (omega (arith, lies.1, lies.2))
+    has_from step piece (sym lies.0) lies.1 (omega arith)
 
 -- ---- the steps of pieces
 
-pub covered_is : (pieces : List Piece) (step : Step) → covers pieces step ≡ true → Contains (steps_of pieces) step
+pub covered_is : (pieces : List Piece) (step : Step) → covers pieces step ≡ true
+    → Contains (steps_of pieces) step
 covered_is [] step is = absurd (cc)
-covered_is (piece ∷ pieces) step is = elim (or_cases (has_step step piece) (covers pieces step) is) [
-  | inl here ↦ Contains-append_left (steps_in piece) (steps_of pieces) step (step_of_piece piece step here)
-  | inr later ↦ Contains-append_right (steps_in piece) (steps_of pieces) step (covered_is pieces step later)
-]
+covered_is (piece ∷ pieces) step is =
+    elim (or_cases (has_step step _) (covers pieces step) is) [
+      | inl here ↦ Contains-append_left (steps_in piece) (steps_of pieces) step
+          (step_of_piece piece step here)
+      | inr later ↦ Contains-append_right (steps_in piece) (steps_of pieces) step
+          (covered_is pieces step later)
+    ]
 
-pub is_covered : (pieces : List Piece) (step : Step) → Contains (steps_of pieces) step → covers pieces step ≡ true
-is_covered [] step has = absurd (omega (arith, has.1))
-is_covered (piece ∷ pieces) step has = elim (Contains-append_cases (steps_in piece) (steps_of pieces) step has) [
-  | inl here ↦ or_left (has_step step piece) (covers pieces step) (piece_of_step piece step here)
-  | inr later ↦ or_right (has_step step piece) (covers pieces step) (is_covered pieces step later)
-]
+pub is_covered : (pieces : List Piece) (step : Step) → Contains (steps_of pieces) step
+    → covers pieces step ≡ true
+is_covered [] step has = absurd (omega arith)
+is_covered (piece ∷ pieces) step has =
+    elim (Contains-append_cases (steps_in piece) (steps_of pieces) step has) [
+      | inl here ↦ or_left (has_step step piece) _ (piece_of_step piece step here)
+      | inr later ↦ or_right (has_step step piece) _ (is_covered pieces step later)
+    ]
 
-missing_is : (pieces : List Piece) (step : Step) → covers pieces step ≡ false → ¬ (Contains (steps_of pieces) step)
-missing_is pieces step not_covered has = both_ways (covers pieces step) not_covered (is_covered pieces step has)
+missing_is : (pieces : List Piece) (step : Step) → covers pieces step ≡ false
+    → ¬ (Contains (steps_of pieces) step)
+missing_is pieces step not_covered has =
+    both_ways (covers pieces step) not_covered (is_covered pieces step has)
 
-is_missing : (pieces : List Piece) (step : Step) → ¬ (Contains (steps_of pieces) step) → covers pieces step ≡ false
+is_missing : (pieces : List Piece) (step : Step) → ¬ (Contains (steps_of pieces) step)
+    → covers pieces step ≡ false
 is_missing pieces step none = elim (cases_Bool (covers pieces step)) [
-  | inl covered ↦ absurd (none (covered_is pieces step covered))
+  | inl covered ↦ absurd (none (covered_is pieces _ covered))
   | inr missing ↦ missing
 ]
 
@@ -82,33 +97,48 @@ computed part other =
         before = longest.before;
         behind = longest.behind;
         neighbours = longest.split;
-        missing = All-weaker (λ (step : Step). covers part step ≡ false) (λ (step : Step). ¬ (Contains (steps_of part) step)) (missing_is part) longest.longest longest.missing;
+        missing = All-weaker (λ (step : Step). covers part step ≡ false)
+            (λ (step : Step). ¬ (Contains (steps_of part) step)) (missing_is _) longest.longest
+            longest.missing;
       };
       length_is = sym longest.length_is;
-      at_most = λ run is. subst (λ (steps : List Step). length run ≤ longest_run (covers part) 0 steps) (sym is.neighbours)
+      at_most = λ run is. subst (λ (steps : List Step). length run
+          ≤ longest_run (covers part) 0 steps) (sym is.neighbours)
           (none_is_longer (covers part) is.before run is.behind
-          (All-weaker (λ (step : Step). ¬ (Contains (steps_of part) step)) (λ (step : Step). covers part step ≡ false) (is_missing part) run is.missing));
+          (All-weaker (λ (step : Step). ¬ (Contains (steps_of part) step))
+          (λ (step : Step). covers part step ≡ false) (is_missing _) run is.missing));
     }
 
-small : (part other : List Piece) (most : ℕ) → missing_of part other ≤ most → MissesAtMost (steps_of part) (steps_of other) most
+small : (part other : List Piece) (most : ℕ) → missing_of part other ≤ most
+    → MissesAtMost (steps_of part) (steps_of other) most
 small part other most few run is = omega (arith, few, (computed part other).at_most run is)
 
-few : (part other : List Piece) (most : ℕ) → MissesAtMost (steps_of part) (steps_of other) most → missing_of part other ≤ most
+few : (part other : List Piece) (most : ℕ) → MissesAtMost (steps_of part) (steps_of other) most
+    → missing_of part other ≤ most
 few part other most misses =
-    let is = computed part other in omega (arith, is.length_is, misses is.longest is.is_run)
+    let is = computed part other in omega (arith, misses is.longest is.is_run)
 
 decides_le : (a b : ℕ) → Decides (nat_le a b) (a ≤ b)
 decides_le a b = (leb-true a b, le-leb a b)
 
-decides_misses : (part other : List Piece) (most : ℕ) → Decides (nat_le (missing_of part other) most) (MissesAtMost (steps_of part) (steps_of other) most)
+decides_misses : (part other : List Piece) (most : ℕ)
+    → Decides (nat_le (missing_of part other) most)
+    (MissesAtMost (steps_of part) (steps_of other) most)
 decides_misses part other most =
-    Decides-like (nat_le (missing_of part other) most) (small part other most) (few part other most) (decides_le (missing_of part other) most)
+    Decides-like (nat_le (missing_of part other) most) (small part other most) (few part other most)
+    (decides_le (missing_of part other) most)
 
-decides_near : (apart : ℕ) (one other : Place) → Decides (is_near apart one other) (IsNear apart one other)
+decides_near : (apart : ℕ) (one other : Place)
+    → Decides (is_near apart one other) (IsNear apart one other)
 decides_near apart one other =
-    Decides-like (is_near apart one other) (λ is. record { on_line = is.0; behind = is.1.0; before = is.1.1 }) (λ near. (near.on_line, (near.behind, near.before)))
-    (Decides-and (one.line == other.line) (nat_le one.at (other.at + apart) && nat_le other.at (one.at + apart)) (Decides-eqb one.line other.line)
-    (Decides-and (nat_le one.at (other.at + apart)) (nat_le other.at (one.at + apart)) (decides_le one.at (other.at + apart)) (decides_le other.at (one.at + apart))))
+    Decides-like (is_near apart one other)
+    (λ is. record { on_line = is.0; behind = is.1.0; before = is.1.1 })
+    (λ near. (near.on_line, (near.behind, near.before)))
+    (Decides-and (one.line == other.line)
+    (nat_le one.at (other.at + apart) && nat_le other.at (one.at + apart))
+    (Decides-eqb one.line other.line)
+    (Decides-and (nat_le one.at (other.at + apart)) (nat_le other.at (one.at + apart))
+    (decides_le _ _) (decides_le _ _)))
 
 pub tests : TestsCloseness
 tests apart (line one) (line other) =
@@ -117,41 +147,63 @@ tests apart (line one) (line other) =
 tests apart (line one) (point earliest latest) = (false≢true, λ never. absurd never)
 tests apart (point earliest latest) (line one) = (false≢true, λ never. absurd never)
 tests apart (point earliest latest) (point other_earliest other_latest) =
-    Decides-and (is_near apart earliest other_earliest) (is_near apart latest other_latest) (decides_near apart earliest other_earliest)
+    Decides-and (is_near apart earliest other_earliest) (is_near apart latest other_latest)
+    (decides_near apart earliest other_earliest)
     (decides_near apart latest other_latest)
 
 -- ---- laws
 
 near_too : (apart : ℕ) (one other : Place) → IsNear apart one other → IsNear apart other one
-near_too apart one other is = record { on_line = sym is.on_line; behind = is.before; before = is.behind }
+near_too apart one other is = record {
+  on_line = sym is.on_line;
+  behind = is.before;
+  before =
+      is.behind;
+}
 
 pub symmetric : IsSymmetric
 symmetric apart (line one) (line other) is = (is.1, is.0)
 symmetric apart (line one) (point earliest latest) is = absurd is
 symmetric apart (point earliest latest) (line one) is = absurd is
 symmetric apart (point earliest latest) (point other_earliest other_latest) is =
-    (near_too apart earliest other_earliest is.0, near_too apart latest other_latest is.1)
+    (near_too _ _ _ is.0, near_too _ _ _ is.1)
 
--- a part misses nothing of itself
-none_of_itself : (steps : List Step) (apart : ℕ) → MissesAtMost steps steps apart
-none_of_itself steps apart [] is = omega arith
-none_of_itself steps apart (step ∷ run) is =
-    let has : Contains steps step = subst (λ (l : List Step). Contains l step) (sym is.neighbours)
-    (Contains-append_right is.before ((step ∷ run) ++ is.behind) step (zero, omega arith, refl)) in
-    absurd (All-head (λ (one : Step). ¬ (Contains steps one)) step run is.missing has)
+-- the steps of a run are steps
+in_run : {part other run : List Step} {step : Step} → IsMissingRun part other (step ∷ run)
+    → Contains other step
+in_run is = rw is.neighbours (Contains-append_right is.before _ _ (zero, omega arith, refl))
+
+-- where each step of another part is a step of this one, nothing is missing
+none_missing : (part other : List Step) → ((step : Step) → Contains other step → Contains part step)
+    → MissesAtMost part other 0
+none_missing part other all [] is = omega arith
+none_missing part other all (step ∷ run) is =
+    absurd (All-head (λ (one : Step). ¬ (Contains part one)) step run is.missing
+    (all step (in_run is)))
 
 near_itself : (apart : ℕ) (one : Place) → IsNear apart one one
 near_itself apart one = record { on_line = refl; behind = omega arith; before = omega arith }
 
 pub reflexive : IsReflexive
-reflexive apart (line one) = (none_of_itself (steps_of one) apart, none_of_itself (steps_of one) apart)
+reflexive apart (line one) =
+    let none : MissesAtMost (steps_of one) (steps_of one) apart = λ run is.
+    omega (arith, none_missing (steps_of one) (steps_of one) (λ step has. has) run is) in
+    (none, none)
 reflexive apart (point earliest latest) = (near_itself apart earliest, near_itself apart latest)
 
-still_few : (part other : List Step) (less apart : ℕ) → less ≤ apart → MissesAtMost part other less → MissesAtMost part other apart
-still_few part other less apart more misses run is = omega (arith, more, misses run is)
+still_few : (part other : List Step) (less apart : ℕ) → less ≤ apart → MissesAtMost part other less
+    → MissesAtMost part other apart
+still_few part other less apart more misses run is = omega (arith, misses run is)
 
-still_near : (less apart : ℕ) (one other : Place) → less ≤ apart → IsNear less one other → IsNear apart one other
-still_near less apart one other more is = record { on_line = is.on_line; behind = omega (arith, more, is.behind); before = omega (arith, more, is.before) }
+still_near : (less apart : ℕ) (one other : Place) → less ≤ apart → IsNear less one other
+    → IsNear apart one other
+still_near less apart one other more is =
+    record {
+      on_line = is.on_line;
+      behind = omega arith;
+      before =
+          omega arith;
+    }
 
 pub stays : CloseStaysClose
 stays less apart (line one) (line other) more is = (
@@ -160,8 +212,11 @@ stays less apart (line one) (line other) more is = (
 )
 stays less apart (line one) (point earliest latest) more is = absurd is
 stays less apart (point earliest latest) (line one) more is = absurd is
-stays less apart (point earliest latest) (point other_earliest other_latest) more is =
-    (still_near less apart earliest other_earliest more is.0, still_near less apart latest other_latest more is.1)
+stays less apart (point earliest latest) (point other_earliest other_latest) more is = (
+  still_near less apart earliest other_earliest more is.0,
+  still_near less apart latest
+      other_latest more is.1,
+)
 
 -- steps with one of them in the middle
 record IsSplit (steps : List Step) (step : Step) : Type 0 where
@@ -170,14 +225,21 @@ record IsSplit (steps : List Step) (step : Step) : Type 0 where
   whole : steps ≡ before ++ ((step ∷ []) ++ behind)
 
 split_at : (steps : List Step) (step : Step) → Contains steps step → IsSplit steps step
-split_at [] step has = absurd (omega (arith, has.1))
-split_at (first ∷ steps) step (zero, inside, same) = record { before = []; behind = steps; whole = ap (λ (one : Step). one ∷ steps) same }
+split_at [] step has = absurd (omega arith)
+split_at (first ∷ steps) step (zero, inside, same) =
+    record { before = []; behind = steps; whole = ap (λ (one : Step). one ∷ steps) same }
 split_at (first ∷ steps) step (suc k, inside, same) =
-    let rest = split_at steps step (k, omega (arith, inside), same) in
-    record { before = first ∷ rest.before; behind = rest.behind; whole = ap (λ (l : List Step). first ∷ l) rest.whole }
+    let rest = split_at steps step (k, omega arith, same) in
+    record {
+      before = first ∷ rest.before;
+      behind = rest.behind;
+      whole =
+          ap (λ (l : List Step). first ∷ l) rest.whole;
+    }
 
 -- where nothing of other pieces is missing, each of their steps is a step of these
-all_of : (pieces other : List Piece) → MissesAtMost (steps_of pieces) (steps_of other) 0 → (step : Step) → Contains (steps_of other) step → Contains (steps_of pieces) step
+all_of : (pieces other : List Piece) → MissesAtMost (steps_of pieces) (steps_of other) 0
+    → (step : Step) → Contains (steps_of other) step → Contains (steps_of pieces) step
 all_of pieces other misses step has = elim (cases_Bool (covers pieces step)) [
   | inl covered ↦ covered_is pieces step covered
   | inr missing ↦
@@ -188,18 +250,12 @@ all_of pieces other misses step has = elim (cases_Bool (covers pieces step)) [
           before = split.before;
           behind = split.behind;
           neighbours = split.whole;
-          missing = All-cons (λ (one : Step). ¬ (Contains (steps_of pieces) one)) step [] (missing_is pieces step missing) (All-nil (λ (one : Step). ¬ (Contains (steps_of pieces) one)));
+          missing = All-cons (λ (one : Step). ¬ (Contains (steps_of pieces) one)) step []
+              (missing_is pieces step missing)
+              (All-nil (λ (one : Step). ¬ (Contains (steps_of pieces) one)));
         }),
       ))
 ]
-
--- where each step of another part is a step of this one, nothing is missing
-none_missing : (part other : List Step) → ((step : Step) → Contains other step → Contains part step) → MissesAtMost part other 0
-none_missing part other all [] is = omega arith
-none_missing part other all (step ∷ run) is =
-    let has : Contains other step = subst (λ (l : List Step). Contains l step) (sym is.neighbours)
-    (Contains-append_right is.before ((step ∷ run) ++ is.behind) step (zero, omega arith, refl)) in
-    absurd (All-head (λ (one : Step). ¬ (Contains part one)) step run is.missing (all step has))
 
 pub at_zero : CloseAtZero
 at_zero one other = (

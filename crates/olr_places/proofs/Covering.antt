@@ -2,7 +2,8 @@
 use Rattle.std.proofs.Common.{◌≡◌, ℕ, zero, suc, ◌+◌, ◌-◌, ◌<◌, ◌≤◌, ◌⊎◌, Bool, true, false, List, ◌∷◌, length, get_or, take, drop, All, refl, sym, ap, subst, ◌∙◌, inl, inr, arith, MatchBool, ◌&&◌, ◌==◌, nat_lt, nat_le}
 use Rattle.std.specs.List.Sorted.{IsPartitionPoint}
 use Rattle.std.specs.Prelude.{Any, Contains}
-use Rattle.std.proofs.lemmas.Bool.{cases_lt, and_from, and_left, and_right, and_parts, eqb-true, leb-true, ltb-true, eq-eqb, ne_eqb, le-leb, lt-ltb, le-ltb, lt-leb}
+use Rattle.std.proofs.lemmas.Bool.{cases_lt, and_parts, eqb-true, leb-true, ltb-true}
+use Rattle.std.proofs.lemmas.Bool.Decides.{nat_tests}
 use Rattle.std.proofs.lemmas.List.{get_or-drop, get_or-take, length-drop, length-take-le}
 use Rattle.std.proofs.lemmas.List.Elements.{All-nil, All-cons, All-from_get_or, All-get_or}
 use Rattle.std.proofs.lemmas.List.Folds.{list_any_none, list_any_at}
@@ -16,143 +17,196 @@ use Rattle.olr_places.specs.Missing.{AreCovered, covers, has_step}
 abbrev pub step_at : ℕ → ℕ → Step
 step_at line at = record { line = line; at = at }
 
-has : (line at : ℕ) (piece : Piece) → piece.line ≡ line → piece.from ≤ at → at < piece.to → has_step (step_at line at) piece ≡ true
-has line at piece on from to = and_from (piece.line == line) (nat_le piece.from at && nat_lt at piece.to) (eq-eqb piece.line line on)
-    (and_from (nat_le piece.from at) (nat_lt at piece.to) (le-leb piece.from at from) (lt-ltb at piece.to to))
+has : (line at : ℕ) (piece : Piece) → piece.line ≡ line → piece.from ≤ at → at < piece.to
+    → has_step (step_at line at) piece ≡ true
+has line at piece on from to = grind (arith, nat_tests)
 
-elsewhere : (line at : ℕ) (piece : Piece) → (piece.line ≡ line → ⊥) → has_step (step_at line at) piece ≡ false
-elsewhere line at piece off = and_left (piece.line == line) (nat_le piece.from at && nat_lt at piece.to) (ne_eqb piece.line line off)
+elsewhere : (line at : ℕ) (piece : Piece) → (piece.line ≡ line → ⊥)
+    → has_step (step_at line at) piece ≡ false
+elsewhere line at piece off = grind (arith, nat_tests)
 
 ahead : (line at : ℕ) (piece : Piece) → at < piece.from → has_step (step_at line at) piece ≡ false
-ahead line at piece before = and_right (piece.line == line) (nat_le piece.from at && nat_lt at piece.to)
-    (and_left (nat_le piece.from at) (nat_lt at piece.to) (lt-leb piece.from at before))
+ahead line at piece before = grind (arith, nat_tests)
 
 behind_it : (line at : ℕ) (piece : Piece) → piece.to ≤ at → has_step (step_at line at) piece ≡ false
-behind_it line at piece past = and_right (piece.line == line) (nat_le piece.from at && nat_lt at piece.to)
-    (and_right (nat_le piece.from at) (nat_lt at piece.to) (le-ltb at piece.to past))
+behind_it line at piece past = grind (arith, nat_tests)
 
-pub has_from : (step : Step) (piece : Piece) → piece.line ≡ step.line → piece.from ≤ step.at → step.at < piece.to → has_step step piece ≡ true
-has_from step piece on from to = has step.line step.at piece on from to
+pub has_from : (step : Step) (piece : Piece) → piece.line ≡ step.line → piece.from ≤ step.at
+    → step.at < piece.to → has_step step piece ≡ true
+has_from step piece on from to = has _ _ _ on from to
 
-pub has_parts : (step : Step) (piece : Piece) → has_step step piece ≡ true → (piece.line ≡ step.line) × (piece.from ≤ step.at) × (step.at < piece.to)
+pub has_parts : (step : Step) (piece : Piece) → has_step step piece ≡ true
+    → (piece.line ≡ step.line) × (piece.from ≤ step.at) × (step.at < piece.to)
 has_parts step piece is =
-    let parts = and_parts (piece.line == step.line) (nat_le piece.from step.at && nat_lt step.at piece.to) is in
-    let inside = and_parts (nat_le piece.from step.at) (nat_lt step.at piece.to) parts.1 in
-    (eqb-true piece.line step.line parts.0, leb-true piece.from step.at inside.0, ltb-true step.at piece.to inside.1)
+    let parts = and_parts (piece.line == step.line)
+    (nat_le piece.from step.at && nat_lt step.at piece.to) is in
+    let inside = and_parts (nat_le piece.from step.at) (nat_lt step.at piece.to) parts.1 in (
+      eqb-true piece.line step.line parts.0,
+      leb-true piece.from step.at inside.0,
+      ltb-true step.at
+          piece.to inside.1,
+    )
 
 -- ---- steps on one line
 
-pub all_stretch : (P : Step → Type 0) (line at count : ℕ) → ((k : ℕ) → at ≤ k → k < at + count → P (step_at line k)) → All P (stretch line at count)
+pub all_stretch : (P : Step → Type 0) (line at count : ℕ)
+    → ((k : ℕ) → at ≤ k → k < at + count → P (step_at line k)) → All P (stretch line at count)
 all_stretch P line at zero each = All-nil P
 all_stretch P line at (suc count) each =
-    All-cons P (step_at line at) (stretch line (at + 1) count) (each at (omega arith) (omega arith))
-    (all_stretch P line (at + 1) count (λ k low high. each k (omega (arith, low)) (omega (arith, high))))
+    All-cons P (step_at line at) (stretch line (at + 1) count) (each _ (omega arith) (omega arith))
+    (all_stretch P line (at + 1) count
+    (λ k low high. each k (omega arith) (omega arith)))
 
 -- ---- pieces among others
 
 same_piece : (line from to on start end : ℕ) → line ≡ on → from ≡ start → to ≡ end
-    → ◌≡◌ {A = Piece} (record { line = line; from = from; to = to }) (record { line = on; from = start; to = end })
+    → ◌≡◌ {A = Piece} (record { line = line; from = from; to = to })
+    (record { line = on; from = start; to = end })
 same_piece line from to on start end same_line same_from same_to = cc
 
-eq_piece : (piece other : Piece) → true ≡ ((piece.line == other.line) && ((piece.from == other.from) && (piece.to == other.to))) → piece ≡ other
+eq_piece : (piece other : Piece)
+    → true ≡ ((piece.line == other.line) && ((piece.from == other.from) && (piece.to == other.to)))
+    → piece ≡ other
 eq_piece piece other is =
-    let parts = and_parts (piece.line == other.line) ((piece.from == other.from) && (piece.to == other.to)) (sym is) in
+    let parts = and_parts (piece.line == other.line)
+    ((piece.from == other.from) && (piece.to == other.to)) (sym is) in
     let ends = and_parts (piece.from == other.from) (piece.to == other.to) parts.1 in
-    same_piece piece.line piece.from piece.to other.line other.from other.to
-    (eqb-true piece.line other.line parts.0) (eqb-true piece.from other.from ends.0) (eqb-true piece.to other.to ends.1)
+    same_piece _ _ _ _ _ _
+    (eqb-true piece.line other.line parts.0) (eqb-true piece.from other.from ends.0)
+    (eqb-true piece.to other.to ends.1)
 
-behind_first : (first : Piece) (behind : List Piece) (other : Piece) → Contains behind other → Contains (first ∷ behind) other
-behind_first first behind other there = (suc there.0, omega (arith, there.1), there.2)
+behind_first : (first : Piece) (behind : List Piece) (other : Piece) → Contains behind other
+    → Contains (first ∷ behind) other
+behind_first first behind other there = (suc there.0, omega arith, there.2)
 
 -- a piece that is the first one of some, and those behind it, are among them
-pub first_among : (pieces : List Piece) (first : Piece) (behind : List Piece) (piece : Piece) → pieces ≡ first ∷ behind
+pub first_among : (pieces : List Piece) (first : Piece) (behind : List Piece) (piece : Piece)
+    → pieces ≡ first ∷ behind
     → true ≡ ((first.line == piece.line) && ((first.from == piece.from) && (first.to == piece.to)))
     → Contains pieces piece × ((other : Piece) → Contains behind other → Contains pieces other)
 first_among pieces first behind piece is same = rw is (
-  subst (Contains (first ∷ behind)) (eq_piece first piece same) (0, omega arith, refl),
-  behind_first first behind,
+  subst (Contains (first ∷ behind)) (eq_piece _ _ same) (0, omega arith, refl),
+  behind_first _ _,
 )
 
 -- and so are those of a list that lacks one more at the front
-pub behind_among : (pieces : List Piece) (first : Piece) (behind : List Piece) → pieces ≡ first ∷ behind
+pub behind_among : (pieces : List Piece) (first : Piece) (behind : List Piece)
+    → pieces ≡ first ∷ behind
     → (other : Piece) → Contains behind other → Contains pieces other
-behind_among pieces first behind is = rw is (behind_first first behind)
+behind_among pieces first behind is = rw is (behind_first _ _)
 
 -- ---- pieces of which each step is covered
 
-pub part_covered : (part pieces : List Piece) → ((step : Step) → covers pieces step ≡ covers part step) → AreCovered pieces part
+pub part_covered : (part pieces : List Piece)
+    → ((step : Step) → covers pieces step ≡ covers part step) → AreCovered pieces part
 part_covered part pieces same piece there step has =
-    same step ∙ list_any_at (has_step step) part there.0 piece there.1 (ap (has_step step) there.2 ∙ has)
+    same step ∙ list_any_at (has_step step) part there.0 piece there.1 (ap (has_step step) there.2
+    ∙ has)
 
-pub piece_covered : (pieces some : List Piece) (piece : Piece) → AreCovered pieces some → Contains some piece → piece.from ≤ piece.to
-    → All (λ (step : Step). covers pieces step ≡ true) (stretch piece.line piece.from (piece.to - piece.from))
+pub piece_covered : (pieces some : List Piece) (piece : Piece) → AreCovered pieces some
+    → Contains some piece → piece.from ≤ piece.to
+    → All (λ (step : Step). covers pieces step ≡ true)
+    (stretch piece.line piece.from (piece.to - piece.from))
 piece_covered pieces some piece are there forwards =
-    all_stretch (λ (step : Step). covers pieces step ≡ true) piece.line piece.from (piece.to - piece.from)
-    (λ k low high. are piece there (step_at piece.line k) (has piece.line k piece refl low (omega (arith, high, forwards))))
+    all_stretch (λ (step : Step). covers pieces step ≡ true) _ _
+    _
+    (λ k low high. are piece there (step_at piece.line k)
+    (has piece.line k piece refl low (omega arith)))
 
 -- ---- the pieces of one line among pieces by line
 
-module _ (pieces : List Piece) (line first behind : ℕ) (inside : behind ≤ length pieces) (starts : first ≤ length pieces)
-    (to_first : IsPartitionPoint (λ (piece : Piece). piece.line < line) (λ (piece : Piece). line ≤ piece.line) pieces first)
-    (to_behind : IsPartitionPoint (λ (piece : Piece). piece.line ≤ line) (λ (piece : Piece). line < piece.line) pieces behind) where
+module _ (pieces : List Piece) (line first behind : ℕ) (inside : behind ≤ length pieces)
+    (starts : first ≤ length pieces)
+    (to_first : IsPartitionPoint (λ (piece : Piece). piece.line < line)
+    (λ (piece : Piece). line ≤ piece.line) pieces first)
+    (to_behind : IsPartitionPoint (λ (piece : Piece). piece.line ≤ line)
+    (λ (piece : Piece). line < piece.line) pieces behind) where
   nothing : Piece
   nothing = record { line = 0; from = 0; to = 0 }
 
   pub forward : first ≤ behind
   forward = elim (cases_lt behind first) [
-    | inl less ↦ absurd (omega (arith, to_first.0 behind nothing (omega arith) less, to_behind.1 behind nothing (omega arith) (omega (arith, less, starts))))
-    | inr not_less ↦ omega (arith, not_less)
+    | inl less ↦ absurd
+        (omega (
+          arith,
+          to_first.0 behind nothing (omega arith) less,
+          to_behind.1 behind nothing
+              (omega arith) (omega arith),
+        ))
+    | inr not_less ↦ omega arith
   ]
 
   abbrev part : List Piece
   part = take (behind - first) (drop first pieces)
 
   size : length part ≡ behind - first
-  size = length-take-le (behind - first) (drop first pieces) (omega (arith, length-drop first pieces, inside, forward))
+  size = length-take-le (behind - first) (drop first pieces)
+      (omega (arith, length-drop first pieces, forward))
 
   item : (k : ℕ) (d : Piece) → k < behind - first → get_or part k d ≡ get_or pieces (first + k) d
-  item k d lt = get_or-take (behind - first) (drop first pieces) k d lt ∙ get_or-drop first pieces k d
+  item k d lt = get_or-take (behind - first) (drop first pieces) k d lt
+      ∙ get_or-drop first pieces k d
 
   on_line : (k : ℕ) (d : Piece) → k < behind - first → (get_or pieces (first + k) d).line ≡ line
-  on_line k d lt = omega (arith, to_first.1 (first + k) d (omega arith) (omega (arith, lt, inside)), to_behind.0 (first + k) d (omega arith) (omega (arith, lt)))
+  on_line k d lt =
+      omega (
+        arith,
+        to_first.1 (first + k) d (omega arith) (omega arith),
+        to_behind.0
+            (first + k) d (omega arith) (omega arith),
+      )
 
   -- ---- a stretch of steps
 
   module _ (at end : ℕ) (before : at < end) where
-    covered : Any (λ (piece : Piece). (piece.from ≤ at) × (end ≤ piece.to)) part → (k : ℕ) → at ≤ k → k < end → covers pieces (step_at line k) ≡ true
+    covered : Any (λ (piece : Piece). (piece.from ≤ at) × (end ≤ piece.to)) part → (k : ℕ) → at ≤ k
+        → k < end → covers pieces (step_at line k) ≡ true
     covered found k low high =
-        let near : found.0 < behind - first = omega (arith, found.2, size) in
-        let same : get_or pieces (first + found.0) found.1 ≡ found.1 = sym (item found.0 found.1 near) ∙ found.3 in
-        let on : found.1.line ≡ line = ap (λ (piece : Piece). piece.line) (sym same) ∙ on_line found.0 found.1 near in
-        list_any_at (has_step (step_at line k)) pieces (first + found.0) found.1 (omega (arith, near, inside))
-        (ap (has_step (step_at line k)) same ∙ has line k found.1 on (omega (arith, found.4.0, low)) (omega (arith, found.4.1, high)))
+        let near : found.0 < behind - first = omega (arith, size) in
+        let same : get_or pieces (first + found.0) found.1 ≡ found.1 =
+        sym (item found.0 found.1 near) ∙ found.3 in
+        let on : found.1.line ≡ line = ap (λ (piece : Piece). piece.line) (sym same)
+        ∙ on_line found.0 found.1 near in
+        list_any_at (has_step (step_at line k)) pieces (first + found.0) found.1
+        (omega arith)
+        (ap (has_step (step_at line k)) same
+        ∙ has line k found.1 on (omega arith)
+        (omega arith))
 
-    one_missing : All (λ (piece : Piece). (end ≤ piece.from) ⊎ (piece.to ≤ at)) part → (k : ℕ) → at ≤ k → k < end → (i : ℕ) → i < length pieces
+    one_missing : All (λ (piece : Piece). (end ≤ piece.from) ⊎ (piece.to ≤ at)) part → (k : ℕ)
+        → at ≤ k → k < end → (i : ℕ) → i < length pieces
         → has_step (step_at line k) (get_or pieces i nothing) ≡ false
     one_missing all k low high i within = elim (cases_lt i first) [
-      | inl less ↦ elsewhere line k (get_or pieces i nothing) (λ on. omega (arith, on, to_first.0 i nothing (omega arith) less))
+      | inl less ↦ elsewhere line k (get_or pieces i nothing)
+          (λ on. omega (arith, to_first.0 i nothing (omega arith) less))
       | inr not_less ↦ elim (cases_lt i behind) [
-        | inr past ↦ elsewhere line k (get_or pieces i nothing) (λ on. omega (arith, on, to_behind.1 i nothing (omega (arith, past)) within))
+        | inr past ↦ elsewhere line k (get_or pieces i nothing)
+            (λ on. omega (arith, to_behind.1 i nothing (omega (arith, past)) within))
         | inl near ↦
-            let short : i - first < behind - first = omega (arith, near, not_less) in
+            let short : i - first < behind - first = omega arith in
             let same : get_or part (i - first) nothing ≡ get_or pieces i nothing =
-            item (i - first) nothing short ∙ ap (λ (j : ℕ). get_or pieces j nothing) (let e : first + (i - first) ≡ i = omega (arith, not_less) in e) in
-            let one = All-get_or (λ (piece : Piece). (end ≤ piece.from) ⊎ (piece.to ≤ at)) part (i - first) nothing (omega (arith, short, size)) all in
-            let here : (end ≤ (get_or pieces i nothing).from) ⊎ ((get_or pieces i nothing).to ≤ at) =
-            subst (λ (piece : Piece). (end ≤ piece.from) ⊎ (piece.to ≤ at)) same one in
-            elim here [
-              | inl later ↦ ahead line k (get_or pieces i nothing) (omega (arith, later, high))
-              | inr over ↦ behind_it line k (get_or pieces i nothing) (omega (arith, over, low))
+            item (i - first) nothing short ∙ ap (λ (j : ℕ). get_or pieces j nothing)
+            (let e : first + (i - first) ≡ i = omega arith in e) in
+            let one = All-get_or (λ (piece : Piece). (end ≤ piece.from) ⊎ (piece.to ≤ at)) part
+            (i - first) nothing (omega (arith, size)) all in
+            elim (rw same at one) [
+              | inl later ↦ ahead line k (get_or pieces i nothing) (omega arith)
+              | inr over ↦ behind_it line k (get_or pieces i nothing) (omega arith)
             ]
       ]
     ]
 
-    missing : All (λ (piece : Piece). (end ≤ piece.from) ⊎ (piece.to ≤ at)) part → (k : ℕ) → at ≤ k → k < end → covers pieces (step_at line k) ≡ false
+    missing : All (λ (piece : Piece). (end ≤ piece.from) ⊎ (piece.to ≤ at)) part → (k : ℕ) → at ≤ k
+        → k < end → covers pieces (step_at line k) ≡ false
     missing all k low high = list_any_none (has_step (step_at line k)) pieces
-        (All-from_get_or (λ (piece : Piece). has_step (step_at line k) piece ≡ false) pieces nothing (one_missing all k low high))
+        (All-from_get_or (λ (piece : Piece). has_step (step_at line k) piece ≡ false) pieces nothing
+        (one_missing all k low high))
 
     pub alike : (is_covered : Bool)
-        → MatchBool is_covered (Any (λ (piece : Piece). (piece.from ≤ at) × (end ≤ piece.to)) part) (All (λ (piece : Piece). (end ≤ piece.from) ⊎ (piece.to ≤ at)) part)
+        → MatchBool is_covered (Any (λ (piece : Piece). (piece.from ≤ at) × (end ≤ piece.to)) part)
+        (All (λ (piece : Piece). (end ≤ piece.from) ⊎ (piece.to ≤ at)) part)
         → All (λ (step : Step). covers pieces step ≡ is_covered) (stretch line at (end - at))
-    alike true found = all_stretch (λ (step : Step). covers pieces step ≡ true) line at (end - at) (λ k low high. covered found k low (omega (arith, high, before)))
-    alike false all = all_stretch (λ (step : Step). covers pieces step ≡ false) line at (end - at) (λ k low high. missing all k low (omega (arith, high, before)))
+    alike true found = all_stretch (λ (step : Step). covers pieces step ≡ true) line at (end - at)
+        (λ k low high. covered found k low (omega arith))
+    alike false all = all_stretch (λ (step : Step). covers pieces step ≡ false) line at (end - at)
+        (λ k low high. missing all k low (omega arith))

@@ -8,15 +8,17 @@ module _ {X Y : Type 0} (f : X → Y) (p : Y → Bool) where
   abbrev Fails : X → Type 0
   Fails x = p (f x) ≡ false
 
-  pub first_at : (xs : List X) (i : ℕ) (x : X) → i < length xs → x ≡ get_or xs i x → All Fails (take i xs)
+  pub first_at : (xs : List X) (i : ℕ) (x : X) → i < length xs → x ≡ get_or xs i x
+      → All Fails (take i xs)
       → p (f x) ≡ true → (list_any p (map f xs) ≡ true) × (position_or_len p (map f xs) ≡ i)
-  first_at [] i x lt is none passes = absurd (omega (arith, lt))
+  first_at [] i x lt is none passes = absurd (omega arith)
   first_at (y ∷ xs) zero x lt is none passes =
       let here : p (f y) ≡ true = ap (λ (z : X). p (f z)) (sym is) ∙ passes in
       (rw here refl, rw here refl)
   first_at (y ∷ xs) (suc i) x lt is none passes =
       let not_here : p (f y) ≡ false = All-head Fails y (take i xs) none in
-      let rest = first_at xs i x (omega (arith, lt)) is (All-tail Fails y (take i xs) none) passes in
+      let rest = first_at xs i x (omega arith) is (All-tail Fails y (take i xs) none)
+      passes in
       (rw (not_here, rest.0) refl, rw (not_here, rest.1) (let e : 1 + i ≡ suc i = omega arith in e))
 
   none_passes : (xs : List X) → All Fails xs → list_any p (map f xs) ≡ false
@@ -26,5 +28,7 @@ module _ {X Y : Type 0} (f : X → Y) (p : Y → Bool) where
       let rest = none_passes xs (All-tail Fails x xs none) in
       rw (not_here, rest) refl
 
-  pub none_at : (xs : List X) (i : ℕ) → length xs ≤ i → All Fails (take i xs) → list_any p (map f xs) ≡ false
-  none_at xs i past none = none_passes xs (subst (λ (l : List X). All Fails l) (take_all i xs past) none)
+  pub none_at : (xs : List X) (i : ℕ) → length xs ≤ i → All Fails (take i xs)
+      → list_any p (map f xs) ≡ false
+  none_at xs i past none = none_passes xs
+      (subst (λ (l : List X). All Fails l) (take_all i xs past) none)

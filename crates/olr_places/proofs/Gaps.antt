@@ -7,7 +7,7 @@ use Rattle.olr_places.specs.Shown.{Shown}
 -- the gap of a matching is the same with one more behind the others
 pub gap_stays : (before : List Shown) (one : Shown) (key : KeyValue) → 1 ≤ length before
     → gap_of (before ++ one ∷ []) key ≡ gap_of before key
-gap_stays [] one key some = absurd (omega (arith, some))
+gap_stays [] one key some = absurd (omega arith)
 gap_stays (first ∷ others) one key some = refl
 
 -- the gap of the next matching is the same with it

@@ -8,38 +8,49 @@ use Rattle.olr_places.specs.Shown.{Shown, keys_of}
 -- matchings by rising totals
 abbrev pub Rise : List Shown → Type 0
 Rise [] = Unit {0}
-Rise (entry ∷ entries) = All (λ (one : Shown). entry.key.total ≤ one.key.total) entries × Rise entries
+Rise (entry ∷ entries) = All (λ (one : Shown). entry.key.total ≤ one.key.total) entries
+    × Rise entries
 
 -- ---- keys of matchings, and of those that are left
 
 not_above : (a b : KeyValue) → IsBefore a b → a.total ≤ b.total
 not_above a b is = elim is [
-  | inl less ↦ omega (arith, less)
-  | inr same ↦ omega (arith, same.0)
+  | inl less ↦ omega arith
+  | inr same ↦ omega arith
 ]
 
-ahead : (key : KeyValue) (keys : List KeyValue) → AllPairs IsBefore (key ∷ keys) → All (λ (other : KeyValue). key.total ≤ other.total) keys
-ahead key keys pairs = λ k d inside. not_above key (get_or keys k d) (pairs zero (suc k) d (omega arith) (omega (arith, inside)))
+ahead : (key : KeyValue) (keys : List KeyValue) → AllPairs IsBefore (key ∷ keys)
+    → All (λ (other : KeyValue). key.total ≤ other.total) keys
+ahead key keys pairs = λ k d inside. not_above key (get_or keys k d)
+    (pairs zero (suc k) d (omega arith) (omega arith))
 
-behind : (key : KeyValue) (keys : List KeyValue) → AllPairs IsBefore (key ∷ keys) → AllPairs IsBefore keys
-behind key keys pairs = λ i j d less inside. pairs (suc i) (suc j) d (omega (arith, less)) (omega (arith, inside))
+behind : (key : KeyValue) (keys : List KeyValue) → AllPairs IsBefore (key ∷ keys)
+    → AllPairs IsBefore keys
+behind key keys pairs = λ i j d less inside. pairs (suc i) (suc j) d (omega arith)
+    (omega arith)
 
-all_front : (P : KeyValue → Type 0) (entries : List Shown) (left : List KeyValue) → All P (keys_of entries ++ left)
+all_front : (P : KeyValue → Type 0) (entries : List Shown) (left : List KeyValue)
+    → All P (keys_of entries ++ left)
     → All (λ (entry : Shown). P entry.key) entries
 all_front P [] left all = All-nil (λ (entry : Shown). P entry.key)
 all_front P (entry ∷ entries) left all =
-    All-cons (λ (one : Shown). P one.key) entry entries (All-head P entry.key (keys_of entries ++ left) all)
+    All-cons (λ (one : Shown). P one.key) entry entries
+    (All-head P entry.key (keys_of entries ++ left) all)
     (all_front P entries left (All-tail P entry.key (keys_of entries ++ left) all))
 
-all_left : (P : KeyValue → Type 0) (entries : List Shown) (left : List KeyValue) → All P (keys_of entries ++ left) → All P left
+all_left : (P : KeyValue → Type 0) (entries : List Shown) (left : List KeyValue)
+    → All P (keys_of entries ++ left) → All P left
 all_left P [] left all = all
-all_left P (entry ∷ entries) left all = all_left P entries left (All-tail P entry.key (keys_of entries ++ left) all)
+all_left P (entry ∷ entries) left all =
+    all_left P entries left (All-tail P entry.key (keys_of entries ++ left) all)
 
-pub rise_of : (entries : List Shown) (left : List KeyValue) → AllPairs IsBefore (keys_of entries ++ left) → Rise entries
+pub rise_of : (entries : List Shown) (left : List KeyValue)
+    → AllPairs IsBefore (keys_of entries ++ left) → Rise entries
 rise_of [] left pairs = tt
 rise_of (entry ∷ entries) left pairs =
     let keys = keys_of entries ++ left in (
-      all_front (λ (key : KeyValue). entry.key.total ≤ key.total) entries left (ahead entry.key keys pairs),
+      all_front (λ (key : KeyValue). entry.key.total ≤ key.total) _ left
+          (ahead entry.key keys pairs),
       rise_of entries left (behind entry.key keys pairs),
     )
 
@@ -47,9 +58,12 @@ rise_of (entry ∷ entries) left pairs =
 abbrev pub NotBelow : List KeyValue → Shown → Type 0
 NotBelow left entry = All (λ (key : KeyValue). entry.key.total ≤ key.total) left
 
-pub left_not_below : (entries : List Shown) (left : List KeyValue) → AllPairs IsBefore (keys_of entries ++ left) → All (NotBelow left) entries
+pub left_not_below : (entries : List Shown) (left : List KeyValue)
+    → AllPairs IsBefore (keys_of entries ++ left) → All (NotBelow left) entries
 left_not_below [] left pairs = All-nil (NotBelow left)
 left_not_below (entry ∷ entries) left pairs =
     let keys = keys_of entries ++ left in
-    All-cons (NotBelow left) entry entries (all_left (λ (key : KeyValue). entry.key.total ≤ key.total) entries left (ahead entry.key keys pairs))
+    All-cons (NotBelow left) entry entries
+    (all_left (λ (key : KeyValue). entry.key.total ≤ key.total) entries _
+    (ahead entry.key keys pairs))
     (left_not_below entries left (behind entry.key keys pairs))

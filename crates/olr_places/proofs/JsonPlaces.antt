@@ -13,14 +13,17 @@ use Rattle.olr_binary.proofs.PlainValues.{IsPlain, all_plain}
 use Rattle.olr_report.proofs.JsonShape.{entry_plain, next_plain}
 
 -- the object of the matching that an opener shows is that of its entry
-pub same_matching : (road : RoadMap) (opener : Opener) (route : List Piece) (located : Located) → route ≡ opener.route.items
-    → located ≡ opener.extent.located → matching_object road opener.key opener.matched route located ≡ entry_object road (entry_of opener)
+pub same_matching : (road : RoadMap) (opener : Opener) (route : List Piece) (located : Located)
+    → route ≡ opener.route.items
+    → located ≡ opener.extent.located
+    → matching_object road opener.key opener.matched route located
+    ≡ entry_object road (entry_of opener)
 same_matching road opener route located route_is located_is = rw (route_is, located_is) refl
 
 opener_plain : (road : RoadMap) (opener : Opener) → IsPlain 4 (opener_object road opener)
 opener_plain road opener =
     let matching = entry_plain road (entry_of opener) in
-    record { no_float = rw (matching.no_float) refl; shallow = omega (arith, matching.shallow) }
+    record { no_float = rw (matching.no_float) refl; shallow = omega arith }
 
 margin_plain : (margin : Option ℕ) → IsPlain 1 (whole_or_null margin)
 margin_plain None = record { no_float = refl; shallow = omega arith }
@@ -33,5 +36,5 @@ object_plain road places =
     let list = all_plain 4 (opener_object road) (opener_plain road) places.openers.items in
     record {
       no_float = rw (margin.no_float, next.no_float, list.no_float) refl;
-      shallow = omega (arith, margin.shallow, next.shallow, list.shallow);
+      shallow = omega arith;
     }

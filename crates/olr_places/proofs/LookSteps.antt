@@ -1,6 +1,5 @@
 -- One step of looking at matchings, whatever was looked at before.
-use Rattle.std.proofs.Common.{◌≡◌, ◌≢◌, ℕ, zero, suc, ◌+◌, ◌-◌, ◌<◌, ◌≤◌, Bool, true, false, List, [], ◌∷◌, ◌++◌, length, length-append, map, get_or, All, Option, Some, None, filter, refl, ap, sym, ◌∙◌, inl, inr, arith, append_assoc, ◌==◌, nat_le, nat_lt, option_map}
-use Rattle.std.specs.Prelude.{slice_get}
+use Rattle.std.proofs.Common.{◌≡◌, ◌≢◌, ℕ, zero, suc, ◌+◌, ◌-◌, ◌<◌, ◌≤◌, Bool, true, false, List, [], ◌∷◌, ◌++◌, length, length-append, map, get_or, All, Option, Some, None, filter, refl, ap, sym, ◌∙◌, inl, inr, arith, append_assoc, ◌==◌, nat_le, nat_lt}
 use Rattle.std.proofs.lemmas.Bool.{cases_Bool, lt-leb}
 use Rattle.std.proofs.lemmas.List.{append-nil, length-map, map-append}
 use Rattle.std.proofs.lemmas.List.Elements.{All-cons, All-head, All-push, All-tail, filter-append}
@@ -23,24 +22,29 @@ use Rattle.olr_places.proofs.Opening.{all_placed, close_itself, first_behind, fi
 
 -- ---- lists of openers
 
-last_with : (start : Option KeyValue) (before : List Shown) (one : Shown) → last_of start (keys_of (before ++ one ∷ [])) ≡ Some one.key
+last_with : (start : Option KeyValue) (before : List Shown) (one : Shown)
+    → last_of start (keys_of (before ++ one ∷ [])) ≡ Some one.key
 last_with start [] one = refl
 last_with start (first ∷ others) one = last_with (Some first.key) others one
 
 -- one more member changes nothing that is shown
-same_shown : (road : RoadMap) (index : ℕ) (items : List Opener) → map (shown_by road) (one_more_at index items) ≡ map (shown_by road) items
+same_shown : (road : RoadMap) (index : ℕ) (items : List Opener)
+    → map (shown_by road) (one_more_at index items) ≡ map (shown_by road) items
 same_shown road index [] = refl
 same_shown road zero (opener ∷ items) = refl
-same_shown road (suc index) (opener ∷ items) = ap (λ (l : List Shown). shown_by road opener ∷ l) (same_shown road index items)
+same_shown road (suc index) (opener ∷ items) =
+    ap (λ (l : List Shown). shown_by road opener ∷ l) (same_shown road index items)
 
 -- nor what holds of each opener
-pub more_kept : (P : Opener → Type 0) → ((opener : Opener) (members : ℕ) → P opener → P (record opener { members = members }))
+pub more_kept : (P : Opener → Type 0)
+    → ((opener : Opener) (members : ℕ) → P opener → P (record opener { members = members }))
     → (index : ℕ) (items : List Opener) → All P items → All P (one_more_at index items)
 more_kept P keep index [] all = all
 more_kept P keep zero (opener ∷ items) all =
     All-cons P _ items (keep opener _ (All-head P opener items all)) (All-tail P opener items all)
 more_kept P keep (suc index) (opener ∷ items) all =
-    All-cons P opener _ (All-head P opener items all) (more_kept P keep index items (All-tail P opener items all))
+    All-cons P opener _ (All-head P opener items all)
+    (more_kept P keep index items (All-tail P opener items all))
 
 -- those that pass are all where each does
 all_pass : {X : Type 0} (p : X → Bool) (xs : List X) → All (λ x. p x ≡ true) xs → filter p xs ≡ xs
@@ -56,35 +60,45 @@ module _ (limits : PlaceLimits) (road : RoadMap) where
   some_openers (first ∷ others) some = omega arith
 
   -- the gap of the next matching, by the first opener that is kept
-  pub gap_at_first : (before : List Shown) (items : List Opener) (key : KeyValue) → map (shown_by road) items ≡ openers_of limits before
+  pub gap_at_first : (before : List Shown) (items : List Opener) (key : KeyValue)
+      → map (shown_by road) items ≡ openers_of limits before
       → gap_behind items key ≡ gap_of before key
   gap_at_first [] [] key same = refl
   gap_at_first [] (one ∷ items) key same = absurd (cc)
-  gap_at_first (first ∷ others) [] key same = let opens = first_opens limits first others in absurd (cc)
+  gap_at_first (first ∷ others) [] key same = let opens = first_opens limits first others in
+      absurd (cc)
   gap_at_first (first ∷ others) (one ∷ items) key same =
       let opens = first_opens limits first others in
-      let heads : shown_by road one ≡ first = ap (λ (l : List Shown). get_or l 0 first) (same ∙ opens.1) in
+      let heads : shown_by road one ≡ first =
+      ap (λ (l : List Shown). get_or l 0 first) (same ∙ opens.1) in
       ap (λ (one : Shown). key.total - one.key.total) heads
 
   -- the gap of the second opener that is kept is that of the second place
-  margin_is : (matchings : List Shown) (first second : Opener) (others : List Opener) (behind : List Shown)
+  margin_is : (matchings : List Shown) (first second : Opener) (others : List Opener)
+      (behind : List Shown)
       → AreCounted limits matchings 0 (first ∷ second ∷ others)
-      → openers_of limits matchings ≡ map (shown_by road) (first ∷ second ∷ others) ++ behind → Some second.gap ≡ margin_of limits matchings
-  margin_is matchings first second others behind counted are = rw are (ap (λ (n : ℕ). Some n) counted.1.0.gap)
+      → openers_of limits matchings ≡ map (shown_by road) (first ∷ second ∷ others) ++ behind
+      → Some second.gap ≡ margin_of limits matchings
+  margin_is matchings first second others behind counted are =
+      rw are (ap (λ (n : ℕ). Some n) counted.1.0.gap)
 
 -- where looking ends before the next matching, or where none is left
-module _ {limits : PlaceLimits} {road : RoadMap} {before : List Shown} {kept : Looking} (stands : Stands limits road before kept) (ending : Ending)
+module _ {limits : PlaceLimits} {road : RoadMap} {before : List Shown} {kept : Looking}
+    (stands : Stands limits road before kept) (ending : Ending)
     (none : gap_in ending ≡ None) where
-  margin_here : (items : List Opener) → AreCounted limits before 0 items → map (shown_by road) items ≡ openers_of limits before
+  margin_here : (items : List Opener) → AreCounted limits before 0 items
+      → map (shown_by road) items ≡ openers_of limits before
       → margin_in items ending ≡ margin_of limits before
   margin_here [] counted are = rw (← are) none
   margin_here (first ∷ []) counted are = rw (← are) none
   margin_here (first ∷ second ∷ others) counted are =
       margin_is limits road before first second others [] counted (sym are ∙ sym (append-nil _))
 
-  pub ends_here : ArePlacesOf limits road (record { matchings = before; ending = ending }) (places_in kept ending)
+  pub ends_here : ArePlacesOf limits road (record { matchings = before; ending = ending })
+      (places_in kept ending)
   ends_here = record {
-    openers = stands.openers ∙ sym (all_pass (is_within limits before) (openers_of limits before) stands.within);
+    openers = stands.openers
+        ∙ sym (all_pass (is_within limits before) (openers_of limits before) stands.within);
     counted = stands.counted;
     count = stands.count;
     last = stands.last;
@@ -94,7 +108,8 @@ module _ {limits : PlaceLimits} {road : RoadMap} {before : List Shown} {kept : L
 
 -- ---- the next matching
 
-module _ {limits : PlaceLimits} {road : RoadMap} {before : List Shown} {old : Looking} (stands : Stands limits road before old) (one : Shown)
+module _ {limits : PlaceLimits} {road : RoadMap} {before : List Shown} {old : Looking}
+    (stands : Stands limits road before old) (one : Shown)
     (more_left : (length before == limits.look) ≡ false) where
   abbrev items : List Opener
   items = old.openers.items
@@ -110,54 +125,73 @@ module _ {limits : PlaceLimits} {road : RoadMap} {before : List Shown} {old : Lo
   own = place_of limits (openers_of limits with) one
 
   same_length : length items ≡ length openers
-  same_length = sym (length-map items (shown_by road)) ∙ ap (λ (l : List Shown). length l) stands.openers
+  same_length = sym (length-map items (shown_by road))
+      ∙ ap (λ (l : List Shown). length l) stands.openers
 
   gap_still : (key : KeyValue) → 1 ≤ length openers → gap_of with key ≡ gap_of before key
   gap_still key some = gap_stays before one key (some_openers limits road before some)
 
   within_still : All (λ (opener : Shown). is_within limits with opener ≡ true) openers
   within_still = λ k d inside.
-      ap (λ (n : ℕ). nat_le n limits.within) (gap_still (get_or openers k d).key (omega (arith, inside))) ∙ stands.within k d inside
+      ap (λ (n : ℕ). nat_le n limits.within)
+      (gap_still (get_or openers k d).key (omega arith)) ∙ stands.within k d inside
 
   -- what it leaves, by what looking gives at it and others behind it
-  looks_on : (looked : Looked) (left : List Shown) → looking_on limits before (one ∷ left) ≡ looked → looking limits (with ++ left) ≡ looked
-  looks_on looked left is = ap (looking limits) (append_assoc before (one ∷ []) left) ∙ stands.goes_on (one ∷ left) ∙ is
+  looks_on : (looked : Looked) (left : List Shown) → looking_on limits before (one ∷ left) ≡ looked
+      → looking limits (with ++ left) ≡ looked
+  looks_on looked left is = ap (looking limits) (append_assoc before (one ∷ []) left)
+      ∙ stands.goes_on (one ∷ left) ∙ is
 
   -- ---- members
 
   -- those before it keep their places
-  places_stay : All (λ (other : Shown). place_of limits (openers_of limits with) other ≡ place_of limits openers other) before
+  places_stay : All (λ (other : Shown). place_of limits (openers_of limits with) other
+      ≡ place_of limits openers other) before
   places_stay = elim (cases_Bool (belongs limits openers one)) [
-    | inl here ↦ λ k d inside. ap (λ (l : List Shown). place_of limits l (get_or before k d)) (openers_same limits before one here)
+    | inl here ↦ λ k d inside. ap (λ (l : List Shown). place_of limits l (get_or before k d))
+        (openers_same limits before one here)
     | inr new ↦ λ k d inside.
-        ap (λ (l : List Shown). place_of limits l (get_or before k d)) (openers_more limits before one new)
+        ap (λ (l : List Shown). place_of limits l (get_or before k d))
+        (openers_more limits before one new)
         ∙ first_stays _ openers one (all_placed limits before k d inside)
   ]
 
   members_with : (index : ℕ) → members_of limits with index
-      ≡ members_of limits before index + count_of (place_of limits (openers_of limits with)) (one ∷ []) index
+      ≡ members_of limits before index
+      + count_of (place_of limits (openers_of limits with)) (one ∷ []) index
   members_with index =
       with_one (place_of limits (openers_of limits with)) before one index
       ∙ ap (λ (n : ℕ). n + count_of (place_of limits (openers_of limits with)) (one ∷ []) index)
-      (agree (place_of limits (openers_of limits with)) (place_of limits openers) before index places_stay)
+      (agree (place_of limits (openers_of limits with)) (place_of limits openers) before index
+      places_stay)
 
-  still_counted : (index : ℕ) (opener : Opener) → 1 ≤ length openers → own ≢ index → IsCounted limits before index opener
+  still_counted : (index : ℕ) (opener : Opener) → 1 ≤ length openers → own ≢ index
+      → IsCounted limits before index opener
       → IsCounted limits with index opener
   still_counted index opener some other was = record {
     gap = was.gap ∙ sym (gap_still opener.key some);
-    members = omega (arith, was.members, members_with index, none_here (place_of limits (openers_of limits with)) one index other);
+    members = omega (
+      arith,
+      members_with index,
+      none_here
+          (place_of limits (openers_of limits with)) one index other,
+    );
   }
 
-  all_counted : (start : ℕ) (l : List Opener) → ((index : ℕ) → start ≤ index → index < start + length l → own ≢ index)
-      → start + length l ≤ length openers → AreCounted limits before start l → AreCounted limits with start l
+  all_counted : (start : ℕ) (l : List Opener)
+      → ((index : ℕ) → start ≤ index → index < start + length l → own ≢ index)
+      → start + length l ≤ length openers → AreCounted limits before start l
+      → AreCounted limits with start l
   all_counted start [] elsewhere inside was = tt
   all_counted start (opener ∷ l) elsewhere inside was = (
-    still_counted start opener (omega (arith, inside)) (elsewhere start (omega arith) (omega arith)) was.0,
-    all_counted (start + 1) l (λ index from to. elsewhere index (omega (arith, from)) (omega (arith, to))) (omega (arith, inside)) was.1,
+    still_counted start opener (omega arith) (elsewhere start (omega arith) (omega arith))
+        was.0,
+    all_counted (start + 1) l (λ index from to. elsewhere index (omega arith)
+        (omega arith)) (omega arith) was.1,
   )
 
   count_with : (looked : ℕ) → looked ≡ old.looked + 1 → looked ≡ length with
-  count_with looked more = omega (arith, more, stands.count, length-append before (one ∷ []))
+  count_with looked more = omega (arith, length-append before (one ∷ []))
 
   last_is : (last : Option KeyValue) → last ≡ Some one.key → last ≡ last_of None (keys_of with)
   last_is last is = is ∙ sym (last_with None before one)
@@ -165,31 +199,42 @@ module _ {limits : PlaceLimits} {road : RoadMap} {before : List Shown} {old : Lo
   -- ---- it belongs to a place
 
   module _ (here : belongs limits openers one ≡ true) (small : length before < 4294967295) where
-    counted_more : (start index : ℕ) (l : List Opener) → start + index ≡ own → start + length l ≤ length openers
+    counted_more : (start index : ℕ) (l : List Opener) → start + index ≡ own
+        → start + length l ≤ length openers
         → AreCounted limits before start l → AreCounted limits with start (one_more_at index l)
     counted_more start index [] at inside was = tt
     counted_more start zero (opener ∷ l) at inside was = (
       record {
-        gap = was.0.gap ∙ sym (gap_still opener.key (omega (arith, inside)));
+        gap = was.0.gap ∙ sym (gap_still opener.key (omega arith));
         members =
-            let one_more = one_here (place_of limits (openers_of limits with)) one start (omega (arith, at)) in
-            omega (arith, was.0.members, members_with start, one_more, small, at_most (place_of limits openers) before start);
+            let one_more = one_here (place_of limits (openers_of limits with)) one start
+            (omega arith) in
+            omega (
+              arith,
+              members_with start,
+              at_most
+                  (place_of limits openers) before start,
+            );
       },
-      all_counted (start + 1) l (λ index from to is. omega (arith, from, at, is)) (omega (arith, inside)) was.1,
+      all_counted (start + 1) l (λ index from to is. omega arith)
+          (omega arith) was.1,
     )
     counted_more start (suc index) (opener ∷ l) at inside was = (
-      still_counted start opener (omega (arith, inside)) (λ is. omega (arith, at, is)) was.0,
-      counted_more (start + 1) index l (omega (arith, at)) (omega (arith, inside)) was.1,
+      still_counted start opener (omega arith) (λ is. omega arith) was.0,
+      counted_more (start + 1) index l (omega arith) (omega arith) was.1,
     )
 
-    pub stands_with_member : (new : Looking) (index : ℕ) → place_of limits openers one ≡ index → new.openers.items ≡ one_more_at index items
+    pub stands_with_member : (new : Looking) (index : ℕ) → place_of limits openers one ≡ index
+        → new.openers.items ≡ one_more_at index items
         → new.looked ≡ old.looked + 1 → new.last ≡ Some one.key → Stands limits road with new
     stands_with_member new index at has more last =
         let same = openers_same limits before one here in
-        let at_own : 0 + index ≡ own = rw same (omega (arith, at)) in record {
-          openers = ap (map (shown_by road)) has ∙ same_shown road index items ∙ stands.openers ∙ sym same;
+        let at_own : 0 + index ≡ own = rw same (omega arith) in record {
+          openers = ap (map (shown_by road)) has ∙ same_shown road index items ∙ stands.openers
+              ∙ sym same;
           within = rw same within_still;
-          counted = rw has (counted_more 0 index items at_own (omega (arith, same_length)) stands.counted);
+          counted = rw has (counted_more 0 index items at_own (omega (arith, same_length))
+              stands.counted);
           count = count_with new.looked more;
           last = last_is new.last last;
           goes_on = λ left. looks_on _ left (rw (more_left, here) refl);
@@ -202,36 +247,51 @@ module _ {limits : PlaceLimits} {road : RoadMap} {before : List Shown} {old : Lo
     opens = openers_more limits before one new_one
 
     own_is : own ≡ length openers
-    own_is = ap (λ (l : List Shown). place_of limits l one) opens ∙ first_behind _ openers one new_one (close_itself limits one)
+    own_is = ap (λ (l : List Shown). place_of limits l one) opens
+        ∙ first_behind _ openers one new_one (close_itself limits one)
 
     counted : AreCounted limits with 0 items
     counted =
-        all_counted 0 items (λ index from to is. omega (arith, to, is, own_is, same_length)) (omega (arith, same_length)) stands.counted
+        all_counted 0 items (λ index from to is. omega (arith, own_is, same_length))
+        (omega (arith, same_length)) stands.counted
 
-    module _ (opener : Opener) (shown : shown_by road opener ≡ one) (gap : opener.gap ≡ gap_of before one.key) (alone : opener.members ≡ 1) where
+    module _ (opener : Opener) (shown : shown_by road opener ≡ one)
+        (gap : opener.gap ≡ gap_of before one.key) (alone : opener.members ≡ 1) where
       counted_itself : IsCounted limits with (length items) opener
       counted_itself = record {
-        gap = gap ∙ sym (gap_of_next before one) ∙ ap (λ (s : Shown). gap_of with s.key) (sym shown);
+        gap = gap ∙ sym (gap_of_next before one)
+            ∙ ap (λ (s : Shown). gap_of with s.key) (sym shown);
         members =
-            let none_before = none_past (place_of limits openers) before (length items) (rw same_length (all_placed limits before)) in
-            let itself = one_here (place_of limits (openers_of limits with)) one (length items) (own_is ∙ sym same_length) in
-            omega (arith, alone, none_before, itself, members_with (length items));
+            let none_before = none_past (place_of limits openers) before (length items)
+            (rw same_length (all_placed limits before)) in
+            let itself = one_here (place_of limits (openers_of limits with)) one (length items)
+            (own_is ∙ sym same_length) in
+            omega (arith, members_with (length items));
       }
 
-      counted_with : (start : ℕ) (l : List Opener) → start + length l ≡ length items → AreCounted limits with start l
+      counted_with : (start : ℕ) (l : List Opener) → start + length l ≡ length items
+          → AreCounted limits with start l
           → AreCounted limits with start (l ++ opener ∷ [])
-      counted_with start [] all was = let at : start ≡ length items = omega (arith, all) in (rw at counted_itself, tt)
-      counted_with start (first ∷ l) all was = (was.0, counted_with (start + 1) l (omega (arith, all)) was.1)
+      counted_with start [] all was = let at : start ≡ length items = omega arith in
+          (rw at counted_itself, tt)
+      counted_with start (first ∷ l) all was =
+          (was.0, counted_with (start + 1) l (omega arith) was.1)
 
-      pub stands_with_opener : (new : Looking) → nat_lt limits.within (gap_of before one.key) ≡ false → nat_le (gap_of before one.key) limits.within ≡ true
-          → (length openers == limits.most) ≡ false → new.openers.items ≡ items ++ opener ∷ [] → new.looked ≡ old.looked + 1 → new.last ≡ Some one.key
+      pub stands_with_opener : (new : Looking)
+          → nat_lt limits.within (gap_of before one.key) ≡ false
+          → nat_le (gap_of before one.key) limits.within ≡ true
+          → (length openers == limits.most) ≡ false → new.openers.items ≡ items ++ opener ∷ []
+          → new.looked ≡ old.looked + 1 → new.last ≡ Some one.key
           → Stands limits road with new
       stands_with_opener new near close room pushed more last = record {
         openers =
-            ap (map (shown_by road)) pushed ∙ map-append (shown_by road) items (opener ∷ []) ∙ ap (λ (l : List Shown). l ++ shown_by road opener ∷ []) stands.openers
+            ap (map (shown_by road)) pushed ∙ map-append (shown_by road) items (opener ∷ [])
+            ∙ ap (λ (l : List Shown). l ++ shown_by road opener ∷ []) stands.openers
             ∙ ap (λ (s : Shown). openers ++ s ∷ []) shown ∙ sym opens;
         within =
-            rw opens (All-push (λ (opener : Shown). is_within limits with opener ≡ true) openers one within_still (ap (λ (n : ℕ). nat_le n limits.within) (gap_of_next before one) ∙ close));
+            rw opens (All-push (λ (opener : Shown). is_within limits with opener ≡ true) openers one
+            within_still (ap (λ (n : ℕ). nat_le n limits.within) (gap_of_next before one)
+            ∙ close));
         counted = rw pushed (counted_with 0 items (omega arith) counted);
         count = count_with new.looked more;
         last = last_is new.last last;
@@ -240,7 +300,8 @@ module _ {limits : PlaceLimits} {road : RoadMap} {before : List Shown} {old : Lo
 
     -- ---- or it would open a place too many
 
-    pub full_ends : nat_lt limits.within (gap_of before one.key) ≡ false → (length openers == limits.most) ≡ true
+    pub full_ends : nat_lt limits.within (gap_of before one.key) ≡ false
+        → (length openers == limits.most) ≡ true
         → HasEnded limits road with old Cut
     full_ends near full = record {
       looked = record { matchings = before; ending = Cut };
@@ -254,21 +315,29 @@ module _ {limits : PlaceLimits} {road : RoadMap} {before : List Shown} {old : Lo
     module _ (far : limits.within < gap_of before one.key) where
       listed : listed_of limits with ≡ openers
       listed =
-          let beyond : is_within limits with one ≡ false = ap (λ (n : ℕ). nat_le n limits.within) (gap_of_next before one) ∙ lt-leb (gap_of before one.key) limits.within far in
+          let beyond : is_within limits with one ≡ false =
+          ap (λ (n : ℕ). nat_le n limits.within) (gap_of_next before one)
+          ∙ lt-leb (gap_of before one.key) limits.within far in
           let none : filter (is_within limits with) (one ∷ []) ≡ [] = rw beyond refl in
-          ap (filter (is_within limits with)) opens ∙ filter-append (is_within limits with) openers (one ∷ [])
+          ap (filter (is_within limits with)) opens
+          ∙ filter-append (is_within limits with) openers (one ∷ [])
           ∙ ap (λ (l : List Shown). filter (is_within limits with) openers ++ l) none ∙ append-nil _
           ∙ all_pass (is_within limits with) openers within_still
 
-      margin_beyond : (l : List Opener) → AreCounted limits with 0 l → map (shown_by road) l ≡ openers
+      margin_beyond : (l : List Opener) → AreCounted limits with 0 l
+          → map (shown_by road) l ≡ openers
           → margin_in l (Beyond (gap_of before one.key)) ≡ margin_of limits with
       margin_beyond [] counted are =
-          let none = gap_at_first limits road before [] one.key are in absurd (omega (arith, far, none))
-      margin_beyond (first ∷ []) counted are = rw (opens, ← are) (ap (λ (n : ℕ). Some n) (sym (gap_of_next before one)))
+          let none = gap_at_first limits road before [] one.key are in
+          absurd (omega arith)
+      margin_beyond (first ∷ []) counted are =
+          rw (opens, ← are) (ap (λ (n : ℕ). Some n) (sym (gap_of_next before one)))
       margin_beyond (first ∷ second ∷ others) counted are =
-          margin_is limits road with first second others (one ∷ []) counted (opens ∙ ap (λ (l : List Shown). l ++ one ∷ []) (sym are))
+          margin_is limits road with first second others (one ∷ []) counted (opens
+          ∙ ap (λ (l : List Shown). l ++ one ∷ []) (sym are))
 
-      pub beyond_ends : (new : Looking) → nat_lt limits.within (gap_of before one.key) ≡ true → new.openers ≡ old.openers → new.looked ≡ old.looked + 1
+      pub beyond_ends : (new : Looking) → nat_lt limits.within (gap_of before one.key) ≡ true
+          → new.openers ≡ old.openers → new.looked ≡ old.looked + 1
           → new.last ≡ Some one.key → HasEnded limits road with new (Beyond (gap_of before one.key))
       beyond_ends new beyond same more last = record {
         looked = record { matchings = with; ending = Beyond (gap_of before one.key) };

@@ -1,5 +1,5 @@
 -- What looking gives: the first of the matchings, in order; those that are left; and why it ended.
-use Rattle.std.proofs.Common.{◌≡◌, ◌≢◌, ℕ, ◌<◌, ◌≤◌, ◌⊎◌, Bool, true, false, List, [], ◌∷◌, ◌++◌, length, filter, All, refl, sym, ap, ◌∙◌, inl, inr, arith, append_assoc, ◌==◌, nat_lt}
+use Rattle.std.proofs.Common.{◌≡◌, ◌≢◌, ◌<◌, ◌≤◌, Bool, false, List, [], ◌∷◌, ◌++◌, length, filter, All, refl, sym, ap, ◌∙◌, inl, inr, arith, append_assoc, ◌==◌, nat_lt}
 use Rattle.std.specs.Prelude.{Contains}
 use Rattle.std.proofs.lemmas.Bool.{cases_Bool, eqb-false, le-ltb, lt-leb, ltb-true, ne_eqb}
 use Rattle.std.proofs.lemmas.List.{append-nil, length-append, map-append}
@@ -11,7 +11,7 @@ use Rattle.olr_keys.specs.Key.{KeyValue}
 use Rattle.olr_map.specs.RoadMap.{RoadMap}
 use Rattle.olr_matching.specs.Layers.{LayersValue}
 use Rattle.olr_places.specs.Closeness.{line}
-use Rattle.olr_places.specs.Looking.{IsLooked, Looked, belongs, gap_of, is_within, listed_of, looking, looking_on, openers_of, openers_on}
+use Rattle.olr_places.specs.Looking.{IsLooked, Looked, belongs, gap_of, is_within, listed_of, looking, looking_on, openers_of}
 use Rattle.olr_places.specs.Shown.{IsShownAt, Shown, keys_of}
 use Rattle.olr_places.specs.VerdictLaws.{IsAtMost, LooksAtMost}
 use Rattle.olr_places.specs.declared.ending.Ending.{Ending}
@@ -20,29 +20,18 @@ use Rattle.olr_places.specs.declared.limits.PlaceLimits.{PlaceLimits}
 use Rattle.olr_places.proofs.Gaps.{gap_of_next}
 use Rattle.olr_places.proofs.Opening.{openers_more, openers_same}
 
--- ---- openers
-
-module _ (limits : PlaceLimits) where
-  -- the next matching belongs to a place
-  pub at_member : (openers left : List Shown) (one : Shown) → belongs limits openers one ≡ true
-      → openers_on limits openers (one ∷ left) ≡ openers_on limits openers left
-  at_member openers left one is = rw is refl
-
-  -- the next matching opens a place
-  pub at_opener : (openers left : List Shown) (one : Shown) → belongs limits openers one ≡ false
-      → openers_on limits openers (one ∷ left) ≡ openers_on limits (openers ++ one ∷ []) left
-  at_opener openers left one is = rw is refl
-
 -- ---- what looking gives
 
 -- as many at most as there are
 filter_at_most : {X : Type 0} (p : X → Bool) (xs : List X) → length (filter p xs) ≤ length xs
 filter_at_most p xs = rw (length-filter p xs) (count_by-le-length p xs)
 
--- why looking ended: none was left, or the gap of a matching that was looked at is beyond what is asked for
+-- why looking ended: none was left, or the gap of a matching that was looked at is beyond what is
+-- asked for
 abbrev pub EndsFor : PlaceLimits → List Shown → List Shown → Ending → Type 0
 EndsFor limits matchings left NoMore = left ≡ []
-EndsFor limits matchings left (Beyond gap) = (last : Shown) × Contains matchings last × (limits.within < gap_of matchings last.key)
+EndsFor limits matchings left (Beyond gap) = (last : Shown) × Contains matchings last
+    × (limits.within < gap_of matchings last.key)
 EndsFor limits matchings left Cut = Unit {0}
 
 module _ (limits : PlaceLimits) where
@@ -51,7 +40,8 @@ module _ (limits : PlaceLimits) where
     looked : length before ≤ limits.look
     openers : length (openers_of limits before) ≤ limits.most
 
-  -- the matchings that were looked at, at least these, are the first of all of them, as many as are asked for at most; then come those that are left
+  -- the matchings that were looked at, at least these, are the first of all of them, as many as are
+  -- asked for at most; then come those that are left
   pub record Splits (before all : List Shown) (looked : Looked) : Type 0 where
     pub more : List Shown
     pub matchings_are : looked.matchings ≡ before ++ more
@@ -60,7 +50,8 @@ module _ (limits : PlaceLimits) where
     pub at_most : IsAtMost limits looked
     pub ends : EndsFor limits looked.matchings left looked.ending
 
-  ends_here : (before left : List Shown) (ending : Ending) → IsRoomy before → EndsFor limits before left ending
+  ends_here : (before left : List Shown) (ending : Ending) → IsRoomy before
+      → EndsFor limits before left ending
       → Splits before (before ++ left) (record { matchings = before; ending = ending })
   ends_here before left ending roomy ends = record {
     more = [];
@@ -69,7 +60,7 @@ module _ (limits : PlaceLimits) where
     all_are = refl;
     at_most = record {
       looked_at = roomy.looked;
-      listed = omega (arith, filter_at_most (is_within limits before) (openers_of limits before), roomy.openers);
+      listed = omega (arith, filter_at_most (is_within limits before) (openers_of limits before));
     };
     ends = ends;
   }
@@ -84,7 +75,8 @@ module _ (limits : PlaceLimits) where
     same_all : with ++ left ≡ before ++ one ∷ left
     same_all = append_assoc before (one ∷ []) left
 
-    one_more : (looked : Looked) → Splits with (with ++ left) looked → Splits before (before ++ one ∷ left) looked
+    one_more : (looked : Looked) → Splits with (with ++ left) looked
+        → Splits before (before ++ one ∷ left) looked
     one_more looked rest = record {
       more = one ∷ rest.more;
       matchings_are = rest.matchings_are ∙ append_assoc before (one ∷ []) rest.more;
@@ -95,65 +87,102 @@ module _ (limits : PlaceLimits) where
     }
 
     -- behind a matching that opens a place with a gap beyond what is asked for, which isn't listed
-    beyond : length before ≢ limits.look → belongs limits openers one ≡ false → limits.within < gap_of before one.key
-        → Splits with (with ++ left) (record { matchings = with; ending = Beyond (gap_of before one.key) })
+    beyond : length before ≢ limits.look → belongs limits openers one ≡ false
+        → limits.within < gap_of before one.key
+        → Splits with (with ++ left) (record {
+          matchings = with;
+          ending =
+              Beyond (gap_of before one.key);
+        })
     beyond more new far =
         let past : limits.within < gap_of with one.key = rw (gap_of_next before one) far in
-        let fails : is_within limits with one ≡ false = lt-leb (gap_of with one.key) limits.within past in
+        let fails : is_within limits with one ≡ false =
+        lt-leb (gap_of with one.key) limits.within past in
         let none : filter (is_within limits with) (one ∷ []) ≡ [] = rw fails refl in
         let listed : listed_of limits with ≡ filter (is_within limits with) openers =
-        ap (filter (is_within limits with)) (openers_more limits before one new) ∙ filter-append (is_within limits with) openers (one ∷ [])
-        ∙ ap (λ (l : List Shown). filter (is_within limits with) openers ++ l) none ∙ append-nil _ in
+        ap (filter (is_within limits with)) (openers_more limits before one new)
+        ∙ filter-append (is_within limits with) openers (one ∷ [])
+        ∙ ap (λ (l : List Shown). filter (is_within limits with) openers ++ l) none
+        ∙ append-nil _ in
         record {
           more = [];
           matchings_are = sym (append-nil with);
           left = left;
           all_are = refl;
           at_most = record {
-            looked_at = omega (arith, length-append before (one ∷ []), more, roomy.looked);
-            listed = rw listed (omega (arith, filter_at_most (is_within limits with) openers, roomy.openers));
+            looked_at = omega (arith, length-append before (one ∷ []), more);
+            listed = rw listed
+                (omega (arith, filter_at_most (is_within limits with) openers));
           };
           ends = (one, Contains-push before one, past);
         }
 
     -- behind a matching with which looking goes on
-    still_roomy : length before ≢ limits.look → length (openers_of limits with) ≤ limits.most → IsRoomy with
-    still_roomy more openers = record { looked = omega (arith, length-append before (one ∷ []), more, roomy.looked); openers = openers }
+    still_roomy : length before ≢ limits.look → length (openers_of limits with) ≤ limits.most
+        → IsRoomy with
+    still_roomy more openers = record {
+      looked =
+          omega (arith, length-append before (one ∷ []), more);
+      openers = openers;
+    }
 
-    next : length before ≢ limits.look → (IsRoomy with → Splits with (with ++ left) (looking_on limits with left))
+    next : length before ≢ limits.look
+        → (IsRoomy with → Splits with (with ++ left) (looking_on limits with left))
         → Splits before (before ++ one ∷ left) (looking_on limits before (one ∷ left))
     next more behind =
         let look = ne_eqb (length before) limits.look more in
         elim (cases_Bool (belongs limits openers one)) [
           | inl here ↦
-              rw (look, here) (one_more (looking_on limits with left) (behind (still_roomy more (rw (openers_same limits before one here) roomy.openers))))
+              rw (look, here) (one_more (looking_on limits with left)
+              (behind (still_roomy more (rw (openers_same limits before one here)
+              roomy.openers))))
           | inr new ↦ elim (cases_Bool (nat_lt limits.within (gap_of before one.key))) [
-            | inl far ↦ rw (look, new, far) (one_more _ (beyond more new (ltb-true limits.within (gap_of before one.key) far)))
+            | inl far ↦ rw (look, new, far)
+                (one_more _ (beyond more new (ltb-true limits.within (gap_of before one.key) far)))
             | inr near ↦ elim (cases_Bool (length openers == limits.most)) [
               | inl full ↦ rw (look, new, near, full) (ends_here before (one ∷ left) Cut roomy tt)
               | inr room ↦
                   let few : length (openers_of limits with) ≤ limits.most =
-                  rw (openers_more limits before one new) (omega (arith, length-append openers (one ∷ []), eqb-false (length openers) limits.most room, roomy.openers)) in
-                  rw (look, new, near, room) (one_more (looking_on limits with left) (behind (still_roomy more few)))
+                  rw (openers_more limits before one new)
+                  (omega (
+                    arith,
+                    length-append openers (one ∷ []),
+                    eqb-false (length openers)
+                        limits.most room,
+                  )) in
+                  rw (look, new, near, room) (one_more (looking_on limits with left)
+                  (behind (still_roomy more few)))
             ]
           ]
         ]
-  splits : (before left : List Shown) → IsRoomy before → Splits before (before ++ left) (looking_on limits before left)
+
+  splits : (before left : List Shown) → IsRoomy before
+      → Splits before (before ++ left) (looking_on limits before left)
   splits before [] roomy = ends_here before [] NoMore roomy refl
   splits before (one ∷ left) roomy = elim (cases_Bool (length before == limits.look)) [
     | inl all ↦ rw all (ends_here before (one ∷ left) Cut roomy tt)
     | inr more ↦
-        next before left one roomy (eqb-false (length before) limits.look more) (λ still. splits (before ++ one ∷ []) left still)
+        next before left one roomy (eqb-false (length before) limits.look more)
+        (λ still. splits (before ++ one ∷ []) left still)
   ]
 
   -- there is a first matching
-  pub first_looked_at : (first : Shown) (left : List Shown) → (others : List Shown) × ((looking limits (first ∷ left)).matchings ≡ first ∷ others)
+  pub first_looked_at : (first : Shown) (left : List Shown) → (others : List Shown)
+      × ((looking limits (first ∷ left)).matchings ≡ first ∷ others)
   first_looked_at first left =
-      let look : (0 == limits.look) ≡ false = ne_eqb 0 limits.look (λ is. omega (arith, is, limits.look_in_range.least)) in
+      let look : (0 == limits.look) ≡ false =
+      ne_eqb 0 limits.look (λ is. omega arith) in
       let near : nat_lt limits.within 0 ≡ false = le-ltb limits.within 0 (omega arith) in
-      let room : (0 == limits.most) ≡ false = ne_eqb 0 limits.most (λ is. omega (arith, is, limits.most_in_range.least)) in
-      let start : looking limits (first ∷ left) ≡ looking_on limits (first ∷ []) left = rw (look, near, room) refl in
-      let rest = splits (first ∷ []) left (record { looked = omega (arith, limits.look_in_range.least); openers = omega (arith, limits.most_in_range.least) }) in
+      let room : (0 == limits.most) ≡ false =
+      ne_eqb 0 limits.most (λ is. omega arith) in
+      let start : looking limits (first ∷ left) ≡ looking_on limits (first ∷ []) left =
+      rw (look, near, room) refl in
+      let rest = splits (first ∷ []) left
+      (record {
+        looked = omega arith;
+        openers =
+            omega arith;
+      }) in
       (rest.more, ap (λ (l : Looked). l.matchings) start ∙ rest.matchings_are)
 
 -- ---- all matchings of a reference
@@ -165,9 +194,10 @@ any_of (key ∷ keys) = record { key = key; ground = line []; rows = []; object 
 
 pub keys_of_any : (keys : List KeyValue) → keys_of (any_of keys) ≡ keys
 keys_of_any [] = refl
-keys_of_any (key ∷ keys) = ap (λ (l : List KeyValue). key ∷ l) (keys_of_any keys)
+keys_of_any (key ∷ keys) = ap (λ (l : List KeyValue). key ∷ l) (keys_of_any _)
 
-module _ {limits : PlaceLimits} {road : RoadMap} {layers : LayersValue} {answers : List KeyValue} {looked : Looked}
+module _ {limits : PlaceLimits} {road : RoadMap} {layers : LayersValue} {answers : List KeyValue}
+    {looked : Looked}
     (is : IsLooked limits road layers answers looked) where
   -- those that were seen, and any of the keys that are left
   abbrev pub all_of : List Shown
@@ -177,10 +207,12 @@ module _ {limits : PlaceLimits} {road : RoadMap} {layers : LayersValue} {answers
   all_looked = is.looks (any_of is.left) (keys_of_any is.left)
 
   pub keys_are : answers ≡ keys_of all_of
-  keys_are = is.keys ∙ ap (λ (l : List KeyValue). keys_of is.seen ++ l) (sym (keys_of_any is.left)) ∙ sym (map-append (λ (one : Shown). one.key) is.seen (any_of is.left))
+  keys_are = is.keys ∙ ap (λ (l : List KeyValue). keys_of is.seen ++ l) (sym (keys_of_any is.left))
+      ∙ sym (map-append (λ (one : Shown). one.key) is.seen (any_of is.left))
 
   pub seen : Splits limits [] all_of looked
-  seen = rw (← all_looked) (splits limits [] all_of (record { looked = omega arith; openers = omega arith }))
+  seen = rw (← all_looked) (splits limits [] all_of
+      (record { looked = omega arith; openers = omega arith }))
 
   pub each : All (IsShownAt road layers) looked.matchings
   each =

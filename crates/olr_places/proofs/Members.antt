@@ -13,12 +13,16 @@ module _ (place : Shown → ℕ) where
   pub one_here : (one : Shown) (index : ℕ) → place one ≡ index → count_of place (one ∷ []) index ≡ 1
   one_here one index is = let here = eq-eqb (place one) index is in rw here refl
 
-  pub none_here : (one : Shown) (index : ℕ) → place one ≢ index → count_of place (one ∷ []) index ≡ 0
+  pub none_here : (one : Shown) (index : ℕ) → place one ≢ index
+      → count_of place (one ∷ []) index ≡ 0
   none_here one index other = let elsewhere = ne_eqb (place one) index other in rw elsewhere refl
 
-  pub with_one : (entries : List Shown) (one : Shown) (index : ℕ) → count_of place (entries ++ one ∷ []) index ≡ count_of place entries index + count_of place (one ∷ []) index
+  pub with_one : (entries : List Shown) (one : Shown) (index : ℕ)
+      → count_of place (entries ++ one ∷ []) index ≡ count_of place entries index
+      + count_of place (one ∷ []) index
   with_one entries one index =
-      ap (λ (l : List Shown). length l) (filter-append (λ (each : Shown). place each == index) entries (one ∷ []))
+      ap (λ (l : List Shown). length l)
+      (filter-append (λ (each : Shown). place each == index) entries (one ∷ []))
       ∙ length-append (filter (λ (each : Shown). place each == index) entries) _
 
   pub at_most : (entries : List Shown) (index : ℕ) → count_of place entries index ≤ length entries
@@ -26,20 +30,30 @@ module _ (place : Shown → ℕ) where
       rw (length-filter (λ (each : Shown). place each == index) entries)
       (count_by-le-length (λ (each : Shown). place each == index) entries)
 
-  pub none_past : (entries : List Shown) (index : ℕ) → All (λ (one : Shown). place one < index) entries → count_of place entries index ≡ 0
+  pub none_past : (entries : List Shown) (index : ℕ)
+      → All (λ (one : Shown). place one < index) entries → count_of place entries index ≡ 0
   none_past [] index all = refl
   none_past (one ∷ entries) index all =
-      let elsewhere = ne_eqb (place one) index (λ is. omega (arith, is, All-head (λ (one : Shown). place one < index) one entries all)) in
-      rw elsewhere (none_past entries index (All-tail (λ (one : Shown). place one < index) one entries all))
+      let elsewhere = ne_eqb (place one) index
+      (λ is. omega (
+        arith,
+        All-head (λ (one : Shown). place one < index) one entries
+            all,
+      )) in
+      rw elsewhere (none_past entries index
+      (All-tail (λ (one : Shown). place one < index) one entries all))
 
 -- two ways to number them that agree on each
-pub agree : (place other : Shown → ℕ) (entries : List Shown) (index : ℕ) → All (λ (one : Shown). place one ≡ other one) entries
+pub agree : (place other : Shown → ℕ) (entries : List Shown) (index : ℕ)
+    → All (λ (one : Shown). place one ≡ other one) entries
     → count_of place entries index ≡ count_of other entries index
 agree place other [] index all = refl
 agree place other (one ∷ entries) index all =
-    let rest = agree place other entries index (All-tail (λ (one : Shown). place one ≡ other one) one entries all) in
+    let rest = agree place other entries index
+    (All-tail (λ (one : Shown). place one ≡ other one) one entries all) in
     let same = All-head (λ (one : Shown). place one ≡ other one) one entries all in
     elim (cases_eq (other one) index) [
       | inl is ↦ let here = eq-eqb (other one) index is in rw (same, here, rest) refl
-      | inr not_is ↦ let elsewhere = ne_eqb (other one) index not_is in rw (same, elsewhere, rest) refl
+      | inr not_is ↦ let elsewhere = ne_eqb (other one) index not_is in
+          rw (same, elsewhere, rest) refl
     ]

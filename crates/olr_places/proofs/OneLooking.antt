@@ -1,8 +1,8 @@
 -- The matching of a key is shown in one way, and looking at the matchings of keys gives one value.
-use Rattle.std.proofs.Common.{◌≡◌, ℕ, List, [], ◌∷◌, ◌++◌, All, Option, Some, None, refl, sym, subst, ap, ◌∙◌, arith, append_assoc}
+use Rattle.std.proofs.Common.{◌≡◌, ℕ, List, [], ◌∷◌, ◌++◌, All, Option, Some, None, refl, sym, ap, ◌∙◌, arith}
 use Rattle.std.specs.Global.{Vec}
-use Rattle.std.specs.Prelude.{codes, map}
-use Rattle.std.proofs.lemmas.List.{append-nil, map-append}
+use Rattle.std.specs.Prelude.{codes}
+use Rattle.std.proofs.lemmas.List.{map-append}
 use Rattle.std.proofs.lemmas.List.Elements.{All-head, All-tail}
 use Rattle.std.proofs.lemmas.Option.{same_Some}
 use Rattle.olr_binary.specs.declared.reference.Reference.{Reference}
@@ -22,8 +22,8 @@ use Rattle.olr_report.specs.TextRows.{part_row, pieces_row}
 use Rattle.olr_report.specs.declared.locating.Located.{Located}
 use Rattle.olr_report.specs.declared.locating.Located.TheVariants.{Line as LocatedLine, Point as LocatedPoint}
 use Rattle.olr_places.specs.Closeness.{ground_of, line, pieces_of}
-use Rattle.olr_places.specs.Looking.{Looked, looking}
-use Rattle.olr_places.specs.Shown.{IsEntryAt, IsShownAt, Shown, extent_rows, keys_of, shown_of}
+use Rattle.olr_places.specs.Looking.{looking}
+use Rattle.olr_places.specs.Shown.{IsShownAt, Shown, extent_rows, keys_of}
 use Rattle.olr_places.specs.VerdictLaws.{OneLooking}
 use Rattle.olr_report.proofs.SameParts.{location_of_same, same_leg_objects, same_steps}
 use Rattle.olr_places.proofs.Looks.{any_of, keys_of_any}
@@ -31,7 +31,8 @@ use Rattle.olr_places.proofs.Looks.{any_of, keys_of_any}
 -- ---- the location of a reference on legs
 
 abbrev pub OneRoute : Type 0
-OneRoute = (steps : List Step) (a b : List Piece) → IsRouteOver steps a → IsRouteOver steps b → a ≡ b
+OneRoute = (steps : List Step) (a b : List Piece) → IsRouteOver steps a → IsRouteOver steps b
+    → a ≡ b
 
 module _ (one_route : OneRoute) (road : RoadMap) where
   -- two parts have the same pieces, the same row under each name, and the same value
@@ -40,16 +41,19 @@ module _ (one_route : OneRoute) (road : RoadMap) where
     rows : (name : List ℕ) → part_row road name a ≡ part_row road name b
     values : part_value road a ≡ part_value road b
 
-  one_part : (steps : List Step) (before behind : ℕ) (a b : Option (Vec Piece)) → IsPartBetween steps before behind a
+  one_part : (steps : List Step) (before behind : ℕ) (a b : Option (Vec Piece))
+      → IsPartBetween steps before behind a
       → IsPartBetween steps before behind b → SamePart a b
-  one_part steps before behind None None is is' = record { pieces = refl; rows = λ name. refl; values = refl }
-  one_part steps before behind None (Some b) is is' = absurd (omega (arith, is, is'.0))
-  one_part steps before behind (Some a) None is is' = absurd (omega (arith, is', is.0))
-  one_part steps before behind (Some a) (Some b) is is' = let same = one_route _ a.items b.items is.1 is'.1 in record {
-    pieces = same;
-    rows = λ name. ap (λ (pieces : List Piece). pieces_row road name pieces) same;
-    values = ap (λ (pieces : List Piece). pieces_array road pieces) same;
-  }
+  one_part steps before behind None None is is' =
+      record { pieces = refl; rows = λ name. refl; values = refl }
+  one_part steps before behind None (Some b) is is' = absurd (omega arith)
+  one_part steps before behind (Some a) None is is' = absurd (omega arith)
+  one_part steps before behind (Some a) (Some b) is is' = let same =
+      one_route _ a.items b.items is.1 is'.1 in record {
+        pieces = same;
+        rows = λ name. ap (λ (pieces : List Piece). pieces_row road name pieces) same;
+        values = ap (λ (pieces : List Piece). pieces_array road pieces) same;
+      }
 
   -- two locations cover the same ground, and are shown alike
   record SameLocated (one other : Located) : Type 0 where
@@ -58,68 +62,113 @@ module _ (one_route : OneRoute) (road : RoadMap) where
     objects : (key : KeyValue) (matched : Matched) (route : List Piece)
         → matching_object road key matched route one ≡ matching_object road key matched route other
 
-  one_located : (legs : List Leg) (reference : Reference) (one other : Located) → IsLocation legs reference one → IsLocation legs reference other
+  one_located : (legs : List Leg) (reference : Reference) (one other : Located)
+      → IsLocation legs reference one → IsLocation legs reference other
       → SameLocated one other
-  one_located legs (Line points positive negative) (LocatedLine outer inner) (LocatedLine outer' inner') is is' =
+  one_located legs (Line points positive negative) (LocatedLine outer inner)
+      (LocatedLine outer' inner') is is' =
       let around = one_part (steps_of_legs legs) _ _ outer outer' is.outer_part is'.outer_part in
-      let within = one_part (steps_of_legs legs) _ _ inner inner' is.inner_part is'.inner_part in record {
+      let within = one_part (steps_of_legs legs) _ _ inner inner' is.inner_part is'.inner_part in
+      record {
         ground = ap (λ (pieces : List Piece). line pieces) around.pieces;
         rows = around.rows (codes "outer");
         objects = λ key matched route. rw (around.values, within.values) refl;
       }
-  one_located legs (Line points positive negative) (LocatedLine outer inner) (LocatedPoint earliest latest) is is' = absurd is'
-  one_located legs (Line points positive negative) (LocatedPoint earliest latest) other is is' = absurd is
-  one_located legs (PointAlong points orientation side positive) (LocatedLine outer inner) other is is' = absurd is
-  one_located legs (PointAlong points orientation side positive) (LocatedPoint earliest latest) (LocatedLine outer inner) is is' = absurd is'
-  one_located legs (PointAlong points orientation side positive) (LocatedPoint earliest latest) (LocatedPoint earliest' latest') is is' =
+  one_located legs (Line points positive negative) (LocatedLine outer inner)
+      (LocatedPoint earliest latest) is is' = absurd is'
+  one_located legs (Line points positive negative) (LocatedPoint earliest latest) other is is' =
+      absurd is
+  one_located legs (PointAlong points orientation side positive) (LocatedLine outer inner) other is
+      is' = absurd is
+  one_located legs (PointAlong points orientation side positive) (LocatedPoint earliest latest)
+      (LocatedLine outer inner) is is' = absurd is'
+  one_located legs (PointAlong points orientation side positive) (LocatedPoint earliest latest)
+      (LocatedPoint earliest' latest') is is' =
       let first = same_Some earliest earliest' (sym is.earliest_place ∙ is'.earliest_place) in
       let last = same_Some latest latest' (sym is.latest_place ∙ is'.latest_place) in
-      record { ground = rw (first, last) refl; rows = rw (first, last) refl; objects = λ key matched route. rw (first, last) refl }
+      record {
+        ground = rw (first, last) refl;
+        rows = rw (first, last) refl;
+        objects =
+            λ key matched route. rw (first, last) refl;
+      }
 
 -- ---- the matching of a key
 
-same_parts : (road : RoadMap) (key : KeyValue) (a b : Matched) (route : List Piece) (located : Located) → IsSameMatched a b
+same_parts : (road : RoadMap) (key : KeyValue) (a b : Matched) (route : List Piece)
+    (located : Located) → IsSameMatched a b
     → matching_object road key a route located ≡ matching_object road key b route located
 same_parts road key a b route (LocatedLine outer inner) same =
-    let legs = same_leg_objects a.legs.items b.legs.items same.same_legs in rw (same.same_candidates, legs) refl
+    let legs = same_leg_objects _ _ same.same_legs in
+    rw (same.same_candidates, legs) refl
 same_parts road key a b route (LocatedPoint earliest latest) same =
-    let legs = same_leg_objects a.legs.items b.legs.items same.same_legs in rw (same.same_candidates, legs) refl
+    let legs = same_leg_objects _ _ same.same_legs in
+    rw (same.same_candidates, legs) refl
 
-module _ (one_matched : OneMatched) (one_route : OneRoute) {road : RoadMap} {layers : LayersValue} (sound : IsSoundMap road) where
+module _ (one_matched : OneMatched) (one_route : OneRoute) {road : RoadMap} {layers : LayersValue}
+    (sound : IsSoundMap road) where
   -- a key has one matching at most, as it is shown
-  pub one_shown : (one other : Shown) → one.key ≡ other.key → IsShownAt road layers one → IsShownAt road layers other → one ≡ other
+  pub one_shown : (one other : Shown) → one.key ≡ other.key → IsShownAt road layers one
+      → IsShownAt road layers other → one ≡ other
   one_shown one other keys is is' =
       let a = is.entry in
       let b = is'.entry in
-      let parts = one_matched road layers other.key a.matched b.matched sound (rw keys at is.is_entry.parts) is'.is_entry.parts in
+      let parts = one_matched road layers other.key a.matched b.matched sound
+      (rw keys at is.is_entry.parts) is'.is_entry.parts in
       let key : a.key ≡ b.key = is.is_entry.key_is ∙ keys ∙ sym is'.is_entry.key_is in
       let steps = same_steps a.matched.legs.items b.matched.legs.items parts.same_legs in
       let route : a.route ≡ b.route =
-      one_route (steps_of_legs b.matched.legs.items) a.route b.route (rw steps at is.is_entry.is_entry.route) is'.is_entry.is_entry.route in
-      let located = one_located one_route road b.matched.legs.items layers.reference a.located b.located
-      (location_of_same a.matched.legs.items b.matched.legs.items parts.same_legs layers.reference a.located is.is_entry.is_entry.location)
+      one_route (steps_of_legs b.matched.legs.items) a.route b.route
+      (rw steps at is.is_entry.is_entry.route) is'.is_entry.is_entry.route in
+      let located = one_located one_route road b.matched.legs.items layers.reference a.located
+      b.located
+      (location_of_same a.matched.legs.items b.matched.legs.items parts.same_legs layers.reference
+      a.located is.is_entry.is_entry.location)
       is'.is_entry.is_entry.location in
       let object =
-      same_parts road b.key a.matched b.matched b.route a.located parts ∙ located.objects b.key b.matched b.route in
+      same_parts road b.key a.matched b.matched b.route a.located parts
+      ∙ located.objects b.key b.matched b.route in
       is.shown_is ∙ (rw (key, route, located.ground, located.rows, object) refl) ∙ sym is'.shown_is
 
   -- the matchings of the first keys, and any of those that are left
-  in_common : (seen others : List Shown) (left behind : List KeyValue) → keys_of seen ++ left ≡ keys_of others ++ behind
+  in_common : (seen others : List Shown) (left behind : List KeyValue)
+      → keys_of seen ++ left ≡ keys_of others ++ behind
       → All (IsShownAt road layers) seen → All (IsShownAt road layers) others
-      → (more rest : List Shown) × (keys_of more ≡ left) × (keys_of rest ≡ behind) × (seen ++ more ≡ others ++ rest)
-  in_common [] others left behind same each each' =
-      (others ++ any_of behind, any_of behind, map-append (λ (one : Shown). one.key) others (any_of behind) ∙ rw keys_of_any (sym same), keys_of_any behind, refl)
-  in_common (one ∷ seen) [] left behind same each each' =
-      (any_of left, one ∷ seen ++ any_of left, keys_of_any left,
-      map-append (λ (one : Shown). one.key) (one ∷ seen) (any_of left) ∙ rw keys_of_any same, refl)
+      → (more rest : List Shown) × (keys_of more ≡ left) × (keys_of rest ≡ behind)
+      × (seen ++ more ≡ others ++ rest)
+  in_common [] others left behind same each each' = (
+    others ++ any_of behind,
+    any_of behind,
+    map-append (λ (one : Shown). one.key) others
+        (any_of behind) ∙ rw keys_of_any (sym same),
+    keys_of_any behind,
+    refl,
+  )
+  in_common (one ∷ seen) [] left behind same each each' = (
+    any_of left,
+    one ∷ seen ++ any_of left,
+    keys_of_any left,
+    map-append (λ (one : Shown). one.key) (one ∷ seen) (any_of left) ∙ rw keys_of_any same,
+    refl,
+  )
   in_common (one ∷ seen) (other ∷ others) left behind same each each' =
-      let first = one_shown one other (cc) (All-head (IsShownAt road layers) one seen each) (All-head (IsShownAt road layers) other others each') in
-      let found = in_common seen others left behind (cc) (All-tail (IsShownAt road layers) one seen each) (All-tail (IsShownAt road layers) other others each') in
-      (found.0, found.1, found.2, found.3, ap (λ (l : List Shown). one ∷ l) found.4 ∙ ap (λ (s : Shown). s ∷ others ++ found.1) first)
+      let first = one_shown one other (cc) (All-head (IsShownAt road layers) one seen each)
+      (All-head (IsShownAt road layers) other others each') in
+      let found = in_common seen others left behind (cc)
+      (All-tail (IsShownAt road layers) one seen each)
+      (All-tail (IsShownAt road layers) other others each') in (
+        found.0,
+        found.1,
+        found.2,
+        found.3,
+        ap (λ (l : List Shown). one ∷ l) found.4
+            ∙ ap (λ (s : Shown). s ∷ others ++ found.1) first,
+      )
 
 -- ---- the law
 
 pub one_looking : OneMatched → OneRoute → OneLooking
 one_looking one_matched one_route limits road layers answers looked other sound is is' =
-    let found = in_common one_matched one_route sound is.seen is'.seen is.left is'.left (sym is.keys ∙ is'.keys) is.each is'.each in
+    let found = in_common one_matched one_route sound _ _ _ is'.left (sym is.keys
+    ∙ is'.keys) is.each is'.each in
     sym (is.looks found.0 found.2) ∙ ap (looking limits) found.4 ∙ is'.looks found.1 found.3

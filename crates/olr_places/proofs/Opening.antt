@@ -1,5 +1,5 @@
 -- Which matchings open a place, with one matching more, and the place that each belongs to.
-use Rattle.std.proofs.Common.{◌≡◌, ◌+◌, ◌<◌, Bool, true, false, List, [], ◌∷◌, ◌++◌, length, All, refl, sym, subst, ◌∙◌, inl, inr, arith, if◌then◌else◌, append_assoc}
+use Rattle.std.proofs.Common.{◌≡◌, ◌+◌, ◌<◌, Bool, true, false, List, [], ◌∷◌, ◌++◌, length, All, refl, sym, ◌∙◌, inl, inr, arith, if◌then◌else◌, append_assoc}
 use Rattle.std.specs.List.{list_any, position_or_len}
 use Rattle.std.proofs.lemmas.Bool.{cases_Bool, false≢true, ne_eqb}
 use Rattle.std.proofs.lemmas.List.{append-nil}
@@ -17,31 +17,31 @@ module _ {X : Type 0} (p : X → Bool) where
   first_within (x ∷ xs) some = elim (cases_Bool (p x)) [
     | inl passes ↦
         let here : position_or_len p (x ∷ xs) ≡ 0 = rw passes refl in
-        omega (arith, here)
+        omega arith
     | inr fails ↦
-        let rest : list_any p xs ≡ true = sym (let e : list_any p (x ∷ xs) ≡ list_any p xs = rw fails refl in e) ∙ some in
         let later : position_or_len p (x ∷ xs) ≡ 1 + position_or_len p xs = rw fails refl in
-        omega (arith, later, first_within xs rest)
+        omega (arith, first_within xs (rw fails at some))
   ]
 
-  pub first_stays : (xs : List X) (y : X) → position_or_len p xs < length xs → position_or_len p (xs ++ y ∷ []) ≡ position_or_len p xs
+  pub first_stays : (xs : List X) (y : X) → position_or_len p xs < length xs
+      → position_or_len p (xs ++ y ∷ []) ≡ position_or_len p xs
   first_stays xs y within =
-      let before = ne_eqb (position_or_len p xs) (length xs) (λ e. omega (arith, e, within)) in
+      let before = ne_eqb (position_or_len p xs) (length xs) (λ e. omega arith) in
       position_or_len_push p xs y ∙ (rw before refl)
 
-  pub first_behind : (xs : List X) (y : X) → list_any p xs ≡ false → p y ≡ true → position_or_len p (xs ++ y ∷ []) ≡ length xs
+  pub first_behind : (xs : List X) (y : X) → list_any p xs ≡ false → p y ≡ true
+      → position_or_len p (xs ++ y ∷ []) ≡ length xs
   first_behind [] y none passes = rw passes refl
   first_behind (x ∷ xs) y none passes = elim (cases_Bool (p x)) [
-    | inl here ↦ absurd (false≢true (sym none ∙ (let e : list_any p (x ∷ xs) ≡ true = rw here refl in e)))
+    | inl here ↦ absurd (false≢true (sym (rw here at none)))
     | inr fails ↦
-        let rest : list_any p xs ≡ false = sym (let e : list_any p (x ∷ xs) ≡ list_any p xs = rw fails refl in e) ∙ none in
-        let behind = first_behind xs y rest passes in
-        rw (fails, behind) (let e : 1 + length xs ≡ length (x ∷ xs) = omega arith in e)
+        let behind = first_behind xs y (rw fails at none) passes in rw (fails, behind) (omega arith)
   ]
 
 module _ (limits : PlaceLimits) where
   pub close_itself : (entry : Shown) → is_close_to limits entry entry ≡ true
-  close_itself entry = (tests limits.apart entry.ground entry.ground).1 (reflexive limits.apart entry.ground)
+  close_itself entry = (tests limits.apart entry.ground entry.ground).1
+      (reflexive limits.apart entry.ground)
 
   -- ---- one matching more
 
@@ -49,7 +49,9 @@ module _ (limits : PlaceLimits) where
   abbrev pub opened : List Shown → Shown → List Shown
   opened openers entry = if belongs limits openers entry then openers else openers ++ entry ∷ []
 
-  opened_on : (openers entries : List Shown) (entry : Shown) → openers_on limits openers (entries ++ entry ∷ []) ≡ opened (openers_on limits openers entries) entry
+  opened_on : (openers entries : List Shown) (entry : Shown)
+      → openers_on limits openers (entries ++ entry ∷ [])
+      ≡ opened (openers_on limits openers entries) entry
   opened_on openers [] entry = elim (cases_Bool (belongs limits openers entry)) [
     | inl old ↦ rw old refl
     | inr new ↦ rw new refl
@@ -59,71 +61,82 @@ module _ (limits : PlaceLimits) where
     | inr new ↦ let rest = opened_on (openers ++ first ∷ []) entries entry in rw (new, rest) refl
   ]
 
-  pub openers_same : (before : List Shown) (entry : Shown) → belongs limits (openers_of limits before) entry ≡ true
+  pub openers_same : (before : List Shown) (entry : Shown)
+      → belongs limits (openers_of limits before) entry ≡ true
       → openers_of limits (before ++ entry ∷ []) ≡ openers_of limits before
-  openers_same before entry old = opened_on [] before entry ∙ (let e : opened (openers_of limits before) entry ≡ openers_of limits before = rw old refl in e)
+  openers_same before entry old = opened_on [] before entry ∙ (rw old refl)
 
-  pub openers_more : (before : List Shown) (entry : Shown) → belongs limits (openers_of limits before) entry ≡ false
+  pub openers_more : (before : List Shown) (entry : Shown)
+      → belongs limits (openers_of limits before) entry ≡ false
       → openers_of limits (before ++ entry ∷ []) ≡ openers_of limits before ++ entry ∷ []
-  openers_more before entry new = opened_on [] before entry ∙ (let e : opened (openers_of limits before) entry ≡ openers_of limits before ++ entry ∷ [] = rw new refl in e)
+  openers_more before entry new = opened_on [] before entry ∙ (rw new refl)
 
   -- ---- openers stay
 
   -- openers before others
-  pub openers_begin : (openers entries : List Shown) → (more : List Shown) × (openers_on limits openers entries ≡ openers ++ more)
+  pub openers_begin : (openers entries : List Shown) → (more : List Shown)
+      × (openers_on limits openers entries ≡ openers ++ more)
   openers_begin openers [] = ([], sym (append-nil openers))
   openers_begin openers (entry ∷ entries) = elim (cases_Bool (belongs limits openers entry)) [
     | inl old ↦
-        let rest = openers_begin openers entries in
-        (rest.0, (let e : openers_on limits openers (entry ∷ entries) ≡ openers_on limits openers entries = rw old refl in e) ∙ rest.1)
+        let rest = openers_begin openers entries in (rest.0, rw old rest.1)
     | inr new ↦
         let rest = openers_begin (openers ++ entry ∷ []) entries in (
           entry ∷ rest.0,
-          (let e : openers_on limits openers (entry ∷ entries) ≡ openers_on limits (openers ++ entry ∷ []) entries = rw new refl in e)
-              ∙ rest.1 ∙ append_assoc openers (entry ∷ []) rest.0,
+          rw new (rest.1 ∙ append_assoc openers (entry ∷ []) rest.0),
         )
   ]
 
   -- the first matching opens the first place
-  pub first_opens : (first : Shown) (others : List Shown) → (more : List Shown) × (openers_of limits (first ∷ others) ≡ first ∷ more)
+  pub first_opens : (first : Shown) (others : List Shown) → (more : List Shown)
+      × (openers_of limits (first ∷ others) ≡ first ∷ more)
   first_opens first others = openers_begin (first ∷ []) others
 
   -- a matching that belongs to a place still does with more openers
-  belongs_still : (openers more : List Shown) (entry : Shown) → belongs limits openers entry ≡ true → belongs limits (openers ++ more) entry ≡ true
+  belongs_still : (openers more : List Shown) (entry : Shown) → belongs limits openers entry ≡ true
+      → belongs limits (openers ++ more) entry ≡ true
   belongs_still openers more entry old =
       let parts = list_any-append (is_close_to limits entry) openers more in
       parts ∙ (rw old refl)
 
   -- each matching belongs to a place
-  pub all_belong_on : (openers entries : List Shown) → All (λ (entry : Shown). belongs limits (openers_on limits openers entries) entry ≡ true) entries
+  pub all_belong_on : (openers entries : List Shown)
+      → All (λ (entry : Shown). belongs limits (openers_on limits openers entries) entry ≡ true)
+      entries
   all_belong_on openers [] = All-nil (λ (entry : Shown). belongs limits openers entry ≡ true)
   all_belong_on openers (entry ∷ entries) = elim (cases_Bool (belongs limits openers entry)) [
     | inl old ↦
-        let same : openers_on limits openers (entry ∷ entries) ≡ openers_on limits openers entries = rw old refl in
         let begin = openers_begin openers entries in
         let itself : belongs limits (openers_on limits openers entries) entry ≡ true =
-        subst (λ (l : List Shown). belongs limits l entry ≡ true) (sym begin.1) (belongs_still openers begin.0 entry old) in
-        subst (λ (l : List Shown). All (λ (one : Shown). belongs limits l one ≡ true) (entry ∷ entries)) (sym same)
-        (All-cons (λ (one : Shown). belongs limits (openers_on limits openers entries) one ≡ true) entry entries itself (all_belong_on openers entries))
+        rw begin.1 (belongs_still openers begin.0 entry old) in
+        rw old
+        (All-cons (λ (one : Shown). belongs limits (openers_on limits openers entries) one ≡ true)
+        entry entries itself (all_belong_on openers entries))
     | inr new ↦
         let with : List Shown = openers ++ entry ∷ [] in
-        let same : openers_on limits openers (entry ∷ entries) ≡ openers_on limits with entries = rw new refl in
         let begin = openers_begin with entries in
-        let close : is_close_to limits entry entry ≡ true = close_itself entry in
+        let close = close_itself entry in
         let last : belongs limits (entry ∷ []) entry ≡ true = rw close refl in
-        let here : belongs limits with entry ≡ true = list_any-append (is_close_to limits entry) openers (entry ∷ []) ∙ (rw (new, last) refl) in
+        let here : belongs limits with entry ≡ true =
+        list_any-append (is_close_to limits entry) openers (entry ∷ []) ∙ (rw (new, last) refl) in
         let itself : belongs limits (openers_on limits with entries) entry ≡ true =
-        subst (λ (l : List Shown). belongs limits l entry ≡ true) (sym begin.1) (belongs_still with begin.0 entry here) in
-        subst (λ (l : List Shown). All (λ (one : Shown). belongs limits l one ≡ true) (entry ∷ entries)) (sym same)
-        (All-cons (λ (one : Shown). belongs limits (openers_on limits with entries) one ≡ true) entry entries itself (all_belong_on with entries))
+        rw begin.1 (belongs_still with begin.0 entry here) in
+        rw new
+        (All-cons (λ (one : Shown). belongs limits (openers_on limits with entries) one ≡ true)
+        entry entries itself (all_belong_on with entries))
   ]
 
-  pub all_belong : (entries : List Shown) → All (λ (entry : Shown). belongs limits (openers_of limits entries) entry ≡ true) entries
+  pub all_belong : (entries : List Shown)
+      → All (λ (entry : Shown). belongs limits (openers_of limits entries) entry ≡ true) entries
   all_belong entries = all_belong_on [] entries
 
   -- the place of each matching is one of those that are opened
-  pub all_placed : (entries : List Shown) → All (λ (entry : Shown). place_of limits (openers_of limits entries) entry < length (openers_of limits entries)) entries
+  pub all_placed : (entries : List Shown)
+      → All (λ (entry : Shown). place_of limits (openers_of limits entries) entry
+      < length (openers_of limits entries)) entries
   all_placed entries =
       All-weaker (λ (entry : Shown). belongs limits (openers_of limits entries) entry ≡ true)
-      (λ (entry : Shown). place_of limits (openers_of limits entries) entry < length (openers_of limits entries))
-      (λ entry is. first_within (is_close_to limits entry) (openers_of limits entries) is) entries (all_belong entries)
+      (λ (entry : Shown). place_of limits (openers_of limits entries) entry
+      < length (openers_of limits entries))
+      (λ entry is. first_within (is_close_to limits entry) (openers_of limits entries) is) entries
+      (all_belong entries)

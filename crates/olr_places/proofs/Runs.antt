@@ -1,9 +1,11 @@
--- The longest run of neighbouring steps that aren't covered: as a number that is computed, and as a run that is the longest one.
-use Rattle.std.proofs.Common.{◌≡◌, ℕ, zero, suc, ◌+◌, ◌-◌, ◌<◌, ◌≤◌, Bool, true, false, List, [], ◌∷◌, ◌++◌, length, max, All, refl, sym, ap, subst, ◌∙◌, inl, inr, arith, if◌then◌else◌, nat_le, append_assoc, ◌⊎◌, zero-add, add-zero}
+-- The longest run of neighbouring steps that aren't covered: as a number that is computed, and as a
+-- run that is the longest one.
+use Rattle.std.proofs.Common.{◌≡◌, ℕ, zero, suc, ◌+◌, ◌-◌, ◌<◌, ◌≤◌, Bool, true, false, List, [], ◌∷◌, ◌++◌, length, max, All, refl, sym, ap, subst, ◌∙◌, inl, inr, arith, if◌then◌else◌, nat_le, append_assoc}
 use Rattle.std.proofs.lemmas.Bool.{cases_Bool, cases_lt, le-leb, lt-leb}
-use Rattle.std.proofs.lemmas.List.Elements.{All-nil, All-cons, All-head, All-tail}
+use Rattle.std.proofs.lemmas.List.{length_push}
+use Rattle.std.proofs.lemmas.List.Elements.{All-nil, All-head, All-push, All-tail}
 use Rattle.olr_report.proofs.StepLists.{length-stretch, stretch, stretch-add}
-use Rattle.olr_report.specs.Steps.{Step, steps_of}
+use Rattle.olr_report.specs.Steps.{Step}
 use Rattle.olr_route.specs.declared.piece.Piece.{Piece}
 use Rattle.olr_places.specs.Missing.{covers, longest_run, missing_of}
 
@@ -28,110 +30,102 @@ module _ (covered : Step → Bool) where
 
   pub all_missing : (run : ℕ) (same rest : List Step) → All Missing same
       → longest_run covered run (same ++ rest) ≡ longest_run covered (run + length same) rest
-  all_missing run [] rest are = ap (λ (n : ℕ). longest_run covered n rest) {x = run} {y = run + 0} (omega arith)
+  all_missing run [] rest are = ap (λ (n : ℕ). longest_run covered n rest) {x = run} {y = run + 0}
+      (omega arith)
   all_missing run (step ∷ same) rest are =
-      at_missing run step (same ++ rest) (All-head Missing step same are) ∙ all_missing (run + 1) same rest (All-tail Missing step same are)
-      ∙ ap (λ (n : ℕ). longest_run covered n rest) {x = run + 1 + length same} {y = run + suc (length same)} (omega arith)
+      at_missing run step (same ++ rest) (All-head Missing step same are)
+      ∙ all_missing (run + 1) same rest (All-tail Missing step same are)
+      ∙ ap (λ (n : ℕ). longest_run covered n rest) {x = run + 1 + length same} {y =
+      run + suc (length same)} (omega arith)
 
   pub all_covered : (run : ℕ) (first : Step) (same rest : List Step) → All Covered (first ∷ same)
       → longest_run covered run (first ∷ (same ++ rest)) ≡ max run (longest_run covered 0 rest)
   all_covered run first [] rest are = at_covered run first rest (All-head Covered first [] are)
   all_covered run first (step ∷ same) rest are =
-      let here = at_covered run first (step ∷ (same ++ rest)) (All-head Covered first (step ∷ same) are) in
+      let here = at_covered run first (step ∷ (same ++ rest))
+      (All-head Covered first (step ∷ same) are) in
       let behind = all_covered 0 step same rest (All-tail Covered first (step ∷ same) are) in
-      here ∙ ap (max run) behind ∙ ap (max run) {x = max 0 (longest_run covered 0 rest)} {y = longest_run covered 0 rest} (omega arith)
+      here ∙ ap (max run) behind ∙ ap (max run) {x = max 0 (longest_run covered 0 rest)} {y =
+      longest_run covered 0 rest} (omega arith)
 
   pub at_least : (run : ℕ) (steps : List Step) → run ≤ longest_run covered run steps
   at_least run [] = omega arith
   at_least run (step ∷ steps) = elim (cases_Bool (covered step)) [
     | inl is ↦ subst (λ (n : ℕ). run ≤ n) (sym (at_covered run step steps is)) (omega arith)
-    | inr is ↦ subst (λ (n : ℕ). run ≤ n) (sym (at_missing run step steps is)) (omega (arith, at_least (run + 1) steps))
+    | inr is ↦ subst (λ (n : ℕ). run ≤ n) (sym (at_missing run step steps is))
+        (omega (arith, at_least (run + 1) steps))
   ]
 
   -- ---- no run is longer
 
-  none_longer : (run : ℕ) (before same behind : List Step) → All Missing same → length same ≤ longest_run covered run (before ++ (same ++ behind))
+  none_longer : (run : ℕ) (before same behind : List Step) → All Missing same
+      → length same ≤ longest_run covered run (before ++ (same ++ behind))
   none_longer run [] same behind are =
-      subst (λ (n : ℕ). length same ≤ n) (sym (all_missing run same behind are)) (omega (arith, at_least (run + length same) behind))
+      subst (λ (n : ℕ). length same ≤ n) (sym (all_missing run same behind are))
+      (omega (arith, at_least (run + length same) behind))
   none_longer run (step ∷ before) same behind are = elim (cases_Bool (covered step)) [
-    | inl is ↦ subst (λ (n : ℕ). length same ≤ n) (sym (at_covered run step (before ++ (same ++ behind)) is)) (omega (arith, none_longer 0 before same behind are))
-    | inr is ↦ subst (λ (n : ℕ). length same ≤ n) (sym (at_missing run step (before ++ (same ++ behind)) is)) (none_longer (run + 1) before same behind are)
+    | inl is ↦ subst (λ (n : ℕ). length same ≤ n)
+        (sym (at_covered run step (before ++ (same ++ behind)) is))
+        (omega (arith, none_longer 0 before same behind are))
+    | inr is ↦ subst (λ (n : ℕ). length same ≤ n)
+        (sym (at_missing run step (before ++ (same ++ behind)) is))
+        (none_longer (run + 1) before same behind are)
   ]
 
   -- ---- one run is as long
 
-  -- steps that begin with a run, before which so many stood
-  record Leads (run : ℕ) (steps : List Step) : Type 0 where
-    lead : List Step
-    behind : List Step
-    split : steps ≡ lead ++ behind
-    missing : All Missing lead
-    length_is : longest_run covered run steps ≡ run + length lead
-
-  -- steps that have a run anywhere
-  pub record Has (run : ℕ) (steps : List Step) : Type 0 where
+  -- steps that have a run of this length
+  pub record Has (steps : List Step) (count : ℕ) : Type 0 where
     pub before : List Step
     pub longest : List Step
     pub behind : List Step
     pub split : steps ≡ before ++ (longest ++ behind)
     pub missing : All Missing longest
-    pub length_is : longest_run covered run steps ≡ length longest
+    pub length_is : count ≡ length longest
 
-  lead_is_run : (steps : List Step) → Leads 0 steps → Has 0 steps
-  lead_is_run steps is = record { before = []; longest = is.lead; behind = is.behind; split = is.split; missing = is.missing; length_is = is.length_is ∙ zero-add (length is.lead) }
-
-  behind_step : (run : ℕ) (step : Step) (steps : List Step) → longest_run covered run (step ∷ steps) ≡ longest_run covered 0 steps → Has 0 steps → Has run (step ∷ steps)
-  behind_step run step steps same is = record {
-    before = step ∷ is.before;
-    longest = is.longest;
-    behind = is.behind;
-    split = ap (λ (l : List Step). step ∷ l) is.split;
-    missing = is.missing;
-    length_is = same ∙ is.length_is;
+  has_run : (lead steps : List Step) → All Missing lead
+      → Has (lead ++ steps) (longest_run covered (length lead) steps)
+  has_run lead [] are = record {
+    before = [];
+    longest = lead;
+    behind = [];
+    split = refl;
+    missing = are;
+    length_is = refl;
   }
-
-  run_before : (run : ℕ) (step : Step) (steps : List Step) → longest_run covered run (step ∷ steps) ≡ run → Leads run (step ∷ steps)
-  run_before run step steps same = record { lead = []; behind = step ∷ steps; split = refl; missing = All-nil Missing; length_is = same ∙ sym (add-zero run) }
-
-  some_run : (run : ℕ) (steps : List Step) → Leads run steps ⊎ Has run steps
-  some_run run [] = inl (record { lead = []; behind = []; split = refl; missing = All-nil Missing; length_is = sym (add-zero run) })
-  some_run run (step ∷ steps) = elim (cases_Bool (covered step)) [
+  has_run lead (step ∷ steps) are = elim (cases_Bool (covered step)) [
     | inl is ↦
-        let found : Has 0 steps = elim (some_run 0 steps) [
-          | inl leads ↦ lead_is_run steps leads
-          | inr has ↦ has
-        ] in
-        let whole = at_covered run step steps is in
-        elim (cases_lt run (longest_run covered 0 steps)) [
-          | inl less ↦ inr (behind_step run step steps (whole ∙ omega (arith, less)) found)
-          | inr more ↦ inl (run_before run step steps (whole ∙ omega (arith, more)))
+        let found = has_run [] steps (All-nil Missing) in
+        elim (cases_lt (length lead) (longest_run covered 0 steps)) [
+          | inl less ↦ record {
+            before = lead ++ step ∷ found.before;
+            longest = found.longest;
+            behind = found.behind;
+            split =
+                ap (λ (l : List Step). lead ++ step ∷ l) found.split
+                ∙ sym (append_assoc lead (step ∷ found.before) (found.longest ++ found.behind));
+            missing = found.missing;
+            length_is = rw is (omega arith);
+          }
+          | inr more ↦ record {
+            before = [];
+            longest = lead;
+            behind = step ∷ steps;
+            split = refl;
+            missing = are;
+            length_is = rw is (omega arith);
+          }
         ]
-    | inr is ↦ elim (some_run (run + 1) steps) [
-      | inl leads ↦ inl (record {
-        lead = step ∷ leads.lead;
-        behind = leads.behind;
-        split = ap (λ (l : List Step). step ∷ l) leads.split;
-        missing = All-cons Missing step leads.lead is leads.missing;
-        length_is = at_missing run step steps is ∙ leads.length_is ∙ (let e : run + 1 + length leads.lead ≡ run + suc (length leads.lead) = omega arith in e);
-      })
-      | inr has ↦ inr (record {
-        before = step ∷ has.before;
-        longest = has.longest;
-        behind = has.behind;
-        split = ap (λ (l : List Step). step ∷ l) has.split;
-        missing = has.missing;
-        length_is = at_missing run step steps is ∙ has.length_is;
-      })
-    ]
+    | inr is ↦
+        rw (is, ← length_push lead step, ← append_assoc lead (step ∷ []) steps)
+        (has_run (lead ++ step ∷ []) steps (All-push Missing lead step are is))
   ]
 
-  pub longest_is : (steps : List Step) → Has 0 steps
-  longest_is steps = elim (some_run 0 steps) [
-    | inl leads ↦ lead_is_run steps leads
-    | inr has ↦ has
-  ]
+  pub longest_is : (steps : List Step) → Has steps (longest_run covered 0 steps)
+  longest_is steps = has_run [] steps (All-nil Missing)
 
-  pub none_is_longer : (before same behind : List Step) → All Missing same → length same ≤ longest_run covered 0 (before ++ (same ++ behind))
+  pub none_is_longer : (before same behind : List Step) → All Missing same
+      → length same ≤ longest_run covered 0 (before ++ (same ++ behind))
   none_is_longer before same behind are = none_longer 0 before same behind are
 
   -- ---- whether the longest run is at most so long
@@ -142,41 +136,52 @@ module _ (covered : Step → Bool) where
 
     max_within : (run n : ℕ) → run ≤ most → nat_le (max run n) most ≡ nat_le n most
     max_within run n small = elim (cases_lt most n) [
-      | inl more ↦ lt-leb (max run n) most (omega (arith, more)) ∙ sym (lt-leb n most more)
-      | inr less ↦ le-leb (max run n) most (omega (arith, less, small)) ∙ sym (le-leb n most less)
+      | inl more ↦ lt-leb (max run n) most (omega arith) ∙ sym (lt-leb n most more)
+      | inr less ↦ le-leb (max run n) most (omega arith) ∙ sym (le-leb n most less)
     ]
 
     pub too_long : (run : ℕ) (steps : List Step) → most < run → Within run steps ≡ false
-    too_long run steps more = lt-leb (longest_run covered run steps) most (omega (arith, more, at_least run steps))
+    too_long run steps more = lt-leb (longest_run covered run steps) most
+        (omega (arith, at_least run steps))
 
     -- a stretch of steps that are alike, and those behind it
-    pub next_alike : (run line at count : ℕ) (behind : List Step) (is_covered : Bool) → run ≤ most → 0 < count
+    pub next_alike : (run line at count : ℕ) (behind : List Step) (is_covered : Bool) → run ≤ most
+        → 0 < count
         → All (λ (step : Step). covered step ≡ is_covered) (stretch line at count)
-        → Within run (stretch line at count ++ behind) ≡ Within (if is_covered then 0 else run + count) behind
-    next_alike run line at zero behind true small some are = absurd (omega (arith, some))
+        → Within run (stretch line at count ++ behind)
+        ≡ Within (if is_covered then 0 else run + count) behind
+    next_alike run line at zero behind true small some are = absurd (omega arith)
     next_alike run line at (suc count) behind true small some are =
-        ap (λ (n : ℕ). nat_le n most) (all_covered run (record { line = line; at = at }) (stretch line (at + 1) count) behind are)
+        ap (λ (n : ℕ). nat_le n most) (all_covered run (record { line = line; at = at })
+        (stretch line (at + 1) count) behind are)
         ∙ max_within run (longest_run covered 0 behind) small
     next_alike run line at count behind false small some are =
         ap (λ (n : ℕ). nat_le n most) (all_missing run (stretch line at count) behind are
         ∙ ap (λ (n : ℕ). longest_run covered (run + n) behind) (length-stretch line at count))
 
-    pub next_stretch : (run line at end to : ℕ) (rest : List Step) (is_covered : Bool) → run ≤ most → at < end → end ≤ to
+    pub next_stretch : (run line at end to : ℕ) (rest : List Step) (is_covered : Bool) → run ≤ most
+        → at < end → end ≤ to
         → All (λ (step : Step). covered step ≡ is_covered) (stretch line at (end - at))
-        → Within run (stretch line at (to - at) ++ rest) ≡ Within (if is_covered then 0 else run + (end - at)) (stretch line end (to - end) ++ rest)
+        → Within run (stretch line at (to - at) ++ rest)
+        ≡ Within (if is_covered then 0 else run + (end - at))
+        (stretch line end (to - end) ++ rest)
     next_stretch run line at end to rest is_covered small before inside are =
-        let whole : to - at ≡ (end - at) + (to - end) = omega (arith, before, inside) in
+        let whole : to - at ≡ (end - at) + (to - end) = omega (arith, before) in
         let next : at + (end - at) ≡ end = omega (arith, before) in
-        let split : stretch line at (to - at) ≡ stretch line at (end - at) ++ stretch line end (to - end) =
+        let split : stretch line at (to - at) ≡ stretch line at (end - at)
+        ++ stretch line end (to - end) =
         ap (λ (n : ℕ). stretch line at n) whole ∙ stretch-add line at (end - at) (to - end)
         ∙ ap (λ (n : ℕ). stretch line at (end - at) ++ stretch line n (to - end)) next in
         ap (λ (l : List Step). Within run (l ++ rest)) split
-        ∙ ap (λ (l : List Step). Within run l) (append_assoc (stretch line at (end - at)) (stretch line end (to - end)) rest)
-        ∙ next_alike run line at (end - at) (stretch line end (to - end) ++ rest) is_covered small (omega (arith, before)) are
+        ∙ ap (λ (l : List Step). Within run l)
+        (append_assoc (stretch line at (end - at)) (stretch line end (to - end)) rest)
+        ∙ next_alike run line at (end - at) (stretch line end (to - end) ++ rest) is_covered small
+        (omega (arith, before)) are
 
 -- ---- two ways to say what is covered
 
-same_runs : (covered other : Step → Bool) → ((step : Step) → covered step ≡ other step) → (run : ℕ) (steps : List Step)
+same_runs : (covered other : Step → Bool) → ((step : Step) → covered step ≡ other step)
+    → (run : ℕ) (steps : List Step)
     → longest_run covered run steps ≡ longest_run other run steps
 same_runs covered other same run [] = refl
 same_runs covered other same run (step ∷ steps) =
@@ -184,5 +189,8 @@ same_runs covered other same run (step ∷ steps) =
     let later = same_runs covered other same (run + 1) steps in
     rw (same step, now, later) refl
 
-pub missing_same : (pieces other behind : List Piece) → ((step : Step) → covers pieces step ≡ covers other step) → missing_of pieces behind ≡ missing_of other behind
-missing_same pieces other behind same = same_runs (covers pieces) (covers other) same 0 (steps_of behind)
+pub missing_same : (pieces other behind : List Piece)
+    → ((step : Step) → covers pieces step ≡ covers other step)
+    → missing_of pieces behind ≡ missing_of other behind
+missing_same pieces other behind same =
+    same_runs _ _ same 0 _

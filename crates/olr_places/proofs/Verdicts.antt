@@ -2,83 +2,90 @@
 use Rattle.std.proofs.Common.{◌≡◌, ℕ, zero, suc, ◌+◌, ◌-◌, ◌<◌, ◌≤◌, ◌⊎◌, Bool, true, false, List, [], ◌∷◌, ◌++◌, length, filter, get_or, All, refl, sym, ap, subst, ◌∙◌, inl, inr, arith, nat_le}
 use Rattle.std.specs.Prelude.{AllPairs, Contains, MatchOption, if◌then◌else◌, slice_get}
 use Rattle.std.specs.List.{list_any}
-use Rattle.std.proofs.lemmas.Bool.{both_ways, cases_Bool, le-leb, leb-false, leb-true, ne_eqb, or_from, or_left, or_parts}
+use Rattle.std.proofs.lemmas.Bool.{both_ways, cases_Bool, le-leb, leb-false, leb-true, ne_eqb, or_parts}
 use Rattle.std.proofs.lemmas.List.{map-append}
-use Rattle.std.proofs.lemmas.List.Elements.{All-cons, All-contains, All-contains_itself, All-head, All-nil, All-push, All-tail, All-weaker, Contains-append_cases, Contains-append_left, Contains-append_right}
+use Rattle.std.proofs.lemmas.List.Elements.{All-cons, All-contains, All-contains_itself, All-filter, All-head, All-nil, All-push, All-tail, All-weaker, Contains-append_cases, Contains-append_left, Contains-append_right, filter_passes}
 use Rattle.std.proofs.lemmas.List.Quantifiers.{all_pairs_push}
 use Rattle.std.proofs.lemmas.Option.{same_Some}
 use Rattle.olr_keys.specs.Key.{IsBefore, KeyValue}
-use Rattle.olr_map.specs.RoadMap.{IsSoundMap, RoadMap}
+use Rattle.olr_map.specs.RoadMap.{RoadMap}
 use Rattle.olr_matching.specs.Layers.{LayersValue}
 use Rattle.olr_matching.specs.Matched.{OneMatched}
-use Rattle.olr_places.specs.Closeness.{IsClose}
 use Rattle.olr_places.specs.Looking.{IsLooked, Looked, belongs, is_close_to, is_within, listed_of, looking, openers_of, openers_on}
 use Rattle.olr_places.specs.Shown.{IsShownAt, Shown, keys_of}
 use Rattle.olr_places.specs.Verdict.{margin_of, verdict_by, verdict_of, verdict_of_one}
-use Rattle.olr_places.specs.VerdictLaws.{AmbiguousIsElsewhere, AreClose, IsElsewhere, IsFirstOf, IsMargin, IsOneOf, MarginIsOfNearest, NoneWithoutMatching, OpenersAreApart, UniqueIsClose}
+use Rattle.olr_places.specs.VerdictLaws.{AmbiguousIsElsewhere, AreClose, IsElsewhere, IsFirstOf, IsMargin, IsOneOf, MarginIsOfNearest, NoneWithoutMatching, OpenersAreApart, UniqueIsClose, WereLookedAt}
 use Rattle.olr_places.specs.declared.ending.Ending.{Ending}
 use Rattle.olr_places.specs.declared.ending.Ending.TheVariants.{Beyond, Cut, NoMore}
 use Rattle.olr_places.specs.declared.ending.Verdict.TheVariants as verdict
 use Rattle.olr_places.specs.declared.limits.PlaceLimits.{PlaceLimits}
 use Rattle.olr_places.proofs.CloseLaws.{tests}
 use Rattle.olr_places.proofs.InOrder.{NotBelow, Rise, left_not_below, rise_of}
-use Rattle.olr_places.proofs.Looks.{EndsFor, all_looked, all_of, at_member, at_opener, each, first_looked_at, keys_are, seen}
+use Rattle.olr_places.proofs.Looks.{EndsFor, all_looked, all_of, each, first_looked_at, keys_are, seen}
 use Rattle.olr_places.proofs.OneLooking.{OneRoute, one_shown}
 use Rattle.olr_places.proofs.Opening.{close_itself, first_opens, openers_begin}
 
 -- ---- closeness
 
 -- none of them passes a test
-each_fails : {X : Type 0} (p : X → Bool) (xs : List X) → list_any p xs ≡ false → All (λ (x : X). p x ≡ false) xs
+each_fails : {X : Type 0} (p : X → Bool) (xs : List X) → list_any p xs ≡ false
+    → All (λ (x : X). p x ≡ false) xs
 each_fails p [] is = All-nil (λ x. p x ≡ false)
 each_fails p (x ∷ xs) is =
-    let parts = or_parts (p x) (list_any p xs) is in
+    let parts = or_parts _ _ is in
     All-cons (λ y. p y ≡ false) x xs parts.0 (each_fails p xs parts.1)
 
 module _ (limits : PlaceLimits) where
-  close_is : (entry other : Shown) → is_close_to limits entry other ≡ true → AreClose limits entry other
+  close_is : (entry other : Shown) → is_close_to limits entry other ≡ true
+      → AreClose limits entry other
   close_is entry other is = (tests limits.apart entry.ground other.ground).0 is
 
-  apart_is : (entry other : Shown) → is_close_to limits entry other ≡ false → ¬ (AreClose limits entry other)
+  apart_is : (entry other : Shown) → is_close_to limits entry other ≡ false
+      → ¬ (AreClose limits entry other)
   apart_is entry other is close =
-      both_ways (is_close_to limits entry other) is ((tests limits.apart entry.ground other.ground).1 close)
+      both_ways (is_close_to limits entry other) is
+      ((tests limits.apart entry.ground other.ground).1 close)
 
   -- ---- openers
 
   -- what holds of the openers and of the matchings holds of all openers
-  all_openers_on : (P : Shown → Type 0) (openers entries : List Shown) → All P openers → All P entries → All P (openers_on limits openers entries)
+  all_openers_on : (P : Shown → Type 0) (openers entries : List Shown) → All P openers
+      → All P entries → All P (openers_on limits openers entries)
   all_openers_on P openers [] before all = before
-  all_openers_on P openers (entry ∷ entries) before all = elim (cases_Bool (belongs limits openers entry)) [
-    | inl is ↦
-        subst (λ (l : List Shown). All P l) (sym (at_member limits openers entries entry is))
-        (all_openers_on P openers entries before (All-tail P entry entries all))
-    | inr is ↦
-        subst (λ (l : List Shown). All P l) (sym (at_opener limits openers entries entry is))
-        (all_openers_on P (openers ++ entry ∷ []) entries (All-push P openers entry before (All-head P entry entries all))
-        (All-tail P entry entries all))
-  ]
+  all_openers_on P openers (entry ∷ entries) before all =
+      elim (cases_Bool (belongs limits openers entry)) [
+        | inl is ↦
+            rw is (all_openers_on P openers entries before (All-tail P entry entries all))
+        | inr is ↦
+            rw is (all_openers_on P (openers ++ entry ∷ []) entries
+            (All-push P openers entry before (All-head P entry entries all))
+            (All-tail P entry entries all))
+      ]
 
   -- those that open a place are among the matchings
   openers_among : (entries : List Shown) → All (Contains entries) (openers_of limits entries)
-  openers_among entries = all_openers_on (Contains entries) [] entries (All-nil (Contains entries)) (All-contains_itself entries)
+  openers_among entries = all_openers_on (Contains entries) [] entries (All-nil (Contains entries))
+      (All-contains_itself entries)
 
   -- the later of two matchings isn't close to the earlier one
   abbrev Apart : Shown → Shown → Type 0
   Apart earlier later = ¬ (AreClose limits later earlier)
 
-  apart_on : (openers entries : List Shown) → AllPairs Apart openers → AllPairs Apart (openers_on limits openers entries)
+  apart_on : (openers entries : List Shown) → AllPairs Apart openers
+      → AllPairs Apart (openers_on limits openers entries)
   apart_on openers [] pairs = pairs
   apart_on openers (entry ∷ entries) pairs = elim (cases_Bool (belongs limits openers entry)) [
-    | inl is ↦ subst (λ (l : List Shown). AllPairs Apart l) (sym (at_member limits openers entries entry is)) (apart_on openers entries pairs)
+    | inl is ↦ rw is (apart_on openers entries pairs)
     | inr is ↦
         let fails = each_fails (is_close_to limits entry) openers is in
-        subst (λ (l : List Shown). AllPairs Apart l) (sym (at_opener limits openers entries entry is))
-        (apart_on (openers ++ entry ∷ []) entries
-        (all_pairs_push Apart openers entry pairs (λ k d inside. apart_is entry (get_or openers k d) (fails k d inside))))
+        rw is (apart_on (openers ++ entry ∷ []) entries
+        (all_pairs_push Apart openers entry pairs
+        (λ k d inside. apart_is entry (get_or openers k d) (fails k d inside))))
   ]
 
 pub openers_are_apart : OpenersAreApart
-openers_are_apart limits matchings = apart_on limits [] matchings (λ i j d less inside. absurd (omega (arith, inside)))
+openers_are_apart limits matchings =
+    apart_on limits [] matchings (λ i j d less inside. absurd (omega arith))
 
 -- ---- the second opener
 
@@ -104,42 +111,50 @@ module _ (limits : PlaceLimits) (first : Shown) where
   second_opener [] rise = inr (record { openers_are = refl; close = All-nil Close })
   second_opener (entry ∷ entries) rise = elim (cases_Bool (is_close_to limits entry first)) [
     | inl close ↦
-        let same = at_member limits (first ∷ []) entries entry (or_left (is_close_to limits entry first) false close) in
         elim (second_opener entries rise.1) [
           | inl has ↦ inl (record {
             second = has.second;
             more = has.more;
-            openers_are = same ∙ has.openers_are;
+            openers_are = rw close has.openers_are;
             among = Contains-append_right (entry ∷ []) entries has.second has.among;
             apart = has.apart;
             nearer =
-                All-cons (λ (one : Shown). one.key.total < has.second.key.total → Close one) entry entries (λ less. close) has.nearer;
+                All-cons (λ (one : Shown). one.key.total < has.second.key.total → Close one) entry
+                entries (λ less. close) has.nearer;
           })
-          | inr none ↦ inr (record { openers_are = same ∙ none.openers_are; close = All-cons Close entry entries close none.close })
+          | inr none ↦ inr (record {
+            openers_are = rw close none.openers_are;
+            close =
+                All-cons Close entry entries close none.close;
+          })
         ]
     | inr apart ↦
-        let same = at_opener limits (first ∷ []) entries entry (or_from (is_close_to limits entry first) false apart refl) in
         let found = openers_begin limits (first ∷ entry ∷ []) entries in
         inl (record {
           second = entry;
           more = found.0;
-          openers_are = same ∙ found.1;
+          openers_are = rw apart found.1;
           among = (zero, omega arith, refl);
           apart = apart;
           nearer =
-              All-cons (λ (one : Shown). one.key.total < entry.key.total → Close one) entry entries (λ less. absurd (omega (arith, less)))
-              (All-weaker (λ (one : Shown). entry.key.total ≤ one.key.total) (λ (one : Shown). one.key.total < entry.key.total → Close one)
-              (λ one more less. absurd (omega (arith, more, less))) entries rise.0);
+              All-cons (λ (one : Shown). one.key.total < entry.key.total → Close one) entry entries
+              (λ less. absurd (omega arith))
+              (All-weaker (λ (one : Shown). entry.key.total ≤ one.key.total)
+              (λ (one : Shown). one.key.total < entry.key.total → Close one)
+              (λ one more less. absurd (omega arith)) entries rise.0);
         })
   ]
 
 -- ---- keys of matchings
 
-key_in : (entries : List Shown) (entry : Shown) → Contains entries entry → Contains (keys_of entries) entry.key
-key_in [] entry has = absurd (omega (arith, has.1))
-key_in (first ∷ entries) entry (zero, inside, same) = (zero, omega arith, ap (λ (one : Shown). one.key) same)
+key_in : (entries : List Shown) (entry : Shown) → Contains entries entry
+    → Contains (keys_of entries) entry.key
+key_in [] entry has = absurd (omega arith)
+key_in (first ∷ entries) entry (zero, inside, same) =
+    (zero, omega arith, ap (λ (one : Shown). one.key) same)
 key_in (first ∷ entries) entry (suc k, inside, same) =
-    Contains-append_right (first.key ∷ []) (keys_of entries) entry.key (key_in entries entry (k, omega (arith, inside), same))
+    Contains-append_right (first.key ∷ []) (keys_of entries) entry.key
+    (key_in entries entry (k, omega arith, same))
 
 -- the matching of a key
 record IsOfKey (entries : List Shown) (key : KeyValue) : Type 0 where
@@ -147,20 +162,30 @@ record IsOfKey (entries : List Shown) (key : KeyValue) : Type 0 where
   among : Contains entries entry
   key_is : entry.key ≡ key
 
-of_key : (entries : List Shown) (key : KeyValue) → Contains (keys_of entries) key → IsOfKey entries key
-of_key [] key has = absurd (omega (arith, has.1))
-of_key (first ∷ entries) key (zero, inside, same) = record { entry = first; among = (zero, omega arith, refl); key_is = same }
+of_key : (entries : List Shown) (key : KeyValue) → Contains (keys_of entries) key
+    → IsOfKey entries key
+of_key [] key has = absurd (omega arith)
+of_key (first ∷ entries) key (zero, inside, same) =
+    record { entry = first; among = (zero, omega arith, refl); key_is = same }
 of_key (first ∷ entries) key (suc k, inside, same) =
-    let found = of_key entries key (k, omega (arith, inside), same) in
-    record { entry = found.entry; among = Contains-append_right (first ∷ []) entries found.entry found.among; key_is = found.key_is }
+    let found = of_key entries key (k, omega arith, same) in
+    record {
+      entry = found.entry;
+      among =
+          Contains-append_right (first ∷ []) entries found.entry found.among;
+      key_is = found.key_is;
+    }
 
 -- ---- verdicts, by how many places are listed
 
 by_listed : (looked listed : ℕ) (ending : Ending) → 1 ≤ looked
-    → verdict_by looked listed ending ≡ (if nat_le 2 listed then verdict.Ambiguous else verdict_of_one ending)
-by_listed looked listed ending some = let more = ne_eqb looked 0 (λ none. omega (arith, none, some)) in rw more refl
+    → verdict_by looked listed ending
+    ≡ (if nat_le 2 listed then verdict.Ambiguous else verdict_of_one ending)
+by_listed looked listed ending some = let more =
+    ne_eqb looked 0 (λ none. omega arith) in rw more refl
 
-none_is : (listed : ℕ) (ending : Ending) → (if nat_le 2 listed then verdict.Ambiguous else verdict_of_one ending) ≡ verdict.None → ⊥
+none_is : (listed : ℕ) (ending : Ending)
+    → (if nat_le 2 listed then verdict.Ambiguous else verdict_of_one ending) ≡ verdict.None → ⊥
 none_is listed ending is = elim (cases_Bool (nat_le 2 listed)) [
   | inl two ↦ let not_none : verdict.Ambiguous ≡ verdict.None = rw two at is in cc
   | inr one ↦ some ending (rw one at is)
@@ -171,14 +196,16 @@ none_is listed ending is = elim (cases_Bool (nat_le 2 listed)) [
     some (Beyond gap) is = cc
     some Cut is = cc
 
-unique_is : (listed : ℕ) (ending : Ending) → (if nat_le 2 listed then verdict.Ambiguous else verdict_of_one ending) ≡ verdict.Unique
+unique_is : (listed : ℕ) (ending : Ending)
+    → (if nat_le 2 listed then verdict.Ambiguous else verdict_of_one ending) ≡ verdict.Unique
     → (listed < 2) × (verdict_of_one ending ≡ verdict.Unique)
 unique_is listed ending is = elim (cases_Bool (nat_le 2 listed)) [
   | inl two ↦ let not_unique : verdict.Ambiguous ≡ verdict.Unique = rw two at is in absurd (cc)
   | inr one ↦ (leb-false 2 listed one, rw one at is)
 ]
 
-ambiguous_is : (listed : ℕ) (ending : Ending) → (if nat_le 2 listed then verdict.Ambiguous else verdict_of_one ending) ≡ verdict.Ambiguous
+ambiguous_is : (listed : ℕ) (ending : Ending)
+    → (if nat_le 2 listed then verdict.Ambiguous else verdict_of_one ending) ≡ verdict.Ambiguous
     → 2 ≤ listed
 ambiguous_is listed ending is = elim (cases_Bool (nat_le 2 listed)) [
   | inl two ↦ leb-true 2 listed two
@@ -194,93 +221,88 @@ ambiguous_is listed ending is = elim (cases_Bool (nat_le 2 listed)) [
 
 pub none_without_matching : NoneWithoutMatching
 none_without_matching limits road layers answers looked is = (
-  λ none. keys_are is ∙ ap keys_of (none_then (all_of is) (ap (verdict_of limits) (all_looked is) ∙ none)),
-  λ empty. ap (verdict_of limits) (sym (all_looked is)) ∙ none_from (all_of is) (sym (keys_are is) ∙ empty),
+  λ none. keys_are is ∙ ap keys_of
+      (none_then (all_of is) (ap (verdict_of limits) (all_looked is) ∙ none)),
+  λ empty. ap (verdict_of limits) (sym (all_looked is))
+      ∙ none_from (all_of is) (sym (keys_are is) ∙ empty),
 )
   where
-    none_then : (all : List Shown) → verdict_of limits (looking limits all) ≡ verdict.None → all ≡ []
+    none_then : (all : List Shown) → verdict_of limits (looking limits all) ≡ verdict.None
+        → all ≡ []
     none_then [] none = refl
     none_then (first ∷ left) none =
         let found = first_looked_at limits first left in
-        let some : 1 ≤ length (looking limits (first ∷ left)).matchings = rw found.1 (omega arith) in
-        absurd (none_is _ _ (sym (by_listed _ (length (listed_of limits (looking limits (first ∷ left)).matchings)) (looking limits (first ∷ left)).ending some) ∙ none))
+        let some : 1 ≤ length (looking limits (first ∷ left)).matchings =
+        rw found.1 (omega arith) in
+        absurd (none_is _ _
+        (sym (by_listed _ (length (listed_of limits (looking limits (first ∷ left)).matchings))
+        (looking limits (first ∷ left)).ending some) ∙ none))
 
-    none_from : (all : List Shown) → keys_of all ≡ [] → verdict_of limits (looking limits all) ≡ verdict.None
+    none_from : (all : List Shown) → keys_of all ≡ []
+        → verdict_of limits (looking limits all) ≡ verdict.None
     none_from [] none = refl
     none_from (first ∷ left) none = absurd (cc)
 
 -- ---- all matchings
 
--- kept by a filter
-record IsKept (p : Shown → Bool) (entries : List Shown) : Type 0 where
-  entry : Shown
-  among : Contains entries entry
-  kept : Contains (filter p entries) entry
-  passes : p entry ≡ true
-
-some_kept : (p : Shown → Bool) (entries : List Shown) → 0 < length (filter p entries) → IsKept p entries
-some_kept p [] some = absurd (omega (arith, some))
-some_kept p (entry ∷ entries) some = elim (cases_Bool (p entry)) [
-  | inl passes ↦
-      let here : Contains (filter p (entry ∷ entries)) entry = rw passes (zero, omega arith, refl) in
-      record { entry = entry; among = (zero, omega arith, refl); kept = here; passes = passes }
-  | inr fails ↦
-      let same : filter p (entry ∷ entries) ≡ filter p entries = rw fails refl in
-      let found = some_kept p entries (subst (λ (l : List Shown). 0 < length l) same some) in
-      record {
-        entry = found.entry;
-        among = Contains-append_right (entry ∷ []) entries found.entry found.among;
-        kept = subst (λ (l : List Shown). Contains l found.entry) (sym same) found.kept;
-        passes = found.passes;
-      }
-]
-
-two_kept : (p : Shown → Bool) (first second : Shown) (more : List Shown) → p first ≡ true → p second ≡ true
+two_kept : (p : Shown → Bool) (first second : Shown) (more : List Shown) → p first ≡ true
+    → p second ≡ true
     → 2 ≤ length (filter p (first ∷ second ∷ more))
 two_kept p first second more one two = rw (one, two) (omega arith)
 
-module _ (one_matched : OneMatched) (one_route : OneRoute) (limits : PlaceLimits) (road : RoadMap) (layers : LayersValue) (answers : List KeyValue)
-    (sound : IsSoundMap road) (rise : AllPairs IsBefore answers) where
+module _ (one_matched : OneMatched) (one_route : OneRoute) {limits : PlaceLimits}
+    {road : RoadMap} {layers : LayersValue} {answers : List KeyValue} {looked : Looked}
+    (were : WereLookedAt limits road layers answers looked) where
   -- the matchings of the first keys were looked at, at least one, and these are left
-  module _ (head : Shown) (others left : List Shown) (keys_are : answers ≡ keys_of (head ∷ others) ++ keys_of left)
+  module _ (head : Shown) (others left : List Shown)
+      (keys_are : answers ≡ keys_of (head ∷ others) ++ keys_of left)
       (each : All (IsShownAt road layers) (head ∷ others)) where
     abbrev all : List Shown
     all = head ∷ others
 
     pairs : AllPairs IsBefore (keys_of all ++ keys_of left)
-    pairs = subst (λ (keys : List KeyValue). AllPairs IsBefore keys) keys_are rise
+    pairs = subst (λ (keys : List KeyValue). AllPairs IsBefore keys) keys_are were.keys.rise
 
     rises : Rise all
     rises = rise_of all (keys_of left) pairs
 
     -- a key that is left has no lesser total than a matching that was looked at
-    left_behind : (one : Shown) (key : KeyValue) → Contains all one → Contains (keys_of left) key → one.key.total ≤ key.total
+    left_behind : (one : Shown) (key : KeyValue) → Contains all one → Contains (keys_of left) key
+        → one.key.total ≤ key.total
     left_behind one key among in_left =
-        All-contains (λ (other : KeyValue). one.key.total ≤ other.total) (keys_of left) key (All-contains (NotBelow (keys_of left)) all one (left_not_below all (keys_of left) pairs) among) in_left
+        All-contains (λ (other : KeyValue). one.key.total ≤ other.total) (keys_of left) key
+        (All-contains (NotBelow (keys_of left)) all one
+        (left_not_below all (keys_of left) pairs) among) in_left
 
     -- a matching that was looked at is one of the matchings
     is_one_of : (one : Shown) → Contains all one → IsOneOf road layers answers one
     is_one_of one among = record {
-      among = rw keys_are (Contains-append_left (keys_of all) (keys_of left) one.key (key_in all one among));
+      among = rw keys_are (Contains-append_left (keys_of all) (keys_of left) one.key
+          (key_in all one among));
       is_shown = All-contains (IsShownAt road layers) all one each among;
     }
 
     -- the first one is the first that was looked at
     first_is : (first : Shown) → IsFirstOf road layers answers first → head ≡ first
     first_is first is =
-        one_shown one_matched one_route sound head first
-        (same_Some head.key first.key (sym (ap (λ (keys : List KeyValue). slice_get keys 0) keys_are) ∙ is.first))
+        one_shown one_matched one_route were.sound head first
+        (same_Some head.key first.key (sym
+        (ap (λ (keys : List KeyValue). slice_get keys 0) keys_are) ∙ is.first))
         (All-head (IsShownAt road layers) head others each) is.is_shown
 
     -- one of the matchings was looked at, or its key is left
-    one_cases : (one : Shown) → IsOneOf road layers answers one → Contains all one ⊎ Contains (keys_of left) one.key
-    one_cases one is = elim (Contains-append_cases (keys_of all) (keys_of left) one.key (rw keys_are at is.among)) [
-      | inl here ↦
-          let found = of_key all one.key here in
-          let same = one_shown one_matched one_route sound found.entry one found.key_is (All-contains (IsShownAt road layers) all found.entry each found.among) is.is_shown in
-          inl (rw (← same) found.among)
-      | inr later ↦ inr later
-    ]
+    one_cases : (one : Shown) → IsOneOf road layers answers one → Contains all one
+        ⊎ Contains (keys_of left) one.key
+    one_cases one is =
+        elim (Contains-append_cases (keys_of all) (keys_of left) one.key
+        (rw keys_are at is.among)) [
+          | inl here ↦
+              let found = of_key all one.key here in
+              let same = one_shown one_matched one_route were.sound found.entry one found.key_is
+              (All-contains (IsShownAt road layers) all found.entry each found.among) is.is_shown in
+              inl (rw (← same) found.among)
+          | inr later ↦ inr later
+        ]
 
     -- ---- the margin
 
@@ -289,33 +311,44 @@ module _ (one_matched : OneMatched) (one_route : OneRoute) (limits : PlaceLimits
       second_in = Contains-append_right (head ∷ []) others has.second has.among
 
       not_before : head.key.total ≤ has.second.key.total
-      not_before = All-contains (λ (one : Shown). head.key.total ≤ one.key.total) others has.second rises.0 has.among
+      not_before = All-contains (λ (one : Shown). head.key.total ≤ one.key.total) others has.second
+          rises.0 has.among
 
-      nearer : (one : Shown) → IsOneOf road layers answers one → one.key.total < has.second.key.total → AreClose limits one head
+      nearer : (one : Shown) → IsOneOf road layers answers one
+          → one.key.total < has.second.key.total → AreClose limits one head
       nearer one is less = elim (one_cases one is) [
         | inl among ↦
             close_is limits one head
-            (All-contains (λ (each : Shown). each.key.total < has.second.key.total → is_close_to limits each head ≡ true) all one
-            (All-cons (λ (each : Shown). each.key.total < has.second.key.total → is_close_to limits each head ≡ true) head others (λ before. close_itself limits head) has.nearer) among less)
-        | inr in_left ↦ absurd (omega (arith, left_behind has.second one.key second_in in_left, less))
+            (All-contains (λ (each : Shown). each.key.total < has.second.key.total
+            → is_close_to limits each head ≡ true) all one
+            (All-cons (λ (each : Shown). each.key.total < has.second.key.total
+            → is_close_to limits each head ≡ true) head others
+            (λ before. close_itself limits head) has.nearer) among less)
+        | inr in_left
+            ↦ absurd (omega (arith, left_behind has.second one.key second_in in_left))
       ]
 
-      is_margin : IsMargin limits road layers answers all head (has.second.key.total - head.key.total)
+      is_margin : IsMargin limits road layers answers all head
+          (has.second.key.total - head.key.total)
       is_margin = record {
         nearest = has.second;
         is_one = is_one_of has.second second_in;
         looked_at = second_in;
         total_is = omega (arith, not_before);
         apart = apart_is limits has.second head has.apart;
-        nearer = λ one is less. nearer one is (omega (arith, not_before, less));
+        nearer = λ one is less. nearer one is (omega (arith, not_before));
       }
 
     all_close : HasNoSecond limits head others → All (λ (one : Shown). AreClose limits one head) all
     all_close none =
-        All-weaker (λ (one : Shown). is_close_to limits one head ≡ true) (λ (one : Shown). AreClose limits one head)
-        (λ one is. close_is limits one head is) all (All-cons (λ (one : Shown). is_close_to limits one head ≡ true) head others (close_itself limits head) none.close)
+        All-weaker (λ (one : Shown). is_close_to limits one head ≡ true)
+        (λ (one : Shown). AreClose limits one head)
+        (λ one is. close_is limits one head is) all
+        (All-cons (λ (one : Shown). is_close_to limits one head ≡ true) head others
+        (close_itself limits head) none.close)
 
-    margin_law : MatchOption (margin_of limits all) (All (λ (one : Shown). AreClose limits one head) all)
+    margin_law : MatchOption (margin_of limits all)
+        (All (λ (one : Shown). AreClose limits one head) all)
         (IsMargin limits road layers answers all head)
     margin_law = elim (second_opener limits head others rises.1) [
       | inl has ↦ rw has.openers_are (is_margin has)
@@ -334,104 +367,143 @@ module _ (one_matched : OneMatched) (one_route : OneRoute) (limits : PlaceLimits
     second_beyond has one = elim (cases_Bool (is_within limits all has.second)) [
       | inl within ↦
           let two = two_kept (is_within limits all) head has.second has.more head_within within in
-          let same : listed_of limits all ≡ filter (is_within limits all) (head ∷ has.second ∷ has.more) =
+          let same : listed_of limits all
+          ≡ filter (is_within limits all) (head ∷ has.second ∷ has.more) =
           ap (filter (is_within limits all)) has.openers_are in
-          absurd (omega (arith, one, two, ap (λ (l : List Shown). length l) same))
+          absurd (omega (arith, ap (λ (l : List Shown). length l) same))
       | inr beyond ↦ leb-false (has.second.key.total - head.key.total) limits.within beyond
     ]
 
     -- where looking wasn't cut off, the gaps of the keys that are left are beyond what is asked for
-    left_beyond : (ending : Ending) → verdict_of_one ending ≡ verdict.Unique → EndsFor limits all left ending → (key : KeyValue)
+    left_beyond : (ending : Ending) → verdict_of_one ending ≡ verdict.Unique
+        → EndsFor limits all left ending → (key : KeyValue)
         → Contains (keys_of left) key → head.key.total + limits.within < key.total
     left_beyond NoMore unique ends key in_left =
-        let none : Contains [] key = rw ends at in_left in absurd (omega (arith, none.1))
-    left_beyond (Beyond gap) unique (last, among, far) key in_left = omega (arith, far, left_behind last key among in_left)
+        let none : Contains [] key = rw ends at in_left in absurd (omega arith)
+    left_beyond (Beyond gap) unique (last, among, far) key in_left =
+        omega (arith, left_behind last key among in_left)
     left_beyond Cut unique ends key in_left = absurd (cc)
 
-    unique_law : (ending : Ending) → EndsFor limits all left ending → verdict_by (length all) (length (listed_of limits all)) ending ≡ verdict.Unique
-        → (one : Shown) → IsOneOf road layers answers one → one.key.total ≤ head.key.total + limits.within → AreClose limits one head
+    unique_law : (ending : Ending) → EndsFor limits all left ending
+        → verdict_by (length all) (length (listed_of limits all)) ending ≡ verdict.Unique
+        → (one : Shown) → IsOneOf road layers answers one
+        → one.key.total ≤ head.key.total + limits.within → AreClose limits one head
     unique_law ending ends unique one is within =
-        let found = unique_is (length (listed_of limits all)) ending (sym (by_listed (length all) _ ending (omega arith)) ∙ unique) in
+        let found = unique_is (length (listed_of limits all)) ending
+        (sym (by_listed (length all) _ ending (omega arith)) ∙ unique) in
         elim (second_opener limits head others rises.1) [
-          | inl has ↦ nearer has one is (omega (arith, second_beyond has found.0, not_before has, within))
+          | inl has ↦ nearer has one is (omega
+              (arith, second_beyond has found.0, not_before has))
           | inr none ↦ elim (one_cases one is) [
-            | inl among ↦ All-contains (λ (each : Shown). AreClose limits each head) all one (all_close none) among
-            | inr in_left ↦ absurd (omega (arith, left_beyond ending found.1 ends one.key in_left, within))
+            | inl among ↦ All-contains (λ (each : Shown). AreClose limits each head) all one
+                (all_close none) among
+            | inr in_left
+                ↦ absurd (omega (arith, left_beyond ending found.1 ends one.key in_left))
           ]
         ]
 
     -- ---- ambiguous
 
-    ambiguous_law : 2 ≤ length (listed_of limits all) → (other : Shown) × IsElsewhere limits road layers answers all head other
+    ambiguous_law : 2 ≤ length (listed_of limits all) → (other : Shown)
+        × IsElsewhere limits road layers answers all head other
     ambiguous_law two =
         let p = is_within limits all in
         let found = first_opens limits head others in
         let rest = found.0 in
         let listed_are : listed_of limits all ≡ head ∷ filter p rest =
         ap (filter p) found.1 ∙ (let within = head_within in rw within refl) in
-        let kept = some_kept p rest (omega (arith, two, ap (λ (l : List Shown). length l) listed_are)) in
-        let other = kept.entry in
+        let inside : 0 < length (filter p rest) =
+        omega (arith, ap (λ (l : List Shown). length l) listed_are) in
+        let other = get_or (filter p rest) 0 head in
+        let in_rest : Contains rest other =
+        All-filter p (Contains rest) rest (All-contains_itself rest) 0 head inside in
         let among : Contains all other =
         All-contains (Contains all) (openers_of limits all) other (openers_among limits all)
-        (subst (λ (l : List Shown). Contains l other) (sym found.1) (Contains-append_right (head ∷ []) rest other kept.among)) in
-        let apart_pairs : AllPairs (Apart limits) (head ∷ rest) = subst (λ (l : List Shown). AllPairs (Apart limits) l) found.1 (openers_are_apart limits all) in
-        let apart : All (λ (one : Shown). Apart limits head one) rest = λ k d inside. apart_pairs zero (suc k) d (omega arith) (omega (arith, inside)) in
-        let gap : other.key.total - head.key.total ≤ limits.within = leb-true (other.key.total - head.key.total) limits.within kept.passes in (
+        (subst (λ (l : List Shown). Contains l other) (sym found.1)
+        (Contains-append_right (head ∷ []) rest other in_rest)) in
+        let apart_pairs : AllPairs (Apart limits) (head ∷ rest) =
+        subst (λ (l : List Shown). AllPairs (Apart limits) l) found.1
+        (openers_are_apart limits all) in
+        let apart : All (λ (one : Shown). Apart limits head one) rest =
+        λ k d inside. apart_pairs zero (suc k) d (omega arith) (omega arith) in
+        let gap : other.key.total - head.key.total ≤ limits.within =
+        leb-true (other.key.total - head.key.total) limits.within
+        (filter_passes p rest 0 head inside) in (
           other,
           record {
             is_one = is_one_of other among;
-            listed = subst (λ (l : List Shown). Contains l other) (sym listed_are) (Contains-append_right (head ∷ []) (filter p rest) other kept.kept);
-            within = omega (arith, gap);
-            apart = All-contains (λ (one : Shown). Apart limits head one) rest other apart kept.among;
+            listed = subst (λ (l : List Shown). Contains l other) (sym listed_are)
+                (Contains-append_right (head ∷ []) (filter p rest) other
+                (All-contains_itself (filter p rest) 0 head inside));
+            within = omega arith;
+            apart = All-contains (λ (one : Shown). Apart limits head one) rest other apart
+                in_rest;
           },
         )
 
 -- ---- the laws
 
--- the keys of the matchings that were looked at, and of those that are left
-parts_are : {limits : PlaceLimits} {road : RoadMap} {layers : LayersValue} {answers : List KeyValue} {looked : Looked}
-    (is : IsLooked limits road layers answers looked) → answers ≡ keys_of looked.matchings ++ keys_of (seen is).left
-parts_are is = keys_are is ∙ ap keys_of (seen is).all_are ∙ map-append (λ (one : Shown). one.key) _ (seen is).left
+module _ {limits : PlaceLimits} {road : RoadMap} {layers : LayersValue} {answers : List KeyValue}
+    {looked : Looked} (is : IsLooked limits road layers answers looked)
+    (P : List Shown → Type 0) where
+  -- none was looked at, or one at least: the keys of those, and of the ones that are left
+  by_matchings : P []
+      → ((head : Shown) (others left : List Shown)
+      → answers ≡ keys_of (head ∷ others) ++ keys_of left
+      → All (IsShownAt road layers) (head ∷ others)
+      → EndsFor limits (head ∷ others) left looked.ending → P (head ∷ others))
+      → P looked.matchings
+  by_matchings none some =
+      let found = seen is in
+      let parts = keys_are is ∙ ap keys_of found.all_are
+      ∙ map-append (λ (one : Shown). one.key) looked.matchings found.left in
+      by_cases looked.matchings found.left parts (each is) found.ends
+    where
+      by_cases : (matchings left : List Shown) → answers ≡ keys_of matchings ++ keys_of left
+          → All (IsShownAt road layers) matchings
+          → EndsFor limits matchings left looked.ending → P matchings
+      by_cases [] left parts all ends = none
+      by_cases (head ∷ others) left parts all ends = some head others left parts all ends
 
 module _ (one_matched : OneMatched) (one_route : OneRoute) where
   pub unique_is_close : UniqueIsClose
   unique_is_close limits road layers answers looked first one were unique is_first is_one within =
-      let found = seen were.is_looked in
-      by_matchings looked.matchings looked.ending found.left (parts_are were.is_looked) (each were.is_looked) found.ends unique
-    where
-      by_matchings : (matchings : List Shown) (ending : Ending) (left : List Shown) → answers ≡ keys_of matchings ++ keys_of left
-          → All (IsShownAt road layers) matchings → EndsFor limits matchings left ending
-          → verdict_by (length matchings) (length (listed_of limits matchings)) ending ≡ verdict.Unique → AreClose limits one first
-      by_matchings [] ending left keys_are each ends is_unique = absurd (cc)
-      by_matchings (head ∷ others) ending left keys_are each ends is_unique =
-          subst (λ (f : Shown). one.key.total ≤ f.key.total + limits.within → AreClose limits one f)
-          (first_is one_matched one_route limits road layers answers were.sound were.keys.rise head others left keys_are each first is_first)
-          (unique_law one_matched one_route limits road layers answers were.sound were.keys.rise head others left keys_are each ending ends is_unique one is_one) within
+      by_matchings were.is_looked
+      (λ (m : List Shown).
+      verdict_by (length m) (length (listed_of limits m)) looked.ending ≡ verdict.Unique
+      → AreClose limits one first) (λ is. absurd (cc))
+      (λ head others left parts all ends is.
+      subst (λ (f : Shown). one.key.total ≤ f.key.total + limits.within → AreClose limits one f)
+      (first_is one_matched one_route were head others left parts all first is_first)
+      (unique_law one_matched one_route were head others left parts all looked.ending ends is one
+      is_one) within) unique
 
   pub ambiguous_is_elsewhere : AmbiguousIsElsewhere
   ambiguous_is_elsewhere limits road layers answers looked first were ambiguous is_first =
-      by_matchings looked.matchings looked.ending (seen were.is_looked).left (parts_are were.is_looked) (each were.is_looked) ambiguous
-    where
-      by_matchings : (matchings : List Shown) (ending : Ending) (left : List Shown) → answers ≡ keys_of matchings ++ keys_of left
-          → All (IsShownAt road layers) matchings → verdict_by (length matchings) (length (listed_of limits matchings)) ending ≡ verdict.Ambiguous
-          → (other : Shown) × IsElsewhere limits road layers answers matchings first other
-      by_matchings [] ending left keys_are each is_ambiguous = absurd (cc)
-      by_matchings (head ∷ others) ending left keys_are each is_ambiguous =
-          subst (λ (f : Shown). (other : Shown) × IsElsewhere limits road layers answers (head ∷ others) f other)
-          (first_is one_matched one_route limits road layers answers were.sound were.keys.rise head others left keys_are each first is_first)
-          (ambiguous_law one_matched one_route limits road layers answers were.sound were.keys.rise head others left keys_are each
-          (ambiguous_is _ ending (sym (by_listed (length (head ∷ others)) (length (listed_of limits (head ∷ others))) ending (omega arith)) ∙ is_ambiguous)))
+      by_matchings were.is_looked
+      (λ (m : List Shown).
+      verdict_by (length m) (length (listed_of limits m)) looked.ending ≡ verdict.Ambiguous
+      → (other : Shown) × IsElsewhere limits road layers answers m first other)
+      (λ is. absurd (cc))
+      (λ head others left parts all ends is.
+      subst (λ (f : Shown). (other : Shown)
+      × IsElsewhere limits road layers answers (head ∷ others) f other)
+      (first_is one_matched one_route were head others left parts all first is_first)
+      (ambiguous_law one_matched one_route were head others left parts all
+      (ambiguous_is _ looked.ending
+      (sym (by_listed (length (head ∷ others)) (length (listed_of limits (head ∷ others)))
+      looked.ending (omega arith)) ∙ is)))) ambiguous
 
   pub margin_is_of_nearest : MarginIsOfNearest
   margin_is_of_nearest limits road layers answers looked first were is_first =
-      by_matchings looked.matchings (seen were.is_looked).left (parts_are were.is_looked) (each were.is_looked)
-    where
-      by_matchings : (matchings left : List Shown) → answers ≡ keys_of matchings ++ keys_of left → All (IsShownAt road layers) matchings
-          → MatchOption (margin_of limits matchings) (All (λ (one : Shown). AreClose limits one first) matchings)
-          (IsMargin limits road layers answers matchings first)
-      by_matchings [] left keys_are each = All-nil (λ (one : Shown). AreClose limits one first)
-      by_matchings (head ∷ others) left keys_are each =
-          subst (λ (f : Shown). MatchOption (margin_of limits (head ∷ others)) (All (λ (one : Shown). AreClose limits one f) (head ∷ others))
-          (IsMargin limits road layers answers (head ∷ others) f))
-          (first_is one_matched one_route limits road layers answers were.sound were.keys.rise head others left keys_are each first is_first)
-          (margin_law one_matched one_route limits road layers answers were.sound were.keys.rise head others left keys_are each)
+      by_matchings were.is_looked
+      (λ (m : List Shown). MatchOption (margin_of limits m)
+      (All (λ (one : Shown). AreClose limits one first) m)
+      (IsMargin limits road layers answers m first))
+      (All-nil (λ (one : Shown). AreClose limits one first))
+      (λ head others left parts all ends.
+      subst (λ (f : Shown). MatchOption (margin_of limits (head ∷ others))
+      (All (λ (one : Shown). AreClose limits one f) (head ∷ others))
+      (IsMargin limits road layers answers (head ∷ others) f))
+      (first_is one_matched one_route were head others left parts all first is_first)
+      (margin_law one_matched one_route were head others left parts all))

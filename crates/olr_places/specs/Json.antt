@@ -1,4 +1,5 @@
--- The JSON of places, as a value: each member of an object under its name, in the order of the names. All numbers are whole; gaps are in penalty points.
+-- The JSON of places, as a value: each member of an object under its name, in the order of the
+-- names. All numbers are whole; gaps are in penalty points.
 use Rattle.std.specs.Prelude.{ℕ, ◌+◌, List, [], ◌∷◌, length, None, codes}
 use Rattle.serde_json.specs.Data.{Data, string, array, object, no_members, member}
 use Rattle.serde_json.specs.View.{items_of}
@@ -24,11 +25,14 @@ place_objects limits matchings index (opener ∷ openers) =
     place_object (gap_of matchings opener.key) (members_of limits matchings index) opener
     ∷ place_objects limits matchings (index + 1) openers
 
--- How many matchings were looked at, the margin, the cursor after which looking would go on, the places that are listed, and the verdict.
+-- How many matchings were looked at, the margin, the cursor after which looking would go on, the
+-- places that are listed, and the verdict.
 abbrev pub places_object : PlaceLimits → Looked → Data
 places_object limits looked = object (
     member (codes "looked") (whole (length looked.matchings)) (
     member (codes "margin") (whole_or_null (margin_of limits looked.matchings)) (
     member (codes "next") (next_value (next_of looked) None) (
-    member (codes "places") (array (items_of (place_objects limits looked.matchings 0 (listed_of limits looked.matchings)))) (
+    member (codes "places")
+    (array (items_of (place_objects limits looked.matchings 0
+    (listed_of limits looked.matchings)))) (
     member (codes "verdict") (string (verdict_word (verdict_of limits looked))) no_members)))))

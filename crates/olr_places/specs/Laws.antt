@@ -7,11 +7,13 @@ use Rattle.olr_places.specs.Closeness.{Ground, IsClose, is_close, line}
 
 -- the number that is computed from pieces is what they miss
 abbrev pub MissingIsComputed : Type 0
-MissingIsComputed = (part other : List Piece) → IsMissing (steps_of part) (steps_of other) (missing_of part other)
+MissingIsComputed = (part other : List Piece)
+    → IsMissing (steps_of part) (steps_of other) (missing_of part other)
 
 -- the test holds exactly for matchings that are close
 abbrev pub TestsCloseness : Type 0
-TestsCloseness = (apart : ℕ) (one other : Ground) → Decides (is_close apart one other) (IsClose apart one other)
+TestsCloseness = (apart : ℕ) (one other : Ground)
+    → Decides (is_close apart one other) (IsClose apart one other)
 
 -- of two matchings each is close to the other, or none is
 abbrev pub IsSymmetric : Type 0
@@ -23,9 +25,11 @@ IsReflexive = (apart : ℕ) (one : Ground) → IsClose apart one one
 
 -- matchings that are close are also close where they may be further apart
 abbrev pub CloseStaysClose : Type 0
-CloseStaysClose = (less apart : ℕ) (one other : Ground) → less ≤ apart → IsClose less one other → IsClose apart one other
+CloseStaysClose = (less apart : ℕ) (one other : Ground) → less ≤ apart → IsClose less one other
+    → IsClose apart one other
 
--- two matchings of a line that may be 0 apart are close exactly where their outer parts have the same steps
+-- two matchings of a line that may be 0 apart are close exactly where their outer parts have the
+-- same steps
 abbrev pub CloseAtZero : Type 0
 CloseAtZero = (one other : List Piece) → IsClose 0 (line one) (line other)
     ↔ ((step : Step) → Contains (steps_of one) step ↔ Contains (steps_of other) step)

@@ -1,9 +1,11 @@
--- How matchings are told apart, and how far they are looked at. The numbers and their ranges are this project's choice.
+-- How matchings are told apart, and how far they are looked at. The numbers and their ranges are
+-- this project's choice.
 use Rattle.std.specs.Prelude.{ℕ, ◌<◌, ◌≤◌}
 use Rattle.olr_places.specs.declared.limits.Number.{Number}
 use Rattle.olr_places.specs.declared.limits.Number.TheVariants.{Apart, Look, Most, Within}
 
--- the least value of each: `apart` in decimetres, `within` in penalty points, `look` in matchings, `most` in places
+-- the least value of each: `apart` in decimetres, `within` in penalty points, `look` in matchings,
+-- `most` in places
 abbrev pub least_of : Number → ℕ
 least_of Apart = 0
 least_of Within = 0
@@ -39,4 +41,5 @@ by_name apart within look most Most = most
 -- the first of them that is out of range
 pub record IsFirstOutOfRange (value_of : Number → ℕ) (number : Number) : Type 0 where
   pub beyond : IsInRange number (value_of number) → ⊥
-  pub before : (other : Number) → order_of other < order_of number → IsInRange other (value_of other)
+  pub before : (other : Number) → order_of other < order_of number
+      → IsInRange other (value_of other)

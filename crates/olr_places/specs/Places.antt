@@ -62,7 +62,8 @@ pub record ArePlacesOf (limits : PlaceLimits) (road : RoadMap) (looked : Looked)
 
 -- the openers lie on lines of the map
 abbrev pub AreOnMap : RoadMap → Places → Type 0
-AreOnMap road places = All (λ (opener : Opener). IsOnMap road (entry_of opener)) places.openers.items
+AreOnMap road places = All (λ (opener : Opener). IsOnMap road (entry_of opener))
+    places.openers.items
 
 -- the verdict, by what is kept
 abbrev pub verdict_in : Places → Verdict

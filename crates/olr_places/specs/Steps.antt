@@ -36,7 +36,8 @@ pub record Stands (limits : PlaceLimits) (road : RoadMap) (before : List Shown) 
   pub counted : AreCounted limits before 0 kept.openers.items
   pub count : kept.looked ≡ length before
   pub last : kept.last ≡ last_of None (keys_of before)
-  pub goes_on : (left : List Shown) → looking limits (before ++ left) ≡ looking_on limits before left
+  pub goes_on : (left : List Shown)
+      → looking limits (before ++ left) ≡ looking_on limits before left
 
 -- the gap of the next matching: its total less that of the first one, which opened the first place
 abbrev pub gap_behind : List Opener → KeyValue → ℕ

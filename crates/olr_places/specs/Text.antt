@@ -1,5 +1,6 @@
--- The text of places: the rows of each one that is listed, how many matchings were looked at, the margin, the verdict, and a last row that says whether
--- looking was cut off. Gaps are in penalty points, positions in decimetres.
+-- The text of places: the rows of each one that is listed, how many matchings were looked at, the
+-- margin, the verdict, and a last row that says whether looking was cut off. Gaps are in penalty
+-- points, positions in decimetres.
 use Rattle.std.specs.Prelude.{ℕ, ◌+◌, List, [], ◌∷◌, ◌++◌, length, Option, None, Some, codes, decimal}
 use Rattle.olr_keys.specs.Cursor.{key_text}
 use Rattle.olr_keys.specs.Key.{KeyValue}
@@ -16,9 +17,12 @@ use Rattle.olr_places.specs.declared.limits.PlaceLimits.{PlaceLimits}
 
 -- ---- a place
 
--- the first row of the place of this number, from 1: the cursor of its opener, its gap, and how many matchings belong to it
+-- the first row of the place of this number, from 1: the cursor of its opener, its gap, and how
+-- many matchings belong to it
 abbrev pub head_row : ℕ → ℕ → ℕ → KeyValue → List ℕ
-head_row number gap members key = codes "place " ++ decimal number ++ codes " matching " ++ key_text key ++ codes " gap " ++ decimal gap
+head_row number gap members key =
+    codes "place " ++ decimal number ++ codes " matching " ++ key_text key ++ codes " gap "
+    ++ decimal gap
     ++ codes " members " ++ decimal members ++ codes "\n"
 
 -- the rows of a place, by its opener: the first one, and the stretch of road
@@ -48,7 +52,9 @@ verdict_word verdict.Open = codes "open"
 
 -- how many matchings were looked at, the margin and the verdict, a row each
 abbrev pub summary_rows : ℕ → Option ℕ → Verdict → List ℕ
-summary_rows count margin word = codes "looked " ++ decimal count ++ codes "\nmargin " ++ margin_text margin ++ codes "\nverdict " ++ verdict_word word ++ codes "\n"
+summary_rows count margin word =
+    codes "looked " ++ decimal count ++ codes "\nmargin " ++ margin_text margin
+    ++ codes "\nverdict " ++ verdict_word word ++ codes "\n"
 
 -- the key after which looking would go on: the last one that was looked at, where it was cut off
 abbrev pub next_after : Ending → Option KeyValue → Option KeyValue
@@ -63,4 +69,5 @@ next_of looked = next_after looked.ending (last_of None (keys_of looked.matching
 abbrev pub places_text : PlaceLimits → Looked → List ℕ
 places_text limits looked =
     all_place_rows limits looked.matchings 0 (listed_of limits looked.matchings)
-    ++ summary_rows (length looked.matchings) (margin_of limits looked.matchings) (verdict_of limits looked) ++ end_row (next_of looked) None
+    ++ summary_rows (length looked.matchings) (margin_of limits looked.matchings)
+    (verdict_of limits looked) ++ end_row (next_of looked) None

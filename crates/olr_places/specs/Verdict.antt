@@ -11,7 +11,8 @@ use Rattle.olr_places.specs.declared.limits.PlaceLimits.{PlaceLimits}
 -- the gap of the second place, listed or not; none where no second one was looked at
 abbrev pub margin_of : PlaceLimits → List Shown → Option ℕ
 margin_of limits matchings =
-    option_map (λ (one : Shown). gap_of matchings one.key) (slice_get (openers_of limits matchings) 1)
+    option_map (λ (one : Shown). gap_of matchings one.key)
+    (slice_get (openers_of limits matchings) 1)
 
 -- the verdict of one place, by why looking ended: a further one may lie behind where looking was
 -- cut off

@@ -12,8 +12,8 @@ use Rattle.olr_places.specs.Verdict.{margin_of, verdict_of}
 use Rattle.olr_places.specs.declared.ending.Verdict.TheVariants as verdict
 use Rattle.olr_places.specs.declared.limits.PlaceLimits.{PlaceLimits}
 
--- Looking at the matchings of a reference on a map gives one value at most, by the limits and by the
--- keys of the matchings.
+-- Looking at the matchings of a reference on a map gives one value at most, by the limits and by
+-- the keys of the matchings.
 abbrev pub OneLooking : Type 0
 OneLooking = (limits : PlaceLimits) (road : RoadMap) (layers : LayersValue)
     (answers : List KeyValue) (looked other : Looked) → IsSoundMap road
@@ -47,8 +47,8 @@ OpenersAreApart = (limits : PlaceLimits) (matchings : List Shown)
 
 -- ---- verdicts and margins, by all matchings of a reference
 
--- All matchings of a reference on a map were looked at in order, by their keys, as far as the limits
--- say.
+-- All matchings of a reference on a map were looked at in order, by their keys, as far as the
+-- limits say.
 pub record WereLookedAt (limits : PlaceLimits) (road : RoadMap) (layers : LayersValue)
     (answers : List KeyValue) (looked : Looked) : Type 0 where
   pub sound : IsSoundMap road
@@ -73,7 +73,8 @@ NoneWithoutMatching = (limits : PlaceLimits) (road : RoadMap) (layers : LayersVa
     (answers : List KeyValue) (looked : Looked) → IsLooked limits road layers answers looked
     → (verdict_of limits looked ≡ verdict.None) ↔ (answers ≡ [])
 
--- `unique` only where each matching whose gap is at most what is asked for is close to the first one
+-- `unique` only where each matching whose gap is at most what is asked for is close to the first
+-- one
 abbrev pub UniqueIsClose : Type 0
 UniqueIsClose = (limits : PlaceLimits) (road : RoadMap) (layers : LayersValue)
     (answers : List KeyValue) (looked : Looked) (first one : Shown)
@@ -81,8 +82,8 @@ UniqueIsClose = (limits : PlaceLimits) (road : RoadMap) (layers : LayersValue)
     → IsFirstOf road layers answers first → IsOneOf road layers answers one
     → one.key.total ≤ first.key.total + limits.within → AreClose limits one first
 
--- a matching whose place is listed, whose gap is at most what is asked for, and which isn't close to
--- the first one
+-- a matching whose place is listed, whose gap is at most what is asked for, and which isn't close
+-- to the first one
 pub record IsElsewhere (limits : PlaceLimits) (road : RoadMap) (layers : LayersValue)
     (answers : List KeyValue) (matchings : List Shown) (first other : Shown) : Type 0 where
   pub is_one : IsOneOf road layers answers other

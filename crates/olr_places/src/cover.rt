@@ -89,8 +89,10 @@ fn stretch_on(pieces: &[Piece], line: u32, at: u32, end: u32) -> Stretch
 impl Cover {
     /// The pieces of a part.
     pub(crate) fn new(alloc: Global, part: &[Piece]) -> Result<Cover, NoMemory>
-        ensures rises { IfOk result (λ cover. IsNonDecreasingBy (λ (piece : Piece). piece.line) cover.pieces.items) }
-        ensures same { IfOk result (λ cover. (step : Step) → covers cover.pieces.items step ≡ covers part.now step) }
+        ensures rises { IfOk result (λ cover.
+            IsNonDecreasingBy (λ (piece : Piece). piece.line) cover.pieces.items) }
+        ensures same { IfOk result (λ cover.
+            (step : Step) → covers cover.pieces.items step ≡ covers part.now step) }
     {
         let mut pieces = Vec::from_slice(alloc, part)?;
         pieces.sort_unstable_by_key(|piece| piece.line);

@@ -80,7 +80,8 @@ impl Matchings<'_> {
         requires reference { self.now.layers.now.reference ≡ self.now.reference.now }
         requires is_reference { IsReference self.now.reference.now }
         requires keys { All (IsKey self.now.layers.now.penalties) keys.now }
-        requires all { AllZip (IsMatchedBy self.now.map.now self.now.layers.now) keys.now all.items }
+        requires all { AllZip (IsMatchedBy self.now.map.now self.now.layers.now) keys.now
+            all.items }
         requires count { looking.old.looked + length keys.now ≤ limits.now.look }
         requires openers { All (IsOpenerAt self.now.map.now self.now.layers.now)
             looking.old.openers.items }

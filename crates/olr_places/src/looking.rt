@@ -102,7 +102,8 @@ impl Looking {
         requires count { self.old.looked < limits.now.look }
         requires itself { opener.members ≡ 1 }
         ensures looks { IfOk result (LooksAt limits.now self.old self.new opener) }
-        ensures counts { IfOk result (λ ending. IfNone ending (self.new.looked ≡ self.old.looked + 1)) }
+        ensures counts { IfOk result (λ ending.
+            IfNone ending (self.new.looked ≡ self.old.looked + 1)) }
         ensures openers { (road : RoadMap) (layers : LayersValue)
             → All (IsOpenerAt road layers) self.old.openers.items → IsOpenerAt road layers opener
             → OnOk result (All (IsOpenerAt road layers) self.new.openers.items) }

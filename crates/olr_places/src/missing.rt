@@ -32,7 +32,8 @@ fn run_behind(cover: &Cover, piece: &Piece, before: u64, most: u32) -> Option<u6
         ((rest : List Step) → nat_le (longest_run (covers cover.now.pieces.items) before
         (steps_in piece.now ++ rest)) most ≡ false)
         (λ run. (run ≤ most) × ((rest : List Step)
-        → nat_le (longest_run (covers cover.now.pieces.items) before (steps_in piece.now ++ rest)) most
+        → nat_le (longest_run (covers cover.now.pieces.items) before
+        (steps_in piece.now ++ rest)) most
         ≡ nat_le (longest_run (covers cover.now.pieces.items) run rest) most)) }
 {
     let mut run = before;
@@ -80,8 +81,10 @@ fn run_past<'a>(
     ensures { MatchOption result
         ((rest : List Step) → nat_le (longest_run (covers cover.now.pieces.items) before
         (steps_in piece.now ++ rest)) most ≡ false)
-        (λ past. (past.0 ≤ most) × AreCovered cover.now.pieces.items past.1.now × ((rest : List Step)
-        → nat_le (longest_run (covers cover.now.pieces.items) before (steps_in piece.now ++ rest)) most
+        (λ past. (past.0 ≤ most) × AreCovered cover.now.pieces.items past.1.now
+        × ((rest : List Step)
+        → nat_le (longest_run (covers cover.now.pieces.items) before
+        (steps_in piece.now ++ rest)) most
         ≡ nat_le (longest_run (covers cover.now.pieces.items) past.0 rest) most)) }
 {
     if piece.from < piece.to {

@@ -42,9 +42,10 @@ pub(crate) fn place_of(openers: &[Opener], opener: &Opener, limits: &PlaceLimits
     ensures inside { IfSome result (λ index. index < length openers.now) }
     ensures place { (road : RoadMap) → MatchOption result
         (belongs limits.now (map (shown_by road) openers.now) (shown_by road opener.now) ≡ false)
-        (λ index.
-        (belongs limits.now (map (shown_by road) openers.now) (shown_by road opener.now) ≡ true)
-        × (place_of limits.now (map (shown_by road) openers.now) (shown_by road opener.now) ≡ index)) }
+        (λ index. (belongs limits.now (map (shown_by road) openers.now)
+        (shown_by road opener.now) ≡ true)
+        × (place_of limits.now (map (shown_by road) openers.now) (shown_by road opener.now)
+        ≡ index)) }
 {
     for (index, one) in openers.iter().enumerate() {
         if opener.extent.is_close(&one.extent, limits.apart) {

@@ -6,7 +6,8 @@ use Rattle.olr_places.proofs.Outputs.{object_is}
 use Rattle.olr_places.proofs.json.places_json.Goals as goal
 
 pub to_json_line-requires-clause-no_float : goal.to_json_line-requires-clause-no_float
-to_json_line-requires-clause-no_float c = let plain = object_plain c.args.map.now c.args.places in plain.no_float
+to_json_line-requires-clause-no_float c = let plain = object_plain c.args.map.now c.args.places in
+    plain.no_float
 
 pub to_json_line-requires-clause-shallow : goal.to_json_line-requires-clause-shallow
 to_json_line-requires-clause-shallow c =
@@ -15,4 +16,5 @@ to_json_line-requires-clause-shallow c =
 
 pub returns : goal.returns
 returns c = λ limits looked are.
-    subst (λ (value : Data). IsJsonLine value (string_bytes c.in_ok-text.text)) (object_is are) c.in_ok-text.ensures
+    subst (λ (value : Data). IsJsonLine value (string_bytes c.in_ok-text.text)) (object_is are)
+    c.in_ok-text.ensures

@@ -13,10 +13,14 @@ returns-then-run-from c = λ rest.
     let to = c.args.piece.now.to in
     let line = c.args.piece.now.line in
     c.loop-at.invariant.1 rest
-    ∙ next_stretch covered c.args.most c.loop-at.run line at end to rest c.stretch-stretch.result.is_covered c.loop-at.invariant.0
-    c.stretch-stretch.ensures.forwards.0 c.stretch-stretch.ensures.forwards.1 c.stretch-stretch.ensures.alike
-    ∙ ap (λ (run : ℕ). Within covered c.args.most run (stretch line end (to - end) ++ rest)) (sym c.run_after-run.ensures)
-    ∙ too_long covered c.args.most c.run_after-run.result (stretch line end (to - end) ++ rest) (omega (arith, c.if-run-from.true, c.from.ensures))
+    ∙ next_stretch covered c.args.most c.loop-at.run line at end to rest
+    c.stretch-stretch.result.is_covered c.loop-at.invariant.0
+    c.stretch-stretch.ensures.forwards.0 c.stretch-stretch.ensures.forwards.1
+    c.stretch-stretch.ensures.alike
+    ∙ ap (λ (run : ℕ). Within covered c.args.most run (stretch line end (to - end) ++ rest))
+    (sym c.run_after-run.ensures)
+    ∙ too_long covered c.args.most c.run_after-run.result (stretch line end (to - end) ++ rest)
+    (omega arith)
 
 pub loop-at-preserved : goal.loop-at-preserved
 loop-at-preserved c =
@@ -25,10 +29,13 @@ loop-at-preserved c =
     let end = c.stretch-stretch.result.end in
     let to = c.args.piece.now.to in
     let line = c.args.piece.now.line in (
-      omega (arith, c.if-run-from.false, c.from.ensures),
+      omega arith,
       λ rest.
           c.loop-at.invariant.1 rest
-          ∙ next_stretch covered c.args.most c.loop-at.run line at end to rest c.stretch-stretch.result.is_covered c.loop-at.invariant.0
-          c.stretch-stretch.ensures.forwards.0 c.stretch-stretch.ensures.forwards.1 c.stretch-stretch.ensures.alike
-          ∙ ap (λ (run : ℕ). Within covered c.args.most run (stretch line end (to - end) ++ rest)) (sym c.run_after-run.ensures),
+          ∙ next_stretch covered c.args.most c.loop-at.run line at end to rest
+          c.stretch-stretch.result.is_covered c.loop-at.invariant.0
+          c.stretch-stretch.ensures.forwards.0 c.stretch-stretch.ensures.forwards.1
+          c.stretch-stretch.ensures.alike
+          ∙ ap (λ (run : ℕ). Within covered c.args.most run (stretch line end (to - end) ++ rest))
+          (sym c.run_after-run.ensures),
     )

@@ -11,7 +11,9 @@ returns-in-Some c =
       omega arith,
       λ other inside. c.requires.covered other (c.in-Some.ensures.1 other inside),
       λ rest.
-          next_alike (covers c.args.cover.now.pieces.items) c.args.most c.args.before piece.line piece.from (piece.to - piece.from) rest true
-          c.requires.at_most (omega (arith, c.if-piece.true))
-          (piece_covered c.args.cover.now.pieces.items c.args.ahead.now piece c.requires.covered there (omega (arith, c.if-piece.true))),
+          next_alike (covers c.args.cover.now.pieces.items) c.args.most c.args.before piece.line
+          piece.from (piece.to - piece.from) rest true
+          c.requires.at_most (omega arith)
+          (piece_covered c.args.cover.now.pieces.items c.args.ahead.now piece c.requires.covered
+          there (omega arith)),
     )

@@ -8,16 +8,22 @@ use Rattle.olr_places.proofs.opener.place_of.Goals as goal
 
 pub returns-then-is_close-clause-place : goal.returns-then-is_close-clause-place
 returns-then-is_close-clause-place c = λ road.
-    first_at (shown_by road) (is_close_to c.args.limits.now (shown_by road c.args.opener.now)) c.args.openers.now c.loop-index.index c.index-openers-index.result
-    c.loop-index-test.true c.index-openers-index.is (c.loop-index.invariant road) (sym c.is_close.ensures.value ∙ c.if-is_close.true)
+    first_at (shown_by road) (is_close_to c.args.limits.now (shown_by road c.args.opener.now))
+    c.args.openers.now c.loop-index.index c.index-openers-index.result
+    c.loop-index-test.true c.index-openers-index.is (c.loop-index.invariant road)
+    (sym c.is_close.ensures.value ∙ c.if-is_close.true)
 
 pub loop-index-preserved : goal.loop-index-preserved
 loop-index-preserved c = λ road.
-    let test : Opener → Bool = λ (one : Opener). is_close_to c.args.limits.now (shown_by road c.args.opener.now) (shown_by road one) in
-    All-more (λ (one : Opener). test one ≡ false) c.args.openers.now c.loop-index.index c.index-openers-index.result c.loop-index-test.true
-    (c.loop-index.invariant road) (sym (ap test c.index-openers-index.is) ∙ sym c.is_close.ensures.value ∙ c.if-is_close.false)
+    let test : Opener → Bool = λ (one : Opener). is_close_to c.args.limits.now
+    (shown_by road c.args.opener.now) (shown_by road one) in
+    All-more (λ (one : Opener). test one ≡ false) c.args.openers.now c.loop-index.index
+    c.index-openers-index.result c.loop-index-test.true
+    (c.loop-index.invariant road) (sym (ap test c.index-openers-index.is)
+    ∙ sym c.is_close.ensures.value ∙ c.if-is_close.false)
 
 pub returns-clause-place : goal.returns-clause-place
 returns-clause-place c = λ road.
-    none_at (shown_by road) (is_close_to c.args.limits.now (shown_by road c.args.opener.now)) c.args.openers.now c.loop-index.index
-    (omega (arith, c.loop-index-test.false)) (c.loop-index.invariant road)
+    none_at _ _
+    c.args.openers.now c.loop-index.index
+    (omega arith) (c.loop-index.invariant road)

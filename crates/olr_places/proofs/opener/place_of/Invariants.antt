@@ -7,4 +7,5 @@ use Rattle.olr_places.proofs.opener.place_of.Given as goal
 
 abbrev pub invariant-loop-index : goal.invariant-loop-index
 invariant-loop-index l = (road : RoadMap)
-    → All (λ (one : Opener). is_close_to l.limits (shown_by road l.opener) (shown_by road one) ≡ false) (take l.index l.openers)
+    → All (λ (one : Opener). is_close_to l.limits (shown_by road l.opener) (shown_by road one)
+    ≡ false) (take l.index l.openers)

@@ -8,4 +8,5 @@ pub returns-clause-unique : goal.returns-clause-unique
 returns-clause-unique c = unique_is_close c.one_matched.ensures c.one_route_of_steps.ensures
 
 pub returns-clause-ambiguous : goal.returns-clause-ambiguous
-returns-clause-ambiguous c = ambiguous_is_elsewhere c.one_matched.ensures c.one_route_of_steps.ensures
+returns-clause-ambiguous c = ambiguous_is_elsewhere c.one_matched.ensures
+    c.one_route_of_steps.ensures

@@ -6,7 +6,8 @@ use Rattle.olr_places.proofs.cover.Cover.new.Goals as goal
 
 pub returns-clause-rises : goal.returns-clause-rises
 returns-clause-rises c =
-    IsNonDecreasingBy-from_sort_by_key (λ (piece : Piece). piece.line) _ c.sort_unstable_by_key.ensures.sorted (λ a r q k. search rules)
+    IsNonDecreasingBy-from_sort_by_key (λ (piece : Piece). piece.line) _
+    c.sort_unstable_by_key.ensures.sorted (λ a r q k. search rules)
 
 pub returns-clause-same : goal.returns-clause-same
 returns-clause-same c = λ step.

@@ -9,7 +9,8 @@ returns-clause-entry c =
     let layers = c.args.self.now.layers.now in
     let shown =
     c.sound_parts_can_be_shown.ensures road layers.reference c.args.matched
-    (c.matchings_are_sound.ensures road layers c.args.key.now c.args.matched c.sound.ensures c.requires.layers c.requires.key c.requires.matched) in
+    (c.matchings_are_sound.ensures road layers c.args.key.now c.args.matched c.sound.ensures
+    c.requires.layers c.requires.key c.requires.matched) in
     let is = c.in_ok-route.ensures.on_map road shown.on_map in
     record {
       is_entry = search rules;

@@ -17,9 +17,13 @@ returns g c =
     let looked = c.in_ok-send_member.ensures in
     let margin = c.in_ok-send_member-2.ensures in
     let next = subst (λ (value : Data). SendsMember (codes "next") value after_margin after_next)
-    (same_next _ c.next_cursor-next.result c.next.result _ None c.next_cursor-next.ensures c.next.ensures) c.in_ok-send_member-3.ensures in
-    let verdict = subst (λ (word : List ℕ). SendsMember (codes "verdict") (string word) after_places after_verdict)
-    (c.word.ensures ∙ ap verdict_word c.verdict-verdict.ensures.value) c.in_ok-send_member-5.ensures in
+    (same_next _ _ c.next.result _ None c.next_cursor-next.ensures
+    c.next.ensures) c.in_ok-send_member-3.ensures in
+    let verdict =
+    subst (λ (word : List ℕ). SendsMember (codes "verdict") (string word) after_places
+    after_verdict)
+    (c.word.ensures ∙ ap verdict_word c.verdict-verdict.ensures.value)
+    c.in_ok-send_member-5.ensures in
     on_ok_weaker c.end_map.result (λ ended.
     let openers = c.in_ok-send_member-4.ensures in (
       written c.begin_map.new.self,

@@ -1,25 +1,25 @@
-use Rattle.std.proofs.Common.{◌≡◌, ◌<◌, ◌≤◌, ℕ, List, ◌∷◌, [], ◌++◌, false, length, map, All, ap, sym, ◌∙◌, arith, Some, None, refl, ◌==◌}
+use Rattle.std.proofs.Common.{◌≡◌, ◌<◌, ◌≤◌, List, ◌∷◌, [], ◌++◌, false, length, ap, ◌∙◌, arith, Some, ◌==◌}
 use Rattle.std.proofs.lemmas.Bool.{eq-eqb, le-leb, le-ltb, lt-ltb, ne_eqb}
 use Rattle.std.proofs.lemmas.List.{length-map}
 use Rattle.std.proofs.lemmas.List.Elements.{All-push}
 use Rattle.olr_map.specs.RoadMap.{RoadMap}
-use Rattle.olr_places.specs.Looking.{belongs, gap_of}
+use Rattle.olr_places.specs.Looking.{gap_of}
 use Rattle.olr_places.specs.Places.{IsOpenerAt, shown_by}
 use Rattle.olr_places.specs.Shown.{Shown}
-use Rattle.olr_places.specs.Steps.{LooksAt, Stands, gap_behind, one_more_at, with_gap}
-use Rattle.olr_places.specs.declared.ending.Ending.TheVariants.{Beyond, Cut}
+use Rattle.olr_places.specs.Steps.{Stands, gap_behind, with_gap}
 use Rattle.olr_places.specs.declared.limits.PlaceLimits.{PlaceLimits}
 use Rattle.olr_places.specs.declared.looking.Looking.{Looking}
 use Rattle.olr_places.specs.declared.opener.Opener.{Opener}
 use Rattle.olr_places.proofs.LookSteps.{beyond_ends, full_ends, gap_at_first, more_kept, stands_with_member, stands_with_opener}
 use Rattle.olr_places.proofs.looking.Looking.look_at.Goals as goal
 
-module _ {limits : PlaceLimits} {road : RoadMap} {before : List Shown} {old : Looking} (count : old.looked < limits.look) (stands : Stands limits road before old) where
+module _ {limits : PlaceLimits} {road : RoadMap} {before : List Shown} {old : Looking}
+    (count : old.looked < limits.look) (stands : Stands limits road before old) where
   more_left : (length before == limits.look) ≡ false
-  more_left = ne_eqb (length before) limits.look (λ same. omega (arith, same, count, stands.count))
+  more_left = ne_eqb (length before) limits.look (λ same. omega arith)
 
   few : length before < 4294967295
-  few = omega (arith, count, stands.count, limits.look_in_range.greatest)
+  few = omega arith
 
   gap_is : (opener : Opener) → gap_behind old.openers.items opener.key ≡ gap_of before opener.key
   gap_is opener = gap_at_first limits road before old.openers.items opener.key stands.openers
@@ -27,48 +27,83 @@ module _ {limits : PlaceLimits} {road : RoadMap} {before : List Shown} {old : Lo
 pub returns-in-Some-clause-looks : goal.returns-in-Some-clause-looks
 returns-in-Some-clause-looks c = λ road before stands.
     let found = rw (c.deref.ensures.value, stands.openers) at (c.in-Some.ensures.place road) in
-    stands_with_member stands (shown_by road c.args.opener) (more_left c.requires.count stands) found.0 (few c.requires.count stands) c.count.new.self c.in-Some.index
-    found.1 (ap (λ v. v.items) c.count.ensures.openers ∙ c.add_member.ensures) c.count.ensures.count c.count.ensures.last
+    stands_with_member stands (shown_by road c.args.opener) (more_left c.requires.count stands)
+    found.0 (few c.requires.count stands) c.count.new.self c.in-Some.index
+    found.1 (ap (λ v. v.items) c.count.ensures.openers ∙ c.add_member.ensures) c.count.ensures.count
+    c.count.ensures.last
 
 pub returns-in-Some-clause-openers : goal.returns-in-Some-clause-openers
 returns-in-Some-clause-openers c = λ road layers all here.
     rw (c.count.ensures.openers, c.add_member.ensures)
-    (more_kept (IsOpenerAt road layers) (λ opener members is. record { is_entry = is.is_entry; on_map = is.on_map }) c.in-Some.index c.args.self.now.openers.items all)
+    (more_kept (IsOpenerAt road layers)
+    (λ opener members is. record { is_entry = is.is_entry; on_map = is.on_map }) c.in-Some.index
+    c.args.self.now.openers.items all)
 
 pub returns-then-gap-limits-clause-looks : goal.returns-then-gap-limits-clause-looks
 returns-then-gap-limits-clause-looks c = λ road before stands.
-    let gap = c.gap_behind-gap.ensures ∙ ap (λ (l : List Opener). gap_behind l c.args.opener.key) c.deref-2.ensures.value ∙ gap_is c.requires.count stands c.args.opener in
+    let gap = c.gap_behind-gap.ensures
+    ∙ ap (λ (l : List Opener). gap_behind l c.args.opener.key) c.deref-2.ensures.value
+    ∙ gap_is c.requires.count stands c.args.opener in
     let new = rw (c.deref.ensures.value, stands.openers) at (c.in_default.ensures.place road) in
-    let far : c.args.limits.now.within < gap_of before c.args.opener.key = omega (arith, gap, c.if-gap-limits.true) in
+    let far : c.args.limits.now.within < gap_of before c.args.opener.key =
+    omega arith in
     rw gap
-    (beyond_ends stands (shown_by road c.args.opener) (more_left c.requires.count stands) new far c.count-then-gap-limits.new.self
-    (lt-ltb c.args.limits.now.within (gap_of before c.args.opener.key) far) c.count-then-gap-limits.ensures.openers c.count-then-gap-limits.ensures.count
+    (beyond_ends stands (shown_by road c.args.opener) (more_left c.requires.count stands) new far
+    c.count-then-gap-limits.new.self
+    (lt-ltb c.args.limits.now.within (gap_of before c.args.opener.key) far)
+    c.count-then-gap-limits.ensures.openers c.count-then-gap-limits.ensures.count
     c.count-then-gap-limits.ensures.last)
 
 pub returns-then-len-limits-clause-looks : goal.returns-then-len-limits-clause-looks
 returns-then-len-limits-clause-looks c = λ road before stands.
-    let gap = c.gap_behind-gap.ensures ∙ ap (λ (l : List Opener). gap_behind l c.args.opener.key) c.deref-2.ensures.value ∙ gap_is c.requires.count stands c.args.opener in
+    let gap = c.gap_behind-gap.ensures
+    ∙ ap (λ (l : List Opener). gap_behind l c.args.opener.key) c.deref-2.ensures.value
+    ∙ gap_is c.requires.count stands c.args.opener in
     let new = rw (c.deref.ensures.value, stands.openers) at (c.in_default.ensures.place road) in
     full_ends stands (shown_by road c.args.opener) (more_left c.requires.count stands) new
-    (le-ltb c.args.limits.now.within (gap_of before c.args.opener.key) (omega (arith, gap, c.if-gap-limits.false)))
+    (le-ltb c.args.limits.now.within (gap_of before c.args.opener.key)
+    (omega arith))
     (eq-eqb _ c.args.limits.now.most
-    (omega (arith, c.len.ensures, c.if-len-limits.true, length-map c.args.self.now.openers.items (shown_by road), ap (λ (l : List Shown). length l) stands.openers)))
+    (omega (
+      arith,
+      length-map c.args.self.now.openers.items
+          (shown_by road),
+      ap (λ (l : List Shown). length l) stands.openers,
+    )))
 
 pub returns-clause-looks : goal.returns-clause-looks
 returns-clause-looks c = λ road before stands.
-    let gap = c.gap_behind-gap.ensures ∙ ap (λ (l : List Opener). gap_behind l c.args.opener.key) c.deref-2.ensures.value ∙ gap_is c.requires.count stands c.args.opener in
+    let gap = c.gap_behind-gap.ensures
+    ∙ ap (λ (l : List Opener). gap_behind l c.args.opener.key) c.deref-2.ensures.value
+    ∙ gap_is c.requires.count stands c.args.opener in
     let new = rw (c.deref.ensures.value, stands.openers) at (c.in_default.ensures.place road) in
-    let near : gap_of before c.args.opener.key ≤ c.args.limits.now.within = omega (arith, gap, c.if-gap-limits.false) in
-    stands_with_opener stands (shown_by road c.args.opener) (more_left c.requires.count stands) new c.with_gap.result
-    (ap (shown_by road) c.with_gap.ensures) (ap (λ (o : Opener). o.gap) c.with_gap.ensures ∙ gap) (ap (λ (o : Opener). o.members) c.with_gap.ensures ∙ c.requires.itself)
-    (record { openers = c.push.new.self; looked = c.count-2.new.self.looked; last = c.count-2.new.self.last })
-    (le-ltb c.args.limits.now.within (gap_of before c.args.opener.key) near) (le-leb (gap_of before c.args.opener.key) c.args.limits.now.within near)
+    let near : gap_of before c.args.opener.key ≤ c.args.limits.now.within =
+    omega arith in
+    stands_with_opener stands (shown_by road c.args.opener) (more_left c.requires.count stands) new
+    c.with_gap.result
+    (ap (shown_by road) c.with_gap.ensures) (ap (λ (o : Opener). o.gap) c.with_gap.ensures ∙ gap)
+    (ap (λ (o : Opener). o.members) c.with_gap.ensures ∙ c.requires.itself)
+    (record {
+      openers = c.push.new.self;
+      looked = c.count-2.new.self.looked;
+      last =
+          c.count-2.new.self.last;
+    })
+    (le-ltb c.args.limits.now.within (gap_of before c.args.opener.key) near)
+    (le-leb (gap_of before c.args.opener.key) c.args.limits.now.within near)
     (ne_eqb _ c.args.limits.now.most
-    (λ full. c.if-len-limits.false (omega (arith, c.len.ensures, full, length-map c.args.self.now.openers.items (shown_by road), ap (λ (l : List Shown). length l) stands.openers))))
-    (c.in_ok-push.ensures.items ∙ ap (λ v. v.items ++ c.with_gap.result ∷ []) c.count-2.ensures.openers) c.count-2.ensures.count
+    (λ full. c.if-len-limits.false (omega (
+      arith,
+      length-map c.args.self.now.openers.items (shown_by road),
+      ap
+          (λ (l : List Shown). length l) stands.openers,
+    ))))
+    (c.in_ok-push.ensures.items ∙ ap (λ v. v.items ++ c.with_gap.result ∷ [])
+    c.count-2.ensures.openers) c.count-2.ensures.count
     (c.count-2.ensures.last ∙ ap (λ k. Some k) c.in_ok-copy_of.ensures)
 
 pub returns-clause-openers : goal.returns-clause-openers
 returns-clause-openers c = λ road layers all here.
     rw (c.in_ok-push.ensures.items, c.count-2.ensures.openers, c.with_gap.ensures)
-    (All-push (IsOpenerAt road layers) c.args.self.now.openers.items _ all (record { is_entry = here.is_entry; on_map = here.on_map }))
+    (All-push (IsOpenerAt road layers) c.args.self.now.openers.items _ all
+    (record { is_entry = here.is_entry; on_map = here.on_map }))
