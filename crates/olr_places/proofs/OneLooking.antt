@@ -15,7 +15,7 @@ use Rattle.olr_keys.specs.Key.{KeyValue}
 use Rattle.olr_keys.specs.Page.{last_of}
 use Rattle.olr_map.specs.RoadMap.{IsSoundMap, RoadMap}
 use Rattle.olr_matching.specs.Layers.{LayersValue}
-use Rattle.olr_matching.specs.Matched.{IsSameMatched, OneMatched}
+use Rattle.olr_matching.specs.Matched.{OneMatched}
 use Rattle.olr_matching.specs.declared.matched.Leg.{Leg}
 use Rattle.olr_matching.specs.declared.matched.Matched.{Matched}
 use Rattle.olr_route.specs.declared.piece.Piece.{Piece}
@@ -38,7 +38,6 @@ use Rattle.olr_places.specs.declared.ending.Ending.{Ending}
 use Rattle.olr_places.specs.declared.ending.Ending.TheVariants.{Beyond, Cut, NoMore}
 use Rattle.olr_places.specs.declared.ending.Verdict.{Verdict}
 use Rattle.olr_places.specs.declared.limits.PlaceLimits.{PlaceLimits}
-use Rattle.olr_report.proofs.SameParts.{location_of_same, same_leg_objects, same_steps}
 use Rattle.olr_places.proofs.Looks.{LooksAt, OpensOn, at_member, at_opener, ended}
 
 -- ---- the location of a reference on legs
@@ -91,13 +90,6 @@ module _ (one_route : OneRoute) (road : RoadMap) where
 
 -- ---- the matching of a key
 
-same_parts : (road : RoadMap) (key : KeyValue) (a b : Matched) (route : List Piece) (located : Located) → IsSameMatched a b
-    → matching_object road key a route located ≡ matching_object road key b route located
-same_parts road key a b route (LocatedLine outer inner) same =
-    let legs = same_leg_objects a.legs.items b.legs.items same.same_legs in rw (same.same_candidates, legs) refl
-same_parts road key a b route (LocatedPoint earliest latest) same =
-    let legs = same_leg_objects a.legs.items b.legs.items same.same_legs in rw (same.same_candidates, legs) refl
-
 -- two matchings have the same key, cover the same ground, and are shown alike
 pub record IsAlike (road : RoadMap) (a b : Entry) : Type 0 where
   pub key : a.key ≡ b.key
@@ -108,20 +100,15 @@ pub record IsAlike (road : RoadMap) (a b : Entry) : Type 0 where
 pub one_entry : OneMatched → OneRoute → (road : RoadMap) (layers : LayersValue) (key : KeyValue) (a b : Entry) → IsSoundMap road
     → IsEntryAt road layers key a → IsEntryAt road layers key b → IsAlike road a b
 one_entry one_matched one_route road layers key a b sound is is' =
-    let parts = one_matched road layers key a.matched b.matched sound is.parts is'.parts in
+    let parts : a.matched ≡ b.matched = one_matched road layers key a.matched b.matched sound is.parts is'.parts in
     let keys : a.key ≡ b.key = is.key_is ∙ sym is'.key_is in
-    let route : IsRouteOver (steps_of_legs b.matched.legs.items) a.route = subst (λ (steps : List Step). IsRouteOver steps a.route)
-    (same_steps a.matched.legs.items b.matched.legs.items parts.same_legs) is.is_entry.route in
-    let routes : a.route ≡ b.route = one_route (steps_of_legs b.matched.legs.items) a.route b.route route is'.is_entry.route in
-    let located = one_located one_route road b.matched.legs.items layers.reference a.located b.located
-    (location_of_same a.matched.legs.items b.matched.legs.items parts.same_legs layers.reference a.located is.is_entry.location) is'.is_entry.location in record {
+    let routes : a.route ≡ b.route = one_route (steps_of_legs b.matched.legs) a.route b.route (rw parts at is.is_entry.route) is'.is_entry.route in
+    let located = one_located one_route road b.matched.legs layers.reference a.located b.located (rw parts at is.is_entry.location)
+    is'.is_entry.location in record {
       key = keys;
       ground = located.ground;
       rows = located.rows;
-      object =
-          ap (λ (k : KeyValue). matching_object road k a.matched a.route a.located) keys
-          ∙ same_parts road b.key a.matched b.matched a.route a.located parts
-          ∙ ap (λ (r : List Piece). matching_object road b.key b.matched r a.located) routes ∙ located.objects b.key b.matched b.route;
+      object = rw (keys, parts, routes) (located.objects b.key b.matched b.route);
     }
 
 -- ---- what is shown, by its values

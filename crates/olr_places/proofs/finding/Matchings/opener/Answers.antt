@@ -12,7 +12,7 @@ returns-clause-on_map c =
     (c.matchings_are_sound.ensures road layers c.args.key.now c.args.matched c.sound.ensures c.requires.layers c.requires.key c.requires.matched) in
     let is = c.in_ok-route.ensures.on_map road shown.on_map in
     record {
-      matched = shown.on_map;
+      matched = rw c.matched.view_is shown.on_map;
       route = is.route;
       located = subst (λ (l : Located). HasLocation road l) (sym c.in_ok-new.ensures) is.located;
     }
