@@ -12,11 +12,5 @@ greatest_at_most tolerances next = grind (arith, tolerances.percent_in_range.gre
 pub one_length : (road : RoadMap) (class : ℕ) (from to : Place) (a b : ℕ) → IsLeastLength road class from to a
     → IsLeastLength road class from to b
     → a ≡ b
-one_length road class from to a b one other = omega (
-  arith,
-  one.least other.behind other.is,
-  other.least one.behind
-      one.is,
-  one.long,
-  other.long,
-)
+one_length road class from to a b one other = omega (arith, one.least other.behind other.is, other.least one.behind
+      one.is)

@@ -21,7 +21,7 @@ cut_once byte [] (d ∷ v) s t lacks other same = let first : d ≡ byte = cc in
 cut_once byte (c ∷ u) [] s t lacks other same = let first : c ≡ byte = cc in absurd (lacks.0 first)
 cut_once byte (c ∷ u) (d ∷ v) s t lacks other same =
     let rest : u ++ byte ∷ s ≡ v ++ byte ∷ t = cc in
-    let deeper = cut_once byte u v s t lacks.1 other.1 rest in
+    let deeper = cut_once _ u v s t lacks.1 other.1 rest in
     let first : c ≡ d = cc in
     record { front = cc; rest = deeper.rest }
 
@@ -41,7 +41,7 @@ digits_lack byte (c ∷ text) low digits =
 
 -- a number has digits alone
 decimal_lacks : (byte n : ℕ) → byte < 48 → n < 2 ^ 64 → Lacks byte (decimal n)
-decimal_lacks byte n low small = digits_lack byte (decimal n) low (decimal_is_IsNumeral n small).0.1
+decimal_lacks byte n low small = digits_lack _ _ low (decimal_is_IsNumeral n small).0.1
 
 -- two numbers, and what follows a byte behind each
 pub record SameNumber (m n : ℕ) (s t : List ℕ) : Type 0 where
@@ -50,5 +50,5 @@ pub record SameNumber (m n : ℕ) (s t : List ℕ) : Type 0 where
 
 pub number_once : (byte m n : ℕ) (s t : List ℕ) → byte < 48 → m < 2 ^ 64 → n < 2 ^ 64 → decimal m ++ byte ∷ s ≡ decimal n ++ byte ∷ t → SameNumber m n s t
 number_once byte m n s t low small other same =
-    let cut = cut_once byte (decimal m) (decimal n) s t (decimal_lacks byte m low small) (decimal_lacks byte n low other) same in
+    let cut = cut_once _ _ _ s t (decimal_lacks _ m low small) (decimal_lacks _ n low other) same in
     record { number = decimal_injective m n small other cut.front; rest = cut.rest }

@@ -16,12 +16,12 @@ remainder : (n : ℕ) → n % 256 < 256
 remainder n = omega arith
 
 below : (count word : ℕ) → IsByte (byte_at count word)
-below zero word = remainder word
-below (suc count) word = remainder (word / 256 ^ suc count)
+below zero word = remainder _
+below (suc count) word = remainder _
 
 word_is_bytes : (count word : ℕ) → All IsByte (bytes_high_first count word)
 word_is_bytes zero word = All-nil IsByte
-word_is_bytes (suc count) word = All-cons IsByte (byte_at count word) (bytes_high_first count word) (below count word) (word_is_bytes count word)
+word_is_bytes (suc count) word = All-cons IsByte (byte_at _ _) (bytes_high_first count word) (below _ word) (word_is_bytes count word)
 
 digest_is_bytes : (words : List ℕ) (count : ℕ) → All IsByte (digest_bytes words count)
 unfolding digest_bytes
@@ -30,10 +30,10 @@ digest_is_bytes words (suc count) = All-append IsByte (digest_bytes words count)
 
 sha256_is_bytes : (message : List ℕ) → All IsByte (sha256 message)
 unfolding sha256
-sha256_is_bytes message = digest_is_bytes (final_hash initial_hash_256 message) 8
+sha256_is_bytes message = digest_is_bytes _ 8
 
 pub fingerprint_is_mark : (text : List ℕ) (tolerances : Tolerances) (road : RoadMap) (mark : Mark) → IsFingerprint text tolerances road mark → IsMark mark
 fingerprint_is_mark text tolerances road mark is = record {
-  count = ap (λ (bytes : List ℕ). length bytes) is ∙ length-sha256 (fingerprinted_text text tolerances road);
-  bytes = subst (λ (bytes : List ℕ). All IsByte bytes) (sym is) (sha256_is_bytes (fingerprinted_text text tolerances road));
+  count = ap length is ∙ length-sha256 (fingerprinted_text text tolerances road);
+  bytes = rw (sym is) at (sha256_is_bytes (fingerprinted_text text tolerances road));
 }

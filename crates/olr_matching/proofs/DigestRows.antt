@@ -9,5 +9,5 @@ use Rattle.olr_matching.specs.Digest.{Extends}
 pub extended_more : (start before after : Sha256) (rows : List (List ℕ)) (number : ℕ) → number < length rows → Extends start before (concat (take number rows))
     → Extends before after (get_or rows number []) → Extends start after (concat (take (number + 1) rows))
 extended_more start before after rows number inside first then = λ held holds.
-    rw (← row_more rows number inside, ← append_assoc held (concat (take number rows)) (get_or rows number []))
+    rw (← row_more _ _ inside, ← append_assoc held (concat (take number rows)) (get_or rows number []))
     (then (held ++ concat (take number rows)) (first held holds))

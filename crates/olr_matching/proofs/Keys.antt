@@ -15,7 +15,7 @@ use Rattle.olr_matching.proofs.Points.{leads_on}
 -- the ranks lead through all layers
 pub ranks_count : (p : Penalties) (layer : ℕ) (before : Option ℕ) (ranks : List ℕ) (total : ℕ) → IsCompletion p layer before ranks total
     → layer + length ranks ≡ length p.candidates
-ranks_count p layer before [] total way = omega (arith, way.0)
+ranks_count p layer before [] total way = omega arith
 ranks_count p layer before (rank ∷ ranks) total (leg, penalty, rest, joined, there, behind, sum) =
     omega (arith, ranks_count p (layer + 1) (Some rank) ranks rest behind)
 
@@ -24,13 +24,13 @@ pub penalty_of_rank : (p : Penalties) (layer : ℕ) (before : Option ℕ) (ranks
     → (k rank : ℕ) → slice_get ranks k ≡ Some rank → (penalty : ℕ) × (penalty_at p (layer + k) rank ≡ Some penalty)
 penalty_of_rank p layer before [] total way k rank is = absurd cc
 penalty_of_rank p layer before (here ∷ ranks) total (leg, penalty, rest, joined, there, behind, sum) zero rank is =
-    let same : here ≡ rank = same_Some here rank is in (
+    let same = same_Some here _ is in (
       penalty,
-      subst (λ (n : ℕ). penalty_at p n rank ≡ Some penalty) {x = layer} (omega arith)
-          (subst (λ (r : ℕ). penalty_at p layer r ≡ Some penalty) same there),
+      subst (λ n. penalty_at p n rank ≡ Some penalty) {x = layer} (omega arith)
+          (rw same at there),
     )
 penalty_of_rank p layer before (here ∷ ranks) total (leg, penalty, rest, joined, there, behind, sum) (suc k) rank is =
-    subst (λ (n : ℕ). (penalty : ℕ) × (penalty_at p n rank ≡ Some penalty)) {x = layer + 1 + k} (omega arith)
+    subst (λ n. (penalty : ℕ) × (penalty_at p n rank ≡ Some penalty)) {x = layer + 1 + k} (omega arith)
     (penalty_of_rank p (layer + 1) (Some here) ranks rest behind k rank is)
 
 -- and each two neighbours have the penalty of a leg
@@ -48,15 +48,15 @@ penalty_of_leg p layer before (here ∷ next ∷ ranks) total (
   (leg', penalty', rest', joined', there', behind', sum'),
   sum,
 ) zero first second is then =
-    let one : here ≡ first = same_Some here first is in
-    let other : next ≡ second = same_Some next second then in (
+    let one = same_Some here _ is in
+    let other = same_Some next second then in (
       leg',
-      subst (λ (n : ℕ). leg_at p n first second ≡ Some leg') {x = layer + 1} (omega arith) (
+      subst (λ n. leg_at p n first second ≡ Some leg') {x = layer + 1} (omega arith) (
           subst (λ (r : ℕ). leg_at p (layer + 1) first r ≡ Some leg') other (
           subst (λ (r : ℕ). leg_at p (layer + 1) r next ≡ Some leg') one joined')),
     )
 penalty_of_leg p layer before (here ∷ next ∷ ranks) total (leg, penalty, rest, joined, there, behind, sum) (suc k) first second is then =
-    subst (λ (n : ℕ). (leg : ℕ) × (leg_at p n first second ≡ Some leg)) {x = layer + 1 + k + 1} (omega arith)
+    subst (λ n. (leg : ℕ) × (leg_at p n first second ≡ Some leg)) {x = layer + 1 + k + 1} (omega arith)
     (penalty_of_leg p (layer + 1) (Some here) (next ∷ ranks) rest behind k first second is then)
 
 -- ---- the layers
@@ -73,12 +73,12 @@ pub candidate_of_penalty : (layers : LayersValue) (layer rank penalty : ℕ) →
 candidate_of_penalty layers layer zero penalty same is = absurd cc
 candidate_of_penalty layers layer (suc index) penalty same is =
     let here = slice_index_or layers.candidates layer [] in
-    let there : slice_get (penalties_of here) index ≡ Some penalty =
-    ap (λ (l : List ℕ). slice_get l index) (sym (layer_is layers.penalties layers.candidates layer same)) ∙ is in
-    let found = mapped_some (λ (c : Candidate). c.penalty) (slice_get here index) penalty
-    (sym (slice_get-map (λ (c : Candidate). c.penalty) here index) ∙ there) in (
+    let there =
+    ap (λ l. slice_get l index) (sym (layer_is layers.penalties _ _ same)) ∙ is in
+    let found = mapped_some _ _ _
+    (sym (slice_get-map (λ c. c.penalty) here _) ∙ there) in (
       found.0,
-      (omega arith, subst (λ (n : ℕ). slice_get here n ≡ Some found.0) {x = index} (omega arith) found.1),
+      (omega arith, subst (λ n. slice_get here n ≡ Some found.0) {x = index} (omega arith) found.1),
       found.2,
     )
 

@@ -16,13 +16,13 @@ use Rattle.olr_route.specs.Walk.{IsWalk, length_at, piece_length, pieces_from, w
 -- the penalties of a layer, from those of all
 pub layer_is : (penalties : Penalties) (lists : List (List Candidate)) (layer : ℕ) → penalties.candidates ≡ map penalties_of lists
     → slice_index_or penalties.candidates layer [] ≡ penalties_of (get_or lists layer [])
-layer_is penalties lists layer is = ap (λ (candidates : List (List ℕ)). get_or candidates layer []) is ∙ map_at penalties_of lists layer []
+layer_is penalties lists layer is = ap (λ candidates. get_or candidates layer []) is ∙ map_at penalties_of lists layer []
 
 -- how many candidates a layer has
 pub count_is : (penalties : Penalties) (lists : List (List Candidate)) (layer : ℕ) → penalties.candidates ≡ map penalties_of lists
     → count_of penalties layer ≡ length (get_or lists layer [])
 count_is penalties lists layer is =
-    ap (λ (l : List ℕ). length l) (layer_is penalties lists layer is) ∙ length-map (get_or lists layer []) (λ (candidate : Candidate). candidate.penalty)
+    ap length (layer_is penalties _ _ is) ∙ length-map (get_or lists layer []) (λ candidate. candidate.penalty)
 
 -- the table has the layers
 pub layers_count : {road : RoadMap} {layers : LayersValue} → AreLayersOn road layers
@@ -31,8 +31,8 @@ layers_count {layers} are = rw are.penalties (length-map layers.candidates penal
 
 pub penalties_are : PenaltiesAreOfCandidates
 penalties_are road layers layer index are =
-    rw (add-one, layer_is layers.penalties layers.candidates layer are.penalties)
-    (slice_get-map (λ (candidate : Candidate). candidate.penalty) (get_or layers.candidates layer []) index)
+    rw (add-one, layer_is layers.penalties _ _ are.penalties)
+    (slice_get-map (λ candidate. candidate.penalty) (get_or layers.candidates layer []) index)
 
 -- the penalty of a length that a leg admits
 penalty_from : (road : RoadMap) (tolerances : Tolerances) (next : Next) (from to : Place) (length : Option ℕ)
@@ -62,16 +62,14 @@ pub leg_of_ranks : (road : RoadMap) (layers : LayersValue) (layer first second :
     → IsAdmittedPenalty road layers.tolerances next from.place to.place
     (leg_at layers.penalties (layer + 1) first second)
 leg_of_ranks road layers layer first second next from to are leads first_is second_is =
-    subst (IsAdmittedPenalty road layers.tolerances next from.place to.place)
-    (sym (leg_is layers.penalties layers.candidates layer first second (get_or layers.lengths layer []) next
-    are.penalties (are.legs layer next leads)))
-    (penalty_from road layers.tolerances next from.place to.place _
+    rw (sym (leg_is layers.penalties layers.candidates layer first second (get_or layers.lengths layer []) next
+    are.penalties (are.legs layer next leads))) at (penalty_from road layers.tolerances next from.place to.place _
     (are.lengths layer next (first - 1) (second - 1) from to leads first_is second_is))
 
 pub legs_are : LegsAreAdmitted
 legs_are road layers layer next first second from to are leads first_is second_is =
     let back : (n : ℕ) → n + 1 - 1 ≡ n = λ n. omega arith in
-    leg_of_ranks road layers layer (first + 1) (second + 1) next from to are leads (rw (back first) first_is)
+    leg_of_ranks _ _ _ _ (second + 1) next from to are leads (rw (back first) first_is)
     (rw (back second) second_is)
 
 -- ---- lengths
@@ -81,12 +79,12 @@ positive : (road : RoadMap) (class : ℕ) (from to : Place) (behind : List ℕ) 
     → 1 ≤ walk_length road from to behind
 positive road class from to [] departure walk = omega (arith, walk.forwards refl, sum_by-cons piece_length (record { line = from.line; from = from.at; to = to.at }) [])
 positive road class from to (next ∷ behind) departure walk =
-    let whole : length_at road from.line ≡ departure.line.length = ap (λ o. unwrap_or (option_map (λ (line : RoadLine). line.length) o) 0) departure.at_rank in
+    let whole = ap (λ o. unwrap_or (option_map (λ line. line.length) o) 0) departure.at_rank in
     let first : Piece = record { line = from.line; from = from.at; to = length_at road from.line } in
-    omega (arith, whole, departure.before_end, sum_by-cons piece_length first (pieces_from road next 0 behind to.at))
+    omega (arith, sum_by-cons piece_length first (pieces_from road next 0 behind to.at))
 
 pub in_range : AdmittedLengthsAreInRange
 in_range road tolerances next from to length departure admitted = (
-  omega (arith, admitted.is_least.long, positive road _ from to admitted.is_least.behind departure admitted.is_least.is),
-  omega (arith, admitted.at_most, greatest_at_most tolerances next),
+  omega (arith, positive road _ from to admitted.is_least.behind departure admitted.is_least.is),
+  omega (arith, greatest_at_most tolerances next),
 )

@@ -22,10 +22,10 @@ push_leg road layers ranks legs pushed leg layer count is they here =
     let P : ℕ → Leg → Type 0 = λ layer leg. (first second : ℕ) → slice_get ranks layer ≡ Some first → slice_get ranks (layer + 1) ≡ Some second
     → IsLegOfPair road layers layer first second leg in
     let last : P layer leg = λ first second is_first is_second.
-    subst (λ (n : ℕ). IsLegOfPair road layers layer first n leg) (get_or_from_slice_get ranks (layer + 1) second 0 is_second) (
+    rw (get_or_from_slice_get ranks (layer + 1) second 0 is_second) at (
     subst (λ (n : ℕ). IsLegOfPair road layers layer n (slice_index_or ranks (layer + 1) 0) leg) (get_or_from_slice_get ranks layer first 0 is_first)
     here) in
-    subst (λ (l : List Leg). AreFirstLegs road layers ranks l) (sym is) (push_each P legs leg they (subst (λ (n : ℕ). P n leg) (sym count) last))
+    rw (sym is) at (push_each P legs leg they (subst (λ (n : ℕ). P n leg) (sym count) last))
 
 -- the candidate of a rank is that of the pair
 leg_at : (road : RoadMap) (layers : LayersValue) (ranks : List ℕ) (chosen : List Candidate) (legs : List Leg)
@@ -63,9 +63,9 @@ pub are_parts : (road : RoadMap) (layers : LayersValue) (key : KeyValue) (ranks 
     → AreCandidatesAt layers.candidates ranks matched.candidates → length matched.legs + 1 ≡ length ranks
     → AreFirstLegs road layers ranks matched.legs → IsMatchedBy road layers key matched
 are_parts road layers key ranks matched same candidates count legs = record {
-  candidates = subst (λ (l : List ℕ). AreCandidatesAt layers.candidates l matched.candidates) same candidates;
+  candidates = rw same at candidates;
   legs = record {
     count = count ∙ sym candidates.count;
-    each = leg_at road layers ranks matched.candidates matched.legs count candidates legs;
+    each = leg_at _ _ _ _ _ count candidates legs;
   };
 }

@@ -13,19 +13,19 @@ use Rattle.olr_route.specs.Sharing.{LeadOnAlike, Serves}
 
 -- a search that serves a place serves each place that a search from there serves
 pub serves_on : (road : RoadMap) (class : ℕ) (a b c : Place) → Serves road class a b → Serves road class b c → Serves road class a c
-serves_on road class a b c (inl same) other = subst (λ (p : Place). Serves road class p c) (sym same) other
+serves_on road class a b c (inl same) other = rw (sym same) at other
 serves_on road class a b c (inr alike) (inl same) = subst (λ (p : Place). Serves road class a p) same (inr alike)
 serves_on road class a b c (inr (alike, nearer)) (inr (other, farther)) =
-    let line : alike.another.line ≡ other.one.line =
-    same_some (slice_get road.lines b.line) alike.another.line other.one.line alike.another.at other.one.at in
+    let line =
+    same_some _ _ _ alike.another.at other.one.at in
     let both : LeadOnAlike road class a.line c.line = record {
       one = alike.one;
       another = other.another;
-      meets = alike.meets ∙ ap (λ (l : RoadLine). l.to) line ∙ other.meets;
+      meets = alike.meets ∙ ap (λ l. l.to) line ∙ other.meets;
       free = alike.free;
       other_free = other.other_free;
     } in
-    inr (both, omega (arith, nearer, farther))
+    inr (both, omega arith)
 
 -- what the list of candidates is read with past its end
 abbrev pub no_candidate : Candidate
@@ -45,22 +45,20 @@ module _ (road : RoadMap) (tolerances : Tolerances) (next : Next) (seconds : Lis
       → AreLengthsBetween road tolerances next firsts seconds lengths → AreLengthsTo road tolerances next first.place seconds row
       → AreLengthsBetween road tolerances next (firsts ++ first ∷ []) seconds (lengths ++ row)
   one_more_row firsts first lengths row so_far more =
-      let width : ℕ = length seconds in
-      let product : length (firsts ++ first ∷ []) * width ≡ (length firsts + 1) * width = ap (λ (n : ℕ). n * width) (length-append firsts (first ∷ [])) in
+      let width = length seconds in
+      let product = ap (λ n. n * width) (length-append firsts (first ∷ [])) in
       record {
-        pairs = omega (arith, length-append lengths row, so_far.pairs, more.count, product, add-mul (length firsts) 1 width, one-mul width);
+        pairs = omega (arith, length-append lengths row, add-mul (length firsts) 1 width, one-mul width);
         each = λ index second from to from_is to_is.
             let Has : Candidate → Option ℕ → Type 0 = λ at length. IsAdmittedLength road tolerances next at.place to.place length in
-            let column : second < width = slice_get_within seconds second to to_is in
-            push_each (λ k at. Has at (get_or (lengths ++ row) (k * width + second) None)) firsts first
+            let column = slice_get_within seconds second to to_is in
+            push_each _ _ _
             (λ k at is. subst (Has at)
             (sym (get_or_append_left lengths row None (k * width + second)
-            (omega (arith, so_far.pairs, row_below k second width (length firsts) (slice_get_within firsts k at is) column))))
+            (omega (arith, row_below k second width (length firsts) (slice_get_within firsts k at is) column))))
             (so_far.each k second at to is to_is))
-            (subst (Has first)
-            (sym (ap (λ (n : ℕ). get_or (lengths ++ row) (n + second) None) (sym so_far.pairs) ∙ get_or-append-add lengths row second None))
-            (more.each second to to_is))
-            index from from_is;
+            (rw (sym (ap (λ (n : ℕ). get_or (lengths ++ row) (n + second) None) (sym so_far.pairs) ∙ get_or-append-add lengths row second None)) at (more.each second to to_is))
+            _ _ from_is;
       }
 
 -- one length more of a row
@@ -70,11 +68,10 @@ pub one_more_length : (road : RoadMap) (tolerances : Tolerances) (next : Next) (
 one_more_length road tolerances next from seconds second row found so_far here =
     let Has : Candidate → Option ℕ → Type 0 = λ to length. IsAdmittedLength road tolerances next from to.place length in
     record {
-      count = omega (arith, length-append seconds (second ∷ []), length-append row (found ∷ []), so_far.count);
-      each = push_each (λ k to. Has to (get_or (row ++ found ∷ []) k None)) seconds second
-          (λ k to is. subst (Has to)
-          (sym (get_or_append_left row (found ∷ []) None k (omega (arith, so_far.count, slice_get_within seconds k to is)))) (so_far.each k to is))
-          (subst (Has second) (sym (get_or_at row found [] None (length seconds) so_far.count)) here);
+      count = omega (arith, length-append seconds (second ∷ []), length-append row (found ∷ []));
+      each = push_each _ _ _
+          (λ k to is. rw (sym (get_or_append_left row (found ∷ []) None k (omega (arith, so_far.count, slice_get_within seconds k to is)))) at (so_far.each k to is))
+          (rw (sym (get_or_at row found [] None (length seconds) so_far.count)) at here);
     }
 
 -- the lengths of a leg, between the candidates of its points
@@ -88,7 +85,7 @@ lengths_of_leg road tolerances reference candidates layer leg lengths is they ne
       is.tolerances_are,
       is.firsts_are,
       is.seconds_are,
-      one_next reference layer leg.next next
+      one_next _ _ _ _
           is.leads_on leads,
     ) at they
 
@@ -97,5 +94,4 @@ lengths_of_leg road tolerances reference candidates layer leg lengths is they ne
 -- what holds of the place of each
 pub all_of_places : (P : Place → Type 0) (candidates : List Candidate) → All P (places_of candidates) → All (λ (candidate : Candidate). P candidate.place) candidates
 all_of_places P candidates they = λ k d inside.
-    subst P (get_or-map (λ (candidate : Candidate). candidate.place) candidates k d d.place inside)
-    (they k d.place (omega (arith, inside, length-map candidates (λ (candidate : Candidate). candidate.place))))
+    rw (get_or-map (λ (candidate : Candidate). candidate.place) candidates k d d.place inside) at (they k d.place (omega (arith, inside, length-map candidates (λ (candidate : Candidate). candidate.place))))

@@ -17,7 +17,7 @@ pub list_inside : {X : Type 0} (lists : List (List X)) (index k : ℕ) (x : X) �
 list_inside {X} lists index k x is = elim (cases_lt index (length lists)) [
   | inl inside ↦ inside
   | inr outside ↦
-      let none : ◌≡◌ {A = Option X} None (Some x) = ap (λ (l : List X). slice_get l k) (sym (get_or-eq_default lists [] {n = index} outside)) ∙ is in
+      let none = ap (λ l. slice_get l k) (sym (get_or-eq_default lists [] {n = index} outside)) ∙ is in
       absurd cc
 ]
 
@@ -29,27 +29,27 @@ by_index [] (y ∷ ys) count each = absurd (omega arith)
 by_index (x ∷ xs) [] count each = absurd (omega arith)
 by_index (x ∷ xs) (y ∷ ys) count each =
     let first = each 0 x y refl refl in
-    let rest = by_index xs ys (omega arith) (λ k. each (suc k)) in
+    let rest = by_index _ _ (omega arith) (λ k. each (suc k)) in
     λ i. first i ∷ rest i
 
 -- what holds of all holds of the one at an index
 pub all_at : {X : Type 0} (P : X → Type 0) (xs : List X) (k : ℕ) (x : X) → All P xs → slice_get xs k ≡ Some x → P x
-all_at P xs k x all is = subst P (get_or_from_slice_get xs k x x is) (all k x (slice_get_within xs k x is))
+all_at P xs k x all is = rw (get_or_from_slice_get xs k x x is) at (all k x (slice_get_within xs k x is))
 
 -- what holds of each by its index holds of one more
 pub push_each : {X : Type 0} (P : ℕ → X → Type 0) (xs : List X) (x : X) → ((k : ℕ) (y : X) → slice_get xs k ≡ Some y → P k y) → P (length xs) x
     → (k : ℕ) (y : X) → slice_get (xs ++ x ∷ []) k ≡ Some y → P k y
 push_each P xs x each here k y is =
-    let inside : k < length (xs ++ x ∷ []) = slice_get_within (xs ++ x ∷ []) k y is in
-    let there : slice_index_or (xs ++ x ∷ []) k y ≡ y = get_or_from_slice_get (xs ++ x ∷ []) k y y is in
+    let inside = slice_get_within (xs ++ x ∷ []) k y is in
+    let there = get_or_from_slice_get _ k y y is in
     elim (cases_lt k (length xs)) [
       | inl before ↦
-          let same : slice_index_or xs k y ≡ y = sym (get_or_append_left xs (x ∷ []) y k before) ∙ there in
-          each k y (slice_get-get_or xs k y before ∙ ap Some same)
+          let same = sym (get_or_append_left xs (x ∷ []) y k before) ∙ there in
+          each k y (slice_get-get_or _ k y before ∙ ap Some same)
       | inr last ↦
           let at : length xs ≡ k = omega (arith, length-append xs (x ∷ [])) in
-          let same : x ≡ y = sym (get_or_at xs x [] y k at) ∙ there in
-          subst (λ (n : ℕ). P n y) at (subst (P (length xs)) same here)
+          let same = sym (get_or_at xs x [] y k at) ∙ there in
+          rw at at (subst (P (length xs)) same here)
     ]
 
 -- ---- two lists, element by element
@@ -58,8 +58,7 @@ pub zip_more : {X Y : Type 0} (R : X → Y → Type 0) (xs : List X) (ys : List 
     → x ≡ slice_index_or xs index x
     → AllZip R (take index xs) ys → R x y → AllZip R (take (index + 1) xs) (ys ++ y ∷ [])
 zip_more {X} {Y} R xs ys index x y inside is they holds =
-    subst (λ (l : List X). AllZip R l (ys ++ y ∷ [])) (ap (λ (e : X). take index xs ++ e ∷ []) is ∙ sym (take_more xs index x inside))
-    (zip_push R (take index xs) ys x y they holds)
+    rw (ap (λ (e : X). take index xs ++ e ∷ []) is ∙ sym (take_more xs index x inside)) at (zip_push R (take index xs) ys x y they holds)
 
 -- a list of so many elements, of each of which this holds by its index
 abbrev pub HoldsOfAll : {B : Type 0} → (ℕ → B → Type 0) → B → ℕ → List B → Type 0
@@ -69,10 +68,9 @@ HoldsOfAll P d count xs = (length xs ≡ count) × ((k : ℕ) → k < count → 
 pub holds_of_one_more : {B : Type 0} (P : ℕ → B → Type 0) (d : B) (count : ℕ) (xs : List B) (y : B)
     → HoldsOfAll P d count xs → P count y → HoldsOfAll P d (count + 1) (xs ++ y ∷ [])
 holds_of_one_more {B} P d count xs y so_far here =
-    let more : List B = xs ++ y ∷ [] in
+    let more = xs ++ y ∷ [] in
     let earlier : (k : ℕ) → k < count → P k (get_or more k d) =
-    λ k below. subst (λ (x : B). P k x) (sym (get_or_append_left xs (y ∷ []) d k (omega (arith, so_far.0, below)))) (so_far.1 k below) in
-    let last : P count (get_or more count d) =
-    subst (λ (n : ℕ). P n (get_or more n d)) so_far.0
-    (subst (λ (x : B). P (length xs) x) (sym (get_or-append_seam xs y [] d)) (subst (λ (n : ℕ). P n y) (sym so_far.0) here)) in
-    (omega (arith, length-append xs (y ∷ []), so_far.0), below_more (λ k. P k (get_or more k d)) count earlier last)
+    λ k below. rw (sym (get_or_append_left xs (y ∷ []) d k (omega (arith, so_far.0, below)))) at (so_far.1 k below) in
+    let last =
+    rw so_far.0 at (subst (λ (x : B). P (length xs) x) (sym (get_or-append_seam xs y [] d)) (subst (λ (n : ℕ). P n y) (sym so_far.0) here)) in
+    (omega (arith, length-append xs (y ∷ [])), below_more (λ k. P k (get_or more k d)) count earlier last)

@@ -17,7 +17,7 @@ same_candidates : {candidates : List (List Candidate)} {ranks : List ℕ} {a b :
     → AreCandidatesAt candidates ranks b → a ≡ b
 same_candidates {ranks} {a} one other = by_index _ _ (one.count ∙ sym other.count) λ k x y is_x is_y.
     let rank = slice_index_or ranks k 0 in
-    let is = slice_get-get_or ranks k 0 (omega (arith, slice_get_within a k x is_x)) in
+    let is = slice_get-get_or _ k 0 (omega (arith, slice_get_within a k x is_x)) in
     same_some _ x y (one.each k rank x is is_x).1 (other.each k rank y is is_y).1
 
 module _ (law : OneRoute) {road : RoadMap} (map : IsSoundMap road) where

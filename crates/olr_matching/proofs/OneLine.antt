@@ -17,8 +17,8 @@ has_none byte (c ∷ text) = cond (nat_eq c byte) false (has_none byte text)
 
 differs : (byte c : ℕ) (rest : Bool) → cond (nat_eq c byte) false rest ≡ true → c ≡ byte → ⊥
 differs byte c rest test same =
-    let hit : nat_eq c byte ≡ true = eq-eqb c byte same in
-    let broken : false ≡ true = subst (λ (b : Bool). cond b false rest ≡ true) hit test in
+    let hit = eq-eqb c byte same in
+    let broken = rw hit at test in
     absurd cc
 
 behind : (hit rest : Bool) → cond hit false rest ≡ true → rest ≡ true
@@ -27,7 +27,7 @@ behind false rest test = test
 
 lacks_from_test : (byte : ℕ) (text : List ℕ) → has_none byte text ≡ true → Lacks byte text
 lacks_from_test byte [] test = tt
-lacks_from_test byte (c ∷ text) test = (differs byte c (has_none byte text) test, lacks_from_test byte text (behind (nat_eq c byte) (has_none byte text) test))
+lacks_from_test byte (c ∷ text) test = (differs _ c _ test, lacks_from_test _ text (behind (nat_eq c byte) (has_none byte text) test))
 
 not_at : (byte : ℕ) (text : List ℕ) (k : ℕ) → Lacks byte text → k < length text → get_or text k byte ≡ byte → ⊥
 not_at byte [] k lacks inside same = absurd (omega arith)
@@ -40,15 +40,15 @@ not_at byte (c ∷ text) (suc k) lacks inside same = not_at byte text k lacks.1 
 differs_at : (byte : ℕ) (symbols : List ℕ) (k : ℕ) → (0 ≡ byte → ⊥) → Lacks byte symbols → get_or symbols k 0 ≡ byte → ⊥
 differs_at byte [] k none lacks same = none same
 differs_at byte (c ∷ symbols) zero none lacks same = lacks.0 same
-differs_at byte (c ∷ symbols) (suc k) none lacks same = differs_at byte symbols k none lacks.1 same
+differs_at byte (c ∷ symbols) (suc k) none lacks same = differs_at _ symbols k none lacks.1 same
 
 lacks_both : (byte : ℕ) (u v : List ℕ) → Lacks byte u → Lacks byte v → Lacks byte (u ++ v)
 lacks_both byte [] v lacks other = other
-lacks_both byte (c ∷ u) v lacks other = (lacks.0, lacks_both byte u v lacks.1 other)
+lacks_both byte (c ∷ u) v lacks other = (lacks.0, lacks_both _ u v lacks.1 other)
 
 lacks_replicate : (byte c n : ℕ) → (c ≡ byte → ⊥) → Lacks byte (replicate n c)
 lacks_replicate byte c zero differ = tt
-lacks_replicate byte c (suc n) differ = (differ, lacks_replicate byte c n differ)
+lacks_replicate byte c (suc n) differ = (differ, lacks_replicate _ c n differ)
 
 symbols_lack : (byte : ℕ) (t bytes : List ℕ) → ((k : ℕ) → get_or t k 0 ≡ byte → ⊥) → Lacks byte (encode_symbols t bytes)
 unfolding encode_symbols
@@ -63,10 +63,10 @@ standard_lacks = lacks_from_test 10 standard.encode_table refl
 base64_lacks : (text bytes : List ℕ) → IsBase64 text bytes → Lacks 10 text
 base64_lacks text bytes is =
     let table = standard.encode_table in
-    let symbols = symbols_lack 10 table bytes (λ k. differs_at 10 table k (λ e. omega (arith, e)) standard_lacks) in
-    let padding = lacks_replicate 10 61 (padding_len (length bytes)) (λ e. omega (arith, e)) in
+    let symbols = symbols_lack _ _ bytes (λ k. differs_at 10 table k (λ e. omega (arith, e)) standard_lacks) in
+    let padding = lacks_replicate _ _ (padding_len (length bytes)) (λ e. omega (arith, e)) in
     let all = lacks_both 10 (encode_symbols table bytes) (replicate (padding_len (length bytes)) 61) symbols padding in
     subst (λ (l : List ℕ). Lacks 10 l) (sym is.spelling) all
 
 pub text_is_one_line : (text : List ℕ) (reference : Reference) → IsTextOf text reference → IsOneLine (trimmed text)
-text_is_one_line text reference is found = not_at 10 (trimmed text) found.0 (base64_lacks (trimmed text) is.bytes is.base64) found.1 found.2
+text_is_one_line text reference is found = not_at _ _ _ (base64_lacks _ _ is.base64) found.1 found.2

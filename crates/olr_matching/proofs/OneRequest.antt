@@ -29,12 +29,12 @@ record SameNumbers (a b : Tolerances) (more others : List ℕ) : Type 0 where
 numbers_once : (a b : Tolerances) (more others : List ℕ) → numbers_text a more ≡ numbers_text b others → SameNumbers a b more others
 numbers_once a b more others same =
     let space : 32 < 48 = omega arith in
-    let radius = number_once 32 a.radius b.radius _ _ space (omega (arith, a.radius_in_range.greatest)) (omega (arith, b.radius_in_range.greatest)) same in
-    let bearing = number_once 32 a.bearing b.bearing _ _ space (omega (arith, a.bearing_in_range.greatest)) (omega (arith, b.bearing_in_range.greatest)) radius.rest in
-    let class = number_once 32 a.class b.class _ _ space (omega (arith, a.class_in_range.greatest)) (omega (arith, b.class_in_range.greatest)) bearing.rest in
-    let lowest = number_once 32 a.lowest b.lowest _ _ space (omega (arith, a.lowest_in_range.greatest)) (omega (arith, b.lowest_in_range.greatest)) class.rest in
-    let percent = number_once 32 a.percent b.percent _ _ space (omega (arith, a.percent_in_range.greatest)) (omega (arith, b.percent_in_range.greatest)) lowest.rest in
-    let slack = number_once 10 a.slack b.slack more others (omega arith) (omega (arith, a.slack_in_range.greatest)) (omega (arith, b.slack_in_range.greatest)) percent.rest in
+    let radius = number_once _ _ _ _ _ space (omega arith) (omega arith) same in
+    let bearing = number_once _ _ _ _ _ space (omega arith) (omega arith) radius.rest in
+    let class = number_once _ _ _ _ _ space (omega arith) (omega arith) bearing.rest in
+    let lowest = number_once _ _ _ _ _ space (omega arith) (omega arith) class.rest in
+    let percent = number_once _ _ _ _ _ space (omega arith) (omega arith) lowest.rest in
+    let slack = number_once _ _ _ _ _ (omega arith) (omega arith) (omega arith) percent.rest in
     record {
       tolerances = record { radius = radius.number; bearing = bearing.number; class = class.number; lowest = lowest.number; percent = percent.number; slack = slack.number };
       rest = slack.rest;
@@ -44,16 +44,16 @@ numbers_once a b more others same =
 pieces_of : (text : List ℕ) (t : Tolerances) (road : RoadMap)
     → fingerprinted_text text t road ≡ 111 ∷ 108 ∷ 114 ∷ 32 ∷ 50 ∷ 10 ∷ (trimmed text ++ 10 ∷ numbers_text t (canonical_text road))
 unfolding fingerprinted_text
-pieces_of text t road = by_pieces (trimmed text) (decimal t.radius) (decimal t.bearing) (decimal t.class) (decimal t.lowest) (decimal t.percent) (decimal t.slack) (canonical_text road)
+pieces_of text t road = by_pieces _ _ _ _ _ _ _ _
 
 pub inputs_by_text : (text other : List ℕ) (a b : Tolerances) (road another : RoadMap)
     → ((p q : RoadMap) → IsSoundMap p → IsSoundMap q → canonical_text p ≡ canonical_text q → p ≡ q)
     → IsRequest text a road → IsRequest other b another
     → fingerprinted_text text a road ≡ fingerprinted_text other b another → SameInputs text other a b road another
 inputs_by_text text other a b road another one_map is is_other same =
-    let pieces = sym (pieces_of text a road) ∙ same ∙ pieces_of other b another in
+    let pieces = sym (pieces_of _ a _) ∙ same ∙ pieces_of _ b _ in
     let rest : trimmed text ++ 10 ∷ numbers_text a (canonical_text road) ≡ trimmed other ++ 10 ∷ numbers_text b (canonical_text another) = cc in
-    let cut = cut_once 10 (trimmed text) (trimmed other) (numbers_text a (canonical_text road)) (numbers_text b (canonical_text another))
-    (lacks_from_not 10 (trimmed text) is.one_line) (lacks_from_not 10 (trimmed other) is_other.one_line) rest in
-    let numbers = numbers_once a b (canonical_text road) (canonical_text another) cut.rest in
+    let cut = cut_once _ _ _ _ _
+    (lacks_from_not _ _ is.one_line) (lacks_from_not _ _ is_other.one_line) rest in
+    let numbers = numbers_once a b _ _ cut.rest in
     record { reference = cut.front; tolerances = numbers.tolerances; map = one_map road another is.sound is_other.sound numbers.rest }

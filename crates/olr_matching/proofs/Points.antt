@@ -15,11 +15,11 @@ some_at xs i inside =
 -- a reference has 2 to 32 points
 pub at_least_two : (reference : Reference) → IsReference reference → 2 ≤ length (points_of reference)
 at_least_two (Line points positive negative) sound = sound.at_least
-at_least_two (PointAlong points orientation side positive) sound = omega (arith, sound.two)
+at_least_two (PointAlong points orientation side positive) sound = omega arith
 
 pub at_most_32 : (reference : Reference) → IsReference reference → length (points_of reference) ≤ 32
 at_most_32 (Line points positive negative) sound = sound.at_most
-at_most_32 (PointAlong points orientation side positive) sound = omega (arith, sound.two)
+at_most_32 (PointAlong points orientation side positive) sound = omega arith
 
 -- each point but the last has a next one
 linked : (reference : Reference) → IsReference reference → AreLinked (points_of reference)
@@ -30,8 +30,7 @@ linked (PointAlong points orientation side positive) sound = sound.linked
 pub leads_within : (reference : Reference) (layer : ℕ) (next : Next) → IsReference reference
     → LeadsOn reference layer next → layer + 1 < length (points_of reference)
 leads_within reference layer next sound leads =
-    subst (λ (o : Option Next). MatchOption o (layer + 1 ≡ length (points_of reference)) (λ _. layer + 1 < length (points_of reference)))
-    leads.next_is (linked reference sound layer leads.point leads.point_is)
+    rw leads.next_is at (linked reference sound layer leads.point leads.point_is)
 
 -- the next one, where the other case can't be
 next_from : (next : Option Next) (last : Type 0) (within : Next → Type 0) → (last → ⊥) → MatchOption next last within → (one : Next) × (next ≡ Some one)
@@ -51,4 +50,4 @@ leads_on reference layer sound within =
 -- the candidates of a point, from those of all
 pub list_of : (tolerances : Tolerances) (reference : Reference) (lines : List RoadLine) (lists : List (List Candidate)) (layer : ℕ)
     → AreLists tolerances reference lines lists → layer < length lists → IsListOf tolerances reference lines layer (get_or lists layer [])
-list_of tolerances reference lines lists layer all inside = all.each layer (get_or lists layer []) (slice_get-get_or lists layer [] inside)
+list_of tolerances reference lines lists layer all inside = all.each layer (get_or lists layer []) (slice_get-get_or _ _ _ inside)

@@ -23,15 +23,15 @@ sound_leg : (road : RoadMap) (layers : LayersValue) (chosen : List Candidate) (l
     → IsDeparture road at.from.place → IsPlace road at.to.place → IsSoundLeg road leg
 sound_leg road layers chosen layer leg law map at departure place =
     let class = class_limit layers.tolerances at.next in
-    let pieces : AreRoutePieces road class at.from.place at.to.place leg.route = law road class at.from.place at.to.place leg.length
+    let pieces = law road class at.from.place at.to.place leg.length
     leg.route map departure place at.leg_is.route in
-    let same : leg.length ≡ sum_by piece_length leg.route =
-    one_length road class at.from.place at.to.place leg.length (sum_by piece_length leg.route) at.leg_is.admitted.is_least pieces.least in
+    let same =
+    one_length _ _ _ _ _ _ at.leg_is.admitted.is_least pieces.least in
     record {
       length_is = same;
       long = rw same pieces.positive;
-      short = omega (arith, at.leg_is.admitted.at_most, greatest_at_most layers.tolerances at.next);
-      penalty_at_most = omega (arith, at.leg_is.penalty);
+      short = omega (arith, greatest_at_most layers.tolerances at.next);
+      penalty_at_most = omega arith;
       pieces = pieces.on_map;
     }
 
@@ -42,7 +42,7 @@ of_rank : (candidates : List (List Candidate)) (ranks : List ℕ) (chosen : List
     → AreCandidatesAt candidates ranks chosen
     → slice_get chosen layer ≡ Some candidate → IsOfRank candidates layer (slice_index_or ranks layer 0) candidate
 of_rank candidates ranks chosen layer candidate they is =
-    let inside : layer < length chosen = slice_get_within chosen layer candidate is in
+    let inside = slice_get_within chosen _ candidate is in
     they.each layer (slice_index_or ranks layer 0) candidate (slice_get-get_or ranks layer 0 (omega (arith, inside, they.count))) is
 
 pub are_sound : ArePlaces → AreDepartures → PiecesOfRoute → AreSound

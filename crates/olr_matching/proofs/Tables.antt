@@ -21,20 +21,20 @@ use Rattle.olr_matching.proofs.Points.{at_least_two, at_most_32, leads_on, leads
 
 -- a candidate that isn't behind another one has no greater penalty
 no_greater : (a b : Candidate) → IsBefore a b → a.penalty ≤ b.penalty
-no_greater a b (inl less) = omega (arith, less)
-no_greater a b (inr same) = omega (arith, same.0)
+no_greater a b (inl less) = omega arith
+no_greater a b (inr same) = omega arith
 
 -- the penalties of candidates in order don't fall
 never_fall : (candidates : List Candidate) → AllPairs IsBefore candidates → IsNonDecreasing (penalties_of candidates)
 never_fall candidates rise = λ i j d upto inside.
-    let count : length (penalties_of candidates) ≡ length candidates = length-map candidates (λ (candidate : Candidate). candidate.penalty) in
-    let at_i = get_or-map (λ (candidate : Candidate). candidate.penalty) candidates i no_candidate d
-    (omega (arith, count, upto, inside)) in
-    let at_j = get_or-map (λ (candidate : Candidate). candidate.penalty) candidates j no_candidate d
-    (omega (arith, count, inside)) in
+    let count = length-map candidates (λ candidate. candidate.penalty) in
+    let at_i = get_or-map (λ candidate. candidate.penalty) candidates i no_candidate d
+    (omega arith) in
+    let at_j = get_or-map (λ candidate. candidate.penalty) candidates j no_candidate d
+    (omega arith) in
     let order : (get_or candidates i no_candidate).penalty ≤ (get_or candidates j no_candidate).penalty =
     elim (eq-or-lt_of_le upto) [
-      | inl same ↦ omega (arith, ap (λ (k : ℕ). (get_or candidates k no_candidate).penalty) same)
+      | inl same ↦ omega (arith, ap (λ k. (get_or candidates k no_candidate).penalty) same)
       | inr less ↦ no_greater (get_or candidates i no_candidate) (get_or candidates j no_candidate)
           (rise i j no_candidate less (omega (arith, count, inside)))
     ] in
@@ -114,7 +114,7 @@ are_layers road layers reference same is are_lists are_lengths table are_penalti
     let leads : (layer : ℕ) (next : Next) → LeadsOn layers.reference layer next → LeadsOn reference layer next =
     λ layer next leads. rw (← same) leads in
     let within : (layer : ℕ) (next : Next) → LeadsOn layers.reference layer next → layer < length layers.lengths =
-    λ layer next it. omega (arith, leads_within reference layer next is (leads layer next it), are_lists.all, are_lengths.count) in
+    λ layer next it. omega (arith, leads_within reference layer next is (leads layer next it)) in
     record {
       reference = rw same is;
       lists = rw same are_lists;
@@ -122,6 +122,6 @@ are_layers road layers reference same is are_lists are_lengths table are_penalti
       penalties = are_penalties;
       between = are_lengths.count;
       lengths = λ layer next first second from to it first_is second_is.
-          (are_lengths.each layer (within layer next it) next (leads layer next it)).each first second from to first_is second_is;
-      legs = λ layer next it. are_legs.each layer (omega (arith, within layer next it, are_legs.count)) next (leads layer next it);
+          (are_lengths.each layer (within _ next it) next (leads layer next it)).each first second from to first_is second_is;
+      legs = λ layer next it. are_legs.each layer (omega (arith, within layer next it)) next (leads layer next it);
     }

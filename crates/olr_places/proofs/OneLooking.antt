@@ -10,7 +10,7 @@ use Rattle.olr_binary.specs.declared.reference.Reference.TheVariants.{Line, Poin
 use Rattle.olr_keys.specs.Key.{KeyValue}
 use Rattle.olr_map.specs.RoadMap.{IsSoundMap, RoadMap}
 use Rattle.olr_matching.specs.Layers.{LayersValue}
-use Rattle.olr_matching.specs.Matched.{IsSameMatched, OneMatched}
+use Rattle.olr_matching.specs.Matched.{OneMatched}
 use Rattle.olr_matching.specs.declared.matched.Leg.{Leg}
 use Rattle.olr_matching.specs.declared.matched.Matched.{Matched}
 use Rattle.olr_route.specs.declared.piece.Piece.{Piece}
@@ -25,7 +25,6 @@ use Rattle.olr_places.specs.Closeness.{ground_of, line, pieces_of}
 use Rattle.olr_places.specs.Looking.{looking}
 use Rattle.olr_places.specs.Shown.{IsShownAt, Shown, extent_rows, keys_of}
 use Rattle.olr_places.specs.VerdictLaws.{OneLooking}
-use Rattle.olr_report.proofs.SameParts.{location_of_same, same_leg_objects, same_steps}
 use Rattle.olr_places.proofs.Looks.{any_of, keys_of_any}
 
 -- ---- the location of a reference on legs
@@ -95,16 +94,6 @@ module _ (one_route : OneRoute) (road : RoadMap) where
 
 -- ---- the matching of a key
 
-same_parts : (road : RoadMap) (key : KeyValue) (a b : Matched) (route : List Piece)
-    (located : Located) → IsSameMatched a b
-    → matching_object road key a route located ≡ matching_object road key b route located
-same_parts road key a b route (LocatedLine outer inner) same =
-    let legs = same_leg_objects _ _ same.same_legs in
-    rw (same.same_candidates, legs) refl
-same_parts road key a b route (LocatedPoint earliest latest) same =
-    let legs = same_leg_objects _ _ same.same_legs in
-    rw (same.same_candidates, legs) refl
-
 module _ (one_matched : OneMatched) (one_route : OneRoute) {road : RoadMap} {layers : LayersValue}
     (sound : IsSoundMap road) where
   -- a key has one matching at most, as it is shown
@@ -113,22 +102,18 @@ module _ (one_matched : OneMatched) (one_route : OneRoute) {road : RoadMap} {lay
   one_shown one other keys is is' =
       let a = is.entry in
       let b = is'.entry in
-      let parts = one_matched road layers other.key a.matched b.matched sound
+      let parts : a.matched ≡ b.matched =
+      one_matched road layers other.key a.matched b.matched sound
       (rw keys at is.is_entry.parts) is'.is_entry.parts in
       let key : a.key ≡ b.key = is.is_entry.key_is ∙ keys ∙ sym is'.is_entry.key_is in
-      let steps = same_steps a.matched.legs.items b.matched.legs.items parts.same_legs in
       let route : a.route ≡ b.route =
-      one_route (steps_of_legs b.matched.legs.items) a.route b.route
-      (rw steps at is.is_entry.is_entry.route) is'.is_entry.is_entry.route in
-      let located = one_located one_route road b.matched.legs.items layers.reference a.located
-      b.located
-      (location_of_same a.matched.legs.items b.matched.legs.items parts.same_legs layers.reference
-      a.located is.is_entry.is_entry.location)
-      is'.is_entry.is_entry.location in
-      let object =
-      same_parts road b.key a.matched b.matched b.route a.located parts
-      ∙ located.objects b.key b.matched b.route in
-      is.shown_is ∙ (rw (key, route, located.ground, located.rows, object) refl) ∙ sym is'.shown_is
+      one_route (steps_of_legs b.matched.legs) a.route b.route
+      (rw parts at is.is_entry.is_entry.route) is'.is_entry.is_entry.route in
+      let located = one_located one_route road b.matched.legs layers.reference a.located b.located
+      (rw parts at is.is_entry.is_entry.location) is'.is_entry.is_entry.location in
+      let object = located.objects b.key b.matched b.route in
+      is.shown_is ∙ (rw (key, parts, route, located.ground, located.rows, object) refl)
+      ∙ sym is'.shown_is
 
   -- the matchings of the first keys, and any of those that are left
   in_common : (seen others : List Shown) (left behind : List KeyValue)

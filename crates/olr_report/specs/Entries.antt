@@ -9,7 +9,8 @@ use Rattle.olr_report.specs.declared.locating.Located.TheVariants.{Line, Point}
 use Rattle.olr_report.specs.declared.matching_json.ShownMatching.{ShownMatching}
 use Rattle.olr_report.specs.declared.page_entries.Entry.{Entry as Returned}
 
--- a matching: its key, its parts, the joined route of its legs, and the location of the reference on this route
+-- a matching: its key, its parts, the joined route of its legs, and the location of the reference
+-- on this route
 pub record Entry : Type 0 where
   pub key : KeyValue
   pub matched : Matched
@@ -18,11 +19,23 @@ pub record Entry : Type 0 where
 
 -- the entry that a call returned
 abbrev pub entry_of : Returned → Entry
-entry_of entry = record { key = entry.key.now; matched = entry.matched.now; route = entry.route.items; located = entry.location }
+entry_of entry = record {
+  key = entry.key.now;
+  matched = entry.matched.now;
+  route =
+      entry.route.items;
+  located = entry.location;
+}
 
 -- the entry that a call was given to show
 abbrev pub shown_entry : ShownMatching → Entry
-shown_entry shown = record { key = shown.key.now; matched = shown.matched.now; route = shown.route.now; located = shown.location.now }
+shown_entry shown = record {
+  key = shown.key.now;
+  matched = shown.matched.now;
+  route =
+      shown.route.now;
+  located = shown.location.now;
+}
 
 -- the route and the location are those of the legs
 pub record IsEntryOf (reference : Reference) (entry : Entry) : Type 0 where
@@ -30,7 +43,8 @@ pub record IsEntryOf (reference : Reference) (entry : Entry) : Type 0 where
   pub location : IsLocation entry.matched.legs reference entry.located
 
 -- the entries of these keys and parts, one for each, in order
-pub record AreEntriesOf (reference : Reference) (keys : List KeyValue) (matched : List Matched) (entries : List Entry) : Type 0 where
+pub record AreEntriesOf (reference : Reference) (keys : List KeyValue) (matched : List Matched)
+    (entries : List Entry) : Type 0 where
   pub keys_are : map (λ (entry : Entry). entry.key) entries ≡ keys
   pub matched_are : map (λ (entry : Entry). entry.matched) entries ≡ matched
   pub each : All (IsEntryOf reference) entries
@@ -56,7 +70,8 @@ HasLocation road (Point earliest latest) = HasLine road earliest.line × HasLine
 
 -- the candidates and the routes of the legs of a matching lie on lines of the map
 pub record HasMatched (road : RoadMap) (matched : Matched) : Type 0 where
-  pub candidates : All (λ (candidate : Candidate). HasLine road candidate.place.line) matched.candidates
+  pub candidates : All (λ (candidate : Candidate). HasLine road candidate.place.line)
+      matched.candidates
   pub legs : All (λ (leg : Leg). HasPieces road leg.route) matched.legs
 
 -- the candidates of an entry, its legs, its route and its location lie on lines of the map
@@ -65,7 +80,8 @@ pub record IsOnMap (road : RoadMap) (entry : Entry) : Type 0 where
   pub route : HasPieces road entry.route
   pub located : HasLocation road entry.located
 
--- The parts of a matching that can be shown: its legs lie between the points of the reference, and its lines are on the map.
+-- The parts of a matching that can be shown: its legs lie between the points of the reference, and
+-- its lines are on the map.
 pub record CanBeShown (road : RoadMap) (reference : Reference) (matched : Matched) : Type 0 where
   pub legs : AreLegsOf reference matched.legs
   pub on_map : HasMatched road matched

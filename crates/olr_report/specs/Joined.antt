@@ -1,5 +1,5 @@
--- The joined route of legs, and a part of a route: lists of pieces that have no empty piece and no piece that could have been joined to the one before.
--- (The joined route is this project's choice.)
+-- The joined route of legs, and a part of a route: lists of pieces that have no empty piece and no
+-- piece that could have been joined to the one before. (The joined route is this project's choice.)
 use Rattle.std.specs.Prelude.{◌≡◌, ℕ, ◌<◌, ◌≤◌, ⊤, List, [], ◌∷◌, All, slice_range}
 use Rattle.olr_report.specs.Common.{Leg, Piece}
 use Rattle.olr_report.specs.Steps.{Step, steps_of, steps_of_legs}
@@ -41,6 +41,7 @@ pub record IsRouteOver (steps : List Step) (pieces : List Piece) : Type 0 where
 abbrev pub IsJoinedRoute : List Leg → List Piece → Type 0
 IsJoinedRoute legs pieces = IsRouteOver (steps_of_legs legs) pieces
 
--- the trimmed part of steps from one distance to another, in decimetres: the joined pieces of the steps numbered `start` to `end - 1`, from 0
+-- the trimmed part of steps from one distance to another, in decimetres: the joined pieces of the
+-- steps numbered `start` to `end - 1`, from 0
 abbrev pub IsTrimmedPart : List Step → ℕ → ℕ → List Piece → Type 0
 IsTrimmedPart steps start end part = IsRouteOver (slice_range steps start end) part

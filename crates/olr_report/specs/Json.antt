@@ -1,5 +1,5 @@
--- The JSON of a page of matchings, as a value: each member of an object under its name, in the order of the names. All numbers are whole; positions and
--- lengths are in decimetres.
+-- The JSON of a page of matchings, as a value: each member of an object under its name, in the
+-- order of the names. All numbers are whole; positions and lengths are in decimetres.
 use Rattle.std.specs.Prelude.{ℕ, List, Option, None, codes}
 use Rattle.std.specs.Global.{Vec}
 use Rattle.serde_json.specs.Data.{Data, Members, string, array, object, no_items, item, no_members, member}
@@ -23,13 +23,17 @@ candidate_object road candidate = object (
 
 -- a leg: its length and its penalty
 abbrev pub leg_object : Leg → Data
-leg_object leg = object (member (codes "length") (whole leg.length) (member (codes "penalty") (whole leg.penalty) no_members))
+leg_object leg =
+    object (member (codes "length") (whole leg.length)
+    (member (codes "penalty") (whole leg.penalty) no_members))
 
 -- ---- the route and the location
 
 -- a piece, as `[id, from, to]`: the id of its line, and the positions where it begins and ends
 abbrev pub piece_array : RoadMap → Piece → Data
-piece_array road piece = array (item (whole (id_at road piece.line)) (item (whole piece.from) (item (whole piece.to) no_items)))
+piece_array road piece =
+    array (item (whole (id_at road piece.line))
+    (item (whole piece.from) (item (whole piece.to) no_items)))
 
 -- an array of pieces
 abbrev pub pieces_array : RoadMap → List Piece → Data
@@ -41,12 +45,13 @@ part_value road part = or_null (λ (part : Vec Piece). pieces_array road part.it
 
 -- a place, as `[id, at]`: the id of its line, and the position on it
 abbrev pub place_array : RoadMap → Place → Data
-place_array road place = array (item (whole (id_at road place.line)) (item (whole place.at) no_items))
+place_array road place =
+    array (item (whole (id_at road place.line)) (item (whole place.at) no_items))
 
 -- ---- a matching
 
--- the members of a location, with the legs among them, and then others: a line has its inner and its outer part, and a point along a line its earliest and
--- its latest place
+-- the members of a location, with the legs among them, and then others: a line has its inner and
+-- its outer part, and a point along a line its earliest and its latest place
 abbrev pub located_members : RoadMap → Located → List Leg → Members → Members
 located_members road (Line outer inner) legs others =
     member (codes "inner") (part_value road inner) (
@@ -71,17 +76,20 @@ entry_object road entry = matching_object road entry.key entry.matched entry.rou
 
 -- ---- a page
 
--- the cursor after which further matchings follow, with this mark or without one; null where none do
+-- the cursor after which further matchings follow, with this mark or without one; null where none
+-- do
 abbrev pub next_value : Option KeyValue → Option Mark → Data
 next_value next mark = or_null (λ (last : KeyValue). string (cursor_text last mark)) next
 
 -- a page: its matchings, and where the next page begins
 abbrev pub page_object : RoadMap → List Entry → Option KeyValue → Option Mark → Data
 page_object road entries next mark =
-    object (member (codes "matchings") (array_of (entry_object road) entries) (member (codes "next") (next_value next mark) no_members))
+    object (member (codes "matchings") (array_of (entry_object road) entries)
+    (member (codes "next") (next_value next mark) no_members))
 
 -- The JSON of a page whose keys have these parts: the line of its value.
-pub record IsPageJson (road : RoadMap) (reference : Reference) (page : PageValue) (matched : List Matched) (mark : Option Mark) (text : List ℕ)
+pub record IsPageJson (road : RoadMap) (reference : Reference) (page : PageValue)
+    (matched : List Matched) (mark : Option Mark) (text : List ℕ)
     : Type 0 where
   pub entries : List Entry
   pub are_entries : AreEntriesOf reference page.keys matched entries

@@ -1,4 +1,5 @@
--- Laws on joined routes and on the two parts of a line. Each is the contract of a public function that does nothing at run time.
+-- Laws on joined routes and on the two parts of a line. Each is the contract of a public function
+-- that does nothing at run time.
 use Rattle.std.specs.Prelude.{◌≡◌, ℕ, List, ◌++◌, Option, Some}
 use Rattle.std.specs.Global.{Vec}
 use Rattle.olr_report.specs.Common.{Leg, Piece}
@@ -6,13 +7,16 @@ use Rattle.olr_report.specs.Joined.{IsRouteOver}
 use Rattle.olr_report.specs.Location.{IsLineLocation}
 use Rattle.olr_report.specs.Steps.{Step, steps_of}
 
--- The inner part lies within the outer one: where there is an inner part there is an outer one, and that is the inner one with further steps before it
--- and after it, if any.
+-- The inner part lies within the outer one: where there is an inner part there is an outer one, and
+-- that is the inner one with further steps before it and after it, if any.
 abbrev pub InnerLiesWithinOuter : Type 0
-InnerLiesWithinOuter = (legs : List Leg) (positive negative : Option ℕ) (outer : Option (Vec Piece)) (inner : Vec Piece)
+InnerLiesWithinOuter = (legs : List Leg) (positive negative : Option ℕ) (outer : Option (Vec Piece))
+    (inner : Vec Piece)
     → IsLineLocation legs positive negative outer (Some inner)
-    → (part : Vec Piece) × (before : List Step) × (behind : List Step) × (outer ≡ Some part) × (steps_of part.items ≡ before ++ steps_of inner.items ++ behind)
+    → (part : Vec Piece) × (before : List Step) × (behind : List Step) × (outer ≡ Some part)
+    × (steps_of part.items ≡ before ++ steps_of inner.items ++ behind)
 
--- Each list of steps has joined pieces. So legs always have a joined route, and so has each part of a route.
+-- Each list of steps has joined pieces. So legs always have a joined route, and so has each part of
+-- a route.
 abbrev pub SomeRouteOver : Type 0
 SomeRouteOver = (steps : List Step) → (pieces : List Piece) × IsRouteOver steps pieces

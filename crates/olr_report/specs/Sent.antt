@@ -15,8 +15,8 @@ with_members (member name value members) found = with_members members (put name 
 abbrev pub AreOrdered : Members → Type 0
 AreOrdered members = with_members members no_members ≡ members
 
--- The events of a value: each of its numbers is whole, not negative and less than 2 ^ 64, and the members of each of its objects stand in the order of their
--- names, each name once.
+-- The events of a value: each of its numbers is whole, not negative and less than 2 ^ 64, and the
+-- members of each of its objects stand in the order of their names, each name once.
 abbrev mutual
   pub Sends : Data → Log → Log → Type 0
   Sends null old new = Logs old new event.nothing
@@ -25,20 +25,24 @@ abbrev mutual
   Sends (number (negative n)) old new = ⊥
   Sends (number (float x)) old new = ⊥
   Sends (string text) old new = Logs old new (event.text text)
-  Sends (array values) old new = (first : Log) × Logs old first (event.seq_begins (Some (items_len values))) × SendsItems values first new
+  Sends (array values) old new = (first : Log)
+      × Logs old first (event.seq_begins (Some (items_len values))) × SendsItems values first new
   Sends (object members) old new =
-      (first : Log) × Logs old first (event.map_begins (Some (members_len members))) × SendsMembers members first new × AreOrdered members
+      (first : Log) × Logs old first (event.map_begins (Some (members_len members)))
+      × SendsMembers members first new × AreOrdered members
 
   -- the values of an array, and its end
   pub SendsItems : Items → Log → Log → Type 0
   SendsItems no_items old new = Logs old new event.seq_ends
-  SendsItems (item value values) old new = (next : Log) × Sends value old next × SendsItems values next new
+  SendsItems (item value values) old new = (next : Log) × Sends value old next
+      × SendsItems values next new
 
   -- the members of an object, and its end
   pub SendsMembers : Members → Log → Log → Type 0
   SendsMembers no_members old new = Logs old new event.map_ends
   SendsMembers (member name value members) old new =
-      (named next : Log) × Logs old named (event.field_key name AsIs) × Sends value named next × SendsMembers members next new
+      (named next : Log) × Logs old named (event.field_key name AsIs) × Sends value named next
+      × SendsMembers members next new
 
 -- a name, and then its value
 pub record SendsMember (name : List ℕ) (value : Data) (old new : Log) : Type 0 where
@@ -48,4 +52,5 @@ pub record SendsMember (name : List ℕ) (value : Data) (old new : Log) : Type 0
 
 -- what some members send before others: with what the others send, that is what all of them send
 abbrev pub SendsBefore : (Members → Members) → Log → Log → Type 0
-SendsBefore before old new = (others : Members) (end : Log) → SendsMembers others new end → SendsMembers (before others) old end
+SendsBefore before old new = (others : Members) (end : Log) → SendsMembers others new end
+    → SendsMembers (before others) old end

@@ -1,4 +1,5 @@
--- The text of a page of matchings: the rows of each of them, and a last row that says whether more follow.
+-- The text of a page of matchings: the rows of each of them, and a last row that says whether more
+-- follow.
 use Rattle.std.specs.Prelude.{◌≡◌, ℕ, List, [], ◌∷◌, ◌++◌, Option, None, if◌then◌else◌}
 use Rattle.olr_report.specs.Common.{KeyValue, Mark, Matched, Reference, RoadMap}
 use Rattle.olr_keys.specs.Page.{PageValue, last_of}
@@ -15,7 +16,8 @@ abbrev pub next_after : PageValue → Option KeyValue
 next_after page = if page.more then last_of None page.keys else None
 
 -- the text of a page whose keys have these parts
-pub record IsPageText (road : RoadMap) (reference : Reference) (page : PageValue) (matched : List Matched) (mark : Option Mark) (text : List ℕ)
+pub record IsPageText (road : RoadMap) (reference : Reference) (page : PageValue)
+    (matched : List Matched) (mark : Option Mark) (text : List ℕ)
     : Type 0 where
   pub entries : List Entry
   pub are_entries : AreEntriesOf reference page.keys matched entries

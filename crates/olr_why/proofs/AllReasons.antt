@@ -1,18 +1,12 @@
 -- The verdict and the legs of a reference, by what is known of its layers.
 use Rattle.std.proofs.Common.{ℕ, List, refl}
-use Rattle.olr_binary.specs.declared.reference.Reference.{Reference}
+use Rattle.olr_why.proofs.Common.{AreLayersOn, Crowded, LayersValue, LegReason, Reference, RoadMap, Tolerances, Verdict}
 use Rattle.olr_candidates.specs.Laws.{NoListOfPointAndTooMany, NoListsAndTooMany}
 use Rattle.olr_candidates.specs.Points.{IsLayersFault}
 use Rattle.olr_candidates.specs.declared.fault.LayersFault.TheVariants.{TooManyCandidates}
-use Rattle.olr_candidates.specs.declared.tolerances.Tolerances.{Tolerances}
-use Rattle.olr_map.specs.RoadMap.{RoadMap}
-use Rattle.olr_matching.specs.Layers.{AreLayersOn, LayersValue}
 use Rattle.olr_why.specs.Legs.{AreLegReasons}
 use Rattle.olr_why.specs.Reasons.{AreLegsFor}
 use Rattle.olr_why.specs.Verdict.{IsVerdict}
-use Rattle.olr_why.specs.declared.leg.LegReason.{LegReason}
-use Rattle.olr_why.specs.declared.verdict.Verdict.{Verdict}
-use Rattle.olr_why.specs.declared.verdict.Verdict.TheVariants.{Crowded}
 
 pub crowded_verdict : NoListOfPointAndTooMany → (road : RoadMap) (tolerances : Tolerances) (reference : Reference) (number : ℕ)
     → IsLayersFault tolerances reference road.lines (TooManyCandidates number) → IsVerdict road tolerances reference (Crowded number)

@@ -1,11 +1,7 @@
 -- Tolerances that are at most others. One value with another one in place of one of them is known by that value.
 use Rattle.std.proofs.Common.{◌≡◌, ◌≢◌, ℕ, ◌≤◌, List, [], ◌∷◌, get_or, inl, inr, refl, sym, ◌∙◌, ap, arith}
 use Rattle.std.proofs.lemmas.Bool.{cases_eq}
-use Rattle.olr_candidates.specs.declared.tolerances.Name.{Name}
-use Rattle.olr_candidates.specs.declared.tolerances.Name.TheVariants.{Radius, Bearing, Class, Lowest, Percent, Slack}
-use Rattle.olr_candidates.specs.declared.tolerances.Tolerances.{Tolerances}
-use Rattle.olr_candidates.specs.Tolerances.{IsTolerance, order_of}
-use Rattle.olr_why.specs.Remedies.{IsChanged, value_of}
+use Rattle.olr_why.proofs.Common.{Bearing, Class, IsChanged, IsTolerance, Lowest, Name, order_of, Percent, Radius, Slack, Tolerances, value_of}
 
 -- each tolerance is at most the other one, and what is added to the lowest class is the same
 pub record AreAtMost (before after : Tolerances) : Type 0 where

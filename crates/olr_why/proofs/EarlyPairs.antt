@@ -1,18 +1,14 @@
 -- The pairs of the first candidates of a leg, one first candidate after another.
-use Rattle.std.proofs.Common.{◌≡◌, ℕ, ◌+◌, ◌-◌, ◌<◌, ◌≤◌, inl, inr, List, ◌++◌, length, get_or, refl, sym, ◌∙◌, ap, arith}
-use Rattle.std.specs.Prelude.{All, AllPairs, Any, slice_get}
+use Rattle.std.proofs.Common.{◌≡◌, ℕ, ◌+◌, ◌-◌, ◌<◌, ◌≤◌, inl, inr, List, ◌++◌, length, get_or, refl, sym, ◌∙◌, ap, arith, All, AllPairs, Any, slice_get}
 use Rattle.std.proofs.lemmas.Bool.{cases_lt}
 use Rattle.std.proofs.lemmas.List.{get_or-append-add, get_or-append_right, get_or_append_left, get_or_default, length-append}
 use Rattle.std.proofs.lemmas.List.Elements.{All-append}
 use Rattle.std.proofs.lemmas.Option.{slice_get-get_or}
-use Rattle.olr_binary.specs.declared.point.Next.{Next}
-use Rattle.olr_candidates.specs.declared.candidate.Candidate.{Candidate}
-use Rattle.olr_candidates.specs.declared.tolerances.Tolerances.{Tolerances}
-use Rattle.olr_map.specs.RoadMap.{RoadMap}
+use Rattle.olr_why.proofs.Common.{Candidate, Next, PairLength, RoadMap, Tolerances}
 use Rattle.olr_why.specs.Legs.{IsBeforePair}
 use Rattle.olr_why.specs.Pairs.{ArePairsFrom, ArePairsOf, IsPairOf, IsPairOfRanks}
-use Rattle.olr_why.specs.declared.pair.PairLength.{PairLength}
-use Rattle.olr_why.proofs.PairLists.{no_candidate, no_pair}
+use Rattle.olr_matching.proofs.LengthRows.{no_candidate}
+use Rattle.olr_why.proofs.PairLists.{no_pair}
 
 -- ---- two lists, one behind the other
 

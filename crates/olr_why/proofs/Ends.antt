@@ -3,15 +3,14 @@
 use Rattle.std.proofs.Common.{◌≡◌, ℕ, zero, suc, add-one, ◌+◌, ◌-◌, ◌<◌, ◌≤◌, List, [], ◌∷◌, length, refl, subst, arith}
 use Rattle.std.specs.Prelude.{⊤, Any, Contains, slice_index_or}
 use Rattle.std.proofs.lemmas.Option.{slice_get_within}
-use Rattle.olr_binary.specs.Reference.{points_of}
-use Rattle.olr_candidates.specs.declared.candidate.Candidate.{Candidate}
-use Rattle.olr_map.specs.RoadMap.{RoadMap}
+use Rattle.olr_why.proofs.Common.{Candidate, points_of, RoadMap}
 use Rattle.olr_matching.specs.Layers.{AreLayersOn, IsCandidateOf, LayersValue, length_at}
 use Rattle.olr_matching.proofs.Points.{at_least_two}
 use Rattle.olr_why.specs.Chain.{AdmitsPlaces, HasMatching, HasTuple}
 use Rattle.olr_why.specs.Ends.{AreEnds, IsEnd, IsJoined}
 use Rattle.olr_why.specs.Verdict.{HasNoTuple, IsFirst}
-use Rattle.olr_why.proofs.Lists.{AreBelow, at_index, is_some_from, some_of}
+use Rattle.olr_why.proofs.Lists.{AreBelow, is_some_from, some_of}
+use Rattle.olr_matching.proofs.Points.{some_at}
 use Rattle.olr_why.proofs.Places.{admits, candidate_in_layer, length_of, place_in_layer}
 use Rattle.olr_why.proofs.Tuples.{EndsAt, ends_at_candidate, fewer, last_of, tuple_to}
 
@@ -48,10 +47,10 @@ module _ {road : RoadMap} {layers : LayersValue} (are : AreLayersOn road layers)
       → (candidate : Candidate) × IsCandidateOf layers.candidates layer last candidate
       × EndsAt road layers.tolerances layers.reference layer candidate.place
   end_of zero last end =
-      let found = at_index (slice_index_or layers.candidates 0 []) last end in
+      let found = some_at (slice_index_or layers.candidates 0 []) last end in
       (found.0, found.1, place_in_layer are 0 last found.0 found.1)
   end_of (suc layer) last (inside, (before, ends, joined)) =
-      let found = at_index (slice_index_or layers.candidates (suc layer) []) last inside in
+      let found = some_at (slice_index_or layers.candidates (suc layer) []) last inside in
       let to : Candidate = found.0 in
       let from = end_of layer before ends in
       let length = some_of (length_at layers layer before last) joined in

@@ -1,11 +1,9 @@
 -- The first key of a table is the least of its keys.
-use Rattle.std.proofs.Common.{◌≡◌, zero, suc, ◌⊎◌, List, [], ◌∷◌, Option, None, Some, inl, inr, refl, ap, arith}
-use Rattle.std.specs.Prelude.{AllPairs, Contains, slice_get}
-use Rattle.olr_keys.specs.Answers.{AreAnswers}
+use Rattle.std.proofs.Common.{◌≡◌, zero, suc, ◌⊎◌, List, [], ◌∷◌, Option, None, Some, inl, inr, refl, ap, arith, AllPairs, Contains, slice_get}
+use Rattle.olr_why.proofs.Common.{AreAnswers, Penalties}
 use Rattle.olr_keys.specs.Finder.{IsNext}
 use Rattle.olr_keys.specs.Key.{IsBefore, KeyValue}
 use Rattle.olr_keys.specs.Order.{asymmetric}
-use Rattle.olr_keys.specs.Table.{Penalties}
 use Rattle.olr_why.specs.Trial.{IsFirstKey}
 
 -- the first of a rising list is a member of it before which no other comes

@@ -1,19 +1,11 @@
 -- The least value of a tolerance that is enough lies between two values, which come closer with each trial.
-use Rattle.std.proofs.Common.{◌≡◌, ◌≢◌, ℕ, ◌+◌, ◌<◌, ◌≤◌, None, Some, inl, inr, arith, Option}
-use Rattle.std.specs.Prelude.{MatchOption}
+use Rattle.std.proofs.Common.{◌≡◌, ◌≢◌, ℕ, ◌+◌, ◌<◌, ◌≤◌, None, Some, inl, inr, arith, Option, MatchOption}
 use Rattle.std.proofs.lemmas.Bool.{cases_lt}
-use Rattle.olr_binary.specs.declared.reference.Reference.{Reference}
-use Rattle.olr_candidates.specs.declared.tolerances.Name.{Name}
-use Rattle.olr_candidates.specs.declared.tolerances.Name.TheVariants.{Lowest}
-use Rattle.olr_candidates.specs.declared.tolerances.Tolerances.{Tolerances}
-use Rattle.olr_candidates.specs.Laws.{OneCandidateALine}
+use Rattle.olr_why.proofs.Common.{KeyValue, Lowest, Name, NoMatching, OneCandidateALine, Reference, RoadMap, Tolerances}
 use Rattle.olr_candidates.specs.Tolerances.{greatest_of, order_of}
-use Rattle.olr_keys.specs.Key.{KeyValue}
-use Rattle.olr_map.specs.RoadMap.{RoadMap}
 use Rattle.olr_why.specs.Remedies.{IsEnough, IsLeastEnough, value_of}
 use Rattle.olr_why.specs.Trying.{IsBracket, IsCrowdedWith, IsEnoughFor, IsNoneUpTo, IsTrialWith}
 use Rattle.olr_why.specs.declared.bracket.Bracket.{Bracket}
-use Rattle.olr_why.specs.declared.trial.Trial.TheVariants.{NoMatching}
 use Rattle.olr_why.proofs.Tried.{crowded_up_is_none, none_up_to, value_in_range}
 
 module _ (road : RoadMap) (reference : Reference) (given : Tolerances) (name : Name) where

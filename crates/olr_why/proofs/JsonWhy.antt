@@ -4,17 +4,11 @@ use Rattle.serde_json.specs.Data.{string}
 use Rattle.olr_binary.specs.JsonValues.{whole_or_null}
 use Rattle.olr_binary.proofs.PlainValues.{IsPlain, all_plain}
 use Rattle.olr_candidates.specs.declared.near.NearLine.{NearLine}
-use Rattle.olr_keys.specs.Key.{KeyValue}
-use Rattle.olr_map.specs.RoadMap.{RoadMap}
+use Rattle.olr_why.proofs.Common.{Better, KeyValue, LegReason, PairLength, PointReason, RoadMap, Verdict}
 use Rattle.olr_why.specs.Json.{better_value, failed_conditions, leg_object, matching_value, near_object, pair_object, point_object, remedy_object}
 use Rattle.olr_why.specs.Json.{value_in, verdict_object, why_object}
 use Rattle.olr_why.specs.Text.{long_of, number_of, short_of}
-use Rattle.olr_why.specs.declared.leg.LegReason.{LegReason}
-use Rattle.olr_why.specs.declared.pair.Better.{Better}
-use Rattle.olr_why.specs.declared.pair.PairLength.{PairLength}
-use Rattle.olr_why.specs.declared.point.PointReason.{PointReason}
 use Rattle.olr_why.specs.declared.remedy.Remedy.{Remedy}
-use Rattle.olr_why.specs.declared.verdict.Verdict.{Verdict}
 use Rattle.olr_why.specs.declared.why.Why.{Why}
 
 number_plain : (number : Option ℕ) → IsPlain 1 (whole_or_null number)
@@ -33,7 +27,7 @@ near_plain road near =
 point_plain : (road : RoadMap) (point : PointReason) → IsPlain 5 (point_object road point)
 point_plain road point =
     let candidates = number_plain point.candidates in
-    let nearest = all_plain 3 (near_object road) (near_plain road) point.nearest.items in record {
+    let nearest = all_plain 3 (near_object road) (near_plain road) point.nearest in record {
       no_float = rw (candidates.no_float, nearest.no_float) refl;
       shallow = omega (arith, candidates.shallow, nearest.shallow);
     }
@@ -54,7 +48,7 @@ pair_plain least greatest pair =
 
 leg_plain : (leg : LegReason) → IsPlain 5 (leg_object leg)
 leg_plain leg =
-    let pairs = all_plain 3 (pair_object leg.from leg.to) (pair_plain leg.from leg.to) leg.pairs.items in
+    let pairs = all_plain 3 (pair_object leg.from leg.to) (pair_plain leg.from leg.to) leg.pairs in
     record { no_float = rw (pairs.no_float) refl; shallow = omega (arith, pairs.shallow) }
 
 matching_plain : (matching : Option KeyValue) → IsPlain 1 (matching_value matching)

@@ -1,28 +1,16 @@
 -- A point without candidates, and a leg without pairs, by the layers of their reference.
-use Rattle.std.proofs.Common.{◌≡◌, ℕ, ◌+◌, ◌*◌, ◌/◌, ◌%◌, ◌<◌, List, [], length, get_or, inl, inr, sym, ◌∙◌, ap, arith}
-use Rattle.std.specs.Prelude.{Option, Some, Any, IsSome, option_map, slice_index_or}
+use Rattle.std.proofs.Common.{◌≡◌, ℕ, ◌+◌, ◌*◌, ◌/◌, ◌%◌, ◌<◌, List, [], length, get_or, inl, inr, sym, ◌∙◌, ap, arith, Option, Some, Any, IsSome, option_map, slice_index_or}
 use Rattle.std.proofs.Math.Nat.{div-add-mod, div-lt_iff_lt-mul, eq-zero-or-pos, mod-lt}
 use Rattle.std.proofs.lemmas.List.{length-map}
 use Rattle.std.proofs.lemmas.Option.{slice_get-get_or, slice_get_within}
-use Rattle.olr_binary.specs.Reference.{points_of}
-use Rattle.olr_candidates.specs.declared.candidate.Candidate.{Candidate}
-use Rattle.olr_keys.specs.Table.{Penalties}
-use Rattle.olr_map.specs.RoadMap.{RoadMap}
+use Rattle.olr_why.proofs.Common.{AdmitsPlaces, Candidate, leads_on, Penalties, points_of, RoadMap}
 use Rattle.olr_matching.specs.Layers.{AreLayersOn, LayersValue, length_at, penalties_of}
 use Rattle.olr_matching.specs.Leg.{leg_penalty}
-use Rattle.olr_matching.proofs.LegLaws.{count_is}
-use Rattle.olr_matching.proofs.Points.{leads_on}
-use Rattle.olr_why.specs.Chain.{AdmitsPlaces}
+use Rattle.olr_matching.proofs.OneLayers.{long, not_empty}
 use Rattle.olr_why.specs.Verdict.{AdmitsNone, HasNoCandidate}
-use Rattle.olr_why.proofs.Lists.{any_some, at_index, some_at}
+use Rattle.olr_why.proofs.Lists.{any_some, some_at}
+use Rattle.olr_matching.proofs.Points.{some_at as at_index}
 use Rattle.olr_why.proofs.Places.{admits, candidate_in_layer, length_of, place_in_layer}
-
--- there are seconds where there is a pair
-some_seconds : (k firsts seconds : ℕ) → k < firsts * seconds → 0 < seconds
-some_seconds k firsts seconds inside = elim (eq-zero-or-pos seconds) [
-  | inl none ↦ absurd (omega (arith, inside, ap (λ (n : ℕ). firsts * n) none))
-  | inr some ↦ some
-]
 
 module _ {road : RoadMap} {layers : LayersValue} (are : AreLayersOn road layers) where
   -- ---- points
@@ -50,16 +38,7 @@ module _ {road : RoadMap} {layers : LayersValue} (are : AreLayersOn road layers)
       → length (slice_index_or layers.lengths index [])
       ≡ length (slice_index_or layers.candidates index []) * length (slice_index_or layers.candidates (index + 1) [])
   pairs_count index inside =
-      let p : Penalties = layers.penalties in
-      let leads = leads_on layers.reference index are.reference inside in
-      let lengths : List (Option ℕ) = slice_index_or layers.lengths index [] in
-      let layers_count : length p.candidates ≡ length layers.candidates =
-      ap (λ (l : List (List ℕ)). length l) are.penalties ∙ length-map layers.candidates penalties_of in
-      let within : index < length p.legs = omega (arith, inside, are.lists.all, are.table.between, layers_count) in
-      let pairs = (are.table.legs index (get_or p.legs index []) (slice_get-get_or p.legs index [] within)).pairs in
-      let here = sym (length-map lengths (λ (length : Option ℕ). option_map (leg_penalty leads.0) length))
-      ∙ sym (ap (λ (l : List (Option ℕ)). length l) (are.legs index leads.0 leads.1)) ∙ pairs in
-      rw (count_is p layers.candidates index are.penalties, count_is p layers.candidates (index + 1) are.penalties) at here
+      let leads = leads_on layers.reference index are.reference inside in long road layers index leads.0 are (omega arith) leads.1
 
   -- a leg without a length admits no pair
   pub no_pair : (index : ℕ) → index + 1 < length (points_of layers.reference)
@@ -87,7 +66,7 @@ module _ {road : RoadMap} {layers : LayersValue} (are : AreLayersOn road layers)
       let k : ℕ = found.0 in
       let n : ℕ = length seconds in
       let within : k < length firsts * n = omega (arith, found.2, pairs_count index inside) in
-      let pos : 0 < n = some_seconds k (length firsts) n within in
+      let pos : 0 < n = not_empty k (length firsts) n within in
       let first = at_index firsts (k / n) ((div-lt_iff_lt-mul pos).1 within) in
       let second = at_index seconds (k % n) (mod-lt k pos) in
       let place : k ≡ k / n * n + k % n = omega (arith, div-add-mod k n) in

@@ -1,20 +1,13 @@
 -- The legs of layers: how many pairs they have, and the pairs of early ranks.
-use Rattle.std.proofs.Common.{◌≡◌, ℕ, ◌+◌, ◌-◌, ◌<◌, ◌≤◌, List, [], length, get_or, take, sym, ◌∙◌, ap, arith}
-use Rattle.std.specs.Prelude.{Option, None, Some, slice_get, slice_index_or}
+use Rattle.std.proofs.Common.{◌≡◌, ℕ, ◌+◌, ◌-◌, ◌<◌, ◌≤◌, List, [], length, get_or, take, sym, ◌∙◌, ap, arith, Option, None, Some, slice_get, slice_index_or}
 use Rattle.std.proofs.lemmas.List.{get_or-take, length-map, length-take}
 use Rattle.std.proofs.lemmas.Nat.{mul-le}
 use Rattle.std.proofs.lemmas.Option.{get_or_from_slice_get, slice_get-get_or, slice_get_within}
-use Rattle.olr_binary.specs.declared.point.Next.{Next}
-use Rattle.olr_candidates.specs.declared.candidate.Candidate.{Candidate}
-use Rattle.olr_map.specs.RoadMap.{RoadMap}
-use Rattle.olr_map.specs.declared.place.Place.{Place}
-use Rattle.olr_matching.proofs.LegLaws.{count_is}
-use Rattle.olr_matching.proofs.Points.{leads_on}
+use Rattle.olr_why.proofs.Common.{Better, Candidate, leads_on, Next, PairLength, Place, RoadMap}
+use Rattle.olr_matching.proofs.LegLaws.{count_is, layers_count}
 use Rattle.olr_matching.specs.Layers.{AreLayersOn, LayersValue, LeadsOn, penalties_of}
 use Rattle.olr_why.specs.Legs.{AreEarlyPairs, IsBetter, IsEarlyRank, IsPairLength}
 use Rattle.olr_why.specs.Pairs.{ArePairsOf, IsBetterBelow, IsPairOf}
-use Rattle.olr_why.specs.declared.pair.Better.{Better}
-use Rattle.olr_why.specs.declared.pair.PairLength.{PairLength}
 use Rattle.olr_why.proofs.Lacking.{pairs_count}
 
 -- ---- how many pairs
@@ -27,8 +20,7 @@ module _ {road : RoadMap} {layers : LayersValue} (layer : ℕ) (are : AreLayersO
   -- a layer has at most 64 candidates
   count_at_most : layer < length layers.candidates → length (slice_index_or layers.candidates layer []) ≤ 64
   count_at_most within =
-      let count = ap (λ (l : List (List ℕ)). length l) are.penalties ∙ length-map layers.candidates penalties_of in
-      let at_most = (are.table.layers layer [] (omega (arith, within, count))).at_most in
+      let at_most = (are.table.layers layer [] (omega (arith, layers_count are))).at_most in
       rw (count_is layers.penalties layers.candidates layer are.penalties) at at_most
 
 -- a leg has at most 4,096 pairs of candidates

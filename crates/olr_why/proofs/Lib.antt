@@ -1,3 +1,4 @@
+pub mod Common
 pub mod Lists
 pub mod PairLengths
 pub mod PairLists
@@ -18,7 +19,6 @@ pub mod Ends
 pub mod Lacking
 pub mod AllReasons
 mod JsonWhy
-mod Zipped
 mod OnePoints
 mod OnePairs
 mod OneLegs

@@ -1,6 +1,5 @@
 -- Options, and lists by their indices.
-use Rattle.std.proofs.Common.{◌≡◌, ℕ, ◌+◌, ◌<◌, List, [], ◌∷◌, ◌++◌, length, get_or, refl, sym, ◌∙◌, ap, subst, inl, inr, arith}
-use Rattle.std.specs.Prelude.{◌↔◌, Bool, true, false, Option, None, Some, Any, Contains, IsSome, is_some, slice_get, slice_index_or}
+use Rattle.std.proofs.Common.{◌≡◌, ℕ, ◌+◌, ◌<◌, List, [], ◌∷◌, ◌++◌, length, get_or, refl, sym, ◌∙◌, ap, subst, inl, inr, arith, ◌↔◌, Bool, true, false, Option, None, Some, MatchOption, Any, Contains, IsSome, is_some, slice_get, slice_index_or}
 use Rattle.std.proofs.Math.ListN.{get_or-eq_default}
 use Rattle.std.proofs.lemmas.Bool.{cases_lt}
 use Rattle.std.proofs.lemmas.List.{get_or_default, length_push}
@@ -15,14 +14,17 @@ some_of (Some x) is = (x, refl)
 pub is_some_from : {X : Type 0} (o : Option X) (x : X) → o ≡ Some x → IsSome o
 is_some_from o x is = ap is_some is
 
+-- what excludes that there is none, and is one value where there is one, is one option
+pub one_option : {X N : Type 0} {Is : X → Type 0} (a b : Option X) → ((x : X) → Is x → N → ⊥)
+    → ((x y : X) → Is x → Is y → x ≡ y) → MatchOption a N Is → MatchOption b N Is → a ≡ b
+one_option None None not one_value one other = refl
+one_option None (Some y) not one_value none is = absurd (not y is none)
+one_option (Some x) None not one_value is none = absurd (not x is none)
+one_option (Some x) (Some y) not one_value one other = ap Some (one_value x y one other)
+
 -- a test isn't both
 pub not_both : {b : Bool} → b ≡ true → b ≡ false → ⊥
 not_both is is_not = absurd cc
-
--- what a list has before its end
-pub at_index : {X : Type 0} (xs : List X) (k : ℕ) → k < length xs → (x : X) × (slice_get xs k ≡ Some x)
-at_index [] k inside = absurd (omega (arith, inside))
-at_index (x ∷ xs) k inside = (get_or (x ∷ xs) k x, slice_get-get_or (x ∷ xs) k x inside)
 
 -- ---- lists of options
 

@@ -1,13 +1,7 @@
 -- The greatest value of a tolerance below the given one with which no point has too many candidates.
 use Rattle.std.proofs.Common.{◌≢◌, ℕ, ◌<◌, Option, None, Some, arith}
-use Rattle.olr_binary.specs.declared.reference.Reference.{Reference}
-use Rattle.olr_candidates.specs.declared.tolerances.Name.{Name}
-use Rattle.olr_candidates.specs.declared.tolerances.Name.TheVariants.{Lowest}
-use Rattle.olr_candidates.specs.declared.tolerances.Tolerances.{Tolerances}
-use Rattle.olr_candidates.specs.Laws.{OneCandidateALine}
+use Rattle.olr_why.proofs.Common.{KeyValue, Lowest, Name, OneCandidateALine, Reference, RoadMap, Tolerances}
 use Rattle.olr_candidates.specs.Tolerances.{least_of, order_of}
-use Rattle.olr_keys.specs.Key.{KeyValue}
-use Rattle.olr_map.specs.RoadMap.{RoadMap}
 use Rattle.olr_why.specs.Remedies.{IsGreatestUncrowded, IsUncrowdedWith, value_of}
 use Rattle.olr_why.specs.Trying.{IsCrowdedWith, IsGreatest, IsMatchingWith}
 use Rattle.olr_why.proofs.Tried.{crowded_from, value_in_range}

@@ -1,42 +1,16 @@
 -- A pair of candidates of a leg has one length and one better class limit, and a leg has one list of early pairs.
-use Rattle.std.proofs.Common.{◌≡◌, ℕ, ◌+◌, ◌-◌, ◌⊎◌, List, [], inl, inr, refl, sym, ◌∙◌, ap, subst, arith}
-use Rattle.std.specs.Prelude.{Contains, Option, None, Some, slice_get, slice_index_or}
+use Rattle.std.proofs.Common.{◌≡◌, ℕ, ◌+◌, ◌-◌, ◌⊎◌, List, [], inl, inr, refl, sym, ◌∙◌, ap, subst, arith, Contains, Option, None, Some, slice_get, slice_index_or}
 use Rattle.std.proofs.lemmas.Bool.{cases_lt}
 use Rattle.std.proofs.lemmas.List.Elements.{All-contains}
-use Rattle.olr_binary.specs.declared.point.Next.{Next}
-use Rattle.olr_candidates.specs.declared.candidate.Candidate.{Candidate}
-use Rattle.olr_map.specs.RoadMap.{RoadMap}
-use Rattle.olr_map.specs.declared.place.Place.{Place}
-use Rattle.olr_matching.specs.Layers.{LayersValue}
-use Rattle.olr_matching.specs.Leg.{class_limit, greatest_admitted}
+use Rattle.olr_why.proofs.Common.{Better, Candidate, class_limit, greatest_admitted, LayersValue, Next, PairLength, Place, RoadMap}
 use Rattle.olr_matching.specs.Matched.{IsOfRank}
 use Rattle.olr_matching.proofs.Lists.{same_some}
 use Rattle.olr_matching.proofs.Pairs.{one_next}
 use Rattle.olr_route.specs.Least.{IsLeastLength, IsLengthWithin}
 use Rattle.olr_why.specs.Legs.{AreEarlyPairs, IsBeforePair, IsBetter, IsEarlyRank, IsPairLength, IsUpTo, far}
-use Rattle.olr_why.specs.declared.pair.Better.{Better}
-use Rattle.olr_why.specs.declared.pair.PairLength.{PairLength}
-use Rattle.olr_why.proofs.Zipped.{same_list}
-
--- there is one least length at most
-abbrev pub OneLeastLength : Type 0
-OneLeastLength = (road : RoadMap) (class : ℕ) (from to : Place) (a b : ℕ) → IsLeastLength road class from to a → IsLeastLength road class from to b → a ≡ b
-
--- ---- one value from its parts
-
-abbrev better_of : ℕ → ℕ → Better
-better_of class length = record { class = class; length = length }
-
-same_better : (a b : Better) → a.class ≡ b.class → a.length ≡ b.length → a ≡ b
-same_better a b class length =
-    let same : better_of a.class a.length ≡ better_of b.class b.length = rw (class, length) refl in same
-
-abbrev pair_of : ℕ → ℕ → Option ℕ → Option Better → PairLength
-pair_of first second length better = record { first = first; second = second; length = length; better = better }
-
-same_pair : (a b : PairLength) → a.first ≡ b.first → a.second ≡ b.second → a.length ≡ b.length → a.better ≡ b.better → a ≡ b
-same_pair a b first second length better =
-    let same : pair_of a.first a.second a.length a.better ≡ pair_of b.first b.second b.length b.better = rw (first, second, length, better) refl in same
+use Rattle.olr_why.proofs.Lists.{one_option}
+use Rattle.olr_keys.proofs.Rising.{same_list}
+use Rattle.olr_matching.proofs.Admitted.{one_length as one_least}
 
 -- ---- one pair of places
 
@@ -47,30 +21,27 @@ up_to_or_not (Some length) greatest = elim (cases_lt greatest length) [
   | inr not_above ↦ inl not_above
 ]
 
-module _ (one_least : OneLeastLength) (road : RoadMap) where
+module _ (road : RoadMap) where
   one_length : (class : ℕ) (from to : Place) (limit : ℕ) (a b : Option ℕ) → IsLengthWithin road class from to limit a
       → IsLengthWithin road class from to limit b → a ≡ b
   one_length class from to limit None None one other = refl
   one_length class from to limit None (Some b) none is = absurd (omega (arith, none is.0.behind is.0.is, is.0.long, is.1))
   one_length class from to limit (Some a) None is none = absurd (omega (arith, none is.0.behind is.0.is, is.0.long, is.1))
-  one_length class from to limit (Some a) (Some b) one other = ap (λ (n : ℕ). Some n) (one_least road class from to a b one.0 other.0)
+  one_length class from to limit (Some a) (Some b) one other = ap Some (one_least road class from to a b one.0 other.0)
 
   one_better : (next : Next) (from to : Place) (class : ℕ) (known : Option ℕ) (a b : Option Better) → IsBetter road next from to class known a
       → IsBetter road next from to class known b → a ≡ b
-  one_better next from to class known None None one other = refl
-  one_better next from to class known None (Some b) none is = absurd (none b.class b.length is.0 is.1 is.2)
-  one_better next from to class known (Some a) None is none = absurd (none a.class a.length is.0 is.1 is.2)
-  one_better next from to class known (Some a) (Some b) one other = elim (cases_lt a.class b.class) [
-    | inl less ↦ absurd (other.3 a.class a.length one.0 less one.2)
-    | inr not_less ↦ elim (cases_lt b.class a.class) [
-      | inl more ↦ absurd (one.3 b.class b.length other.0 more other.2)
-      | inr not_more ↦
-          let same : b.class ≡ a.class = omega (arith, not_less, not_more) in
-          let least : IsLeastLength road a.class from to b.length = rw (← same) other.2.least in
-          ap (λ (found : Better). Some found)
-          (same_better a b (sym same) (one_least road a.class from to a.length b.length one.2.least least))
-    ]
-  ]
+  one_better next from to class known a b =
+      one_option a b (λ better is none. none better.class better.length is.0 is.1 is.2) λ x y is also. elim (cases_lt x.class y.class) [
+        | inl less ↦ absurd (also.3 x.class x.length is.0 less is.2)
+        | inr not_less ↦ elim (cases_lt y.class x.class) [
+          | inl more ↦ absurd (is.3 y.class y.length also.0 more also.2)
+          | inr not_more ↦
+              let class : x.class ≡ y.class = omega arith in
+              let length = one_least road y.class from to x.length y.length (rw class at is.2.least) also.2.least in
+              λ i. record { class = class i; length = length i }
+        ]
+      ]
 
   -- ---- one pair of candidates
 
@@ -88,12 +59,13 @@ module _ (one_least : OneLeastLength) (road : RoadMap) where
         let class : ℕ = class_limit layers.tolerances next in
         let greatest : ℕ = greatest_admitted layers.tolerances next in
         let length : a.length ≡ b.length = one_length class from to (far next) a.length b.length one.length other.length in
-        same_pair a b first second length (elim (up_to_or_not b.length greatest) [
+        let better : a.better ≡ b.better = elim (up_to_or_not b.length greatest) [
           | inl short ↦ one.short (rw length short) ∙ sym (other.short short)
           | inr long ↦
               let here : IsBetter road next from to class b.length a.better = rw (← length) (one.better (λ short. long (rw length at short))) in
               one_better next from to class b.length a.better b.better here (other.better long)
-        ])
+        ] in
+        λ i. record { first = first i; second = second i; length = length i; better = better i }
 
     -- one candidate has a rank
     one_candidate : (list rank same : ℕ) (a b : Candidate) → rank ≡ same → IsOfRank layers.candidates list rank a

@@ -1,42 +1,20 @@
 -- What would help a reference is the same in all reasons.
-use Rattle.std.proofs.Common.{◌≡◌, ℕ, ◌<◌, List, inl, inr, refl, sym, ◌∙◌, ap, arith}
-use Rattle.std.specs.Prelude.{MatchOption, Option, None, Some, slice_get}
-use Rattle.std.proofs.lemmas.Bool.{cases_lt}
-use Rattle.olr_binary.specs.declared.reference.Reference.{Reference}
-use Rattle.olr_candidates.specs.declared.tolerances.Name.{Name}
-use Rattle.olr_candidates.specs.declared.tolerances.Name.TheVariants.{Radius, Bearing, Class, Lowest, Percent, Slack}
-use Rattle.olr_candidates.specs.declared.tolerances.Tolerances.{Tolerances}
-use Rattle.olr_keys.specs.Key.{KeyValue}
+use Rattle.std.proofs.Common.{◌≡◌, ℕ, ◌<◌, List, refl, sym, ◌∙◌, ap, arith, MatchOption, Option, Some, slice_get}
+use Rattle.olr_why.proofs.Common.{Bearing, Class, KeyValue, Lowest, MatchingHasKey, Name, OneLayers, Percent, Radius, Reference, RoadMap, Slack, Tolerances, Verdict}
 use Rattle.olr_keys.specs.Laws.{OneList}
-use Rattle.olr_map.specs.RoadMap.{RoadMap}
-use Rattle.olr_matching.specs.LayersLaws.{OneLayers}
 use Rattle.olr_matching.proofs.Lists.{same_some}
 use Rattle.olr_why.specs.Chain.{HasMatching, IsFirstMatching}
-use Rattle.olr_why.specs.Laws.{MatchingHasKey}
 use Rattle.olr_why.specs.Remedies.{AreNarrower, AreRemedies, AreWider, IsGreatestUncrowded, IsLeastEnough, IsNarrower, IsOpener, IsWider, without_bans}
-use Rattle.olr_why.specs.declared.remedy.Change.{Change}
 use Rattle.olr_why.specs.declared.remedy.Change.TheVariants.{Tolerance}
 use Rattle.olr_why.specs.declared.remedy.Remedy.{Remedy}
-use Rattle.olr_why.specs.declared.verdict.Verdict.{Verdict}
 use Rattle.olr_why.specs.declared.verdict.Verdict.TheVariants.{Crowded, Match}
+use Rattle.olr_why.proofs.Lists.{one_option}
 use Rattle.olr_why.proofs.OneTolerances.{one_changed}
 use Rattle.olr_why.proofs.Tried.{has_matching}
 
--- ---- one value from its parts
-
-abbrev remedy_of : Change → Option KeyValue → Remedy
-remedy_of change matching = record { change = change; matching = matching }
-
-same_remedy : (a b : Remedy) → a.change ≡ b.change → a.matching ≡ b.matching → a ≡ b
-same_remedy a b change matching =
-    let same : remedy_of a.change a.matching ≡ remedy_of b.change b.matching = rw (change, matching) refl in same
-
 -- where neither of two numbers is less
-neither_less : (a b : ℕ) → (a < b → ⊥) → (b < a → ⊥) → a ≡ b
-neither_less a b not_less not_more = elim (cases_lt a b) [
-  | inl less ↦ absurd (not_less less)
-  | inr at_least ↦ elim (cases_lt b a) [ inl more ↦ absurd (not_more more) | inr at_most ↦ omega (arith, at_least, at_most) ]
-]
+neither_less : {a b : ℕ} → (a < b → ⊥) → (b < a → ⊥) → a ≡ b
+neither_less not_less not_more = omega arith
 
 module _ (one_layers : OneLayers) (one_list : OneList) (has_key : MatchingHasKey) (reference : Reference) where
   -- ---- the first matching
@@ -51,61 +29,41 @@ module _ (one_layers : OneLayers) (one_list : OneList) (has_key : MatchingHasKey
 
     one_matching : (a b : Option KeyValue) → MatchOption a (HasMatching road tolerances reference → ⊥) (IsFirstMatching road tolerances reference)
         → MatchOption b (HasMatching road tolerances reference → ⊥) (IsFirstMatching road tolerances reference) → a ≡ b
-    one_matching None None one other = refl
-    one_matching None (Some b) none is = absurd (none (has_matching road reference has_key is))
-    one_matching (Some a) None is none = absurd (none (has_matching road reference has_key is))
-    one_matching (Some a) (Some b) one other = ap (λ (key : KeyValue). Some key) (one_first a b one other)
+    one_matching a b = one_option a b (λ key is none. none (has_matching road reference has_key is)) one_first
 
   module _ (road : RoadMap) (given : Tolerances) where
     -- ---- a greater value
 
-    one_least_enough : (name : Name) (value : ℕ) (a b : KeyValue) → IsLeastEnough road given reference name value a
+    one_least_enough : {name : Name} {value : ℕ} {a b : KeyValue} → IsLeastEnough road given reference name value a
         → IsLeastEnough road given reference name value b → a ≡ b
-    one_least_enough name value a b one other =
-        let same = one_changed one.enough.is_changed other.enough.is_changed in
-        one_first road other.enough.changed a b (rw (← same) one.first) other.first
+    one_least_enough {a} {b} one other =
+        one_first road other.enough.changed a b (rw (one_changed one.enough.is_changed other.enough.is_changed) at one.first) other.first
 
     one_wider : (name : Name) (a b : Option Remedy) → IsWider road given reference name a → IsWider road given reference name b → a ≡ b
-    one_wider name None None one other = refl
-    one_wider name None (Some b) none (value, key, change, matching, is) = absurd (none value is.above is.enough)
-    one_wider name (Some a) None (value, key, change, matching, is) none = absurd (none value is.above is.enough)
-    one_wider name (Some a) (Some b) (value, key, change, matching, is) (other, other_key, other_change, other_matching, also) =
-        let values : value ≡ other = neither_less value other (λ less. also.least value is.above less is.enough)
-        (λ more. is.least other also.above more also.enough) in
-        let keys : key ≡ other_key = one_least_enough name other key other_key (rw (← values) is) also in
-        ap (λ (remedy : Remedy). Some remedy) (same_remedy a b (change ∙ ap (λ (n : ℕ). Tolerance name n) values ∙ sym other_change)
-        (matching ∙ ap (λ (k : KeyValue). Some k) keys ∙ sym other_matching))
+    one_wider name a b = one_option a b (λ remedy is none. none is.0 is.4.above is.4.enough) λ x y is also.
+        let values = neither_less (λ less. also.4.least is.0 is.4.above less is.4.enough) (λ more. is.4.least also.0 also.4.above more also.4.enough) in
+        let keys = one_least_enough (rw values at is.4) also.4 in
+        λ i. record { change = (is.2 ∙ ap (Tolerance name) values ∙ sym also.2) i; matching = (is.3 ∙ ap Some keys ∙ sym also.3) i }
 
     -- ---- a map without bans
 
     one_opener : (a b : Option Remedy) → IsOpener road given reference a → IsOpener road given reference b → a ≡ b
-    one_opener None None one other = refl
-    one_opener None (Some b) none (key, change, matching, bans, first) =
-        absurd (none bans (has_matching (without_bans road) reference has_key first))
-    one_opener (Some a) None (key, change, matching, bans, first) none =
-        absurd (none bans (has_matching (without_bans road) reference has_key first))
-    one_opener (Some a) (Some b) (key, change, matching, bans, first) (other, other_change, other_matching, other_bans, also) =
-        let keys : key ≡ other = one_first (without_bans road) given key other first also in
-        ap (λ (remedy : Remedy). Some remedy)
-        (same_remedy a b (change ∙ sym other_change) (matching ∙ ap (λ (k : KeyValue). Some k) keys ∙ sym other_matching))
+    one_opener a b = one_option a b (λ remedy is none. none is.3 (has_matching (without_bans road) reference has_key is.4)) λ x y is also.
+        let keys = one_first (without_bans road) given is.0 also.0 is.4 also.4 in
+        λ i. record { change = (is.1 ∙ sym also.1) i; matching = (is.2 ∙ ap Some keys ∙ sym also.2) i }
 
     -- ---- a lesser value
 
-    one_greatest : (name : Name) (value : ℕ) (a b : Option KeyValue) → IsGreatestUncrowded road given reference name value a
+    one_greatest : {name : Name} {value : ℕ} (a b : Option KeyValue) → IsGreatestUncrowded road given reference name value a
         → IsGreatestUncrowded road given reference name value b → a ≡ b
-    one_greatest name value a b one other =
-        let same = one_changed one.enough.is_changed other.enough.is_changed in
-        one_matching road other.enough.changed a b (rw (← same) one.first) other.first
+    one_greatest a b one other =
+        one_matching road other.enough.changed a b (rw (one_changed one.enough.is_changed other.enough.is_changed) at one.first) other.first
 
     one_narrower : (name : Name) (a b : Option Remedy) → IsNarrower road given reference name a → IsNarrower road given reference name b → a ≡ b
-    one_narrower name None None one other = refl
-    one_narrower name None (Some b) none (value, change, is) = absurd (none value is.below is.enough)
-    one_narrower name (Some a) None (value, change, is) none = absurd (none value is.below is.enough)
-    one_narrower name (Some a) (Some b) (value, change, is) (other, other_change, also) =
-        let values : value ≡ other = neither_less value other (λ less. is.greatest other less also.below also.enough)
-        (λ more. also.greatest value more is.below is.enough) in
-        ap (λ (remedy : Remedy). Some remedy) (same_remedy a b (change ∙ ap (λ (n : ℕ). Tolerance name n) values ∙ sym other_change)
-        (one_greatest name other a.matching b.matching (rw (← values) is) also))
+    one_narrower name a b = one_option a b (λ remedy is none. none is.0 is.2.below is.2.enough) λ x y is also.
+        let values = neither_less (λ less. is.2.greatest also.0 less also.2.below also.2.enough) (λ more. also.2.greatest is.0 more is.2.below is.2.enough) in
+        let matchings = one_greatest x.matching y.matching (rw values at is.2) also.2 in
+        λ i. record { change = (is.1 ∙ ap (Tolerance name) values ∙ sym also.1) i; matching = matchings i }
 
     -- ---- all of them
 

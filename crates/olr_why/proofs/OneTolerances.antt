@@ -3,11 +3,7 @@ use mathlib.Core.Path.{fun_ext}
 use Rattle.std.proofs.Common.{◌≡◌, ℕ, inl, inr, sym, ◌∙◌, ap, subst}
 use Rattle.std.proofs.Props.{props}
 use Rattle.std.proofs.lemmas.Bool.{cases_eq}
-use Rattle.olr_candidates.specs.declared.tolerances.Name.{Name}
-use Rattle.olr_candidates.specs.declared.tolerances.Name.TheVariants.{Radius, Bearing, Class, Lowest, Percent, Slack}
-use Rattle.olr_candidates.specs.declared.tolerances.Tolerances.{Tolerances}
-use Rattle.olr_candidates.specs.Tolerances.{IsTolerance, order_of}
-use Rattle.olr_why.specs.Remedies.{IsChanged, value_of}
+use Rattle.olr_why.proofs.Common.{Bearing, Class, IsChanged, IsTolerance, Lowest, Name, order_of, Percent, Radius, Slack, Tolerances, value_of}
 use Rattle.olr_why.proofs.AtMost.{in_range, same_value}
 
 -- ---- the same numbers

@@ -2,20 +2,10 @@
 use Rattle.std.proofs.Common.{◌≡◌, ◌≢◌, ℕ, List, [], ◌∷◌, length, refl, inl, inr, ap, arith}
 use Rattle.std.proofs.lemmas.Bool.{cases_lt}
 use Rattle.std.proofs.lemmas.Option.{slice_get_within}
-use Rattle.olr_binary.specs.declared.reference.Reference.{Reference}
-use Rattle.olr_binary.specs.Reference.{points_of}
-use Rattle.olr_candidates.specs.declared.tolerances.Tolerances.{Tolerances}
-use Rattle.olr_candidates.specs.Laws.{NoListsAndTooMany}
-use Rattle.olr_keys.specs.Answers.{AreAnswers}
-use Rattle.olr_keys.specs.Key.{KeyValue}
+use Rattle.olr_why.proofs.Common.{AreAnswers, AreLayersOn, HasMatching, IsUncrowded, KeyValue, LayersValue, NoListsAndTooMany, Penalties, points_of, Reference, RoadMap, Tolerances, Verdict}
 use Rattle.olr_keys.specs.Matching.{IsKey}
-use Rattle.olr_keys.specs.Table.{Penalties}
-use Rattle.olr_map.specs.RoadMap.{RoadMap}
-use Rattle.olr_matching.specs.Layers.{AreLayersOn, LayersValue}
-use Rattle.olr_why.specs.Chain.{HasMatching, IsUncrowded}
 use Rattle.olr_why.specs.Laws.{MatchHasAnswers, MatchingHasKey}
 use Rattle.olr_why.specs.Verdict.{HasNoTuple, HaveCandidates, HavePairs, IsFirst, IsVerdict}
-use Rattle.olr_why.specs.declared.verdict.Verdict.{Verdict}
 use Rattle.olr_why.specs.declared.verdict.Verdict.TheVariants.{Chain, Crowded, Leg, Match, Point}
 use Rattle.olr_why.proofs.Tuples.{candidate_of, fewer, pair_of}
 

@@ -1,15 +1,12 @@
 -- The map, the reference, the tolerances and the count of nearest lines determine what is shown of all reasons.
-use Rattle.std.proofs.Common.{◌≡◌, refl}
+use Rattle.std.proofs.Common.{refl}
 use Rattle.olr_candidates.specs.Laws.{NoListOfPointAndTooMany, OneListOfNearest, OneListOfPoint}
 use Rattle.olr_keys.specs.Laws.{OneList}
-use Rattle.olr_matching.specs.LayersLaws.{OneLayers}
+use Rattle.olr_why.proofs.Common.{OneLayers}
 use Rattle.olr_why.specs.Laws.{MatchingHasKey, OneVerdict, OneWhy}
-use Rattle.olr_why.proofs.OneLegs.{one_legs, same_leg_objects, same_leg_rows}
-use Rattle.olr_why.proofs.OnePairs.{OneLeastLength}
-use Rattle.olr_why.proofs.OnePoints.{one_points, same_point_objects, same_point_rows}
+use Rattle.olr_why.proofs.OneLegs.{one_legs}
+use Rattle.olr_why.proofs.OnePoints.{one_points}
 use Rattle.olr_why.proofs.OneRemedies.{one_remedies}
-
--- ---- one value
 
 -- the laws on which this rests
 pub record Laws : Type 0 where
@@ -20,23 +17,13 @@ pub record Laws : Type 0 where
   pub one_list_of_nearest : OneListOfNearest
   pub one_list : OneList
   pub one_layers : OneLayers
-  pub one_least_length : OneLeastLength
 
 pub one_why : Laws → OneWhy
 one_why laws road tolerances reference nearest a b one other =
-    let verdict : a.verdict ≡ b.verdict = laws.one_verdict road tolerances reference a.verdict b.verdict one.verdict other.verdict in
-    let points = one_points laws.one_list_of_point laws.no_list_and_too_many laws.one_list_of_nearest road tolerances reference nearest a.points.items
-    b.points.items one.points other.points in
-    let legs = one_legs laws.one_layers laws.one_least_length road tolerances reference b.verdict a.legs.items b.legs.items (rw verdict at one.legs)
-    other.legs in
-    let remedies : a.remedies.items ≡ b.remedies.items =
+    let verdict = laws.one_verdict _ _ _ a.verdict b.verdict one.verdict other.verdict in
+    let points = one_points laws.one_list_of_point laws.no_list_and_too_many laws.one_list_of_nearest road tolerances reference one.points other.points in
+    let legs = one_legs laws.one_layers road tolerances reference b.verdict a.legs.items b.legs.items (rw verdict at one.legs) other.legs in
+    let remedies =
     one_remedies laws.one_layers laws.one_list laws.matching_has_key reference road tolerances b.verdict a.remedies.items b.remedies.items
-    (rw verdict at one.remedies) other.remedies in (
-      rw (same_point_rows road 1 a.points.items b.points.items points, same_leg_rows 1 a.legs.items b.legs.items legs, verdict, remedies) refl,
-      rw (
-        same_point_objects road a.points.items b.points.items points,
-        same_leg_objects a.legs.items b.legs.items legs,
-        verdict,
-        remedies,
-      ) refl,
-    )
+    (rw verdict at one.remedies) other.remedies in
+    (rw (points, legs, verdict, remedies) refl, rw (points, legs, verdict, remedies) refl)

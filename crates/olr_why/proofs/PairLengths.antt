@@ -1,16 +1,9 @@
 -- What one class limit more tells of a pair.
-use Rattle.std.proofs.Common.{◌≡◌, ℕ, ◌+◌, ◌<◌, inl, inr, refl, arith}
-use Rattle.std.specs.Prelude.{Bool, false, Decides, IsSome, Option, None, Some}
+use Rattle.std.proofs.Common.{◌≡◌, ℕ, ◌+◌, ◌<◌, inl, inr, refl, arith, Bool, false, Decides, IsSome, Option, None, Some}
 use Rattle.std.proofs.lemmas.Bool.{cases_lt}
-use Rattle.olr_binary.specs.declared.point.Next.{Next}
-use Rattle.olr_candidates.specs.declared.tolerances.Tolerances.{Tolerances}
-use Rattle.olr_map.specs.RoadMap.{RoadMap}
-use Rattle.olr_map.specs.declared.place.Place.{Place}
-use Rattle.olr_matching.specs.Leg.{class_limit, greatest_admitted}
+use Rattle.olr_why.proofs.Common.{Better, class_limit, greatest_admitted, Next, PairLength, Place, RoadMap, Tolerances}
 use Rattle.olr_why.specs.Legs.{IsShorterUnder}
 use Rattle.olr_why.specs.Pairs.{ArePairLengths, IsAnswered, IsBetterBelow}
-use Rattle.olr_why.specs.declared.pair.Better.{Better}
-use Rattle.olr_why.specs.declared.pair.PairLength.{PairLength}
 use Rattle.olr_why.proofs.Lists.{not_both}
 
 -- what isn't something is nothing

@@ -1,25 +1,12 @@
 -- Lists of pairs of a first candidate, by their indices.
-use Rattle.std.proofs.Common.{◌≡◌, ◌≢◌, ℕ, ◌+◌, ◌<◌, ◌≤◌, ◌⊎◌, inl, inr, List, length, get_or, sym, ◌∙◌, ap, arith}
-use Rattle.std.specs.Prelude.{All, None, Some, slice_get, slice_set}
+use Rattle.std.proofs.Common.{◌≡◌, ◌≢◌, ℕ, ◌+◌, ◌<◌, ◌≤◌, ◌⊎◌, inl, inr, List, length, get_or, sym, ◌∙◌, ap, arith, All, None, Some, slice_get, slice_set, get_or-set_other, get_or-set_same, length-set}
 use Rattle.std.proofs.lemmas.Bool.{cases_eq}
-use Rattle.std.proofs.lemmas.List.{get_or-set_other, get_or-set_same, length-set}
 use Rattle.std.proofs.lemmas.Option.{get_or_from_slice_get, slice_get-get_or, slice_get_within}
-use Rattle.olr_binary.specs.declared.point.Next.{Next}
-use Rattle.olr_candidates.specs.declared.candidate.Candidate.{Candidate}
-use Rattle.olr_candidates.specs.declared.tolerances.Tolerances.{Tolerances}
-use Rattle.olr_map.specs.RoadMap.{RoadMap}
-use Rattle.olr_map.specs.declared.place.Place.{Place}
-use Rattle.olr_matching.specs.Leg.{greatest_admitted}
-use Rattle.olr_matching.proofs.Lists.{all_at}
+use Rattle.olr_why.proofs.Common.{all_at, Candidate, greatest_admitted, Next, PairLength, Place, RoadMap, Tolerances}
 use Rattle.olr_why.specs.Pairs.{ArePairsFrom, IsAnswered, IsPairAt, IsPairOfRanks}
-use Rattle.olr_why.specs.declared.pair.PairLength.{PairLength}
 use Rattle.olr_why.proofs.PairLengths.{still_answered}
 
--- what a list of candidates is read with past its end
-abbrev pub no_candidate : Candidate
-no_candidate = record { place = record { line = 0; at = 0 }; penalty = 0 }
-
--- and a list of pairs
+-- what a list of pairs is read with past its end
 abbrev pub no_pair : PairLength
 no_pair = record { first = 0; second = 0; length = None; better = None }
 

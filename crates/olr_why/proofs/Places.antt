@@ -1,25 +1,15 @@
 -- The places of the candidates of a point, and which pairs of them a leg admits, by the layers of their reference.
-use Rattle.std.proofs.Common.{◌≡◌, ℕ, ◌+◌, ◌<◌, List, [], length, refl, sym, ◌∙◌, ap, subst, arith}
-use Rattle.std.specs.Prelude.{Option, Some, None, ◌==◌, Contains, slice_get, slice_index_or}
+use Rattle.std.proofs.Common.{◌≡◌, ℕ, ◌+◌, ◌<◌, List, [], length, refl, sym, ◌∙◌, ap, subst, arith, Option, Some, None, ◌==◌, Contains, slice_get, slice_index_or}
 use Rattle.std.proofs.lemmas.List.{length-map}
 use Rattle.std.proofs.lemmas.Option.{same_Some, slice_get-get_or, slice_get_within}
-use Rattle.olr_binary.specs.declared.point.Next.{Next}
-use Rattle.olr_binary.specs.declared.reference.Reference.{Reference}
-use Rattle.olr_binary.specs.Reference.{points_of}
-use Rattle.olr_candidates.specs.declared.candidate.Candidate.{Candidate}
-use Rattle.olr_candidates.specs.declared.tolerances.Tolerances.{Tolerances}
+use Rattle.olr_why.proofs.Common.{AdmitsPlaces, all_at, Candidate, IsCandidatePlace, leads_on, Next, Penalties, Place, points_of, Reference, RoadMap, Tolerances}
 use Rattle.olr_candidates.specs.Candidates.{IsCandidateAt, IsOneOf}
 use Rattle.olr_candidates.specs.Points.{AreCandidatesOf}
-use Rattle.olr_keys.specs.Table.{Penalties}
-use Rattle.olr_map.specs.RoadMap.{RoadMap}
-use Rattle.olr_map.specs.declared.place.Place.{Place}
 use Rattle.olr_matching.specs.Layers.{AreLayersOn, IsCandidateOf, LayersValue, length_at, penalties_of}
 use Rattle.olr_matching.specs.Leg.{IsAdmitted, IsAdmittedLength}
-use Rattle.olr_matching.proofs.Lists.{all_at}
+use Rattle.olr_matching.proofs.LegLaws.{layers_count}
 use Rattle.olr_matching.proofs.Pairs.{candidates_at}
-use Rattle.olr_matching.proofs.Points.{leads_on}
 use Rattle.olr_metric.specs.Coordinates.{Coordinates, coordinates_of}
-use Rattle.olr_why.specs.Chain.{AdmitsPlaces, IsCandidatePlace}
 
 -- ---- a point
 
@@ -77,8 +67,7 @@ module _ {road : RoadMap} {layers : LayersValue} (are : AreLayersOn road layers)
       → count ≡ length penalties.candidates
       → count ≡ length (points_of layers.reference)
   points_count same is =
-      is ∙ ap (λ (p : Penalties). length p.candidates) same ∙ ap (λ (l : List (List ℕ)). length l) are.penalties
-      ∙ length-map layers.candidates penalties_of ∙ are.lists.all
+      is ∙ ap (λ (p : Penalties). length p.candidates) same ∙ layers_count are ∙ are.lists.all
 
   -- a candidate of a layer lies at a place of the layer's point
   pub place_in_layer : (index k : ℕ) (candidate : Candidate) → IsCandidateOf layers.candidates index k candidate

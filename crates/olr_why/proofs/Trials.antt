@@ -1,24 +1,14 @@
 -- What is found with some tolerances, by the candidates of the points and the keys of the layers' table.
-use Rattle.std.proofs.Common.{◌≡◌, ℕ, ◌+◌, ◌*◌, ◌<◌, List, [], ◌∷◌, length, get_or, inl, inr, None, Some, ◌∙◌, ap, subst, arith}
-use Rattle.std.specs.Prelude.{All, Any, Contains, Option, slice_get, slice_index_or}
+use Rattle.std.proofs.Common.{◌≡◌, ℕ, ◌+◌, ◌*◌, ◌<◌, List, [], ◌∷◌, length, get_or, inl, inr, None, Some, ◌∙◌, ap, subst, arith, All, Any, Contains, Option, slice_get, slice_index_or}
 use Rattle.std.proofs.lemmas.Bool.{cases_lt}
 use Rattle.std.proofs.lemmas.List.{get_or-map, get_or_past, length-map, nil_from_length}
 use Rattle.std.proofs.lemmas.Option.{slice_get-get_or, slice_get_within}
 use Rattle.arrayvec.specs.ArrayVec.{ArrayVec, array_vec_len}
-use Rattle.olr_binary.specs.declared.reference.Reference.{Reference}
-use Rattle.olr_binary.specs.Reference.{points_of}
-use Rattle.olr_candidates.specs.declared.candidate.Candidate.{Candidate}
-use Rattle.olr_candidates.specs.declared.tolerances.Tolerances.{Tolerances}
-use Rattle.olr_candidates.specs.Laws.{NoListsAndTooMany}
+use Rattle.olr_why.proofs.Common.{AdmitsPlaces, AreLayersOn, Candidate, HasMatching, IsUncrowded, KeyValue, LayersValue, MatchingHasKey, NoListsAndTooMany, points_of, Reference, RoadMap, Tolerances}
 use Rattle.olr_candidates.specs.Points.{AreLists, lists_of}
-use Rattle.olr_keys.specs.Key.{KeyValue}
-use Rattle.olr_map.specs.RoadMap.{RoadMap}
-use Rattle.olr_matching.specs.Layers.{AreLayersOn, LayersValue}
 use Rattle.olr_matching.specs.Leg.{IsAdmittedLength}
 use Rattle.olr_matching.specs.Lengths.{HasShutLeg}
 use Rattle.olr_matching.proofs.Points.{list_of}
-use Rattle.olr_why.specs.Chain.{AdmitsPlaces, HasMatching, IsUncrowded}
-use Rattle.olr_why.specs.Laws.{MatchingHasKey}
 use Rattle.olr_why.specs.Trial.{IsFirstKey, IsTrial}
 use Rattle.olr_why.specs.declared.trial.Trial.TheVariants.{Matching, NoMatching}
 use Rattle.olr_why.proofs.Places.{candidate_at}

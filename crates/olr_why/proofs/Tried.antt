@@ -1,21 +1,10 @@
 -- What one trial tells of the value that was tried, and of greater and lesser values.
 use Rattle.std.proofs.Common.{◌≢◌, ℕ, ◌≤◌, List, subst}
 use Rattle.std.proofs.lemmas.Option.{slice_get_within}
-use Rattle.olr_binary.specs.declared.reference.Reference.{Reference}
-use Rattle.olr_binary.specs.Reference.{points_of}
-use Rattle.olr_candidates.specs.declared.candidate.Candidate.{Candidate}
-use Rattle.olr_candidates.specs.declared.tolerances.Name.{Name}
-use Rattle.olr_candidates.specs.declared.tolerances.Name.TheVariants.{Lowest}
-use Rattle.olr_candidates.specs.declared.tolerances.Tolerances.{Tolerances}
-use Rattle.olr_candidates.specs.Laws.{NoListsAndTooMany, OneCandidateALine}
+use Rattle.olr_why.proofs.Common.{all_at, Candidate, IsTolerance, KeyValue, Lowest, MatchingHasKey, Name, NoListsAndTooMany, OneCandidateALine, order_of, points_of, Reference, RoadMap, Tolerances}
 use Rattle.olr_candidates.specs.Points.{AreLists}
-use Rattle.olr_candidates.specs.Tolerances.{IsTolerance, order_of}
-use Rattle.olr_keys.specs.Key.{KeyValue}
 use Rattle.olr_keys.specs.Matching.{IsKey}
-use Rattle.olr_map.specs.RoadMap.{RoadMap}
-use Rattle.olr_matching.proofs.Lists.{all_at}
 use Rattle.olr_why.specs.Chain.{HasMatching, IsFirstMatching, IsUncrowded}
-use Rattle.olr_why.specs.Laws.{MatchingHasKey}
 use Rattle.olr_why.specs.Remedies.{IsChanged, IsEnough, IsUncrowdedWith}
 use Rattle.olr_why.specs.Trial.{IsCrowded}
 use Rattle.olr_why.specs.Trying.{AreCrowdedFrom, IsCrowdedWith, IsEnoughFor, IsNoneUpTo, IsTrialWith}

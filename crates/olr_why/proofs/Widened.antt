@@ -1,25 +1,16 @@
 -- Greater tolerances keep what the lesser ones admit: the candidates, each at its place, the pairs of each leg, and so each tuple of candidates. They keep
 -- also that a point has too many candidates.
-use Rattle.std.proofs.Common.{◌≡◌, ℕ, zero, suc, ◌+◌, ◌-◌, ◌*◌, ◌/◌, ◌<◌, ◌≤◌, Bool, List, [], ◌∷◌, length, get_or, All, refl, sym, ◌∙◌, ap, subst, arith}
-use Rattle.std.specs.Prelude.{◌==◌}
-use Rattle.std.proofs.Math.Nat.{mul-le-mul_left}
-use Rattle.olr_binary.specs.declared.point.Next.{Next}
+use Rattle.std.proofs.Common.{◌≡◌, ℕ, zero, suc, ◌+◌, ◌-◌, ◌*◌, ◌/◌, ◌<◌, ◌≤◌, Bool, List, [], ◌∷◌, length, get_or, All, refl, sym, ◌∙◌, ap, subst, arith, ◌==◌, mul-le-mul_left}
+use Rattle.olr_why.proofs.Common.{AdmitsPlaces, AreAdmitted, AreAdmittedBehind, Candidate, HasMatching, IsCandidatePlace, Next, OneCandidateALine, Place, points_of, Reference, Tolerances}
 use Rattle.olr_binary.specs.declared.point.Point.{Point}
-use Rattle.olr_binary.specs.declared.reference.Reference.{Reference}
-use Rattle.olr_binary.specs.Reference.{points_of}
-use Rattle.olr_candidates.specs.declared.candidate.Candidate.{Candidate}
-use Rattle.olr_candidates.specs.declared.tolerances.Tolerances.{Tolerances}
 use Rattle.olr_candidates.specs.Candidate.{penalty_of}
 use Rattle.olr_candidates.specs.Candidates.{AreTooMany, IsCandidateAt, IsOneOf}
-use Rattle.olr_candidates.specs.Laws.{OneCandidateALine}
 use Rattle.olr_candidates.specs.Points.{HasTooMany}
 use Rattle.olr_map.specs.RoadMap.{RoadMap, head_of}
 use Rattle.olr_map.specs.Rows.{RoadLine}
-use Rattle.olr_map.specs.declared.place.Place.{Place}
 use Rattle.olr_matching.specs.Leg.{IsAdmitted, class_limit, greatest_admitted, least_admitted}
 use Rattle.olr_metric.specs.Coordinates.{Coordinates, coordinates_of}
 use Rattle.olr_route.specs.Least.{IsLeastLength}
-use Rattle.olr_why.specs.Chain.{AdmitsPlaces, AreAdmitted, AreAdmittedBehind, HasMatching, IsCandidatePlace}
 use Rattle.olr_why.specs.Laws.{WiderKeeps}
 use Rattle.olr_why.proofs.AtMost.{AreAtMost, at_most_wider}
 

@@ -1,16 +1,8 @@
--- Tuples of candidates of neighbouring points, of which the leg between each two neighbours admits the two. A candidate is named by the place where it
--- lies. Points are counted from 0.
+-- Tuples of candidates of neighbouring points, of which the leg between each two neighbours admits
+-- the two. A candidate is named by the place where it lies. Points are counted from 0.
 use Rattle.std.specs.Prelude.{◌≡◌, ℕ, ◌+◌, ◌<◌, ⊤, List, [], ◌∷◌, length, Some, slice_get}
-use Rattle.olr_binary.specs.declared.point.Next.{Next}
-use Rattle.olr_binary.specs.declared.reference.Reference.{Reference}
-use Rattle.olr_binary.specs.Reference.{points_of}
-use Rattle.olr_candidates.specs.declared.candidate.Candidate.{Candidate}
-use Rattle.olr_candidates.specs.declared.tolerances.Tolerances.{Tolerances}
+use Rattle.olr_why.specs.Common.{AreAnswers, Candidate, KeyValue, Next, Place, points_of, Reference, RoadMap, Tolerances}
 use Rattle.olr_candidates.specs.Points.{HasTooMany, IsCandidateOf}
-use Rattle.olr_keys.specs.Answers.{AreAnswers}
-use Rattle.olr_keys.specs.Key.{KeyValue}
-use Rattle.olr_map.specs.RoadMap.{RoadMap}
-use Rattle.olr_map.specs.declared.place.Place.{Place}
 use Rattle.olr_matching.specs.Layers.{AreLayersOn, LayersValue, LeadsOn}
 use Rattle.olr_matching.specs.Leg.{IsAdmitted}
 
@@ -28,13 +20,16 @@ module _ (road : RoadMap) (tolerances : Tolerances) (reference : Reference) wher
     pub length : ℕ
     pub admitted : IsAdmitted road tolerances next from to length
 
-  -- candidates of the points behind a point, one of each, each of which is admitted with the one before it, the first with `from`
+  -- candidates of the points behind a point, one of each, each of which is admitted with the one
+  -- before it, the first with `from`
   abbrev pub AreAdmittedBehind : ℕ → Place → List Place → Type 0
   AreAdmittedBehind index from [] = ⊤
   AreAdmittedBehind index from (to ∷ rest) =
-      IsCandidatePlace (index + 1) to × AdmitsPlaces index from to × AreAdmittedBehind (index + 1) to rest
+      IsCandidatePlace (index + 1) to × AdmitsPlaces index from to
+      × AreAdmittedBehind (index + 1) to rest
 
-  -- candidates of the first points of the reference, one of each, each two neighbours admitted by their leg
+  -- candidates of the first points of the reference, one of each, each two neighbours admitted by
+  -- their leg
   abbrev pub AreAdmitted : List Place → Type 0
   AreAdmitted [] = ⊤
   AreAdmitted (place ∷ rest) = IsCandidatePlace 0 place × AreAdmittedBehind 0 place rest
@@ -51,7 +46,8 @@ module _ (road : RoadMap) (tolerances : Tolerances) (reference : Reference) wher
 
   -- no point has more than 64 candidates
   abbrev pub IsUncrowded : Type 0
-  IsUncrowded = (index : ℕ) → index < length (points_of reference) → HasTooMany tolerances reference road.lines index → ⊥
+  IsUncrowded = (index : ℕ) → index < length (points_of reference)
+      → HasTooMany tolerances reference road.lines index → ⊥
 
   -- the key of the first matching; there is one only where no point has more than 64 candidates
   pub record IsFirstMatching (key : KeyValue) : Type 0 where

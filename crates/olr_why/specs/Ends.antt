@@ -1,5 +1,6 @@
--- Where tuples of candidates of neighbouring points end, by the layers of a reference. Each leg of a tuple admits the two candidates that it joins. Layers
--- and the candidates of a layer are counted from 0.
+-- Where tuples of candidates of neighbouring points end, by the layers of a reference. Each leg of
+-- a tuple admits the two candidates that it joins. Layers and the candidates of a layer are counted
+-- from 0.
 use Rattle.std.specs.Prelude.{ℕ, zero, suc, ◌<◌, ◌↔◌, List, [], Contains, IsSome, length, slice_index_or}
 use Rattle.olr_matching.specs.Layers.{LayersValue, length_at}
 

@@ -1,13 +1,12 @@
--- The JSON of why a reference has no matching, or that it has one, as a value: each member of an object under its name, in the order of the names. All numbers are whole;
--- distances are in centimetres, positions and lengths in decimetres.
+-- The JSON of why a reference has no matching, or that it has one, as a value: each member of an
+-- object under its name, in the order of the names. All numbers are whole; distances are in
+-- centimetres, positions and lengths in decimetres.
 use Rattle.std.specs.Prelude.{ℕ, Bool, List, [], ◌∷◌, ◌++◌, Option, None, Some, codes, if◌then◌else◌}
 use Rattle.serde_json.specs.Data.{Data, Members, null, string, object, no_members, member}
 use Rattle.olr_binary.specs.JsonValues.{array_of, whole, whole_or_null}
 use Rattle.olr_candidates.specs.declared.near.FailedConditions.{FailedConditions}
-use Rattle.olr_candidates.specs.declared.near.NearLine.{NearLine}
+use Rattle.olr_why.specs.Common.{KeyValue, NearLine, RoadMap}
 use Rattle.olr_keys.specs.Cursor.{key_text}
-use Rattle.olr_keys.specs.Key.{KeyValue}
-use Rattle.olr_map.specs.RoadMap.{RoadMap}
 use Rattle.olr_route.specs.Route.{id_at}
 use Rattle.olr_why.specs.Text.{class_at, form_at, long_of, number_of, short_of, tolerance_name, verdict_word}
 use Rattle.olr_why.specs.declared.leg.LegReason.{LegReason}
@@ -28,7 +27,8 @@ words_if applies word = if applies then word ∷ [] else []
 
 -- the words of the conditions that a line fails
 abbrev pub failed_conditions : FailedConditions → List (List ℕ)
-failed_conditions failed = words_if failed.radius (codes "radius") ++ words_if failed.bearing (codes "bearing") ++ words_if failed.class (codes "class")
+failed_conditions failed = words_if failed.radius (codes "radius")
+    ++ words_if failed.bearing (codes "bearing") ++ words_if failed.class (codes "class")
     ++ words_if failed.end (codes "end")
 
 -- the members of a line: its class, its form and its id
@@ -53,14 +53,16 @@ near_object road near = object (
 abbrev pub point_object : RoadMap → PointReason → Data
 point_object road point = object (
     member (codes "candidates") (whole_or_null point.candidates) (
-    member (codes "nearest") (array_of (near_object road) point.nearest.items) no_members))
+    member (codes "nearest") (array_of (near_object road) point.nearest) no_members))
 
 -- ---- legs
 
 -- what another class limit gives
 abbrev pub better_value : Option Better → Data
 better_value None = null
-better_value (Some better) = object (member (codes "class") (whole better.class) (member (codes "length") (whole better.length) no_members))
+better_value (Some better) = object
+    (member (codes "class") (whole better.class)
+    (member (codes "length") (whole better.length) no_members))
 
 -- a pair of a leg that admits these lengths
 abbrev pub pair_object : ℕ → ℕ → PairLength → Data
@@ -79,7 +81,7 @@ leg_object leg = object (
     member (codes "class") (whole leg.class) (
     member (codes "from") (whole leg.from) (
     member (codes "of") (whole leg.of) (
-    member (codes "pairs") (array_of (pair_object leg.from leg.to) leg.pairs.items) (
+    member (codes "pairs") (array_of (pair_object leg.from leg.to) leg.pairs) (
     member (codes "to") (whole leg.to) no_members))))))
 
 -- ---- the verdict, and what would help

@@ -1,9 +1,7 @@
--- What a leg admits, and why it admits nothing. Lengths are in decimetres, ranks are counted from 1, layers from 0.
+-- What a leg admits, and why it admits nothing. Lengths are in decimetres, ranks are counted from
+-- 1, layers from 0.
 use Rattle.std.specs.Prelude.{◌≡◌, ℕ, ◌+◌, ◌*◌, ◌<◌, ◌≤◌, ◌⊎◌, ⊤, List, [], Option, None, Some, MatchOption, length, is_some, count_by, slice_get, slice_index_or, All, AllPairs, Any}
-use Rattle.olr_binary.specs.declared.point.Next.{Next}
-use Rattle.olr_candidates.specs.declared.candidate.Candidate.{Candidate}
-use Rattle.olr_map.specs.RoadMap.{RoadMap}
-use Rattle.olr_map.specs.declared.place.Place.{Place}
+use Rattle.olr_why.specs.Common.{Candidate, Next, Place, RoadMap}
 use Rattle.olr_matching.specs.Layers.{LayersValue, LeadsOn}
 use Rattle.olr_matching.specs.Leg.{class_limit, greatest_admitted, least_admitted}
 use Rattle.olr_matching.specs.Matched.{IsOfRank}
@@ -26,32 +24,41 @@ IsUpTo None greatest = ⊥
 IsUpTo (Some length) greatest = length ≤ greatest
 
 module _ (road : RoadMap) (next : Next) (from to : Place) where
-  -- under a class limit the least length from one place to another is less than a known one, and at most `far`
+  -- under a class limit the least length from one place to another is less than a known one, and at
+  -- most `far`
   pub record IsShorterUnder (known : Option ℕ) (class length : ℕ) : Type 0 where
     pub least : IsLeastLength road class from to length
     pub within : length ≤ far next
     pub less : IsLess length known
 
-  -- the least class limit above this one, at most 7, under which the least length is less than the known one, if there is one
+  -- the least class limit above this one, at most 7, under which the least length is less than the
+  -- known one, if there is one
   abbrev pub IsBetter : ℕ → Option ℕ → Option Better → Type 0
   IsBetter class known answer = MatchOption answer
       ((other length : ℕ) → class < other → other ≤ 7 → IsShorterUnder known other length → ⊥)
-      (λ better. (class < better.class) × (better.class ≤ 7) × IsShorterUnder known better.class better.length
-      × ((other length : ℕ) → class < other → other < better.class → IsShorterUnder known other length → ⊥))
+      (λ better. (class < better.class) × (better.class ≤ 7)
+      × IsShorterUnder known better.class better.length
+      × ((other length : ℕ) → class < other → other < better.class
+      → IsShorterUnder known other length → ⊥))
 
--- Two candidates of a leg, by their ranks: the least length between them under the leg's class limit, where that is at most `far`; and, where there is
--- none, or it is greater than the leg admits, the least class limit above the leg's under which there is a lesser one that is at most `far`.
-pub record IsPairLength (road : RoadMap) (layers : LayersValue) (layer : ℕ) (pair : PairLength) : Type 0 where
+-- Two candidates of a leg, by their ranks: the least length between them under the leg's class
+-- limit, where that is at most `far`; and, where there is none, or it is greater than the leg
+-- admits, the least class limit above the leg's under which there is a lesser one that is at most
+-- `far`.
+pub record IsPairLength (road : RoadMap) (layers : LayersValue) (layer : ℕ)
+    (pair : PairLength) : Type 0 where
   pub next : Next
   pub from : Candidate
   pub to : Candidate
   pub leads_on : LeadsOn layers.reference layer next
   pub from_is : IsOfRank layers.candidates layer pair.first from
   pub to_is : IsOfRank layers.candidates (layer + 1) pair.second to
-  pub length : IsLengthWithin road (class_limit layers.tolerances next) from.place to.place (far next) pair.length
+  pub length : IsLengthWithin road (class_limit layers.tolerances next) from.place to.place
+      (far next) pair.length
   pub short : IsUpTo pair.length (greatest_admitted layers.tolerances next) → pair.better ≡ None
   pub better : (IsUpTo pair.length (greatest_admitted layers.tolerances next) → ⊥)
-      → IsBetter road next from.place to.place (class_limit layers.tolerances next) pair.length pair.better
+      → IsBetter road next from.place to.place (class_limit layers.tolerances next) pair.length
+      pair.better
 
 -- a pair of ranks comes before another one
 abbrev pub IsBeforePair : PairLength → PairLength → Type 0
@@ -64,27 +71,35 @@ pub record IsEarlyRank (layers : LayersValue) (layer rank : ℕ) : Type 0 where
   pub within : rank ≤ length (slice_index_or layers.candidates layer [])
 
 -- exactly the pairs of ranks of at most 3, by ranks, each with its lengths
-pub record AreEarlyPairs (road : RoadMap) (layers : LayersValue) (layer : ℕ) (pairs : List PairLength) : Type 0 where
+pub record AreEarlyPairs (road : RoadMap) (layers : LayersValue) (layer : ℕ)
+    (pairs : List PairLength) : Type 0 where
   pub only : All (IsPairLength road layers layer) pairs
-  pub early : All (λ (pair : PairLength). IsEarlyRank layers layer pair.first × IsEarlyRank layers (layer + 1) pair.second) pairs
-  pub each : (first second : ℕ) → IsEarlyRank layers layer first → IsEarlyRank layers (layer + 1) second
+  pub early : All (λ (pair : PairLength). IsEarlyRank layers layer pair.first
+      × IsEarlyRank layers (layer + 1) pair.second) pairs
+  pub each : (first second : ℕ) → IsEarlyRank layers layer first
+      → IsEarlyRank layers (layer + 1) second
       → Any (λ (pair : PairLength). (pair.first ≡ first) × (pair.second ≡ second)) pairs
   pub rise : AllPairs IsBeforePair pairs
 
--- The leg from a layer: its class limit, its interval as it is widened, and how many pairs of candidates it admits, of all pairs. Where it admits none, though
--- there are pairs, the lengths of the early ones tell why.
-pub record IsLegReason (road : RoadMap) (layers : LayersValue) (layer : ℕ) (leg : LegReason) : Type 0 where
+-- The leg from a layer: its class limit, its interval as it is widened, and how many pairs of
+-- candidates it admits, of all pairs. Where it admits none, though there are pairs, the lengths of
+-- the early ones tell why.
+pub record IsLegReason (road : RoadMap) (layers : LayersValue) (layer : ℕ) (leg : LegReason) : Type
+    0 where
   pub next : Next
   pub leads_on : LeadsOn layers.reference layer next
   pub class_is : leg.class ≡ class_limit layers.tolerances next
   pub from_is : leg.from ≡ least_admitted layers.tolerances next
   pub to_is : leg.to ≡ greatest_admitted layers.tolerances next
   pub admits_is : leg.admits ≡ count_by is_some (slice_index_or layers.lengths layer [])
-  pub of_is : leg.of ≡ length (slice_index_or layers.candidates layer []) * length (slice_index_or layers.candidates (layer + 1) [])
-  pub admitting : 0 < leg.admits → leg.pairs.items ≡ []
-  pub pairs : leg.admits ≡ 0 → AreEarlyPairs road layers layer leg.pairs.items
+  pub of_is : leg.of ≡ length (slice_index_or layers.candidates layer []) * length
+      (slice_index_or layers.candidates (layer + 1) [])
+  pub admitting : 0 < leg.admits → leg.pairs ≡ []
+  pub pairs : leg.admits ≡ 0 → AreEarlyPairs road layers layer leg.pairs
 
 -- all legs, in order
-pub record AreLegReasons (road : RoadMap) (layers : LayersValue) (legs : List LegReason) : Type 0 where
-  pub count : length legs + 1 ≡ length layers.candidates
-  pub each : (layer : ℕ) (leg : LegReason) → slice_get legs layer ≡ Some leg → IsLegReason road layers layer leg
+pub record AreLegReasons (road : RoadMap) (layers : LayersValue) (legs : List LegReason) : Type 0
+  where
+    pub count : length legs + 1 ≡ length layers.candidates
+    pub each : (layer : ℕ) (leg : LegReason) → slice_get legs layer ≡ Some leg
+        → IsLegReason road layers layer leg

@@ -1,6 +1,8 @@
+pub mod Common
 pub mod Chain
 pub mod Ends
 pub mod Verdict
+pub mod Values
 pub mod Legs
 pub mod Pairs
 pub mod Trial

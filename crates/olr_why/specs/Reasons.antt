@@ -1,15 +1,10 @@
--- Why a reference has no matching on a map, or that it has one: for each point how many candidates it has and which lines are nearest to it, for each leg what it admits, the
--- first thing that stands in the way, and what would help. Points are counted from 0 here.
+-- Why a reference has no matching on a map, or that it has one: for each point how many candidates
+-- it has and which lines are nearest to it, for each leg what it admits, the first thing that
+-- stands in the way, and what would help. Points are counted from 0 here.
 use Rattle.std.specs.Prelude.{◌≡◌, ℕ, ◌<◌, List, [], All, length, Option, Some, MatchOption, slice_get}
-use Rattle.olr_candidates.specs.declared.near.NearLine.{NearLine}
-use Rattle.olr_binary.specs.declared.reference.Reference.{Reference}
-use Rattle.olr_binary.specs.Reference.{points_of}
-use Rattle.olr_candidates.specs.declared.candidate.Candidate.{Candidate}
-use Rattle.olr_candidates.specs.declared.tolerances.Tolerances.{Tolerances}
+use Rattle.olr_why.specs.Common.{AreLayersOn, Candidate, LayersValue, NearLine, points_of, Reference, RoadMap, Tolerances}
 use Rattle.olr_candidates.specs.Near.{AreNearestOf}
 use Rattle.olr_candidates.specs.Points.{HasTooMany, IsListOf}
-use Rattle.olr_map.specs.RoadMap.{RoadMap}
-use Rattle.olr_matching.specs.Layers.{AreLayersOn, LayersValue}
 use Rattle.olr_why.specs.Legs.{AreLegReasons}
 use Rattle.olr_why.specs.Remedies.{AreRemedies}
 use Rattle.olr_why.specs.Verdict.{IsVerdict}
@@ -23,17 +18,19 @@ module _ (road : RoadMap) (tolerances : Tolerances) (reference : Reference) wher
   -- how many candidates a point has, none where they are more than 64
   abbrev pub IsCountOf : ℕ → Option ℕ → Type 0
   IsCountOf index count = MatchOption count (HasTooMany tolerances reference road.lines index)
-      (λ number. (list : List Candidate) × IsListOf tolerances reference road.lines index list × (length list ≡ number))
+      (λ number. (list : List Candidate) × IsListOf tolerances reference road.lines index list
+      × (length list ≡ number))
 
   -- a point: how many candidates it has, and the lines nearest to it, so many at most
   pub record IsPointReason (nearest index : ℕ) (point : PointReason) : Type 0 where
     pub candidates : IsCountOf index point.candidates
-    pub near : AreNearestOf tolerances reference road.lines index nearest point.nearest.items
+    pub near : AreNearestOf tolerances reference road.lines index nearest point.nearest
 
   -- all points
   pub record ArePointReasons (nearest : ℕ) (points : List PointReason) : Type 0 where
     pub count : length points ≡ length (points_of reference)
-    pub each : (index : ℕ) (point : PointReason) → slice_get points index ≡ Some point → IsPointReason nearest index point
+    pub each : (index : ℕ) (point : PointReason) → slice_get points index ≡ Some point
+        → IsPointReason nearest index point
 
   -- the legs, by the layers of the reference
   pub record AreLegs (legs : List LegReason) : Type 0 where
@@ -60,4 +57,6 @@ module _ (road : RoadMap) (tolerances : Tolerances) (reference : Reference) wher
 
 -- the lines near these points are lines of the map
 abbrev pub AreOnMap : RoadMap → List PointReason → Type 0
-AreOnMap road points = All (λ (point : PointReason). All (λ (near : NearLine). near.line < length road.lines) point.nearest.items) points
+AreOnMap road points =
+    All (λ (point : PointReason). All (λ (near : NearLine). near.line < length road.lines)
+    point.nearest) points

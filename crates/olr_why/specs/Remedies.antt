@@ -1,14 +1,11 @@
--- What would help a reference that has no matching: a change of one tolerance, all else being the same, or a map without bans. A value that is spoken of is
--- always within its range, because every value of `Tolerances` is.
+-- What would help a reference that has no matching: a change of one tolerance, all else being the
+-- same, or a map without bans. A value that is spoken of is always within its range, because every
+-- value of `Tolerances` is.
 use Rattle.std.specs.Prelude.{◌≡◌, ◌≢◌, ℕ, ◌<◌, List, [], ◌++◌, Option, Some, MatchOption}
 use Rattle.std.specs.Option.{option_to_list}
-use Rattle.olr_binary.specs.declared.reference.Reference.{Reference}
-use Rattle.olr_candidates.specs.declared.tolerances.Name.{Name}
+use Rattle.olr_why.specs.Common.{KeyValue, Name, Reference, RoadMap, Tolerances}
 use Rattle.olr_candidates.specs.declared.tolerances.Name.TheVariants.{Radius, Bearing, Class, Lowest, Percent, Slack}
-use Rattle.olr_candidates.specs.declared.tolerances.Tolerances.{Tolerances}
 use Rattle.olr_candidates.specs.Tolerances.{by_name, order_of}
-use Rattle.olr_keys.specs.Key.{KeyValue}
-use Rattle.olr_map.specs.RoadMap.{RoadMap}
 use Rattle.olr_why.specs.Chain.{HasMatching, IsFirstMatching, IsUncrowded}
 use Rattle.olr_why.specs.declared.remedy.Change.TheVariants.{Tolerance, WithoutBans}
 use Rattle.olr_why.specs.declared.remedy.Remedy.{Remedy}
@@ -19,12 +16,14 @@ use Rattle.olr_why.specs.declared.verdict.Verdict.TheVariants.{Chain, Crowded, L
 
 -- the value of the tolerance of a name
 abbrev pub value_of : Tolerances → Name → ℕ
-value_of tolerances name = by_name tolerances.radius tolerances.bearing tolerances.class tolerances.lowest tolerances.percent tolerances.slack name
+value_of tolerances name = by_name tolerances.radius tolerances.bearing tolerances.class
+    tolerances.lowest tolerances.percent tolerances.slack name
 
 -- one tolerance has this value, and the others are as given
 pub record IsChanged (name : Name) (value : ℕ) (given changed : Tolerances) : Type 0 where
   pub changed_is : value_of changed name ≡ value
-  pub others : (other : Name) → order_of other ≢ order_of name → value_of changed other ≡ value_of given other
+  pub others : (other : Name) → order_of other ≢ order_of name
+      → value_of changed other ≡ value_of given other
 
 -- the same map with no turn banned
 abbrev pub without_bans : RoadMap → RoadMap
@@ -53,20 +52,23 @@ module _ (road : RoadMap) (given : Tolerances) (reference : Reference) where
   pub record IsLeastEnough (name : Name) (value : ℕ) (key : KeyValue) : Type 0 where
     pub above : value_of given name < value
     pub enough : IsEnough name value
-    pub least : (lesser : ℕ) → value_of given name < lesser → lesser < value → IsEnough name lesser → ⊥
+    pub least : (lesser : ℕ) → value_of given name < lesser → lesser < value → IsEnough name lesser
+        → ⊥
     pub first : IsFirstMatching road enough.changed reference key
 
   -- the greater value of a tolerance that helps, if one does
   abbrev pub IsWider : Name → Option Remedy → Type 0
   IsWider name answer = MatchOption answer
       ((value : ℕ) → value_of given name < value → IsEnough name value → ⊥)
-      (λ remedy. (value : ℕ) × (key : KeyValue) × (remedy.change ≡ Tolerance name value) × (remedy.matching ≡ Some key) × IsLeastEnough name value key)
+      (λ remedy. (value : ℕ) × (key : KeyValue) × (remedy.change ≡ Tolerance name value)
+      × (remedy.matching ≡ Some key) × IsLeastEnough name value key)
 
   -- a map without bans, where the map has a ban, if that helps
   abbrev pub IsOpener : Option Remedy → Type 0
   IsOpener answer = MatchOption answer
       (road.bans ≢ [] → HasMatching (without_bans road) given reference → ⊥)
-      (λ remedy. (key : KeyValue) × (remedy.change ≡ WithoutBans) × (remedy.matching ≡ Some key) × (road.bans ≢ [])
+      (λ remedy. (key : KeyValue) × (remedy.change ≡ WithoutBans) × (remedy.matching ≡ Some key)
+      × (road.bans ≢ [])
       × IsFirstMatching (without_bans road) given reference key)
 
   -- ---- where a point has too many candidates
@@ -77,18 +79,23 @@ module _ (road : RoadMap) (given : Tolerances) (reference : Reference) where
     pub is_changed : IsChanged name value given changed
     pub uncrowded : IsUncrowded road changed reference
 
-  -- the greatest value below the given one with which that is so, and the first matching that it gives, if it gives one
-  pub record IsGreatestUncrowded (name : Name) (value : ℕ) (matching : Option KeyValue) : Type 0 where
-    pub below : value < value_of given name
-    pub enough : IsUncrowdedWith name value
-    pub greatest : (greater : ℕ) → value < greater → greater < value_of given name → IsUncrowdedWith name greater → ⊥
-    pub first : MatchOption matching (HasMatching road enough.changed reference → ⊥) (IsFirstMatching road enough.changed reference)
+  -- the greatest value below the given one with which that is so, and the first matching that it
+  -- gives, if it gives one
+  pub record IsGreatestUncrowded (name : Name) (value : ℕ) (matching : Option KeyValue) : Type 0
+    where
+      pub below : value < value_of given name
+      pub enough : IsUncrowdedWith name value
+      pub greatest : (greater : ℕ) → value < greater → greater < value_of given name
+          → IsUncrowdedWith name greater → ⊥
+      pub first : MatchOption matching (HasMatching road enough.changed reference → ⊥)
+          (IsFirstMatching road enough.changed reference)
 
   -- the lesser value of a tolerance that helps, if one does
   abbrev pub IsNarrower : Name → Option Remedy → Type 0
   IsNarrower name answer = MatchOption answer
       ((value : ℕ) → value < value_of given name → IsUncrowdedWith name value → ⊥)
-      (λ remedy. (value : ℕ) × (remedy.change ≡ Tolerance name value) × IsGreatestUncrowded name value remedy.matching)
+      (λ remedy. (value : ℕ) × (remedy.change ≡ Tolerance name value)
+      × IsGreatestUncrowded name value remedy.matching)
 
   -- ---- all of them
 
@@ -108,7 +115,8 @@ module _ (road : RoadMap) (given : Tolerances) (reference : Reference) where
     pub percent : IsWider Percent of_percent
     pub class : IsWider Class of_class
     pub bans : IsOpener of_bans
-    pub list_is : remedies ≡ option_to_list of_lowest ++ option_to_list of_bearing ++ option_to_list of_radius ++ option_to_list of_slack
+    pub list_is : remedies ≡ option_to_list of_lowest ++ option_to_list of_bearing
+        ++ option_to_list of_radius ++ option_to_list of_slack
         ++ option_to_list of_percent ++ option_to_list of_class ++ option_to_list of_bans
 
   -- what helps where a point has too many candidates
@@ -119,7 +127,8 @@ module _ (road : RoadMap) (given : Tolerances) (reference : Reference) where
     pub radius : IsNarrower Radius of_radius
     pub bearing : IsNarrower Bearing of_bearing
     pub class : IsNarrower Class of_class
-    pub list_is : remedies ≡ option_to_list of_radius ++ option_to_list of_bearing ++ option_to_list of_class
+    pub list_is : remedies ≡ option_to_list of_radius ++ option_to_list of_bearing
+        ++ option_to_list of_class
 
   -- what helps, by the verdict
   abbrev pub AreRemedies : Verdict → List Remedy → Type 0

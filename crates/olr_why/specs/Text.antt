@@ -1,13 +1,11 @@
--- The text of why a reference has no matching, or that it has one: the rows of each point and the lines near it, those of each leg and its pairs, the verdict, and what would
--- help. Each row ends with a line feed. Distances are in centimetres, positions and lengths in decimetres.
+-- The text of why a reference has no matching, or that it has one: the rows of each point and the
+-- lines near it, those of each leg and its pairs, the verdict, and what would help. Each row ends
+-- with a line feed. Distances are in centimetres, positions and lengths in decimetres.
 use Rattle.std.specs.Prelude.{ℕ, ◌+◌, ◌-◌, Bool, List, [], ◌∷◌, ◌++◌, Option, None, Some, option_map, unwrap_or, slice_get, codes, decimal, if◌then◌else◌, nat_lt}
 use Rattle.olr_candidates.specs.declared.near.FailedConditions.{FailedConditions}
-use Rattle.olr_candidates.specs.declared.near.NearLine.{NearLine}
-use Rattle.olr_candidates.specs.declared.tolerances.Name.{Name}
+use Rattle.olr_why.specs.Common.{KeyValue, Name, NearLine, RoadMap}
 use Rattle.olr_candidates.specs.declared.tolerances.Name.TheVariants.{Radius, Bearing, Class, Lowest, Percent, Slack}
 use Rattle.olr_keys.specs.Cursor.{key_text}
-use Rattle.olr_keys.specs.Key.{KeyValue}
-use Rattle.olr_map.specs.RoadMap.{RoadMap}
 use Rattle.olr_map.specs.Rows.{RoadLine}
 use Rattle.olr_route.specs.Route.{id_at}
 use Rattle.olr_why.specs.declared.leg.LegReason.{LegReason}
@@ -25,10 +23,12 @@ use Rattle.olr_why.specs.declared.why.Why.{Why}
 
 -- the class of the line of a rank, and its form; 0 where there is no such line
 abbrev pub class_at : RoadMap → ℕ → ℕ
-class_at road rank = unwrap_or (option_map (λ (line : RoadLine). line.class) (slice_get road.lines rank)) 0
+class_at road rank =
+    unwrap_or (option_map (λ (line : RoadLine). line.class) (slice_get road.lines rank)) 0
 
 abbrev pub form_at : RoadMap → ℕ → ℕ
-form_at road rank = unwrap_or (option_map (λ (line : RoadLine). line.form) (slice_get road.lines rank)) 0
+form_at road rank =
+    unwrap_or (option_map (λ (line : RoadLine). line.form) (slice_get road.lines rank)) 0
 
 -- a number, or a word where there is none
 abbrev pub number_or : List ℕ → Option ℕ → List ℕ
@@ -41,19 +41,24 @@ word_if applies word = if applies then codes " " ++ word else []
 
 -- the words of the conditions that a line fails
 abbrev pub failed_words : FailedConditions → List ℕ
-failed_words failed = word_if failed.radius (codes "radius") ++ word_if failed.bearing (codes "bearing") ++ word_if failed.class (codes "class")
+failed_words failed = word_if failed.radius (codes "radius")
+    ++ word_if failed.bearing (codes "bearing") ++ word_if failed.class (codes "class")
     ++ word_if failed.end (codes "end")
 
--- what a line is for the point: a candidate with this penalty, or none, with the conditions that it fails
+-- what a line is for the point: a candidate with this penalty, or none, with the conditions that it
+-- fails
 abbrev pub rating_text : FailedConditions → Option ℕ → List ℕ
 rating_text failed (Some penalty) = codes " penalty " ++ decimal penalty
 rating_text failed None = codes " not" ++ failed_words failed
 
 -- the row of a line near a point
 abbrev pub near_row : RoadMap → NearLine → List ℕ
-near_row road near = codes "near line " ++ decimal (id_at road near.line) ++ codes " distance " ++ decimal near.distance ++ codes " at " ++ decimal near.at
-    ++ codes " sector " ++ number_or (codes "none") near.sector ++ codes " class " ++ decimal (class_at road near.line)
-    ++ codes " form " ++ decimal (form_at road near.line) ++ rating_text near.failed near.penalty ++ codes "\n"
+near_row road near = codes "near line " ++ decimal (id_at road near.line) ++ codes " distance "
+    ++ decimal near.distance ++ codes " at " ++ decimal near.at
+    ++ codes " sector " ++ number_or (codes "none") near.sector ++ codes " class "
+    ++ decimal (class_at road near.line)
+    ++ codes " form " ++ decimal (form_at road near.line) ++ rating_text near.failed near.penalty
+    ++ codes "\n"
 
 abbrev pub near_rows : RoadMap → List NearLine → List ℕ
 near_rows road [] = []
@@ -70,12 +75,14 @@ count_text (Some count) = codes " candidates " ++ decimal count ++ codes "\n"
 
 -- the rows of the point of this number: the first one, and those of the lines nearest to it
 abbrev pub point_rows : RoadMap → ℕ → PointReason → List ℕ
-point_rows road number point = point_text number ++ count_text point.candidates ++ near_rows road point.nearest.items
+point_rows road number point = point_text number ++ count_text point.candidates
+    ++ near_rows road point.nearest
 
 -- the rows of points, the first of which has this number
 abbrev pub points_rows : RoadMap → ℕ → List PointReason → List ℕ
 points_rows road number [] = []
-points_rows road number (point ∷ points) = point_rows road number point ++ points_rows road (number + 1) points
+points_rows road number (point ∷ points) =
+    point_rows road number point ++ points_rows road (number + 1) points
 
 -- ---- legs
 
@@ -98,34 +105,41 @@ miss_text None None = []
 -- the length of a pair, and by how much it misses the interval; none where it is too far
 abbrev pub length_text : ℕ → ℕ → Option ℕ → List ℕ
 length_text least greatest None = codes "none"
-length_text least greatest (Some length) = decimal length ++ miss_text (short_of least (Some length)) (long_of greatest (Some length))
+length_text least greatest (Some length) =
+    decimal length ++ miss_text (short_of least (Some length)) (long_of greatest (Some length))
 
 -- what another class limit gives
 abbrev pub better_text : Option Better → List ℕ
 better_text None = []
-better_text (Some better) = codes " class " ++ decimal better.class ++ codes " length " ++ decimal better.length
+better_text (Some better) = codes " class " ++ decimal better.class ++ codes " length "
+    ++ decimal better.length
 
 -- the row of a pair of a leg that admits these lengths
 abbrev pub pair_row : ℕ → ℕ → PairLength → List ℕ
-pair_row least greatest pair = codes "pair " ++ decimal pair.first ++ codes " " ++ decimal pair.second ++ codes " length "
+pair_row least greatest pair = codes "pair " ++ decimal pair.first ++ codes " "
+    ++ decimal pair.second ++ codes " length "
     ++ length_text least greatest pair.length ++ better_text pair.better ++ codes "\n"
 
 abbrev pub pair_rows : ℕ → ℕ → List PairLength → List ℕ
 pair_rows least greatest [] = []
-pair_rows least greatest (pair ∷ pairs) = pair_row least greatest pair ++ pair_rows least greatest pairs
+pair_rows least greatest (pair ∷ pairs) =
+    pair_row least greatest pair ++ pair_rows least greatest pairs
 
--- the first row of the leg of this number begins with its class limit and the lengths that it admits
+-- the first row of the leg of this number begins with its class limit and the lengths that it
+-- admits
 abbrev pub leg_text : ℕ → LegReason → List ℕ
-leg_text number leg = codes "leg " ++ decimal number ++ codes " class " ++ decimal leg.class ++ codes " from " ++ decimal leg.from
+leg_text number leg = codes "leg " ++ decimal number ++ codes " class " ++ decimal leg.class
+    ++ codes " from " ++ decimal leg.from
     ++ codes " to " ++ decimal leg.to
 
 -- and ends with how many pairs of candidates it admits, of how many
 abbrev pub counts_text : LegReason → List ℕ
-counts_text leg = codes " admits " ++ decimal leg.admits ++ codes " of " ++ decimal leg.of ++ codes "\n"
+counts_text leg = codes " admits " ++ decimal leg.admits ++ codes " of " ++ decimal leg.of
+    ++ codes "\n"
 
 -- the rows of the leg of this number: the first one, and those of its pairs
 abbrev pub leg_rows : ℕ → LegReason → List ℕ
-leg_rows number leg = leg_text number leg ++ counts_text leg ++ pair_rows leg.from leg.to leg.pairs.items
+leg_rows number leg = leg_text number leg ++ counts_text leg ++ pair_rows leg.from leg.to leg.pairs
 
 -- the rows of legs, the first of which has this number
 abbrev pub legs_rows : ℕ → List LegReason → List ℕ
@@ -157,7 +171,8 @@ number_text (Some number) = codes " " ++ decimal number
 
 -- the row of the verdict
 abbrev pub verdict_row : Verdict → List ℕ
-verdict_row verdict = codes "verdict " ++ verdict_word verdict ++ number_text (number_of verdict) ++ codes "\n"
+verdict_row verdict = codes "verdict " ++ verdict_word verdict ++ number_text (number_of verdict)
+    ++ codes "\n"
 
 -- the name of a tolerance
 abbrev pub tolerance_name : Name → List ℕ
@@ -180,7 +195,8 @@ matching_text (Some key) = codes " matching " ++ key_text key
 
 -- the row of a change that would help
 abbrev pub remedy_row : Remedy → List ℕ
-remedy_row remedy = codes "try " ++ change_text remedy.change ++ matching_text remedy.matching ++ codes "\n"
+remedy_row remedy = codes "try " ++ change_text remedy.change ++ matching_text remedy.matching
+    ++ codes "\n"
 
 abbrev pub remedy_rows : List Remedy → List ℕ
 remedy_rows [] = []
@@ -188,5 +204,6 @@ remedy_rows (remedy ∷ remedies) = remedy_row remedy ++ remedy_rows remedies
 
 -- the whole text
 abbrev pub why_text : RoadMap → Why → List ℕ
-why_text road why = points_rows road 1 why.points.items ++ legs_rows 1 why.legs.items ++ verdict_row why.verdict ++ remedy_rows why.remedies.items
+why_text road why = points_rows road 1 why.points.items ++ legs_rows 1 why.legs.items
+    ++ verdict_row why.verdict ++ remedy_rows why.remedies.items
     ++ codes "end\n"

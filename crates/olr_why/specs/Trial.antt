@@ -1,12 +1,7 @@
 -- What is found for a reference on a map with some tolerances.
 use Rattle.std.specs.Prelude.{◌≡◌, ℕ, List, Option, slice_get}
-use Rattle.olr_binary.specs.declared.reference.Reference.{Reference}
-use Rattle.olr_candidates.specs.declared.tolerances.Tolerances.{Tolerances}
-use Rattle.olr_candidates.specs.Points.{HasTooMany}
-use Rattle.olr_keys.specs.Answers.{AreAnswers}
-use Rattle.olr_keys.specs.Key.{KeyValue}
+use Rattle.olr_why.specs.Common.{AreAnswers, HasTooMany, KeyValue, Reference, RoadMap, Tolerances}
 use Rattle.olr_keys.specs.Table.{Penalties}
-use Rattle.olr_map.specs.RoadMap.{RoadMap}
 use Rattle.olr_why.specs.Chain.{HasMatching, IsFirstMatching, IsUncrowded}
 use Rattle.olr_why.specs.declared.trial.Trial.{Trial}
 use Rattle.olr_why.specs.declared.trial.Trial.TheVariants.{Crowded, Matching, NoMatching}
@@ -22,8 +17,11 @@ module _ (road : RoadMap) (tolerances : Tolerances) (reference : Reference) wher
   abbrev pub IsCrowded : Type 0
   IsCrowded = (index : ℕ) × HasTooMany tolerances reference road.lines index
 
-  -- A point has more than 64 candidates; or none has, and there is no matching, or this is the key of the first one.
+  -- A point has more than 64 candidates; or none has, and there is no matching, or this is the key
+  -- of the first one.
   abbrev pub IsTrial : Trial → Type 0
   IsTrial Crowded = IsCrowded
-  IsTrial NoMatching = IsUncrowded road tolerances reference × (HasMatching road tolerances reference → ⊥)
-  IsTrial (Matching key) = IsUncrowded road tolerances reference × IsFirstMatching road tolerances reference key
+  IsTrial NoMatching = IsUncrowded road tolerances reference
+      × (HasMatching road tolerances reference → ⊥)
+  IsTrial (Matching key) = IsUncrowded road tolerances reference
+      × IsFirstMatching road tolerances reference key

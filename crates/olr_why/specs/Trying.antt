@@ -1,11 +1,8 @@
--- What is known of the values of one tolerance while a remedy is looked for, all else being as given.
+-- What is known of the values of one tolerance while a remedy is looked for, all else being as
+-- given.
 use Rattle.std.specs.Prelude.{ℕ, ◌+◌, ◌<◌, ◌≤◌, Option, MatchOption}
-use Rattle.olr_binary.specs.declared.reference.Reference.{Reference}
-use Rattle.olr_candidates.specs.declared.tolerances.Name.{Name}
-use Rattle.olr_candidates.specs.declared.tolerances.Tolerances.{Tolerances}
+use Rattle.olr_why.specs.Common.{KeyValue, Name, Reference, RoadMap, Tolerances}
 use Rattle.olr_candidates.specs.Tolerances.{greatest_of}
-use Rattle.olr_keys.specs.Key.{KeyValue}
-use Rattle.olr_map.specs.RoadMap.{RoadMap}
 use Rattle.olr_why.specs.Chain.{IsFirstMatching}
 use Rattle.olr_why.specs.Remedies.{IsChanged, IsEnough, IsUncrowdedWith, value_of}
 use Rattle.olr_why.specs.Trial.{IsCrowded, IsTrial}
@@ -28,7 +25,8 @@ module _ (road : RoadMap) (given : Tolerances) (reference : Reference) (name : N
 
   -- the key of the first matching that this value gives; none where the value isn't enough
   abbrev pub IsMatchingWith : ℕ → Option KeyValue → Type 0
-  IsMatchingWith value answer = MatchOption answer (IsEnough road given reference name value → ⊥) (IsEnoughFor value)
+  IsMatchingWith value answer = MatchOption answer (IsEnough road given reference name value → ⊥)
+      (IsEnoughFor value)
 
   -- with this value a point has more than 64 candidates
   pub record IsCrowdedWith (value : ℕ) : Type 0 where
@@ -40,9 +38,11 @@ module _ (road : RoadMap) (given : Tolerances) (reference : Reference) (name : N
 
   -- none up to this one is enough
   abbrev pub IsNoneUpTo : ℕ → Type 0
-  IsNoneUpTo low = (value : ℕ) → value_of given name < value → value ≤ low → IsEnough road given reference name value → ⊥
+  IsNoneUpTo low = (value : ℕ) → value_of given name < value → value ≤ low
+      → IsEnough road given reference name value → ⊥
 
-  -- None up to the low end is enough; the high end is enough, with this first matching, or with it a point has more than 64 candidates.
+  -- None up to the low end is enough; the high end is enough, with this first matching, or with it
+  -- a point has more than 64 candidates.
   pub record IsBracket (bracket : Bracket) : Type 0 where
     pub none : IsNoneUpTo bracket.low
     pub found : MatchOption bracket.first (IsCrowdedWith bracket.high) (IsEnoughFor bracket.high)
@@ -54,7 +54,8 @@ module _ (road : RoadMap) (given : Tolerances) (reference : Reference) (name : N
 
   -- with each from this one on, some point has more than 64 candidates
   abbrev pub AreCrowdedFrom : ℕ → Type 0
-  AreCrowdedFrom high = (value : ℕ) → high ≤ value → value < value_of given name → IsUncrowdedWith road given reference name value → ⊥
+  AreCrowdedFrom high = (value : ℕ) → high ≤ value → value < value_of given name
+      → IsUncrowdedWith road given reference name value → ⊥
 
   -- the greatest value with which no point has more than 64 candidates
   pub record IsGreatest (value : ℕ) : Type 0 where

@@ -48,7 +48,7 @@ fn point_of(
     requires { index < length (points_of reference.now) }
     ensures reason { IfOk result (IsPointReason map.now tolerances.now reference.now nearest index) }
     ensures on_map { IfOk result (λ point.
-        All (λ near. near.line < length map.now.lines) point.nearest.items) }
+        All (λ near. near.line < length map.now.lines) point.nearest) }
 {
     nearest_are_near();
     let candidates = count_of(map, reference, tolerances, index);

@@ -114,7 +114,7 @@ fn nearest_array(alloc: Global, map: &Map, nearest: &[NearLine]) -> Result<Value
 
 /// The object of a point.
 fn point_object(alloc: Global, map: &Map, point: &PointReason) -> Result<Value, NoMemory>
-    requires { All (λ near. near.line < length map.now.lines) point.now.nearest.items }
+    requires { All (λ near. near.line < length map.now.lines) point.now.nearest }
     ensures { IfOk result (λ value. view value ≡ point_object map.now point.now) }
 {
     let nearest = nearest_array(alloc, map, &point.nearest)?;
@@ -172,7 +172,7 @@ fn pair_object(alloc: Global, leg: &LegReason, pair: &PairLength) -> Result<Valu
 #[tactic(auto, using(std::proofs::lemmas::List::map_more, std::proofs::lemmas::List::map_push))]
 fn pairs_array(alloc: Global, leg: &LegReason) -> Result<Value, NoMemory>
     ensures { IfOk result (λ value. view value
-        ≡ array_of (pair_object leg.now.from leg.now.to) leg.now.pairs.items) }
+        ≡ array_of (pair_object leg.now.from leg.now.to) leg.now.pairs) }
 {
     let mut values = Vec::new(alloc);
     for pair in &leg.pairs {

@@ -8,7 +8,6 @@ use olr_candidates::{
 };
 use olr_keys::one_list;
 use olr_matching::{keys_of_matchings, one_layers};
-use olr_route::one_least_length;
 
 /// Where the layers of a reference can be given, it has a matching exactly where their table has a
 /// key.
@@ -44,5 +43,4 @@ pub fn one_why()
     one_list_of_nearest();
     one_list();
     one_layers();
-    one_least_length();
 }

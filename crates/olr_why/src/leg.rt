@@ -1,6 +1,7 @@
 //! What a leg admits, and why it admits nothing.
 
 use crate::pair::PairLength;
+use std::marker::Model;
 
 /// What a leg admits. Lengths are in decimetres.
 #[derive(Debug, Drop)]
@@ -17,4 +18,19 @@ pub struct LegReason {
     pub of: u32,
     /// Where it admits none, the pairs of candidates of ranks up to 3, by their ranks.
     pub pairs: Vec<PairLength>,
+}
+
+impl Model for LegReason {
+    ghost use Rattle.olr_why.specs.Values.{LegValue};
+
+    ghost Value = { LegValue };
+
+    ghost view = { λ leg. record {
+      class = leg.class;
+      from = leg.from;
+      to = leg.to;
+      admits = leg.admits;
+      of = leg.of;
+      pairs = leg.pairs.items;
+    } };
 }

@@ -126,7 +126,7 @@ fn push_point(
     number: usize,
     point: &PointReason,
 ) -> Result<(), NoMemory>
-    requires { All (λ near. near.line < length map.now.lines) point.now.nearest.items }
+    requires { All (λ near. near.line < length map.now.lines) point.now.nearest }
     ensures { OnOk result (string_bytes text.new
         ≡ string_bytes text.old ++ point_rows map.now number point.now) }
 {
@@ -204,7 +204,7 @@ fn push_pair(text: &mut String, leg: &LegReason, pair: &PairLength) -> Result<()
 /// Adds a row for each pair of a leg.
 fn push_pairs(text: &mut String, leg: &LegReason) -> Result<(), NoMemory>
     ensures { OnOk result (string_bytes text.new
-        ≡ string_bytes text.old ++ pair_rows leg.now.from leg.now.to leg.now.pairs.items) }
+        ≡ string_bytes text.old ++ pair_rows leg.now.from leg.now.to leg.now.pairs) }
 {
     for pair in &leg.pairs {
         push_pair(text, leg, pair)?;

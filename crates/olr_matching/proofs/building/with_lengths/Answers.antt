@@ -10,9 +10,9 @@ new-requires c =
     let are_legs = rw c.deref-2.ensures.value at c.in_ok-legs.ensures in
     let are_penalties = rw c.deref.ensures.value at c.in_ok-penalties.ensures in
     rw (c.deref-3.ensures.value, c.deref-4.ensures.value)
-    (table_of_vectors c.args.map.now c.args.tolerances.now c.args.reference.now (lists_of c.args.candidates.items)
-    (lengths_of c.args.lengths.items)
-    c.in_ok-penalties.penalties.items c.in_ok-legs.legs.items c.sound.ensures c.bounds.ensures.penalty c.requires.reference
+    (table_of_vectors _ _ _ _
+    _
+    _ _ c.sound.ensures c.bounds.ensures.penalty c.requires.reference
     c.requires.lists c.requires.lengths are_penalties are_legs)
 
 pub returns-clause-layers : goal.returns-clause-layers
@@ -21,16 +21,16 @@ returns-clause-layers c =
       reference = c.in_ok-copy_of.field-0;
       tolerances = c.args.tolerances.now;
       candidates = lists_of c.args.candidates.items;
-      lengths = lengths_of c.args.lengths.items;
+      lengths = lengths_of _;
       penalties = c.in_ok-table.table;
     } in
-    let table : c.in_ok-table.table ≡ vectors_of c.in_ok-penalties.penalties.items c.in_ok-legs.legs.items =
+    let table =
     rw (c.deref-3.ensures.value, c.deref-4.ensures.value) at c.in_ok-table.ensures in
-    let are_legs : ArePenaltiesOfLegs c.args.reference.now layers.lengths layers.penalties.legs =
+    let are_legs =
     subst (λ (it : Penalties). ArePenaltiesOfLegs c.args.reference.now layers.lengths it.legs) (sym table)
     (rw c.deref-2.ensures.value at c.in_ok-legs.ensures) in
-    let are_penalties = ap (λ (it : Penalties). it.candidates) table
+    let are_penalties = ap (λ it. it.candidates) table
     ∙ (rw c.deref.ensures.value at c.in_ok-penalties.ensures) in
-    let is_table : IsTable layers.penalties = subst IsTable c.table.view_is c.table.invariant in
-    are_layers c.args.map.now layers c.args.reference.now c.in_ok-copy_of.ensures c.requires.reference c.requires.lists c.requires.lengths
+    let is_table = rw c.table.view_is at c.table.invariant in
+    are_layers _ _ _ c.in_ok-copy_of.ensures c.requires.reference c.requires.lists c.requires.lengths
     is_table are_penalties are_legs

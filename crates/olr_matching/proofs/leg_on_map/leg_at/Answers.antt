@@ -6,11 +6,11 @@ use Rattle.olr_matching.proofs.Points.{leads_on, list_of}
 use Rattle.olr_matching.proofs.leg_on_map.leg_at.Goals as goal
 
 count_of : (lists : List (ArrayVec Candidate)) → length (lists_of lists) ≡ length lists
-count_of lists = length-map lists (λ (list : ArrayVec Candidate). list.items)
+count_of lists = length-map lists (λ list. list.items)
 
 pub next_of-requires : goal.next_of-requires
-next_of-requires c = leads_on c.args.reference.now c.args.layer c.requires.reference
-    (omega (arith, count_of c.args.candidates.now, c.requires.lists.all, c.requires.within))
+next_of-requires c = leads_on _ _ c.requires.reference
+    (omega (arith, count_of c.args.candidates.now))
 
 pub returns : goal.returns
 returns c =

@@ -20,11 +20,11 @@ loop-layer-preserved c =
     let lists = lists_of c.args.candidates.now in
     let Has : ℕ → List (Option ℕ) → Type 0 = λ layer lengths.
     AreLengthsOfLeg c.args.map.now c.args.tolerances.now c.args.reference.now lists layer lengths in
-    let IsShut : List (Option ℕ) → Type 0 = All (λ (length : Option ℕ). length ≡ None) in
-    let layer : ℕ = c.loop-layer.layer in
-    let leg : Vec (Option ℕ) = c.in_ok-of_leg.of_leg in
-    let here : Has layer leg.items =
-    lengths_of_leg c.args.map.now c.args.tolerances.now c.args.reference.now lists layer c.leg_at-leg.result leg.items c.leg_at-leg.ensures
+    let IsShut = All (λ length. length ≡ None) in
+    let layer = c.loop-layer.layer in
+    let leg = c.in_ok-of_leg.of_leg in
+    let here =
+    lengths_of_leg _ _ _ _ layer c.leg_at-leg.result leg.items c.leg_at-leg.ensures
     c.in_ok-of_leg.ensures.lengths in
     let is : lengths_of c.push.new.self.items ≡ lengths_of c.loop-layer.lengths.items ++ leg.items ∷ [] =
     ap lengths_of c.in_ok-push.ensures.items ∙ map-append (λ (one : Vec (Option ℕ)). one.items) c.loop-layer.lengths.items (leg ∷ []) in
@@ -43,12 +43,12 @@ loop-layer-preserved c =
 
 pub returns-clause-lengths : goal.returns-clause-lengths
 returns-clause-lengths c =
-    let count : length (lists_of c.args.candidates.now) ≡ length c.args.candidates.now =
-    length-map c.args.candidates.now (λ (list : ArrayVec Candidate). list.items) in
-    let two = at_least_two c.args.reference.now c.requires.reference in (
+    let count =
+    length-map c.args.candidates.now (λ list. list.items) in
+    let two = at_least_two _ c.requires.reference in (
       record {
-        count = omega (arith, count, two, c.requires.lists.all, c.loop-layer.invariant.legs.0);
-        each = λ layer below. c.loop-layer.invariant.legs.1 layer (omega (arith, below, c.loop-layer.invariant.legs.0));
+        count = omega arith;
+        each = λ layer below. c.loop-layer.invariant.legs.1 layer (omega arith);
       },
       c.loop-layer.invariant.admit,
     )

@@ -3,4 +3,4 @@ use Rattle.olr_matching.proofs.Points.{leads_on}
 use Rattle.olr_matching.proofs.penalties.penalties_of_legs.Goals as goal
 
 pub next_of-next-requires : goal.next_of-next-requires
-next_of-next-requires c = leads_on c.args.reference.now c.loop-layer.layer c.requires.reference (omega (arith, c.requires.count, c.loop-layer-test.true))
+next_of-next-requires c = leads_on _ _ c.requires.reference (omega arith)

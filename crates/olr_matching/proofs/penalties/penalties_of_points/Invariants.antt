@@ -5,4 +5,4 @@ use Rattle.olr_matching.proofs.penalties.penalties_of_points.Given as goal
 
 -- the penalties of the points so far
 abbrev pub invariant-loop-list : goal.invariant-loop-list
-invariant-loop-list l = map (λ (layer : Vec ℕ). layer.items) l.layers.items ≡ map penalties_of (lists_of (take l.list-index l.candidates))
+invariant-loop-list l = map (λ layer. layer.items) l.layers.items ≡ map penalties_of (lists_of (take l.list-index l.candidates))

@@ -1,13 +1,13 @@
 use Rattle.std.proofs.Common.{◌<◌, All, length}
 use Rattle.std.proofs.lemmas.List.Elements.{All-push}
 use Rattle.olr_candidates.specs.declared.near.NearLine.{NearLine}
-use Rattle.olr_why.specs.declared.point.PointReason.{PointReason}
+use Rattle.olr_why.proofs.Common.{PointReason}
 use Rattle.olr_why.proofs.Lists.{one_more_element}
 use Rattle.olr_why.proofs.explaining.reasons_of_points.Goals as goal
 
 pub loop-index-preserved : goal.loop-index-preserved
 loop-index-preserved c =
-    let OnMap : PointReason → Type 0 = λ point. All (λ (near : NearLine). near.line < length c.args.map.now.lines) point.nearest.items in record {
+    let OnMap : PointReason → Type 0 = λ point. All (λ (near : NearLine). near.line < length c.args.map.now.lines) point.nearest in record {
       reasons = one_more_element c.loop-index.invariant.reasons c.in_ok-point.ensures.reason c.in_ok-push.ensures.items;
       on_map = rw c.in_ok-push.ensures.items (All-push OnMap _ _ c.loop-index.invariant.on_map c.in_ok-point.ensures.on_map);
     }

@@ -10,5 +10,4 @@ returns c = reasons.one_why (record {
   one_list_of_nearest = c.one_list_of_nearest.ensures;
   one_list = c.one_list.ensures.at_most;
   one_layers = c.one_layers.ensures;
-  one_least_length = c.one_least_length.ensures;
 })

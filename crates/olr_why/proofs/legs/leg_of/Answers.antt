@@ -1,5 +1,4 @@
-use Rattle.std.proofs.Common.{ℕ, List, length, ap, arith}
-use Rattle.std.specs.Prelude.{Option, is_some}
+use Rattle.std.proofs.Common.{ℕ, List, length, ap, arith, Option, is_some}
 use Rattle.std.proofs.lemmas.List.Sums.{count_by-le-length}
 use Rattle.olr_why.proofs.LegReasons.{layer_leads_on, lengths_at_most}
 use Rattle.olr_why.proofs.legs.leg_of.Goals as goal

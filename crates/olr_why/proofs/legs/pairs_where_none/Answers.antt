@@ -1,6 +1,6 @@
 use Rattle.std.proofs.Common.{◌+◌, arith}
 use Rattle.std.proofs.lemmas.List.Elements.{All-take}
-use Rattle.olr_candidates.specs.declared.candidate.Candidate.{Candidate}
+use Rattle.olr_why.proofs.Common.{Candidate}
 use Rattle.olr_map.specs.Place.{IsDeparture, IsPlace}
 use Rattle.olr_matching.proofs.Points.{leads_within, list_of}
 use Rattle.olr_why.proofs.LegReasons as legs

@@ -1,6 +1,7 @@
 use Rattle.std.proofs.Common.{◌<◌, ◌∙◌, length, arith}
 use Rattle.std.proofs.lemmas.Option.{slice_get_within}
-use Rattle.olr_why.proofs.PairLists.{no_candidate, no_pair, one_more_looked_at, pair_at, read_at}
+use Rattle.olr_matching.proofs.LengthRows.{no_candidate}
+use Rattle.olr_why.proofs.PairLists.{no_pair, one_more_looked_at, pair_at, read_at}
 use Rattle.olr_why.proofs.pairs.look_by.Goals as goal
 
 pub loop-index-init : goal.loop-index-init

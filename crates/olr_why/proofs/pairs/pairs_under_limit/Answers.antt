@@ -1,5 +1,6 @@
 use Rattle.olr_why.proofs.Lists.{one_more_element}
-use Rattle.olr_why.proofs.PairLists.{no_candidate, pair_at}
+use Rattle.olr_matching.proofs.LengthRows.{no_candidate}
+use Rattle.olr_why.proofs.PairLists.{pair_at}
 use Rattle.olr_why.proofs.pairs.pairs_under_limit.Goals as goal
 
 pub loop-index-preserved : goal.loop-index-preserved

@@ -1,5 +1,4 @@
-use Rattle.std.proofs.Common.{ℕ, ◌<◌, [], length}
-use Rattle.std.specs.Prelude.{slice_index_or}
+use Rattle.std.proofs.Common.{ℕ, ◌<◌, [], length, slice_index_or}
 use Rattle.olr_why.proofs.verdicts.first_without_candidate.Given as goal
 
 abbrev pub invariant-loop-point : goal.invariant-loop-point

@@ -1,5 +1,4 @@
-use Rattle.std.proofs.Common.{ℕ, [], arith, below_more}
-use Rattle.std.specs.Prelude.{Option, Any, IsSome, slice_index_or}
+use Rattle.std.proofs.Common.{ℕ, [], arith, below_more, Option, Any, IsSome, slice_index_or}
 use Rattle.olr_why.proofs.Lacking.{no_pair, some_pair}
 use Rattle.olr_why.proofs.Lists.{not_both}
 use Rattle.olr_why.proofs.Places.{points_count}

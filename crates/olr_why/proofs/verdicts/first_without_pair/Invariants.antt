@@ -1,5 +1,4 @@
-use Rattle.std.proofs.Common.{ℕ, ◌<◌, []}
-use Rattle.std.specs.Prelude.{Option, Any, IsSome, slice_index_or}
+use Rattle.std.proofs.Common.{ℕ, ◌<◌, [], Option, Any, IsSome, slice_index_or}
 use Rattle.olr_why.proofs.verdicts.first_without_pair.Given as goal
 
 abbrev pub invariant-loop-point : goal.invariant-loop-point

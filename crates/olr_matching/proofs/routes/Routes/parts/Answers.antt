@@ -11,12 +11,10 @@ loop-layer-preserved c =
     let leg = c.in_ok-leg.field-0 in
     record {
       count = omega (arith, c.loop-layer.invariant.count, c.in_ok-push.ensures.len);
-      each = rw c.leg.ensures.same (push_leg at.road at.layers c.ranks-ranks.result.now c.loop-layer.legs.items
-          c.push.new.self.items leg
-          c.loop-layer.layer c.loop-layer.invariant.count c.in_ok-push.ensures.items c.loop-layer.invariant.each
-          (subst (λ (pair : Pair). IsLegOfPair at.road at.layers pair.layer pair.first pair.second leg)
-          c.pair_at.ensures.is
-          c.in_ok-leg.ensures.leg));
+      each = rw c.leg.ensures.same (push_leg _ _ _ _
+          _ _
+          _ c.loop-layer.invariant.count c.in_ok-push.ensures.items c.loop-layer.invariant.each
+          (rw c.pair_at.ensures.is at c.in_ok-leg.ensures.leg));
       same = c.leg.ensures.same ∙ c.loop-layer.invariant.same;
     }
 
@@ -26,5 +24,5 @@ returns-clause-matched c =
     let ranks = c.ranks-ranks.result.now in
     let At : RoutesValue → Type 0 = λ routes. AreCandidatesAt routes.layers.candidates ranks
     c.candidates_of.result.items in
-    are_parts c.args.self.now.road c.args.self.now.layers c.args.key.now ranks _ c.ranks-ranks.ensures.is
+    are_parts _ _ _ _ _ c.ranks-ranks.ensures.is
     (subst At (c.self-2.view_is ∙ loop.same) c.candidates_of.ensures) (omega arith) (rw (sym loop.same) loop.each)

@@ -15,7 +15,7 @@ returns-clause-entry c =
     record {
       is_entry = search rules;
       on_map = record {
-        matched = shown.on_map;
+        matched = rw c.matched.view_is shown.on_map;
         route = is.route;
         located = subst (λ (l : Located). HasLocation road l) (sym c.in_ok-new.ensures) is.located;
       };

@@ -1,6 +1,5 @@
 use Rattle.std.proofs.Common.{ℕ, ◌<◌, below_more, refl, arith}
-use Rattle.olr_candidates.specs.declared.tolerances.Name.TheVariants.{Lowest}
-use Rattle.olr_why.specs.Remedies.{IsEnough}
+use Rattle.olr_why.proofs.Common.{IsEnough, Lowest}
 use Rattle.olr_why.proofs.Halving.{none_up_to_greatest}
 use Rattle.olr_why.proofs.trying.Question.lowest.Goals as goal
 

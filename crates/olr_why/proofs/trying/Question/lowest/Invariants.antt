@@ -1,6 +1,5 @@
 use Rattle.std.proofs.Common.{ℕ, ◌<◌}
-use Rattle.olr_candidates.specs.declared.tolerances.Name.TheVariants.{Lowest}
-use Rattle.olr_why.specs.Remedies.{IsEnough}
+use Rattle.olr_why.proofs.Common.{IsEnough, Lowest}
 use Rattle.olr_why.proofs.trying.Question.lowest.Given as goal
 
 abbrev pub invariant-loop-value : goal.invariant-loop-value

@@ -1,5 +1,5 @@
 use Rattle.olr_why.specs.Trying.{IsTrialWith}
-use Rattle.olr_why.specs.declared.trial.Trial.TheVariants.{NoMatching}
+use Rattle.olr_why.proofs.Common.{NoMatching}
 use Rattle.olr_why.proofs.Halving.{first_two, none_up_to_greatest}
 use Rattle.olr_why.proofs.Tried.{crowded_with, matching_is_enough, none_up_to}
 use Rattle.olr_why.proofs.trying.Question.wider_values.Goals as goal
