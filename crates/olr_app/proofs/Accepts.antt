@@ -1,8 +1,7 @@
 -- A request is accepted in one way, or refused with one fault.
-use Rattle.std.proofs.Common.{◌≡◌, ℕ, List, Option, None, Some, Ok, Err, ap, sym, ◌∙◌, inl, inr}
+use Rattle.std.proofs.Common.{◌≡◌, ℕ, List, Option, None, Some, Ok, Err, ap, refl, sym, ◌∙◌}
 use Rattle.std.specs.Prelude.{Result}
 use Rattle.olr_binary.specs.declared.reference.Reference.{Reference}
-use Rattle.olr_binary.specs.declared.refusal.Refused.{Refused}
 use Rattle.olr_keys.specs.CursorLaws.{OneCursor}
 use Rattle.olr_keys.specs.Key.{KeyValue}
 use Rattle.olr_keys.specs.declared.cursor.CursorRead.{CursorRead}
@@ -11,11 +10,12 @@ use Rattle.olr_app.specs.Accepting.{Accepts, IsReferenceOf, IsStart, ReportsRefu
 use Rattle.olr_app.specs.Fault.{fault_of}
 use Rattle.olr_app.specs.Laws.{OneOutcome}
 use Rattle.olr_app.specs.Request.{cursor_of, text_of}
+use Rattle.olr_app.specs.Stages.{AndThen}
 use Rattle.olr_app.specs.declared.accepting.Accepted.{Accepted}
 use Rattle.olr_app.specs.declared.fault.Fault.{Fault}
 use Rattle.olr_app.specs.declared.fault.Fault.TheVariants.{BadCursor}
 use Rattle.olr_app.specs.declared.request.Request.{Request}
-use Rattle.olr_app.proofs.Single.{IsSingle, err_of, no_ok_and_err, same_err, same_ok}
+use Rattle.olr_app.proofs.Single.{IsSingle, err_of, first_then, no_ok_and_err, ok_of, same_err, same_ok}
 
 -- ---- records by their fields
 
@@ -24,7 +24,7 @@ read_of key mark = record { key = key; mark = mark }
 
 same_read : (one other : CursorRead) → one.key ≡ other.key → one.mark ≡ other.mark → one ≡ other
 same_read one other key mark =
-    ap (λ (k : KeyValue). read_of k one.mark) key ∙ ap (λ (m : Option Mark). read_of other.key m) mark
+    ap (λ (k : KeyValue). read_of k one.mark) key ∙ ap (read_of other.key) mark
 
 abbrev accepted_of : Reference → Option CursorRead → Accepted
 accepted_of reference start = record { reference = reference; start = start }
@@ -33,21 +33,19 @@ same_accepted : (one other : Accepted) → one.reference ≡ other.reference
     → one.start ≡ other.start → one ≡ other
 same_accepted one other reference start =
     ap (λ (r : Reference). accepted_of r one.start) reference
-    ∙ ap (λ (s : Option CursorRead). accepted_of other.reference s) start
+    ∙ ap (accepted_of other.reference) start
 
 -- ---- a reference
 
 pub reference_once : OneOutcome → (text : List ℕ) → IsSingle (IsReferenceOf text)
 reference_once law text (Ok one) (Ok other) is again =
-    ap Ok (same_ok Reference Refused one other (law text (Ok one) (Ok other) is again))
+    ap Ok (same_ok (law text (Ok one) (Ok other) is again))
 reference_once law text (Ok one) (Err other) is again =
-    absurd (no_ok_and_err Reference Refused one again.0 (law text (Ok one) (Err again.0) is again.1))
+    no_ok_and_err (law text (Ok one) (Err again.0) is again.1)
 reference_once law text (Err one) (Ok other) is again =
-    absurd (no_ok_and_err Reference Refused other is.0 (law text (Ok other) (Err is.0) again is.1))
-reference_once law text (Err one) (Err other) is again =
-    let same : is.0 ≡ again.0 =
-    same_err Reference Refused is.0 again.0 (law text (Err is.0) (Err again.0) is.1 again.1) in
-    ap Err (is.2 ∙ ap fault_of same ∙ sym again.2)
+    no_ok_and_err (law text (Ok other) (Err is.0) again is.1)
+reference_once law text (Err one) (Err other) is again = ap Err
+    (is.2 ∙ ap fault_of (same_err (law text (Err is.0) (Err again.0) is.1 again.1)) ∙ sym again.2)
 
 -- ---- a cursor
 
@@ -62,65 +60,54 @@ start_once law None (Ok one) (Ok other) is again = ap Ok (is ∙ sym again)
 start_once law None (Ok one) (Err other) is again = absurd again
 start_once law None (Err one) other is again = absurd is
 start_once law (Some text) (Ok one) (Ok other) is again =
-    let same = law text is.0.key again.0.key is.0.mark again.0.mark is.2 again.2 in
-    let read : is.0 ≡ again.0 = same_read is.0 again.0 same.0 same.1 in
-    ap Ok (is.1 ∙ ap (λ (r : CursorRead). Some r) read ∙ sym again.1)
-start_once law (Some text) (Ok one) (Err other) is again =
-    absurd (again.1 is.0.key is.0.mark is.2)
-start_once law (Some text) (Err one) (Ok other) is again =
-    absurd (is.1 again.0.key again.0.mark again.2)
+    let same = law _ _ _ _ _ is.2 again.2 in
+    ap Ok (is.1 ∙ ap Some (same_read is.0 again.0 same.0 same.1) ∙ sym again.1)
+start_once law (Some text) (Ok one) (Err other) is again = absurd (again.1 _ _ is.2)
+start_once law (Some text) (Err one) (Ok other) is again = absurd (is.1 _ _ again.2)
 start_once law (Some text) (Err one) (Err other) is again = ap Err (is.0 ∙ sym again.0)
 
 -- ---- a request
 
-module _ (outcome : OneOutcome) (cursor : OneCursor) (request : Request) where
-  abbrev one_reference : IsSingle (IsReferenceOf (text_of request))
-  one_reference = reference_once outcome (text_of request)
+-- what is accepted once the text is that of a reference
+abbrev Begins : Option (List ℕ) → Reference → Result Accepted Fault → Type 0
+Begins cursor reference (Ok accepted) =
+    (accepted.reference ≡ reference) × IsStart cursor (Ok accepted.start)
+Begins cursor reference (Err fault) = IsStart cursor (Err fault)
 
-  abbrev one_start : IsSingle (IsStart (cursor_of request))
-  one_start = start_once cursor (cursor_of request)
+begins_once : OneCursor → (cursor : Option (List ℕ)) (reference : Reference)
+    → IsSingle (Begins cursor reference)
+begins_once law cursor reference (Ok one) (Ok other) is again =
+    ap Ok (same_accepted one other (is.0 ∙ sym again.0)
+    (same_ok (start_once law cursor (Ok one.start) (Ok other.start) is.1 again.1)))
+begins_once law cursor reference (Ok one) (Err other) is again =
+    no_ok_and_err (start_once law cursor (Ok one.start) (Err other) is.1 again)
+begins_once law cursor reference (Err one) (Ok other) is again =
+    no_ok_and_err (start_once law cursor (Ok other.start) (Err one) again.1 is)
+begins_once law cursor reference (Err one) (Err other) is again =
+    ap Err (same_err (start_once law cursor (Err one) (Err other) is again))
 
-  never : (accepted : Accepted) (fault : Fault) → Accepts request (Ok accepted)
-      → Accepts request (Err fault) → ⊥
-  never accepted fault is refused = elim refused [
-    | inl its ↦ no_ok_and_err Reference Fault accepted.reference fault
-        (one_reference (Ok accepted.reference) (Err fault) is.0 its)
-    | inr its ↦ no_ok_and_err (Option CursorRead) Fault accepted.start fault
-        (one_start (Ok accepted.start) (Err fault) is.1 its.2)
-  ]
+in_stages : (request : Request) (result : Result Accepted Fault) → Accepts request result
+    → AndThen (IsReferenceOf (text_of request)) (Begins (cursor_of request)) result
+in_stages request (Ok accepted) is = (accepted.reference, is.0, (refl, is.1))
+in_stages request (Err fault) is = is
 
-  refused_once : (one other : Fault) → Accepts request (Err one) → Accepts request (Err other)
-      → one ≡ other
-  refused_once one other is again = elim is [
-    | inl its ↦ elim again [
-      | inl twice ↦ same_err Reference Fault one other (one_reference (Err one) (Err other) its twice)
-      | inr later ↦ absurd (no_ok_and_err Reference Fault later.0 one
-          (one_reference (Ok later.0) (Err one) later.1 its))
-    ]
-    | inr later ↦ elim again [
-      | inl its ↦ absurd (no_ok_and_err Reference Fault later.0 other
-          (one_reference (Ok later.0) (Err other) later.1 its))
-      | inr twice ↦ start_fault (cursor_of request) one later.2
-          ∙ sym (start_fault (cursor_of request) other twice.2)
-    ]
-  ]
+pub accepted_once : OneOutcome → OneCursor → (request : Request) → IsSingle (Accepts request)
+accepted_once outcome cursor request one other is again =
+    first_then (IsReferenceOf (text_of request)) (Begins (cursor_of request))
+    (reference_once outcome (text_of request))
+    (λ reference its. begins_once cursor (cursor_of request) reference) one other
+    (in_stages request one is) (in_stages request other again)
 
-  pub accepted_once : IsSingle (Accepts request)
-  accepted_once (Ok one) (Ok other) is again =
-      ap Ok (same_accepted one other
-      (same_ok Reference Fault one.reference other.reference
-      (one_reference (Ok one.reference) (Ok other.reference) is.0 again.0))
-      (same_ok (Option CursorRead) Fault one.start other.start
-      (one_start (Ok one.start) (Ok other.start) is.1 again.1)))
-  accepted_once (Ok one) (Err other) is again = absurd (never one other is again)
-  accepted_once (Err one) (Ok other) is again = absurd (never other one again is)
-  accepted_once (Err one) (Err other) is again = ap Err (refused_once one other is again)
-
--- where a request has one result, what passes on its refusal reports it
-pub reports : (T : Type 0) (request : Request) (accepted : Result Accepted Fault)
-    (result : Result T Fault) → ((other : Result Accepted Fault) → Accepts request other
-    → other ≡ accepted) → ((why : Fault) → err_of Accepted Fault why ≡ accepted
-    → result ≡ err_of T Fault why) → ReportsRefusal request result
-reports T request accepted result only passes = record {
-  reports = λ fault is. passes fault (only (Err fault) is);
+-- where a request is refused, what passes on the refusal reports it
+pub passed_on : {T : Type 0} {request : Request} {fault : Fault} {result : Result T Fault}
+    → ((other : Result Accepted Fault) → Accepts request other → other ≡ err_of Accepted Fault fault)
+    → result ≡ Err fault → ReportsRefusal request result
+passed_on only same = record {
+  reports = λ why is. same ∙ ap Err (sym (same_err (only (Err why) is)));
 }
+
+-- where it is accepted, there is no refusal to report
+pub none_refused : {T : Type 0} {request : Request} {accepted : Accepted} {result : Result T Fault}
+    → ((other : Result Accepted Fault) → Accepts request other → other ≡ ok_of Accepted Fault accepted)
+    → ReportsRefusal request result
+none_refused only = record { reports = λ why is. no_ok_and_err (sym (only (Err why) is)) }

@@ -1,12 +1,12 @@
 -- What a request that is accepted is answered with, and what its answer leaves of the sources.
-use Rattle.std.proofs.Common.{◌≡◌, ◌⊎◌, ℕ, ◌+◌, List, Option, Ok, Err, refl, sym, subst, inl, inr}
+use Rattle.std.proofs.Common.{◌≡◌, ◌⊎◌, ℕ, ◌+◌, List, Option, Ok, Err, refl, subst, inl, inr}
 use Rattle.std.specs.Prelude.{Result, IfErr, IfOk}
 use Rattle.std.specs.Borrow.{Bor}
 use Rattle.olr_metric.specs.declared.failure.Failed.{Failed}
 use Rattle.olr_binary.specs.declared.refusal.Refused.{Refused}
 use Rattle.olr_binary.specs.declared.refusal.Refused.TheVariants as refused
 use Rattle.olr_records.specs.declared.file.File.{File}
-use Rattle.olr_records.specs.declared.file.File.TheVariants.{Bans, Lines, Nodes}
+use Rattle.olr_records.specs.declared.file.File.TheVariants.{Nodes}
 use Rattle.olr_map.specs.Files.{IsEffect, IsFaultLeft, IsMapLeft, IsReadWhole, Texts}
 use Rattle.olr_map.specs.RoadMap.{RoadMap}
 use Rattle.olr_map.specs.declared.fault.MapFault.{MapFault}
@@ -24,7 +24,7 @@ use Rattle.olr_app.specs.declared.fault.Fault.TheVariants.{BadCursor, CursorNotH
 use Rattle.olr_app.specs.declared.fault.Fault.TheVariants.{NoMemory, TooManyCandidates, WriteFailed}
 use Rattle.olr_app.specs.declared.request.Format.{Format}
 use Rattle.olr_app.specs.declared.request.Request.{Request}
-use Rattle.olr_app.specs.declared.request.Request.TheVariants.{Candidates, Match, Places, Show, Why}
+use Rattle.olr_app.specs.declared.request.Request.TheVariants.{Candidates, Match, Places, Show}
 use Rattle.olr_app.proofs.Accepts.{start_fault}
 use Rattle.olr_app.proofs.Single.{err_of, ok_of}
 
@@ -36,19 +36,13 @@ pub answer_of_files : (texts : Texts) (request : Request) (accepted : Accepted)
     → AndThen (IsMapOfFiles texts) (IsAnswerOn request accepted) answer
     → IsAnswerOf texts request accepted answer
 answer_of_files texts (Show text format) accepted answer reads is = absurd reads
-answer_of_files texts (Candidates text tolerances format) accepted answer reads is = is
-answer_of_files texts (Match asked) accepted answer reads is = is
-answer_of_files texts (Places asked) accepted answer reads is = is
-answer_of_files texts (Why asked) accepted answer reads is = is
+answer_of_files texts other accepted answer reads is = is
 
 -- a request that isn't to show a reference reads a map
 pub reads_map : (request : Request)
     → ((text : Bor (List ℕ)) (format : Format) → request ≡ Show text format → ⊥) → ReadsMap request
 reads_map (Show text format) never = absurd (never text format refl)
-reads_map (Candidates text tolerances format) never = tt
-reads_map (Match asked) never = tt
-reads_map (Places asked) never = tt
-reads_map (Why asked) never = tt
+reads_map other never = tt
 
 -- ---- faults after the map
 
@@ -63,7 +57,6 @@ module _ (request : Request) (accepted : Accepted) (road : RoadMap) where
 -- the faults with which the stages after the map end
 ends_with : (request : Request) (accepted : Accepted) (road : RoadMap) (why : Fault)
     → Ends request accepted road why → IsFaultAfterMap request accepted road why
-ends_with (Show text format) accepted road why is = absurd is
 ends_with (Candidates text tolerances format) accepted road why is = inr (inl (is.0 + 1, is.2))
 ends_with (Match asked) accepted road why is = elim is [
   | inl other ↦ inl other.0
@@ -79,7 +72,7 @@ ends_with (Places asked) accepted road why is = elim is [
   | inl many ↦ inr (inl (many.0 + 1, many.2))
   | inr never ↦ absurd never.2
 ]
-ends_with (Why asked) accepted road why is = absurd is
+ends_with other accepted road why is = absurd is
 
 module _ (request : Request) (accepted : Accepted) (road : RoadMap) where
   memory_or_end : (why : Fault) → IsStageFault (IsAnswerOn request accepted road) why
@@ -95,13 +88,12 @@ module _ (request : Request) (accepted : Accepted) (road : RoadMap) where
       → (Ends request accepted road CursorNotHere → P CursorNotHere) → (why : Fault)
       → IsStageFault (IsAnswerOn request accepted road) why → P why
   each_fault P memory other many not_here why is = elim (memory_or_end why is) [
-    | inl same ↦ subst P (sym same) memory
+    | inl same ↦ rw same memory
     | inr ends ↦ elim (ends_with request accepted road why ends) [
-      | inl same ↦ subst P (sym same) (other (subst (Ends request accepted road) same ends))
+      | inl same ↦ rw same (other (subst (Ends request accepted road) same ends))
       | inr more ↦ elim more [
-        | inl same ↦
-            subst P (sym same.1) (many same.0 (subst (Ends request accepted road) same.1 ends))
-        | inr same ↦ subst P (sym same) (not_here (subst (Ends request accepted road) same ends))
+        | inl same ↦ rw same.1 (many same.0 (subst (Ends request accepted road) same.1 ends))
+        | inr same ↦ rw same (not_here (subst (Ends request accepted road) same ends))
       ]
     ]
   ]
@@ -118,13 +110,11 @@ reason_of_refused texts request other is = is
 pub reason_of_refusal : (texts : Texts) (request : Request) (why : Fault)
     → Accepts request (Err why) → IsReason texts request why
 reason_of_refusal texts request why is = elim is [
-  | inl its ↦ subst (λ (fault : Fault). IsReason texts request fault) (sym its.2)
-      (reason_of_refused texts request its.0
+  | inl its ↦ rw its.2 (reason_of_refused texts request its.0
       (inl (subst (λ (fault : Fault). Accepts request (Err fault)) its.2 (inl its))))
   | inr its ↦
       let bad : why ≡ BadCursor = start_fault (cursor_of request) why its.2 in
-      subst (λ (fault : Fault). IsReason texts request fault) (sym bad)
-      (inl (subst (λ (fault : Fault). Accepts request (Err fault)) bad (inr its)))
+      rw bad (inl (subst (λ (fault : Fault). Accepts request (Err fault)) bad (inr its)))
 ]
 
 module _ (texts : Texts) (request : Request) (reads : ReadsMap request) (accepted : Accepted)
@@ -152,80 +142,62 @@ module _ (texts : Texts) (request : Request) (reads : ReadsMap request) (accepte
       → IfErr result (IsReason texts request)
   reason_on_map road (Ok found) map its = tt
   reason_on_map road (Err why) map its =
+      let ends : (fault : Fault) → Ends request accepted road fault
+      → IsAnswer texts request (Err fault) =
+      λ fault at. inr (accepted, is, answer_of_files _ _ _ _ reads (inr (road, map, at))) in
       each_fault request accepted road (IsReason texts request) (accepted, is)
-      (λ ends. inr (accepted, is, answer_of_files _ _ _ _ reads (inr (road, map, ends))))
-      (λ number ends. inr (accepted, is, answer_of_files _ _ _ _ reads (inr (road, map, ends))))
-      (λ ends. inr (accepted, is, answer_of_files _ _ _ _ reads (inr (road, map, ends)))) why its
+      (ends CursorOfOther) (λ number. ends (TooManyCandidates number)) (ends CursorNotHere) why its
 
 -- ---- sources
 
-module _ {S : Type 0} (left : S → Option (List ℕ)) (failed : S → ℕ) (old new : S) where
-  -- a file that was read to its end has no failure
-  unfailed : (file : File) → IsReadWhole left failed old new
-      → IsEffect left failed old new file map.NoMemory
-  unfailed Nodes whole = whole.none_failed
-  unfailed Lines whole = whole.none_failed
-  unfailed Bans whole = whole.none_failed
+-- a file that was read to its end has no failure
+pub unfailed : {S : Type 0} {left : S → Option (List ℕ)} {failed : S → ℕ} {old new : S}
+    (file : File) → IsReadWhole left failed old new
+    → IsEffect left failed old new file map.NoMemory
+unfailed Nodes whole = whole.none_failed
+unfailed other whole = whole.none_failed
 
-  -- a fault of the stages after the map
-  late_leaves : (file : File) (request : Request) (accepted : Accepted) (road : RoadMap)
-      (why : Fault) → IsReadWhole left failed old new
-      → IsStageFault (IsAnswerOn request accepted road) why
-      → FaultLeaves left failed old new file why
-  late_leaves file request accepted road why whole =
-      each_fault request accepted road (FaultLeaves left failed old new file)
-      (inr (inl (map.NoMemory, refl, unfailed file whole))) (λ ends. inr (inr (tt, whole)))
-      (λ number ends. inr (inr (tt, whole))) (λ ends. inr (inr (tt, whole))) why
+module _ {S : Type 0} (left : S → Option (List ℕ)) (failed : S → ℕ) (old new : S) (file : File)
+  where
+    -- a fault of the stages after the map
+    late_leaves : (request : Request) (accepted : Accepted) (road : RoadMap) (why : Fault)
+        → IsReadWhole left failed old new → IsStageFault (IsAnswerOn request accepted road) why
+        → FaultLeaves left failed old new file why
+    late_leaves request accepted road why whole =
+        each_fault request accepted road (FaultLeaves left failed old new file)
+        (inr (inl (map.NoMemory, refl, unfailed file whole))) (λ ends. inr (inr (tt, whole)))
+        (λ number ends. inr (inr (tt, whole))) (λ ends. inr (inr (tt, whole))) why
 
-  -- a fault of the map
-  pub map_fault_leaves : (T : Type 0) (file : File) (request : Request) (why : MapFault)
-      → ReadsMap request → IsEffect left failed old new file why
-      → AnswerLeaves left failed old new file request (err_of T Fault (fault_of_map why))
-  map_fault_leaves T file (Show text format) why reads its = absurd reads
-  map_fault_leaves T file (Candidates text tolerances format) why reads its =
-      inr (inl (why, refl, its))
-  map_fault_leaves T file (Match asked) why reads its = inr (inl (why, refl, its))
-  map_fault_leaves T file (Places asked) why reads its = inr (inl (why, refl, its))
-  map_fault_leaves T file (Why asked) why reads its = inr (inl (why, refl, its))
+    -- a fault of the map
+    pub map_fault_leaves : (T : Type 0) (request : Request) (why : MapFault)
+        → ReadsMap request → IsEffect left failed old new file why
+        → AnswerLeaves left failed old new file request (err_of T Fault (fault_of_map why))
+    map_fault_leaves T (Show text format) why reads its = absurd reads
+    map_fault_leaves T other why reads its = inr (inl (why, refl, its))
 
-  -- the result of these stages
-  pub answer_leaves : {T : Type 0} (file : File) (request : Request) (accepted : Accepted)
-      (road : RoadMap) (result : Result T Fault) → ReadsMap request
-      → IfErr result (IsStageFault (IsAnswerOn request accepted road))
-      → IsReadWhole left failed old new → AnswerLeaves left failed old new file request result
-  answer_leaves file (Show text format) accepted road result reads is whole = absurd reads
-  answer_leaves file (Candidates text tolerances format) accepted road (Ok found) reads is whole = whole
-  answer_leaves file (Candidates text tolerances format) accepted road (Err why) reads is whole =
-      late_leaves file (Candidates text tolerances format) accepted road why whole is
-  answer_leaves file (Match asked) accepted road (Ok found) reads is whole = whole
-  answer_leaves file (Match asked) accepted road (Err why) reads is whole =
-      late_leaves file (Match asked) accepted road why whole is
-  answer_leaves file (Places asked) accepted road (Ok found) reads is whole = whole
-  answer_leaves file (Places asked) accepted road (Err why) reads is whole =
-      late_leaves file (Places asked) accepted road why whole is
-  answer_leaves file (Why asked) accepted road (Ok found) reads is whole = whole
-  answer_leaves file (Why asked) accepted road (Err why) reads is whole =
-      late_leaves file (Why asked) accepted road why whole is
+    -- the result of these stages
+    pub answer_leaves : {T : Type 0} (request : Request) (accepted : Accepted)
+        (road : RoadMap) (result : Result T Fault) → ReadsMap request
+        → IfErr result (IsStageFault (IsAnswerOn request accepted road))
+        → IsReadWhole left failed old new → AnswerLeaves left failed old new file request result
+    answer_leaves (Show text format) accepted road result reads is whole = absurd reads
+    answer_leaves other accepted road (Ok found) reads is whole = whole
+    answer_leaves other accepted road (Err why) reads is whole =
+        late_leaves other accepted road why whole is
 
-  -- a fault leaves the same of a source, whatever else there would have been
-  pub same_leaves : (T U : Type 0) (file : File) (request : Request) (why : Fault)
-      → AnswerLeaves left failed old new file request (err_of T Fault why)
-      → AnswerLeaves left failed old new file request (err_of U Fault why)
-  same_leaves T U file (Show text format) why is = is
-  same_leaves T U file (Candidates text tolerances format) why is = is
-  same_leaves T U file (Match asked) why is = is
-  same_leaves T U file (Places asked) why is = is
-  same_leaves T U file (Why asked) why is = is
+    -- a fault leaves the same of a source, whatever else there would have been
+    pub same_leaves : (T U : Type 0) (request : Request) (why : Fault)
+        → AnswerLeaves left failed old new file request (err_of T Fault why)
+        → AnswerLeaves left failed old new file request (err_of U Fault why)
+    same_leaves T U (Show text format) why is = is
+    same_leaves T U other why is = is
 
-  -- the output was made, and then the sink stopped
-  pub unwritten_leaves : (T U : Type 0) (file : File) (request : Request) (found : T)
-      → AnswerLeaves left failed old new file request (ok_of T Fault found)
-      → AnswerLeaves left failed old new file request (err_of U Fault WriteFailed)
-  unwritten_leaves T U file (Show text format) found is = is
-  unwritten_leaves T U file (Candidates text tolerances format) found is = inr (inr (tt, is))
-  unwritten_leaves T U file (Match asked) found is = inr (inr (tt, is))
-  unwritten_leaves T U file (Places asked) found is = inr (inr (tt, is))
-  unwritten_leaves T U file (Why asked) found is = inr (inr (tt, is))
+    -- the output was made, and then the sink stopped
+    pub unwritten_leaves : (T U : Type 0) (request : Request) (found : T)
+        → AnswerLeaves left failed old new file request (ok_of T Fault found)
+        → AnswerLeaves left failed old new file request (err_of U Fault WriteFailed)
+    unwritten_leaves T U (Show text format) found is = is
+    unwritten_leaves T U other found is = inr (inr (tt, is))
 
 -- the refusal of a request
 of_request : (request : Request) (why : Fault) → Accepts request (Err why) → IsOfRequest why
@@ -235,17 +207,10 @@ of_request request why is = elim is [
 ]
 
 pub refusal_leaves : {S : Type 0} (left : S → Option (List ℕ)) (failed : S → ℕ) (old : S)
-    (T : Type 0) (file : File) (request : Request) (why : Fault) → Accepts request (Err why)
+    (file : File) (T : Type 0) (request : Request) (why : Fault) → Accepts request (Err why)
     → AnswerLeaves left failed old old file request (err_of T Fault why)
-refusal_leaves left failed old T file (Show text format) why is = refl
-refusal_leaves left failed old T file (Candidates text tolerances format) why is =
-    inl (of_request (Candidates text tolerances format) why is, refl)
-refusal_leaves left failed old T file (Match asked) why is =
-    inl (of_request (Match asked) why is, refl)
-refusal_leaves left failed old T file (Places asked) why is =
-    inl (of_request (Places asked) why is, refl)
-refusal_leaves left failed old T file (Why asked) why is =
-    inl (of_request (Why asked) why is, refl)
+refusal_leaves left failed old file T (Show text format) why is = refl
+refusal_leaves left failed old file T other why is = inl (of_request other why is, refl)
 
 -- ---- the sink
 

@@ -1,8 +1,8 @@
 -- The output for all pages is that of runs of one page each that follow each other.
-use Rattle.std.proofs.Common.{◌≡◌, ℕ, ◌≤◌, List, [], ◌∷◌, ◌++◌, Bool, true, false, Option, None, Some}
+use Rattle.std.proofs.Common.{◌≡◌, ℕ, ◌≤◌, List, [], ◌∷◌, ◌++◌, true, false, Option, None, Some}
 use Rattle.std.proofs.Common.{Ok, Bor, refl, sym, ap, ◌∙◌, subst, arith}
 use Rattle.std.specs.List.{AllZip, concat}
-use Rattle.std.specs.Prelude.{All, Contains, IfSome, if◌then◌else◌}
+use Rattle.std.specs.Prelude.{All, Contains, IfSome}
 use Rattle.std.proofs.lemmas.List.{append-nil}
 use Rattle.std.proofs.lemmas.List.Elements.{All-cons, All-nil, Contains-append_left}
 use Rattle.std.proofs.lemmas.List.Elements.{Contains-append_right}
@@ -10,7 +10,7 @@ use Rattle.olr_binary.specs.Outcome.{IsOutcome}
 use Rattle.olr_binary.specs.declared.reference.Reference.{Reference}
 use Rattle.olr_matching.specs.Fingerprint.{IsFingerprint}
 use Rattle.olr_keys.specs.Answers.{AreAnswers}
-use Rattle.olr_keys.specs.Cursor.{IsCursorOf, cursor_text}
+use Rattle.olr_keys.specs.Cursor.{cursor_text}
 use Rattle.olr_keys.specs.Headline.{AreEnded, AreResumed}
 use Rattle.olr_keys.specs.Key.{IsInRange, KeyValue}
 use Rattle.olr_keys.specs.Page.{IsPageAfter, PageValue, last_of}
@@ -49,7 +49,7 @@ more_runs format inputs cursor following run (next ∷ runs) is shows follow =
 
 -- a page without more has no next key
 no_next : (page : PageValue) → page.more ≡ false → next_after page ≡ None
-no_next page none = ap (λ (more : Bool). if more then last_of None page.keys else None) none
+no_next page none = rw none refl
 
 module _ (laws : Laws) (format : Format) (inputs : Inputs) (size : ℕ) (at_least : 1 ≤ size)
     (text : Bor (List ℕ)) (text_is : text.now ≡ inputs.text) (reference : Reference)
@@ -57,11 +57,14 @@ module _ (laws : Laws) (format : Format) (inputs : Inputs) (size : ℕ) (at_leas
     (is_map : IsMapOf inputs.nodes inputs.lines inputs.bans road) (layers : LayersValue)
     (are_layers : AreLayers inputs.tolerances reference road (Ok layers)) (keys : List KeyValue)
     (are_keys : AreAnswers layers.penalties keys) (mark : Mark) where
+  abbrev HasSizeOf : Run format → Type 0
+  HasSizeOf run = HasSize size run.request
+
   -- the runs of some pages, the first of which begins at a cursor
   record AreRuns (cursor : Option (List ℕ)) (output : List ℕ) : Type 0 where
     runs : List (Run format)
     follow : FollowEachOther inputs cursor runs
-    sizes : All (λ (run : Run format). HasSize size run.request) runs
+    sizes : All HasSizeOf runs
     whole : output ≡ joined_outputs runs
 
   -- a page has more only where the mark is the fingerprint of the inputs
@@ -75,14 +78,12 @@ module _ (laws : Laws) (format : Format) (inputs : Inputs) (size : ℕ) (at_leas
       (is_start : IsStart (bytes_of begins) (Ok start))
       (of_inputs : IfSome start (IsOfInputs text.now inputs.tolerances road)) (page : PageValue)
       (is_page : IsPageAfter keys (key_of start) size page) (output : List ℕ)
-      (is_text : IsTextOfPage format road layers mark page output) where
+      (is_text : IsTextOfPage format road layers (Some mark) page output) where
     in_range : (key : KeyValue) → next_after page ≡ Some key → IsInRange key
-    in_range = next_in_range keys (key_of start) size page is_page layers.penalties laws.in_range
-        are_layers.0.table are_keys
+    in_range = next_in_range _ _ _ _ is_page _ laws.in_range are_layers.0.table are_keys
 
     shows : ShowsPage format road layers.reference page is_text.matched mark output
-    shows = page_shows laws.json_reads format road layers.reference page is_text.matched mark output
-        in_range is_text.text_is
+    shows = page_shows laws.json_reads format _ _ _ _ _ _ in_range is_text.text_is
 
     run : Run format
     run = record {
@@ -137,17 +138,14 @@ module _ (laws : Laws) (format : Format) (inputs : Inputs) (size : ℕ) (at_leas
     shows_next : (after : Option KeyValue) → next_after page ≡ after
         → Shows format run.shown (next_cursor after mark) run.output
     unfolding run
-    shows_next after same = subst (λ (o : Option KeyValue).
-        Shows format (parts_of format road shows.entries) (next_cursor o mark) output) same
-        shows.shows
+    shows_next after same = rw (sym same) shows.shows
 
     last_run : AreMarked (page ∷ []) → page.more ≡ false → AreRuns (bytes_of begins) (output ++ [])
     unfolding run
     last_run marked none = record {
       runs = run ∷ [];
       follow = (is_run marked, shows_next None (no_next page none));
-      sizes = All-cons (λ (one : Run format). HasSize size one.request) run [] refl
-          (All-nil (λ (one : Run format). HasSize size one.request));
+      sizes = All-cons HasSizeOf run [] refl (All-nil HasSizeOf);
       whole = refl;
     }
 
@@ -159,17 +157,31 @@ module _ (laws : Laws) (format : Format) (inputs : Inputs) (size : ℕ) (at_leas
       runs = run ∷ are.runs;
       follow = more_runs format inputs (bytes_of begins) (cursor_text key (Some mark)) run are.runs
           (is_run marked) (shows_next (Some key) next) are.follow;
-      sizes = All-cons (λ (one : Run format). HasSize size one.request) run are.runs refl are.sizes;
+      sizes = All-cons HasSizeOf run are.runs refl are.sizes;
       whole = ap (λ (l : List ℕ). output ++ l) are.whole;
     }
 
   -- ---- pages
 
+  -- a key after which the pages go on, in range
+  cursor_at : (key : KeyValue) → IsInRange key
+      → IsFingerprint text.now inputs.tolerances road mark
+      → IsStart (Some (cursor_text key (Some mark))) (Ok (Some (record { key = key; mark = Some mark })))
+  cursor_at key in_range fingerprint = (
+    record { key = key; mark = Some mark },
+    refl,
+    record {
+      in_range = in_range;
+      is_mark = laws.is_mark text.now inputs.tolerances road mark fingerprint;
+      same = refl;
+    },
+  )
+
   runs_of : (begins : Option (Bor (List ℕ))) (start : Option CursorRead) (after : Option KeyValue)
       → IsStart (bytes_of begins) (Ok start) → key_of start ≡ after
       → IfSome start (IsOfInputs text.now inputs.tolerances road) → (pages : List PageValue)
       (texts : List (List ℕ)) → AreResumed keys after size pages → AreEnded pages → AreMarked pages
-      → AllZip (IsTextOfPage format road layers mark) pages texts
+      → AllZip (IsTextOfPage format road layers (Some mark)) pages texts
       → AreRuns (bytes_of begins) (concat texts)
   runs_of begins start after is_start at of_inputs [] texts resumed ended marked each = absurd ended
   runs_of begins start after is_start at of_inputs (page ∷ pages) [] resumed ended marked each =
@@ -179,44 +191,34 @@ module _ (laws : Laws) (format : Format) (inputs : Inputs) (size : ℕ) (at_leas
       absurd each.1
   runs_of begins start after is_start at of_inputs (page ∷ []) (output ∷ []) resumed ended marked
       each =
-      let is_page : IsPageAfter keys (key_of start) size page =
-      subst (λ (o : Option KeyValue). IsPageAfter keys o size page) (sym at) resumed.0 in
-      last_run begins start is_start of_inputs page is_page output each.0 marked ended
+      last_run begins start is_start of_inputs page (rw at resumed.0) output each.0 marked ended
   runs_of begins start after is_start at of_inputs (page ∷ next ∷ pages) (output ∷ texts) resumed
       ended marked each =
-      let is_page : IsPageAfter keys (key_of start) size page =
-      subst (λ (o : Option KeyValue). IsPageAfter keys o size page) (sym at) resumed.0 in
-      let last = next_exists keys (key_of start) size page is_page at_least ended.0 in
-      let key : KeyValue = last.0 in
+      let is_page : IsPageAfter keys (key_of start) size page = rw at resumed.0 in
+      let last = next_exists _ _ _ _ is_page at_least ended.0 in
       let here : AreMarked (page ∷ []) =
       λ one there. marked one (Contains-append_left (page ∷ []) (next ∷ pages) one there) in
-      let fingerprint : IsFingerprint text.now inputs.tolerances road mark =
-      here page (0, omega arith, refl) ended.0 in
-      let cursor : IsCursorOf key (Some mark) (cursor_text key (Some mark)) = record {
-        in_range = in_range begins start is_start of_inputs page is_page output each.0 key last.1;
-        is_mark = laws.is_mark text.now inputs.tolerances road mark fingerprint;
-        same = refl;
-      } in
-      let read : CursorRead = record { key = key; mark = Some mark } in
-      more begins start is_start of_inputs page is_page output each.0 key (concat texts) here last.1
-      (runs_of (Some (at_bytes (cursor_text key (Some mark)))) (Some read) (last_of after page.keys)
-      (read, refl, cursor) (sym (last.2 after)) fingerprint (next ∷ pages) texts resumed.1 ended.1
+      let fingerprint = here page (0, omega arith, refl) ended.0 in
+      let in_range = in_range begins start is_start of_inputs page is_page output each.0 last.0 last.1
+      in
+      more begins start is_start of_inputs page is_page output each.0 last.0 (concat texts) here last.1
+      (runs_of (Some (at_bytes (cursor_text last.0 (Some mark))))
+      (Some (record { key = last.0; mark = Some mark })) (last_of after page.keys)
+      (cursor_at last.0 in_range fingerprint) (sym (last.2 after)) fingerprint (next ∷ pages) texts
+      resumed.1 ended.1
       (λ one there. marked one (Contains-append_right (page ∷ []) (next ∷ pages) one there)) each.1)
 
 pub all_pages : Laws → AllPages
 all_pages laws format inputs size request output asks is =
     let all : IsOutput (files_of inputs) (Match (request_of inputs asks.text size EveryPage format))
-    output =
-    subst (λ (r : Request). IsOutput (files_of inputs) r output) asks.request_is is in
+    output = subst (λ (r : Request). IsOutput (files_of inputs) r output) asks.request_is is in
     let stages = all.2.2 in
-    let layers : LayersValue = stages.2.0 in
-    let pages : List PageValue = stages.2.2.0 in
-    let asked = stages.2.2.1 in
+    let pages = stages.2.2.1.2 in
     let printed = stages.2.2.2 in
     let runs = runs_of laws format inputs size asks.at_least asks.text asks.text_is
-    all.0.reference all.1.0 all.2.0 all.2.1 layers stages.2.1 asked.0 asked.1 printed.mark None None
-    None refl refl tt pages printed.texts.texts asked.2.resumed asked.2.ended printed.marked
-    printed.texts.each in
+    all.0.reference all.1.0 all.2.0 all.2.1 stages.2.0 stages.2.1 stages.2.2.1.0 stages.2.2.1.1
+    printed.mark None None None refl refl tt stages.2.2.0 printed.texts.texts pages.resumed
+    pages.ended printed.marked printed.texts.each in
     record {
       runs = runs.runs;
       follow = runs.follow;

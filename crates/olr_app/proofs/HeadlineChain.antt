@@ -1,12 +1,11 @@
 -- Runs that follow each other show exactly the matchings after the cursor at which the first one
 -- begins; those have one text, and such runs come to an end.
-use Rattle.std.proofs.Common.{◌≡◌, ℕ, List, [], ◌∷◌, ◌++◌, map, Option, None, Some, sym, ap, ◌∙◌}
+use Rattle.std.proofs.Common.{◌≡◌, ℕ, List, [], ◌∷◌, ◌++◌, Option, None, Some, sym, ap, ◌∙◌}
 use Rattle.std.proofs.Common.{subst, false, ◌<◌, ◌≤◌, length, drop, refl, length-append, arith}
 use Rattle.std.proofs.lemmas.List.{append-nil, map-append, append_cancel_right, length-drop}
 use Rattle.std.proofs.lemmas.List.Elements.{All-append}
 use Rattle.std.specs.List.{AllZip}
 use Rattle.std.specs.Prelude.{codes}
-use Rattle.olr_binary.specs.declared.reference.Reference.{Reference}
 use Rattle.olr_map.specs.RoadMap.{RoadMap, IsSoundMap}
 use Rattle.olr_keys.specs.Cursor.{IsCursorOf}
 use Rattle.olr_keys.specs.CursorLaws.{OneCursor}
@@ -15,11 +14,10 @@ use Rattle.olr_keys.specs.Page.{IsRestAfter, PageValue}
 use Rattle.olr_matching.specs.Fingerprint.{IsFingerprint}
 use Rattle.olr_matching.specs.Layers.{LayersValue}
 use Rattle.olr_matching.specs.Matched.{IsMatchedBy}
-use Rattle.olr_matching.specs.declared.matched.Matched.{Matched}
-use Rattle.olr_report.specs.Entries.{AreEntriesOf, Entry, IsEntryOf}
+use Rattle.olr_report.specs.Entries.{Entry, IsEntryOf}
 use Rattle.olr_report.specs.Text.{next_after, IsPageText}
-use Rattle.olr_app.specs.Headline.{AreShown, AreShownAfter, FollowEachOther, Headline, Inputs}
-use Rattle.olr_app.specs.Headline.{Matchings, Names, Run, joined, AreSame, SizesAgree}
+use Rattle.olr_app.specs.Headline.{AreShown, FollowEachOther, Headline, Inputs}
+use Rattle.olr_app.specs.Headline.{Matchings, Names, Run, joined, SizesAgree}
 use Rattle.olr_app.specs.Headline.{GoOn, RunsEnd}
 use Rattle.olr_app.specs.HeadlineOutputs.{Part, Shows, parts_of}
 use Rattle.olr_app.specs.Laws.{Laws}
@@ -29,7 +27,7 @@ use Rattle.olr_app.proofs.HeadlineOutputs.{ShowsPage, key_next, next_cursor, non
 use Rattle.olr_app.proofs.HeadlineOutputs.{page_shows, parts_append}
 use Rattle.olr_app.proofs.HeadlineRests.{next_in_range, next_more, page_and_rest, page_is_rest}
 use Rattle.olr_app.proofs.HeadlineRests.{one_rest, left_after}
-use Rattle.olr_app.proofs.HeadlineRuns.{PrintsPage, matchings_of_run, run_prints, one_matchings}
+use Rattle.olr_app.proofs.HeadlineRuns.{Facts, PrintsPage, facts_of, matchings_of_run, run_prints}
 use Rattle.olr_app.proofs.OneAnswer.{parts_once}
 
 -- ---- keys in two parts
@@ -42,25 +40,6 @@ zip_append R (x ∷ xs) [] xs' ys' they others = absurd they
 zip_append R (x ∷ xs) (y ∷ ys) xs' ys' they others =
     (they.0, zip_append R xs ys xs' ys' they.1 others)
 
-both : {X : Type 0} (a b c d : List X) → a ≡ b → c ≡ d → a ++ c ≡ b ++ d
-both {X} a b c d one other = ap (λ (l : List X). l ++ c) one ∙ ap (λ (l : List X). b ++ l) other
-
-entries_append : (reference : Reference) (keys keys' : List KeyValue)
-    (matched matched' : List Matched) (entries entries' : List Entry)
-    → AreEntriesOf reference keys matched entries → AreEntriesOf reference keys' matched' entries'
-    → AreEntriesOf reference (keys ++ keys') (matched ++ matched') (entries ++ entries')
-entries_append reference keys keys' matched matched' entries entries' are are' =
-    let key_of : Entry → KeyValue = λ entry. entry.key in
-    let matched_of : Entry → Matched = λ entry. entry.matched in
-    record {
-      keys_are = map-append key_of entries entries'
-          ∙ both (map key_of entries) keys (map key_of entries') keys' are.keys_are are'.keys_are;
-      matched_are = map-append matched_of entries entries'
-          ∙ both (map matched_of entries) matched (map matched_of entries') matched'
-          are.matched_are are'.matched_are;
-      each = All-append (IsEntryOf reference) entries entries' are.each are'.each;
-    }
-
 shown_append : (format : Format) (road : RoadMap) (layers : LayersValue)
     (keys keys' : List KeyValue) (parts parts' : List (Part format))
     → AreShown format road layers keys parts → AreShown format road layers keys' parts'
@@ -69,40 +48,57 @@ shown_append format road layers keys keys' parts parts' is is' = record {
   matched = is.matched ++ is'.matched;
   entries = is.entries ++ is'.entries;
   each = zip_append (IsMatchedBy road layers) keys is.matched keys' is'.matched is.each is'.each;
-  are_entries = entries_append layers.reference keys keys' is.matched is'.matched is.entries
-      is'.entries is.are_entries is'.are_entries;
-  parts_are = both parts (parts_of format road is.entries) parts'
-      (parts_of format road is'.entries) is.parts_are is'.parts_are
-      ∙ sym (parts_append format road is.entries is'.entries);
+  are_entries = record {
+    keys_are = rw (
+      map-append (λ (entry : Entry). entry.key) is.entries is'.entries,
+      is.are_entries.keys_are,
+      is'.are_entries.keys_are,
+    ) refl;
+    matched_are = rw (
+      map-append (λ (entry : Entry). entry.matched) is.entries is'.entries,
+      is.are_entries.matched_are,
+      is'.are_entries.matched_are,
+    ) refl;
+    each = All-append (IsEntryOf layers.reference) is.entries is'.entries is.are_entries.each
+        is'.are_entries.each;
+  };
+  parts_are = rw (is.parts_are, is'.parts_are)
+      (sym (parts_append format road is.entries is'.entries));
 }
+
+-- ---- a cursor names one key
+
+one_name : OneCursor → (cursor : Option (List ℕ)) (a b : Option KeyValue) → Names cursor a
+    → Names cursor b → a ≡ b
+one_name law None a b is is' = is ∙ sym is'
+one_name law (Some cursor) a b is is' =
+    let same = law _ _ _ _ _ is.2 is'.2 in is.1 ∙ ap Some same.0 ∙ sym is'.1
 
 -- ---- runs
 
-module _ (laws : Laws) (format : Format) (inputs : Inputs) (all : Matchings inputs) where
-  -- what shows exactly the matchings after a cursor
-  record IsAfter (cursor : Option (List ℕ)) (parts : List (Part format)) : Type 0 where
-    named : Option KeyValue
-    names : Names cursor named
-    rest : List KeyValue
-    is_rest : IsRestAfter all.keys named rest
-    shown : AreShown format all.road all.layers rest parts
+-- what shows exactly the matchings after a cursor
+record IsAfter (format : Format) (facts : Facts) (cursor : Option (List ℕ))
+    (parts : List (Part format)) : Type 0 where
+  named : Option KeyValue
+  names : Names cursor named
+  rest : List KeyValue
+  is_rest : IsRestAfter facts.keys named rest
+  shown : AreShown format facts.road facts.layers rest parts
 
-  module _ (cursor : Option (List ℕ)) (run : Run format)
-      (prints : PrintsPage format inputs all cursor run.output) where
+module _ (laws : Laws) {format : Format} {inputs : Inputs} (all : Matchings inputs) where
+  module _ {cursor : Option (List ℕ)} (run : Run format)
+      (prints : PrintsPage format inputs (facts_of all) cursor run.output) where
     in_range : (key : KeyValue) → next_after prints.page ≡ Some key → IsInRange key
-    in_range = next_in_range all.keys prints.named prints.size prints.page prints.is_page
-        all.layers.penalties laws.in_range all.are_layers.table all.are_keys
+    in_range = next_in_range _ _ _ _ prints.is_page _ laws.in_range all.are_layers.table all.are_keys
 
     shows_page : ShowsPage format all.road all.layers.reference prints.page
         prints.is_text.matched prints.mark run.output
-    shows_page = page_shows laws.json_reads format all.road all.layers.reference prints.page
-        prints.is_text.matched prints.mark run.output in_range prints.is_text.text_is
+    shows_page = page_shows laws.json_reads format _ _ _ _ _ _ in_range prints.is_text.text_is
 
     module _ (next : Option (List ℕ)) (is : Shows format run.shown next run.output) where
       same_parts : (run.shown ≡ parts_of format all.road shows_page.entries)
           × (next ≡ next_cursor (next_after prints.page) prints.mark)
-      same_parts = one_shown format run.shown (parts_of format all.road shows_page.entries) next
-          (next_cursor (next_after prints.page) prints.mark) run.output is shows_page.shows
+      same_parts = one_shown format _ _ _ _ run.output is shows_page.shows
 
       -- what the run shows is the keys of its page
       page_shown : AreShown format all.road all.layers prints.page.keys run.shown
@@ -115,17 +111,15 @@ module _ (laws : Laws) (format : Format) (inputs : Inputs) (all : Matchings inpu
       }
 
     -- a run whose output says that no more follow
-    last_run : Shows format run.shown None run.output → IsAfter cursor (run.shown ++ [])
+    last_run : Shows format run.shown None run.output
+        → IsAfter format (facts_of all) cursor (run.shown ++ [])
     last_run is = record {
       named = prints.named;
       names = prints.names;
       rest = prints.page.keys;
-      is_rest = page_is_rest all.keys prints.named prints.size prints.page prints.is_page
-          prints.at_least
+      is_rest = page_is_rest _ _ _ _ prints.is_page prints.at_least
           (none_next (next_after prints.page) prints.mark (sym (same_parts None is).1));
-      shown = subst (λ (l : List (Part format)).
-          AreShown format all.road all.layers prints.page.keys l) (sym (append-nil run.shown))
-          (page_shown None is);
+      shown = rw (append-nil run.shown) (page_shown None is);
     }
 
     -- where its output goes on at a cursor, that is the cursor of the last key of the page, with the
@@ -137,8 +131,7 @@ module _ (laws : Laws) (format : Format) (inputs : Inputs) (all : Matchings inpu
     next_of_run following is =
         let next = key_next (next_after prints.page) prints.mark following
         (sym (same_parts (Some following) is).1) in
-        let marked =
-        prints.marked (next_more prints.page.more prints.page.keys next.0 next.1) in (
+        let marked = prints.marked (next_more _ prints.page.keys next.0 next.1) in (
           next.0,
           next.1,
           marked,
@@ -151,48 +144,44 @@ module _ (laws : Laws) (format : Format) (inputs : Inputs) (all : Matchings inpu
 
     -- a run after which others follow, at the cursor at the end of its output
     one_more : (following : List ℕ) (parts : List (Part format))
-        → Shows format run.shown (Some following) run.output → IsAfter (Some following) parts
-        → IsAfter cursor (run.shown ++ parts)
+        → Shows format run.shown (Some following) run.output
+        → IsAfter format (facts_of all) (Some following) parts
+        → IsAfter format (facts_of all) cursor (run.shown ++ parts)
     one_more following parts is later =
         let next = next_of_run following is in
-        let read = later.names.0 in
-        let same = laws.cursor following read.key next.0 read.mark (Some prints.mark)
-        later.names.2 next.3 in
-        let rest : IsRestAfter all.keys (Some next.0) later.rest =
-        subst (λ (o : Option KeyValue). IsRestAfter all.keys o later.rest)
-        (later.names.1 ∙ ap Some same.0) later.is_rest in
+        let names : Names (Some following) (Some next.0) =
+        (record { key = next.0; mark = Some prints.mark }, refl, next.3) in
+        let rest = subst (λ (o : Option KeyValue). IsRestAfter all.keys o later.rest)
+        (one_name laws.cursor (Some following) later.named (Some next.0) later.names names)
+        later.is_rest in
         record {
           named = prints.named;
           names = prints.names;
           rest = prints.page.keys ++ later.rest;
-          is_rest = page_and_rest all.keys prints.named prints.size prints.page prints.is_page
-              all.layers.penalties next.0 later.rest laws.page all.are_keys next.1 rest;
-          shown = shown_append format all.road all.layers prints.page.keys later.rest run.shown parts
-              (page_shown (Some following) is) later.shown;
+          is_rest = page_and_rest _ _ _ _ prints.is_page _ next.0 later.rest laws.page all.are_keys
+              next.1 rest;
+          shown = shown_append format _ _ _ _ _ _ (page_shown (Some following) is) later.shown;
         }
 
   chain : (cursor : Option (List ℕ)) (runs : List (Run format))
-      → FollowEachOther inputs cursor runs → IsAfter cursor (joined runs)
+      → FollowEachOther inputs cursor runs → IsAfter format (facts_of all) cursor (joined runs)
   chain cursor [] follow = absurd follow
-  chain cursor (run ∷ []) follow =
-      last_run cursor run (run_prints laws format inputs all cursor run follow.0) follow.1
+  chain cursor (run ∷ []) follow = last_run run (run_prints laws all follow.0) follow.1
   chain cursor (run ∷ next ∷ runs) follow =
-      one_more cursor run (run_prints laws format inputs all cursor run follow.1) follow.0
-      (joined (next ∷ runs)) follow.2 (chain (Some follow.0) (next ∷ runs) follow.3)
+      one_more run (run_prints laws all follow.1) follow.0 (joined (next ∷ runs)) follow.2
+      (chain (Some follow.0) (next ∷ runs) follow.3)
 
 -- the inputs of runs that follow each other determine the matchings
 matchings_of_runs : (format : Format) (inputs : Inputs) (cursor : Option (List ℕ))
     (runs : List (Run format)) → FollowEachOther inputs cursor runs → Matchings inputs
 matchings_of_runs format inputs cursor [] follow = absurd follow
-matchings_of_runs format inputs cursor (run ∷ []) follow =
-    matchings_of_run format inputs cursor run follow.0
-matchings_of_runs format inputs cursor (run ∷ next ∷ runs) follow =
-    matchings_of_run format inputs cursor run follow.1
+matchings_of_runs format inputs cursor (run ∷ []) follow = matchings_of_run follow.0
+matchings_of_runs format inputs cursor (run ∷ next ∷ runs) follow = matchings_of_run follow.1
 
 pub runs_join : Laws → Headline
 runs_join laws format inputs cursor runs follow =
     let all = matchings_of_runs format inputs cursor runs follow in
-    let is = chain laws format inputs all cursor runs follow in
+    let is = chain laws all cursor runs follow in
     record {
       all = all;
       named = is.named;
@@ -201,15 +190,6 @@ runs_join laws format inputs cursor runs follow =
       is_rest = is.is_rest;
       shown = is.shown;
     }
-
--- ---- a cursor names one key
-
-pub one_name : OneCursor → (cursor : Option (List ℕ)) (a b : Option KeyValue) → Names cursor a
-    → Names cursor b → a ≡ b
-one_name law None a b is is' = is ∙ sym is'
-one_name law (Some cursor) a b is is' =
-    let same = law cursor is.0.key is'.0.key is.0.mark is'.0.mark is.2 is'.2 in
-    is.1 ∙ ap Some same.0 ∙ sym is'.1
 
 module _ (laws : Laws) where
   -- ---- keys have one text
@@ -232,90 +212,65 @@ module _ (laws : Laws) where
         → AreShown Text road layers keys b → a ≡ b
     text_once keys a b is is' =
         let parts = parts_once laws road layers sound keys is.matched is'.matched is.each is'.each in
-        let others = laws.text_of_same_parts road layers.reference (last_page keys) is.matched
-        is'.matched None (a ++ codes "end\n") parts (as_page keys a is) in
         append_cancel_right a b (codes "end\n")
-        (laws.text road layers.reference (last_page keys) is'.matched None
-        (a ++ codes "end\n") (b ++ codes "end\n") others (as_page keys b is'))
+        (laws.text _ _ _ _ _ _ _ (laws.text_of_same_parts _ _ _ _ is'.matched _ _ parts
+        (as_page keys a is)) (as_page keys b is'))
 
   -- ---- the matchings after a cursor have one text
 
-  one_text_after : (inputs : Inputs) (cursor : Option (List ℕ)) (a b : List ℕ)
-      → AreShownAfter Text inputs cursor a → AreShownAfter Text inputs cursor b → a ≡ b
-  one_text_after inputs cursor a b is is' =
-      let all : Matchings inputs = is.all in
-      let same : AreSame is'.all all = one_matchings laws inputs is'.all all in
-      let named : is'.named ≡ is.named =
-      one_name laws.cursor cursor is'.named is.named is'.names is.names in
-      let rest' : IsRestAfter all.keys is.named is'.rest =
-      subst (λ (o : Option KeyValue). IsRestAfter all.keys o is'.rest) named
-      (subst (λ (l : List KeyValue). IsRestAfter l is'.named is'.rest) same.keys is'.is_rest) in
-      let rests : is'.rest ≡ is.rest = one_rest all.layers.penalties all.keys is.named is'.rest
-      is.rest laws.page all.are_keys rest' is.is_rest in
-      let shown' : AreShown Text all.road all.layers is.rest b =
-      subst (λ (l : List KeyValue). AreShown Text all.road all.layers l b) rests
-      (subst (λ (layers : LayersValue). AreShown Text all.road layers is'.rest b) same.layers
-      (subst (λ (road : RoadMap). AreShown Text road is'.all.layers is'.rest b) same.road
-      is'.shown)) in
-      text_once all.road all.is_map.sound all.layers is.rest a b is.shown shown'
-
   pub sizes_agree : SizesAgree
   sizes_agree inputs cursor runs others follow follow' =
-      one_text_after inputs cursor (joined runs) (joined others)
-      (runs_join laws Text inputs cursor runs follow)
-      (runs_join laws Text inputs cursor others follow')
+      let all = matchings_of_runs Text inputs cursor runs follow in
+      let is = chain laws all cursor runs follow in
+      let is' = chain laws all cursor others follow' in
+      let named = one_name laws.cursor cursor is'.named is.named is'.names is.names in
+      let rest = subst (λ (o : Option KeyValue). IsRestAfter all.keys o is'.rest) named is'.is_rest in
+      let rests : is'.rest ≡ is.rest = one_rest _ _ _ _ _ laws.page all.are_keys rest is.is_rest in
+      text_once all.road all.is_map.sound all.layers is.rest _ _ is.shown (rw (sym rests) is'.shown)
 
 -- what comes after a position is no longer than the list
 rest_at_most : (keys : List KeyValue) (after : Option KeyValue) (rest : List KeyValue)
     → IsRestAfter keys after rest → length rest ≤ length keys
-rest_at_most keys None rest is = omega (arith, ap (λ (l : List KeyValue). length l) is)
+rest_at_most keys None rest is = omega (arith, ap length is)
 rest_at_most keys (Some after) rest is =
-    omega (arith, ap (λ (l : List KeyValue). length l) is.1, length-append is.0 (after ∷ rest))
+    omega (arith, ap length is.1, length-append is.0 (after ∷ rest))
 
-module _ (laws : Laws) (format : Format) (inputs : Inputs) (all : Matchings inputs) where
+module _ (laws : Laws) {format : Format} {inputs : Inputs} (all : Matchings inputs) where
   -- each run takes at least one key
   fewer : (cursor : Option (List ℕ)) (named : Option KeyValue) (rest : List KeyValue)
       (runs : List (Run format)) → Names cursor named → IsRestAfter all.keys named rest
       → GoOn inputs cursor runs → length runs ≤ length rest
   fewer cursor named rest [] names is go = omega arith
   fewer cursor named rest (run ∷ runs) names is go =
-      let prints = run_prints laws format inputs all cursor run go.1 in
-      let next = next_of_run laws format inputs all cursor run prints go.0 go.2 in
+      let prints = run_prints laws all go.1 in
+      let next = next_of_run laws all run prints go.0 go.2 in
       let left : List KeyValue = drop prints.size prints.is_page.rest in
       let later : length runs ≤ length left =
       fewer (Some go.0) (Some next.0) left runs
       (record { key = next.0; mark = Some prints.mark }, refl, next.3)
-      (left_after all.keys prints.named prints.size prints.page prints.is_page next.0 next.1)
-      go.3 in
-      let here : IsRestAfter all.keys named prints.is_page.rest =
-      subst (λ (o : Option KeyValue). IsRestAfter all.keys o prints.is_page.rest)
+      (left_after _ _ _ _ prints.is_page next.0 next.1) go.3 in
+      let here = subst (λ (o : Option KeyValue). IsRestAfter all.keys o prints.is_page.rest)
       (one_name laws.cursor cursor prints.named named prints.names names) prints.is_page.is_rest in
-      let same : rest ≡ prints.is_page.rest =
-      one_rest all.layers.penalties all.keys named rest prints.is_page.rest laws.page all.are_keys is
-      here in
+      let same : rest ≡ prints.is_page.rest = one_rest _ _ _ _ _ laws.page all.are_keys is here in
       let longer : prints.size < length prints.is_page.rest =
-      prints.is_page.is_page.more.0 (next_more prints.page.more prints.page.keys next.0 next.1) in
+      prints.is_page.is_page.more.0 (next_more _ prints.page.keys next.0 next.1) in
       omega (
         arith,
         later,
         longer,
         prints.at_least,
         length-drop prints.size prints.is_page.rest,
-        ap (λ (l : List KeyValue). length l) same,
+        ap length same,
       )
 
   ends : (cursor : Option (List ℕ)) (runs : List (Run format)) → GoOn inputs cursor runs
       → length runs ≤ length all.keys
   ends cursor [] go = omega arith
   ends cursor (run ∷ runs) go =
-      let prints = run_prints laws format inputs all cursor run go.1 in
+      let prints = run_prints laws all go.1 in
       let at_most = fewer cursor prints.named prints.is_page.rest (run ∷ runs) prints.names
       prints.is_page.is_rest go in
-      omega (
-        arith,
-        at_most,
-        rest_at_most all.keys prints.named prints.is_page.rest prints.is_page.is_rest,
-      )
+      omega (arith, at_most, rest_at_most _ _ _ prints.is_page.is_rest)
 
 pub runs_end : Laws → RunsEnd
-runs_end laws format inputs all cursor runs = ends laws format inputs all cursor runs
+runs_end laws format inputs all = ends laws all

@@ -6,7 +6,6 @@ use Rattle.std.proofs.lemmas.List.Elements.{All-contains}
 use Rattle.olr_binary.specs.Outcome.{IsOutcome}
 use Rattle.olr_binary.specs.declared.reference.Reference.{Reference}
 use Rattle.olr_candidates.specs.Points.{IsFirstTooMany}
-use Rattle.olr_candidates.specs.declared.tolerances.Tolerances.{Tolerances}
 use Rattle.olr_matching.specs.Fingerprint.{IsFingerprint}
 use Rattle.olr_keys.specs.Cursor.{IsMark}
 use Rattle.olr_keys.specs.Key.{KeyValue}
@@ -50,7 +49,7 @@ each_has_cursor laws inputs all key mark there marked =
     All-contains (IsKey all.layers.penalties) all.keys key all.are_keys.only there in (
       record { key = key; mark = mark },
       record {
-        in_range = laws.in_range all.layers.penalties key all.are_layers.table is;
+        in_range = laws.in_range _ _ all.are_layers.table is;
         is_mark = mark_of_inputs laws inputs all.road mark marked;
         same = refl;
       },
@@ -60,11 +59,11 @@ each_has_cursor laws inputs all key mark there marked =
 
 pub goes_on_here : Laws → GoesOnHere
 goes_on_here laws format inputs all cursor run following is shows =
-    let prints = run_prints laws format inputs all cursor run is in
-    let next = next_of_run laws format inputs all cursor run prints following shows in (
+    let prints = run_prints laws all is in
+    let next = next_of_run laws all run prints following shows in (
       record { key = next.0; mark = Some prints.mark },
       next.3,
-      next_within all.keys prints.named prints.size prints.page prints.is_page next.0 next.1,
+      next_within _ _ _ _ prints.is_page next.0 next.1,
       next.2,
     )
 
@@ -86,14 +85,16 @@ module _ (laws : Laws) (inputs : Inputs) (all : Matchings inputs) (fault : Fault
   IsReadHere start = IfSome start (λ read.
       Contains all.keys read.key × IsOfInputs inputs.text inputs.tolerances all.road read)
 
+  moved : {start other : Option CursorRead} → start ≡ other → IsReadHere start → IsReadHere other
+  moved same is = subst (λ (at : Option CursorRead). IsReadHere at) same is
+
   read_here : (cursor : Option (List ℕ)) (start : Option CursorRead)
       → IsCursorHere inputs all cursor → IsStart cursor (Ok start) → IsReadHere start
-  read_here None start here is =
-      subst (λ (at : Option CursorRead). IsReadHere at) (sym is) tt
+  read_here None start here is = moved (sym is) tt
   read_here (Some text) start here is =
-      let same = laws.cursor text here.0.key is.0.key here.0.mark is.0.mark here.1 is.2 in
+      let same = laws.cursor _ _ _ _ _ here.1 is.2 in
       let read_of : Option Mark → CursorRead = λ mark. record { key = is.0.key; mark = mark } in
-      subst (λ (at : Option CursorRead). IsReadHere at) (sym is.1) (
+      moved (sym is.1) (
         subst (λ (key : KeyValue). Contains all.keys key) same.0 here.2,
         subst (λ (mark : Option Mark).
             IsOfInputs inputs.text inputs.tolerances all.road (read_of mark)) same.1 here.3,
@@ -116,31 +117,20 @@ module _ (laws : Laws) (inputs : Inputs) (all : Matchings inputs) (fault : Fault
         → IsStartHere asked all.road start (Err fault) → ⊥
     unfolding asked
     no_start_here_fault start here is =
-        let read : IsReadHere (Some is.1) =
-        subst (λ (at : Option CursorRead). IsReadHere at) is.2 here in
+        let read : IsReadHere (Some is.1) = moved is.2 here in
         is.3 (subst (λ (t : List ℕ). IsOfInputs t inputs.tolerances all.road is.1) (sym text_is)
         read.1)
 
     no_layers_fault : AreLayers inputs.tolerances all.layers.reference all.road (Err fault) → ⊥
     no_layers_fault is =
         let first : IsFirstTooMany all.layers.tolerances all.layers.reference all.road.lines is.0 =
-        subst (λ (tolerances : Tolerances).
-        IsFirstTooMany tolerances all.layers.reference all.road.lines is.0)
-        (sym all.are_tolerances) is.1 in
-        laws.no_lists_and_too_many all.layers.tolerances all.layers.reference all.road.lines
-        all.layers.candidates is.0 all.are_layers.lists first.too_many
-
-    same_layers : (layers : LayersValue)
-        → AreLayers inputs.tolerances all.layers.reference all.road (Ok layers)
-        → layers ≡ all.layers
-    same_layers layers is = laws.layers all.road layers all.layers is.0 all.are_layers is.1
-        (is.2 ∙ sym all.are_tolerances)
+        rw all.are_tolerances is.1 in
+        laws.no_lists_and_too_many _ _ _ all.layers.candidates is.0 all.are_layers.lists first.too_many
 
     no_pages_fault : (start : Option CursorRead) → IsReadHere start
         → ArePages asked all.layers start (Err fault) → ⊥
     no_pages_fault start here is =
-        let read : IsReadHere (Some is.1) =
-        subst (λ (at : Option CursorRead). IsReadHere at) is.2 here in
+        let read : IsReadHere (Some is.1) = moved is.2 here in
         is.3 (All-contains (IsKey all.layers.penalties) all.keys is.1.key all.are_keys.only read.0)
 
     no_matchings_fault : (accepted : Accepted) → accepted.reference ≡ all.layers.reference
@@ -148,51 +138,45 @@ module _ (laws : Laws) (inputs : Inputs) (all : Matchings inputs) (fault : Fault
     unfolding asked
     no_matchings_fault accepted same read =
         no_fault (IsStartHere asked all.road accepted.start)
-        (OnStart asked accepted.reference all.road) fault (no_start_here_fault accepted.start read)
+        (OnStart asked accepted.reference all.road) fault
+        (no_start_here_fault accepted.start read)
         (λ here is_here. no_fault (AreLayers inputs.tolerances accepted.reference all.road)
         (OnLayers asked here all.road) fault
         (λ is. no_layers_fault (subst (λ (r : Reference).
         AreLayers inputs.tolerances r all.road (Err fault)) same is))
-        (λ layers are_layers. no_fault (ArePages asked layers here) (IsPrinted asked all.road layers)
-        fault
-        (λ is. no_pages_fault here
-        (subst (λ (at : Option CursorRead). IsReadHere at) (sym is_here.0) read)
+        (λ layers are_layers. no_fault (ArePages asked layers here)
+        (IsPrinted asked all.road layers) fault
+        (λ is. no_pages_fault here (moved (sym is_here.0) read)
         (subst (λ (l : LayersValue). ArePages asked l here (Err fault))
-        (same_layers layers (subst (λ (r : Reference).
-        AreLayers inputs.tolerances r all.road (Ok layers)) same are_layers)) is))
+        (laws.layers all.road layers all.layers are_layers.0 all.are_layers (are_layers.1 ∙ same)
+        (are_layers.2 ∙ sym all.are_tolerances)) is))
         (λ list are_pages printed. printed)))
 
     -- ---- all stages
-
-    abbrev files : Request → Accepted → Result (List ℕ) Fault → Type 0
-    files request accepted = IsAnswerOf (files_of inputs) request accepted
 
     no_answer_fault : IsCursorHere inputs all (bytes_of begins)
         → IsAnswer (files_of inputs) (Match asked) (Err fault) → ⊥
     unfolding asked
     no_answer_fault here =
-        let outcome : IsOutcome text.now (Ok all.layers.reference) =
-        subst (λ (t : List ℕ). IsOutcome t (Ok all.layers.reference)) (sym text_is)
-        all.is_reference in
-        no_fault (Accepts (Match asked)) (files (Match asked)) fault
+        let outcome : IsOutcome text.now (Ok all.layers.reference) = rw text_is all.is_reference in
+        no_fault (Accepts (Match asked)) (IsAnswerOf (files_of inputs) (Match asked)) fault
         (λ is. elim is [
-          | inl its ↦ no_ok_and_err Reference _ all.layers.reference its.0
+          | inl its ↦ no_ok_and_err
               (laws.outcome text.now (Ok all.layers.reference) (Err its.0) outcome its.1)
           | inr its ↦ no_start_fault (bytes_of begins) here its.2
         ])
         (λ accepted is. no_fault (IsMapOfFiles (files_of inputs)) (IsAnswerOn (Match asked) accepted)
         fault
-        (λ why. laws.no_map_and_fault inputs.nodes inputs.lines inputs.bans all.road why.0 all.is_map
-        (why.1, why.2))
+        (λ why. laws.no_map_and_fault _ _ _ all.road why.0 all.is_map (why.1, why.2))
         (λ road is_map ends. no_matchings_fault accepted
-        (same_reference text.now accepted.reference all.layers.reference laws.outcome is.0 outcome)
+        (same_reference laws.outcome is.0 outcome)
         (read_here (bytes_of begins) accepted.start here is.1)
         (subst (λ (r : RoadMap). AreMatchings asked accepted r (Err fault))
-        (laws.map inputs.nodes inputs.lines inputs.bans road all.road is_map all.is_map) ends)))
+        (laws.map _ _ _ _ _ is_map all.is_map) ends)))
 
 pub none_refused : Laws → NoneRefused
 unfolding asked
 none_refused laws format inputs all cursor request fault here asks answer =
     no_answer_fault laws inputs all fault asks.text asks.text_is asks.size asks.begins format
-    (subst (λ (at : Option (List ℕ)). IsCursorHere inputs all at) (sym asks.cursor_is) here)
+    (rw asks.cursor_is here)
     (subst (λ (r : Request). IsAnswer (files_of inputs) r (Err fault)) asks.request_is answer)

@@ -70,7 +70,7 @@ json_next (Some key) mark = refl
 
 pub page_shows : JsonReadsAsPage → (format : Format) (road : RoadMap) (reference : Reference)
     (page : PageValue) (matched : List Matched) (mark : Mark) (output : List ℕ)
-    → IsInRangeIfAny (next_after page) → IsPageIn format road reference page matched mark output
+    → IsInRangeIfAny (next_after page) → IsPageIn format road reference page matched (Some mark) output
     → ShowsPage format road reference page matched mark output
 page_shows reads Text road reference page matched mark output in_range is = record {
   entries = is.entries;

@@ -15,92 +15,111 @@ use Rattle.olr_report.specs.Text.{next_after}
 -- ---- one rest
 
 -- the rest after a position, as a page without more
-whole_page : (keys : List KeyValue) (after : Option KeyValue) (rest : List KeyValue) (size : ℕ) → length rest ≤ size → IsRestAfter keys after rest
-    → IsPageAfter keys after size (record { keys = rest; more = false })
+abbrev as_page : List KeyValue → PageValue
+as_page rest = record { keys = rest; more = false }
+
+whole_page : (keys : List KeyValue) (after : Option KeyValue) (rest : List KeyValue) (size : ℕ)
+    → length rest ≤ size → IsRestAfter keys after rest → IsPageAfter keys after size (as_page rest)
 whole_page keys after rest size short is = record {
   rest = rest;
   is_rest = is;
-  is_page = record { keys = sym (take_all size rest short); more = (λ more. absurd cc, λ longer. absurd (omega (arith, longer, short))) };
+  is_page = record {
+    keys = sym (take_all size rest short);
+    more = (λ more. absurd cc, λ longer. absurd (omega arith));
+  };
 }
 
-pub one_rest : (penalties : Penalties) (keys : List KeyValue) (after : Option KeyValue) (a b : List KeyValue) → OnePage → AreAnswers penalties keys → IsRestAfter keys after a
+pub one_rest : (penalties : Penalties) (keys : List KeyValue) (after : Option KeyValue)
+    (a b : List KeyValue) → OnePage → AreAnswers penalties keys → IsRestAfter keys after a
     → IsRestAfter keys after b → a ≡ b
 one_rest penalties keys after a b law answers one other =
-    let size : ℕ = length a + length b in
-    ap (λ (page : PageValue). page.keys)
-    (law penalties keys after size (record { keys = a; more = false }) (record { keys = b; more = false }) answers (whole_page keys after a size (omega arith) one)
-    (whole_page keys after b size (omega arith) other))
+    let size = length a + length b in
+    ap (λ page. page.keys)
+    (law _ _ _ size (as_page a) (as_page b) answers (whole_page _ _ a _ (omega arith) one)
+    (whole_page _ _ b _ (omega arith) other))
 
 -- what is left after keys of the rest is the rest after the last of them
 after_keys : (keys : List KeyValue) (after : Option KeyValue) (front left : List KeyValue) → IsRestAfter keys after (front ++ left) → IsRestAfter keys (last_of after front) left
 after_keys keys after [] left rest = rest
 after_keys keys None (key ∷ front) left rest = after_keys keys (Some key) front left ([], sym rest)
 after_keys keys (Some after) (key ∷ front) left rest =
-    after_keys keys (Some key) front left (rest.0 ++ after ∷ [], rest.1 ∙ sym (append_assoc rest.0 (after ∷ []) (key ∷ (front ++ left))))
+    after_keys _ _ front left (rest.0 ++ after ∷ [], rest.1 ∙ sym (append_assoc rest.0 (after ∷ []) (key ∷ (front ++ left))))
 
 -- a key that has a rest is one of the list
-has_rest : (keys : List KeyValue) (key : KeyValue) (rest : List KeyValue) → IsRestAfter keys (Some key) rest → Contains keys key
+has_rest : (keys : List KeyValue) (key : KeyValue) (rest : List KeyValue)
+    → IsRestAfter keys (Some key) rest → Contains keys key
 has_rest keys key rest is =
-    let here : Contains (key ∷ rest) key = (0, omega arith, refl) in
-    subst (λ (l : List KeyValue). Contains l key) (sym is.1) (Contains-append_right is.0 (key ∷ rest) key here)
+    rw is.1 (Contains-append_right is.0 (key ∷ rest) key (0, omega arith, refl))
 
 -- ---- the last key of a page
 
-last_some : (key : KeyValue) (keys : List KeyValue) → last_of (Some key) keys ≡ None → ⊥
-last_some key [] none = absurd cc
-last_some key (next ∷ keys) none = last_some next keys none
-
-last_from : (before : Option KeyValue) (keys : List KeyValue) (key : KeyValue) → last_of None keys ≡ Some key → last_of before keys ≡ Some key
+last_from : (before : Option KeyValue) (keys : List KeyValue) (key : KeyValue)
+    → last_of None keys ≡ Some key → last_of before keys ≡ Some key
 last_from before [] key is = absurd cc
 last_from before (first ∷ keys) key is = is
 
-last_behind : (key : KeyValue) (keys : List KeyValue) → (last : KeyValue) × (last_of (Some key) keys ≡ Some last)
+last_behind : (key : KeyValue) (keys : List KeyValue)
+    → (last : KeyValue) × (last_of (Some key) keys ≡ Some last)
 last_behind key [] = (key, refl)
 last_behind key (next ∷ keys) = last_behind next keys
 
-last_exists : (keys : List KeyValue) → 1 ≤ length keys → (last : KeyValue) × (last_of None keys ≡ Some last)
-last_exists [] some = absurd (omega (arith, some))
+last_exists : (keys : List KeyValue) → 1 ≤ length keys
+    → (last : KeyValue) × (last_of None keys ≡ Some last)
+last_exists [] some = absurd (omega arith)
 last_exists (key ∷ keys) some = last_behind key keys
 
-next_some : (more : Bool) (keys : List KeyValue) (key : KeyValue) → (if more then last_of None keys else None) ≡ Some key → last_of None keys ≡ Some key
+next_some : (more : Bool) (keys : List KeyValue) (key : KeyValue)
+    → (if more then last_of None keys else None) ≡ Some key → last_of None keys ≡ Some key
 next_some true keys key is = is
 next_some false keys key is = absurd cc
 
-pub next_more : (more : Bool) (keys : List KeyValue) (key : KeyValue) → (if more then last_of None keys else None) ≡ Some key → more ≡ true
+pub next_more : (more : Bool) (keys : List KeyValue) (key : KeyValue)
+    → (if more then last_of None keys else None) ≡ Some key → more ≡ true
 next_more true keys key is = refl
 next_more false keys key is = absurd cc
 
-next_none : (more : Bool) (keys : List KeyValue) → (more ≡ true → 1 ≤ length keys) → (if more then last_of None keys else None) ≡ None → more ≡ false
+next_none : (more : Bool) (keys : List KeyValue) → (more ≡ true → 1 ≤ length keys)
+    → (if more then last_of None keys else None) ≡ None → more ≡ false
 next_none false keys some none = refl
-next_none true [] some none = absurd (omega (arith, some refl))
-next_none true (key ∷ keys) some none = absurd (last_some key keys none)
+next_none true keys some none = let last = last_exists _ (some refl) in absurd cc
 
 -- ---- a page and what follows it
 
-module _ (keys : List KeyValue) (named : Option KeyValue) (size : ℕ) (page : PageValue) (is : IsPageAfter keys named size page) where
+module _ (keys : List KeyValue) (named : Option KeyValue) (size : ℕ) (page : PageValue)
+    (is : IsPageAfter keys named size page) where
   parts : page.keys ++ drop size is.rest ≡ is.rest
-  parts = ap (λ (l : List KeyValue). l ++ drop size is.rest) is.is_page.keys ∙ take-append-drop size is.rest
+  parts = rw is.is_page.keys (take-append-drop size is.rest)
 
-  pub left_after : (key : KeyValue) → next_after page ≡ Some key → IsRestAfter keys (Some key) (drop size is.rest)
+  pub left_after : (key : KeyValue) → next_after page ≡ Some key
+      → IsRestAfter keys (Some key) (drop size is.rest)
   left_after key next =
-      let whole : IsRestAfter keys named (page.keys ++ drop size is.rest) = subst (λ (l : List KeyValue). IsRestAfter keys named l) (sym parts) is.is_rest in
-      subst (λ (o : Option KeyValue). IsRestAfter keys o (drop size is.rest)) (last_from named page.keys key (next_some page.more page.keys key next))
+      let whole = subst (λ (l : List KeyValue). IsRestAfter keys named l) (sym parts) is.is_rest in
+      subst (λ (o : Option KeyValue). IsRestAfter keys o (drop size is.rest))
+      (last_from named page.keys key (next_some page.more page.keys key next))
       (after_keys keys named page.keys (drop size is.rest) whole)
 
   -- the keys of the page, and those after its last one
-  pub page_and_rest : (penalties : Penalties) (key : KeyValue) (rest : List KeyValue) → OnePage → AreAnswers penalties keys → next_after page ≡ Some key
+  pub page_and_rest : (penalties : Penalties) (key : KeyValue) (rest : List KeyValue) → OnePage
+      → AreAnswers penalties keys → next_after page ≡ Some key
       → IsRestAfter keys (Some key) rest → IsRestAfter keys named (page.keys ++ rest)
   page_and_rest penalties key rest law answers next is_rest =
-      let same : rest ≡ drop size is.rest = one_rest penalties keys (Some key) rest (drop size is.rest) law answers is_rest (left_after key next) in
-      subst (λ (l : List KeyValue). IsRestAfter keys named l) (sym (ap (λ (l : List KeyValue). page.keys ++ l) same ∙ parts)) is.is_rest
+      let same = one_rest penalties keys (Some key) rest (drop size is.rest) law answers is_rest
+      (left_after key next) in
+      subst (λ (l : List KeyValue). IsRestAfter keys named l)
+      (sym (ap (λ (l : List KeyValue). page.keys ++ l) same ∙ parts)) is.is_rest
 
   some_keys : 1 ≤ size → page.more ≡ true → 1 ≤ length page.keys
   some_keys least more =
       let longer : size < length is.rest = is.is_page.more.0 more in
-      omega (arith, ap (λ (l : List KeyValue). length l) is.is_page.keys, length-take size is.rest, longer, least)
+      omega (
+        arith,
+        ap length is.is_page.keys,
+        length-take size is.rest,
+      )
 
   -- a page behind which more follow has a last key
-  pub next_exists : 1 ≤ size → page.more ≡ true → (key : KeyValue) × (next_after page ≡ Some key) × ((before : Option KeyValue) → last_of before page.keys ≡ Some key)
+  pub next_exists : 1 ≤ size → page.more ≡ true → (key : KeyValue) × (next_after page ≡ Some key)
+      × ((before : Option KeyValue) → last_of before page.keys ≡ Some key)
   next_exists least more =
       let last = last_exists page.keys (some_keys least more) in (
         last.0,
@@ -117,13 +136,16 @@ module _ (keys : List KeyValue) (named : Option KeyValue) (size : ℕ) (page : P
   -- a page without a next key has all that is left
   pub page_is_rest : 1 ≤ size → next_after page ≡ None → IsRestAfter keys named page.keys
   page_is_rest least none =
-      let last : page.more ≡ false = next_none page.more page.keys (some_keys least) none in
-      subst (λ (l : List KeyValue). IsRestAfter keys named l) (sym (is.is_page.keys ∙ take_all size is.rest (at_most last))) is.is_rest
+      let last = next_none page.more page.keys (some_keys least) none in
+      subst (λ (l : List KeyValue). IsRestAfter keys named l)
+      (sym (is.is_page.keys ∙ take_all size is.rest (at_most last))) is.is_rest
 
   -- the last key of a page behind which more follow
   pub next_within : (key : KeyValue) → next_after page ≡ Some key → Contains keys key
   next_within key next = has_rest keys key (drop size is.rest) (left_after key next)
 
   -- it is in range
-  pub next_in_range : (penalties : Penalties) → KeysAreInRange → IsTable penalties → AreAnswers penalties keys → (key : KeyValue) → next_after page ≡ Some key → IsInRange key
-  next_in_range penalties ranges table answers key next = ranges penalties key table (All-contains (IsKey penalties) keys key answers.only (next_within key next))
+  pub next_in_range : (penalties : Penalties) → KeysAreInRange → IsTable penalties
+      → AreAnswers penalties keys → (key : KeyValue) → next_after page ≡ Some key → IsInRange key
+  next_in_range penalties ranges table answers key next = ranges _ _ table
+      (All-contains (IsKey penalties) keys key answers.only (next_within key next))

@@ -19,74 +19,60 @@ use Rattle.olr_app.specs.Answer.{IsOutput}
 use Rattle.olr_app.specs.Headline.{AreSame, Inputs, IsRunAt, Matchings, Names, Run, files_of}
 use Rattle.olr_app.specs.Headline.{request_of}
 use Rattle.olr_app.specs.Laws.{Laws, OneOutcome}
-use Rattle.olr_app.specs.Matching.{AreMatchings, IsTextOfPage, key_of}
+use Rattle.olr_app.specs.Matching.{AreMatchings, ArePagesAsked, IsTextOfPage, key_of}
 use Rattle.olr_app.specs.Request.{bytes_of}
 use Rattle.olr_app.specs.declared.accepting.Accepted.{Accepted}
 use Rattle.olr_app.specs.declared.request.Format.{Format}
 use Rattle.olr_app.specs.declared.request.MatchRequest.{MatchRequest}
+use Rattle.olr_app.specs.declared.request.Pages.{Pages}
 use Rattle.olr_app.specs.declared.request.Pages.TheVariants.{One}
 use Rattle.olr_app.specs.declared.request.Request.{Request}
 use Rattle.olr_app.specs.declared.request.Request.TheVariants.{Match}
+use Rattle.olr_app.proofs.Single.{same_ok}
 
 -- ---- the inputs determine the matchings
 
-pub same_reference : (text : List ℕ) (one other : Reference) → OneOutcome
+pub same_reference : {text : List ℕ} {one other : Reference} → OneOutcome
     → IsOutcome text (Ok one) → IsOutcome text (Ok other) → one ≡ other
-same_reference text one other law is again = let same = law text (Ok one) (Ok other) is again in cc
+same_reference {text} {one} {other} law is again =
+    same_ok (law text (Ok one) (Ok other) is again)
 
 pub one_matchings : Laws → (inputs : Inputs) (a b : Matchings inputs) → AreSame a b
 one_matchings laws inputs a b =
-    let road = laws.map inputs.nodes inputs.lines inputs.bans a.road b.road a.is_map b.is_map in
-    let reference = same_reference inputs.text a.layers.reference b.layers.reference laws.outcome
-    a.is_reference b.is_reference in
-    let on_map : AreLayersOn b.road a.layers =
-    subst (λ (r : RoadMap). AreLayersOn r a.layers) road a.are_layers in
-    let layers = laws.layers b.road a.layers b.layers on_map b.are_layers reference
+    let road = laws.map _ _ _ _ _ a.is_map b.is_map in
+    let layers = laws.layers b.road a.layers b.layers (rw (sym road) a.are_layers) b.are_layers
+    (same_reference laws.outcome a.is_reference b.is_reference)
     (a.are_tolerances ∙ sym b.are_tolerances) in
-    let of_layers : AreAnswers b.layers.penalties a.keys =
-    subst (λ (l : LayersValue). AreAnswers l.penalties a.keys) layers a.are_keys in
-    record {
-      road = road;
-      layers = layers;
-      keys = laws.list b.layers.penalties a.keys b.keys of_layers b.are_keys;
-    }
+    let of_layers : AreAnswers b.layers.penalties a.keys = rw (sym layers) a.are_keys in
+    record { road = road; layers = layers; keys = laws.list _ _ _ of_layers b.are_keys }
+
+-- what the inputs determine, as one value
+pub record Facts : Type 0 where
+  pub road : RoadMap
+  pub layers : LayersValue
+  pub keys : List KeyValue
+
+abbrev pub facts_of : {inputs : Inputs} → Matchings inputs → Facts
+facts_of {inputs} all = record { road = all.road; layers = all.layers; keys = all.keys }
+
+pub one_facts : Laws → (inputs : Inputs) (a b : Matchings inputs) → facts_of a ≡ facts_of b
+one_facts laws inputs a b =
+    let same = one_matchings laws inputs a b in rw (same.road, same.layers, same.keys) refl
 
 -- ---- a page of the matchings
 
 -- the page after the matching that a cursor names, or the first page, and its text
-pub record PrintsPage (format : Format) (inputs : Inputs) (all : Matchings inputs)
+pub record PrintsPage (format : Format) (inputs : Inputs) (facts : Facts)
     (cursor : Option (List ℕ)) (output : List ℕ) : Type 0 where
   pub named : Option KeyValue
   pub names : Names cursor named
   pub size : ℕ
   pub at_least : 1 ≤ size
   pub page : PageValue
-  pub is_page : IsPageAfter all.keys named size page
+  pub is_page : IsPageAfter facts.keys named size page
   pub mark : Mark
-  pub marked : page.more ≡ true → IsFingerprint inputs.text inputs.tolerances all.road mark
-  pub is_text : IsTextOfPage format all.road all.layers mark page output
-
-moved : (format : Format) (inputs : Inputs) (a b : Matchings inputs) (cursor : Option (List ℕ))
-    (output : List ℕ) → AreSame a b → PrintsPage format inputs a cursor output
-    → PrintsPage format inputs b cursor output
-moved format inputs a b cursor output same prints = record {
-  named = prints.named;
-  names = prints.names;
-  size = prints.size;
-  at_least = prints.at_least;
-  page = prints.page;
-  is_page = subst (λ (keys : List KeyValue). IsPageAfter keys prints.named prints.size prints.page)
-      same.keys prints.is_page;
-  mark = prints.mark;
-  marked = λ more.
-      subst (λ (r : RoadMap). IsFingerprint inputs.text inputs.tolerances r prints.mark) same.road
-      (prints.marked more);
-  is_text =
-      subst (λ (l : LayersValue). IsTextOfPage format b.road l prints.mark prints.page output)
-      same.layers
-      (subst (λ (r : RoadMap). IsTextOfPage format r a.layers prints.mark prints.page output)
-      same.road prints.is_text);
-}
+  pub marked : page.more ≡ true → IsFingerprint inputs.text inputs.tolerances facts.road mark
+  pub is_text : IsTextOfPage format facts.road facts.layers (Some mark) page output
 
 -- ---- the stages of an answer
 
@@ -97,18 +83,16 @@ start_names None start is = ap key_of is
 start_names (Some text) start is = (is.0, ap key_of is.1, is.2)
 
 -- one page has one text
-page_text : (format : Format) (road : RoadMap) (layers : LayersValue) (mark : Mark)
+page_text : {format : Format} {road : RoadMap} {layers : LayersValue} {mark : Option Mark}
     (page : PageValue) (texts : List (List ℕ))
     → AllZip (IsTextOfPage format road layers mark) (page ∷ []) texts
     → IsTextOfPage format road layers mark page (concat texts)
-page_text format road layers mark page [] each = absurd each
-page_text format road layers mark page (text ∷ []) each =
-    subst (λ (l : List ℕ). IsTextOfPage format road layers mark page l) (sym (append-nil text)) each.0
-page_text format road layers mark page (text ∷ other ∷ texts) each = absurd each.1
+page_text page [] each = absurd each
+page_text page (text ∷ []) each = rw (append-nil text) each.0
+page_text page (text ∷ other ∷ texts) each = absurd each.1
 
 only_page : (list : List PageValue) (page : PageValue) → list ≡ page ∷ [] → Contains list page
-only_page list page is =
-    subst (λ (l : List PageValue). Contains l page) (sym is) (0, omega arith, refl)
+only_page list page is = rw is (0, omega arith, refl)
 
 -- the stages after the map, of a request for one page
 pub record OnMap (asked : MatchRequest) (accepted : Accepted) (road : RoadMap) (output : List ℕ)
@@ -123,37 +107,32 @@ pub record OnMap (asked : MatchRequest) (accepted : Accepted) (road : RoadMap) (
   pub is_page : IsPageAfter keys (key_of accepted.start) asked.size page
   pub mark : Mark
   pub marked : page.more ≡ true → IsFingerprint asked.text.now asked.tolerances road mark
-  pub is_text : IsTextOfPage asked.format road layers mark page output
+  pub is_text : IsTextOfPage asked.format road layers (Some mark) page output
 
-pub on_map : (inputs : Inputs) (text : Bor (List ℕ)) (size : ℕ) (begins : Option (Bor (List ℕ)))
-    (format : Format) (accepted : Accepted) (road : RoadMap) (output : List ℕ)
-    → AreMatchings (request_of inputs text size (One begins) format) accepted road (Ok output)
-    → OnMap (request_of inputs text size (One begins) format) accepted road output
-on_map inputs text size begins format accepted road output is =
-    let layers : LayersValue = is.2.0 in
-    let of_layers = is.2.1 in
-    let list : List PageValue = is.2.2.0 in
-    let pages = is.2.2.1 in
+pub on_map : (asked : MatchRequest) (begins : Option (Bor (List ℕ))) (accepted : Accepted)
+    (road : RoadMap) (output : List ℕ) → asked.pages ≡ One begins
+    → AreMatchings asked accepted road (Ok output) → OnMap asked accepted road output
+on_map asked begins accepted road output one is =
+    let answers = is.2.2.1.0 in
+    let pages = subst (λ (pages : Pages).
+    ArePagesAsked answers asked.size pages (key_of is.0) is.2.2.0) one is.2.2.1.2 in
     let printed = is.2.2.2 in
-    let texts = printed.texts in
     record {
-      layers = layers;
-      are_layers = of_layers.0;
-      reference_is = of_layers.1;
-      are_tolerances = of_layers.2;
-      keys = pages.0;
-      are_keys = pages.1;
-      page = pages.2.0;
-      is_page = subst (λ (at : Option CursorRead). IsPageAfter pages.0 (key_of at) size pages.2.0)
-          is.1.0 pages.2.2;
+      layers = is.2.0;
+      are_layers = is.2.1.0;
+      reference_is = is.2.1.1;
+      are_tolerances = is.2.1.2;
+      keys = answers;
+      are_keys = is.2.2.1.1;
+      page = pages.0;
+      is_page = subst (λ (at : Option CursorRead). IsPageAfter answers (key_of at) asked.size pages.0)
+          is.1.0 pages.2;
       mark = printed.mark;
-      marked = printed.marked pages.2.0 (only_page list pages.2.0 pages.2.1);
-      is_text =
-          subst (λ (l : List ℕ). IsTextOfPage format road layers printed.mark pages.2.0 l)
-          (sym texts.whole)
-          (page_text format road layers printed.mark pages.2.0 texts.texts
-          (subst (λ (l : List PageValue).
-          AllZip (IsTextOfPage format road layers printed.mark) l texts.texts) pages.2.1 texts.each));
+      marked = printed.marked pages.0 (only_page is.2.2.0 pages.0 pages.1);
+      is_text = rw printed.texts.whole
+          (page_text pages.0 printed.texts.texts (subst (λ (l : List PageValue).
+          AllZip (IsTextOfPage asked.format road is.2.0 (Some printed.mark)) l printed.texts.texts) pages.1
+          printed.texts.each));
     }
 
 -- ---- a run
@@ -162,7 +141,7 @@ on_map inputs text size begins format accepted road output is =
 record Printed (format : Format) (inputs : Inputs) (cursor : Option (List ℕ)) (output : List ℕ)
     : Type 0 where
   all : Matchings inputs
-  page : PrintsPage format inputs all cursor output
+  page : PrintsPage format inputs (facts_of all) cursor output
 
 prints : (format : Format) (inputs : Inputs) (cursor : Option (List ℕ)) (run : Run format)
     → IsRunAt inputs cursor run → Printed format inputs cursor run.output
@@ -173,20 +152,16 @@ prints format inputs cursor run is =
     subst (λ (request : Request). IsOutput (files_of inputs) request run.output) asks.request_is
     is.writes in
     let accepted : Accepted = output.0 in
-    let road : RoadMap = output.2.0 in
-    let on = on_map inputs asks.text asks.size asks.begins format accepted road run.output
-    output.2.2 in
-    let outcome : IsOutcome inputs.text (Ok on.layers.reference) =
-    subst (λ (text : List ℕ). IsOutcome text (Ok on.layers.reference)) asks.text_is
-    (subst (λ (reference : Reference). IsOutcome asks.text.now (Ok reference)) (sym on.reference_is)
-    output.1.0) in
+    let on = on_map asked asks.begins accepted output.2.0 run.output refl output.2.2 in
     record {
       all = record {
-        road = road;
+        road = output.2.0;
         layers = on.layers;
         keys = on.keys;
         is_map = output.2.1;
-        is_reference = outcome;
+        is_reference = subst (λ (text : List ℕ). IsOutcome text (Ok on.layers.reference))
+            asks.text_is (subst (λ (reference : Reference). IsOutcome asks.text.now (Ok reference))
+            (sym on.reference_is) output.1.0);
         are_tolerances = on.are_tolerances;
         are_layers = on.are_layers;
         are_keys = on.are_keys;
@@ -200,23 +175,22 @@ prints format inputs cursor run is =
         page = on.page;
         is_page = on.is_page;
         mark = on.mark;
-        marked = λ more.
-            subst (λ (text : List ℕ). IsFingerprint text inputs.tolerances road on.mark) asks.text_is
-            (on.marked more);
+        marked = λ more. subst (λ (text : List ℕ).
+            IsFingerprint text inputs.tolerances output.2.0 on.mark) asks.text_is (on.marked more);
         is_text = on.is_text;
       };
     }
 
 -- the matchings of a run's inputs
-pub matchings_of_run : (format : Format) (inputs : Inputs) (cursor : Option (List ℕ))
-    (run : Run format) → IsRunAt inputs cursor run → Matchings inputs
-matchings_of_run format inputs cursor run is = (prints format inputs cursor run is).all
+pub matchings_of_run : {format : Format} {inputs : Inputs} {cursor : Option (List ℕ)}
+    {run : Run format} → IsRunAt inputs cursor run → Matchings inputs
+matchings_of_run {format} {inputs} {cursor} {run} is = (prints format inputs cursor run is).all
 
 -- a run prints a page of the matchings of its inputs
-pub run_prints : Laws → (format : Format) (inputs : Inputs) (all : Matchings inputs)
-    (cursor : Option (List ℕ)) (run : Run format) → IsRunAt inputs cursor run
-    → PrintsPage format inputs all cursor run.output
-run_prints laws format inputs all cursor run is =
+pub run_prints : Laws → {format : Format} {inputs : Inputs} (all : Matchings inputs)
+    {cursor : Option (List ℕ)} {run : Run format} → IsRunAt inputs cursor run
+    → PrintsPage format inputs (facts_of all) cursor run.output
+run_prints laws {format} {inputs} all {cursor} {run} is =
     let printed = prints format inputs cursor run is in
-    moved format inputs printed.all all cursor run.output
-    (one_matchings laws inputs printed.all all) printed.page
+    subst (λ (facts : Facts). PrintsPage format inputs facts cursor run.output)
+    (one_facts laws inputs printed.all all) printed.page

@@ -3,15 +3,20 @@
 use Rattle.std.proofs.Common.{◌≡◌, ℕ, ◌<◌, ◌^◌, ◌/◌, ◌%◌, List, [], ◌∷◌, ◌++◌, length, get_or}
 use Rattle.std.proofs.Common.{false, refl, sym, subst, ap, ◌∙◌, append-nil, length-append, arith}
 use Rattle.std.proofs.Common.{append_assoc, inl, inr, Option, None, Some}
+use Rattle.std.proofs.Math.Facts.{eqb_no}
 use Rattle.std.proofs.Math.Seq.{get_or-append_seam}
 use Rattle.std.proofs.lemmas.Bool.Decides.{nat_tests}
+use Rattle.std.proofs.lemmas.Float.{T_from_true}
 use Rattle.std.proofs.lemmas.Fmt.{decimal_is_IsNumeral}
 use Rattle.std.proofs.lemmas.List.{get_or_default, append-nil, append_cancel_right}
 use Rattle.std.proofs.lemmas.List.Elements.{All-append, All-cons, All-head, All-nil, All-tail}
+use Rattle.std.proofs.lemmas.List.Elements.{All-weaker}
+use Rattle.std.proofs.lemmas.List.Sums.{AllPass-from_list_all}
 use Rattle.std.proofs.lemmas.Str.Parse.{digit_at}
 use Rattle.std.specs.Fmt.{digit_glyph}
 use Rattle.std.specs.Global.{Vec}
-use Rattle.std.specs.Prelude.{◌≢◌, All, codes, decimal}
+use Rattle.std.specs.List.{list_all}
+use Rattle.std.specs.Prelude.{◌≢◌, All, codes, decimal, eqb, not, true}
 use Rattle.olr_map.specs.RoadMap.{RoadMap}
 use Rattle.olr_map.specs.declared.place.Place.{Place}
 use Rattle.olr_keys.specs.Cursor.{hexadecimal, key_text, ranks_text, cursor_text}
@@ -38,8 +43,8 @@ LacksFeed text = All IsOther text
 -- a text without a line feed isn't cut at one
 pub not_cut : (text front later : List ℕ) → LacksFeed text → text ≢ front ++ 10 ∷ later
 not_cut text front later lacks same =
-    lacks (length front) 0 (omega (arith, ap (λ (l : List ℕ). length l) same, length-append front (10 ∷ later)))
-    (ap (λ (l : List ℕ). get_or l (length front) 0) same ∙ get_or-append_seam front 10 later 0)
+    lacks (length front) 0 (omega (arith, ap length same, length-append front (10 ∷ later)))
+    (ap (λ l. get_or l (length front) 0) same ∙ get_or-append_seam front 10 later 0)
 
 -- a text is cut in one way at its last line feed
 pub last_cut : (front later front' later' : List ℕ) → LacksFeed later → LacksFeed later' → front ++ 10 ∷ later ≡ front' ++ 10 ∷ later' → (front ≡ front') × (later ≡ later')
@@ -55,6 +60,11 @@ last_cut (first ∷ front) later (first' ∷ front') later' lacks lacks' same =
     let fronts : front ≡ front' = rest.0 in (cc, rest.1)
 
 -- ---- the texts of keys
+
+-- where a test finds of each byte that it is another
+by_test : (text : List ℕ) → list_all (λ byte. not (eqb byte 10)) text ≡ true → LacksFeed text
+by_test text is = All-weaker (λ byte. not (eqb byte 10) ≡ true) IsOther
+    (λ byte found. eqb_no (T_from_true _ found)) text (AllPass-from_list_all _ text is)
 
 -- a dot and a rank, for each rank
 abbrev behind_first : List ℕ → List ℕ
@@ -72,25 +82,28 @@ in_decimal n small i d inside same =
     let here = sym (get_or_default (decimal n) i d 0 inside) ∙ same in absurd (omega (arith, digit.0, here))
 
 in_rank : (rank : ℕ) → IsRank rank → LacksFeed (decimal rank)
-in_rank rank is = in_decimal rank (omega (arith, is.1))
+in_rank rank is = in_decimal _ (omega arith)
 
 in_behind : (ranks : List ℕ) → All IsRank ranks → LacksFeed (behind_first ranks)
 in_behind [] each = All-nil IsOther
 in_behind (rank ∷ ranks) each =
-    All-cons IsOther 46 (decimal rank ++ behind_first ranks) (λ same. absurd (omega (arith, same)))
-    (All-append IsOther (decimal rank) (behind_first ranks) (in_rank rank (All-head IsRank rank ranks each)) (in_behind ranks (All-tail IsRank rank ranks each)))
+    All-append IsOther (46 ∷ decimal rank) (behind_first ranks)
+    (All-append IsOther (46 ∷ []) (decimal rank) (by_test (46 ∷ []) refl)
+    (in_rank _ (All-head IsRank rank ranks each)))
+    (in_behind ranks (All-tail IsRank rank ranks each))
 
 in_ranks : (ranks : List ℕ) → All IsRank ranks → LacksFeed (ranks_text ranks)
 in_ranks [] each = All-nil IsOther
-in_ranks (rank ∷ ranks) each =
-    subst (λ (text : List ℕ). LacksFeed text) (sym (ranks_text-cons rank ranks))
-    (All-append IsOther (decimal rank) (behind_first ranks) (in_rank rank (All-head IsRank rank ranks each)) (in_behind ranks (All-tail IsRank rank ranks each)))
+in_ranks (rank ∷ ranks) each = rw (ranks_text-cons _ _)
+    (All-append IsOther (decimal rank) (behind_first ranks)
+    (in_rank _ (All-head IsRank rank ranks each))
+    (in_behind _ (All-tail IsRank rank ranks each)))
 
 pub in_key : (key : KeyValue) → IsInRange key → LacksFeed (key_text key)
 in_key key in_range =
-    let colon : LacksFeed (codes ":") = All-cons IsOther 58 [] (λ same. absurd (omega (arith, same))) (All-nil IsOther) in
     All-append IsOther (decimal key.total ++ codes ":") (ranks_text key.ranks)
-    (All-append IsOther (decimal key.total) (codes ":") (in_decimal key.total (omega (arith, in_range.total_at_most))) colon) (in_ranks key.ranks in_range.each)
+    (All-append IsOther (decimal key.total) (codes ":") (in_decimal _ (omega arith))
+    (by_test (codes ":") refl)) (in_ranks _ in_range.each)
 
 -- ---- the texts of marks
 
@@ -100,45 +113,46 @@ other_digit value same = grind (arith, nat_tests)
 pub in_hexadecimal : (bytes : List ℕ) → LacksFeed (hexadecimal bytes)
 in_hexadecimal [] = All-nil IsOther
 in_hexadecimal (byte ∷ bytes) =
-    All-cons IsOther (digit_glyph false (byte / 16)) (digit_glyph false (byte % 16) ∷ hexadecimal bytes) (other_digit (byte / 16))
+    All-cons IsOther (digit_glyph false (byte / 16)) (digit_glyph false (byte % 16) ∷ hexadecimal bytes) (other_digit _)
     (All-cons IsOther (digit_glyph false (byte % 16)) (hexadecimal bytes) (other_digit (byte % 16)) (in_hexadecimal bytes))
 
 -- ---- a text has one last row
 
--- bytes without a line feed aren't whole rows and more bytes
-no_rows_before : (bytes front bytes' : List ℕ) → LacksFeed bytes → bytes ≡ (front ++ 10 ∷ []) ++ bytes' → ⊥
-no_rows_before bytes front bytes' lacks same = not_cut bytes front bytes' lacks (same ∙ append_assoc front (10 ∷ []) bytes')
-
-one_cut_of_rows : (rows bytes rows' bytes' : List ℕ) → AreRows rows → AreRows rows' → LacksFeed bytes → LacksFeed bytes' → rows ++ bytes ≡ rows' ++ bytes'
-    → (rows ≡ rows') × (bytes ≡ bytes')
-one_cut_of_rows rows bytes rows' bytes' are are' lacks lacks' same = elim are [
-  | inl none ↦ elim are' [
-    | inl none' ↦ (none ∙ sym none', sym (ap (λ (l : List ℕ). l ++ bytes) none) ∙ same ∙ ap (λ (l : List ℕ). l ++ bytes') none')
-    | inr some' ↦ absurd (no_rows_before bytes some'.0 bytes' lacks
-        (sym (ap (λ (l : List ℕ). l ++ bytes) none) ∙ same ∙ ap (λ (l : List ℕ). l ++ bytes') some'.1))
-  ]
-  | inr some ↦ elim are' [
-    | inl none' ↦ absurd (no_rows_before bytes' some.0 bytes lacks'
-        (sym (ap (λ (l : List ℕ). l ++ bytes') none') ∙ sym same ∙ ap (λ (l : List ℕ). l ++ bytes) some.1))
-    | inr some' ↦
-        let cut : some.0 ++ 10 ∷ bytes ≡ some'.0 ++ 10 ∷ bytes' =
-        sym (append_assoc some.0 (10 ∷ []) bytes) ∙ sym (ap (λ (l : List ℕ). l ++ bytes) some.1) ∙ same ∙ ap (λ (l : List ℕ). l ++ bytes') some'.1
-        ∙ append_assoc some'.0 (10 ∷ []) bytes' in
-        let parts = last_cut some.0 bytes some'.0 bytes' lacks lacks' cut in
-        (some.1 ∙ ap (λ (l : List ℕ). l ++ 10 ∷ []) parts.0 ∙ sym some'.1, parts.1)
-  ]
+-- behind a line feed, rows end with one even where there are none
+closed : (rows : List ℕ) → AreRows rows → (front : List ℕ) × (10 ∷ rows ≡ front ++ 10 ∷ [])
+closed rows are = elim are [
+  | inl none ↦ ([], ap (λ l. 10 ∷ l) none)
+  | inr some ↦ (10 ∷ some.0, ap (λ l. 10 ∷ l) some.1)
 ]
 
-pub one_last_row : (rows row rows' row' output : List ℕ) → IsLastRow rows row output → IsLastRow rows' row' output → (rows ≡ rows') × (row ≡ row')
+one_cut_of_rows : (rows bytes rows' bytes' : List ℕ) → AreRows rows → AreRows rows'
+    → LacksFeed bytes → LacksFeed bytes' → rows ++ bytes ≡ rows' ++ bytes'
+    → (rows ≡ rows') × (bytes ≡ bytes')
+one_cut_of_rows rows bytes rows' bytes' are are' lacks lacks' same =
+    let front = closed _ are in
+    let front' = closed _ are' in
+    let cut =
+    sym (append_assoc front.0 (10 ∷ []) bytes) ∙ sym (ap (λ l. l ++ bytes) front.1)
+    ∙ ap (λ l. 10 ∷ l) same ∙ ap (λ l. l ++ bytes') front'.1
+    ∙ append_assoc front'.0 (10 ∷ []) bytes' in
+    let parts = last_cut _ _ _ _ lacks lacks' cut in
+    let whole =
+    front.1 ∙ ap (λ l. l ++ 10 ∷ []) parts.0 ∙ sym front'.1 in (cc, parts.1)
+
+pub one_last_row : (rows row rows' row' output : List ℕ) → IsLastRow rows row output
+    → IsLastRow rows' row' output → (rows ≡ rows') × (row ≡ row')
 one_last_row rows row rows' row' output is is' =
-    let bytes : List ℕ = is.is_row.bytes in
-    let bytes' : List ℕ = is'.is_row.bytes in
-    let whole : (rows ++ bytes) ++ 10 ∷ [] ≡ (rows' ++ bytes') ++ 10 ∷ [] =
-    append_assoc rows bytes (10 ∷ []) ∙ sym (ap (λ (l : List ℕ). rows ++ l) is.is_row.row_is) ∙ sym is.whole ∙ is'.whole
-    ∙ ap (λ (l : List ℕ). rows' ++ l) is'.is_row.row_is ∙ sym (append_assoc rows' bytes' (10 ∷ [])) in
-    let parts = one_cut_of_rows rows bytes rows' bytes' is.are_rows is'.are_rows is.is_row.others is'.is_row.others
-    (append_cancel_right (rows ++ bytes) (rows' ++ bytes') (10 ∷ []) whole) in
-    (parts.0, is.is_row.row_is ∙ ap (λ (l : List ℕ). l ++ 10 ∷ []) parts.1 ∙ sym is'.is_row.row_is)
+    let bytes = is.is_row.bytes in
+    let bytes' = is'.is_row.bytes in
+    let whole =
+    append_assoc rows bytes (10 ∷ []) ∙ sym (ap (λ l. rows ++ l) is.is_row.row_is)
+    ∙ sym is.whole ∙ is'.whole ∙ ap (λ l. rows' ++ l) is'.is_row.row_is
+    ∙ sym (append_assoc rows' bytes' (10 ∷ [])) in
+    let parts = one_cut_of_rows _ _ _ _ is.are_rows is'.are_rows is.is_row.others
+    is'.is_row.others (append_cancel_right (rows ++ bytes) (rows' ++ bytes') (10 ∷ []) whole) in (
+      parts.0,
+      is.is_row.row_is ∙ ap (λ l. l ++ 10 ∷ []) parts.1 ∙ sym is'.is_row.row_is,
+    )
 
 -- ---- texts of whole rows
 
@@ -147,12 +161,12 @@ abbrev pub EndsRow : List ℕ → Type 0
 EndsRow text = (front : List ℕ) × (text ≡ front ++ 10 ∷ [])
 
 pub ends_after : (front text : List ℕ) → EndsRow text → EndsRow (front ++ text)
-ends_after front text ends = (front ++ ends.0, ap (λ (l : List ℕ). front ++ l) ends.1 ∙ sym (append_assoc front ends.0 (10 ∷ [])))
+ends_after front text ends = (front ++ ends.0, ap (λ l. front ++ l) ends.1 ∙ sym (append_assoc front ends.0 (10 ∷ [])))
 
 pub rows_after : (front text : List ℕ) → AreRows front → AreRows text → AreRows (front ++ text)
 rows_after front text are are' = elim are' [
-  | inl none ↦ subst (λ (l : List ℕ). AreRows l) (sym (ap (λ (l : List ℕ). front ++ l) none ∙ append-nil front)) are
-  | inr ends ↦ inr (ends_after front text ends)
+  | inl none ↦ rw (none, append-nil front) are
+  | inr ends ↦ inr (ends_after _ _ ends)
 ]
 
 -- ---- the rows of matchings
@@ -168,28 +182,33 @@ place_ends : (road : RoadMap) (name : List ℕ) (place : Place) → EndsRow (pla
 place_ends road name place = feed_ends _
 
 location_ends : (road : RoadMap) (located : Located) → EndsRow (location_rows road located)
-location_ends road (Line outer inner) = ends_after (part_row road (codes "outer") outer) (part_row road (codes "inner") inner) (part_ends road (codes "inner") inner)
+location_ends road (Line outer inner) =
+    ends_after (part_row road (codes "outer") outer) (part_row road (codes "inner") inner)
+    (part_ends road (codes "inner") inner)
 location_ends road (Point earliest latest) =
-    ends_after (place_row road (codes "earliest") earliest) (place_row road (codes "latest") latest) (place_ends road (codes "latest") latest)
+    ends_after (place_row road (codes "earliest") earliest) (place_row road (codes "latest") latest)
+    (place_ends road (codes "latest") latest)
 
 entry_ends : (road : RoadMap) (entry : Entry) → EndsRow (entry_rows road entry)
 entry_ends road entry =
-    let front : List ℕ =
-    codes "matching " ++ key_text entry.key ++ codes "\n" ++ point_rows road 1 entry.matched.candidates.items ++ leg_rows 1 entry.matched.legs.items
+    let front : List ℕ = codes "matching " ++ key_text entry.key ++ codes "\n"
+    ++ point_rows road 1 entry.matched.candidates.items ++ leg_rows 1 entry.matched.legs.items
     ++ pieces_row road (codes "route") entry.route in
     ends_after front (location_rows road entry.located) (location_ends road entry.located)
 
 pub entries_are_rows : (road : RoadMap) (entries : List Entry) → AreRows (entries_rows road entries)
 entries_are_rows road [] = inl refl
-entries_are_rows road (entry ∷ entries) = rows_after (entry_rows road entry) (entries_rows road entries) (inr (entry_ends road entry)) (entries_are_rows road entries)
+entries_are_rows road (entry ∷ entries) =
+    rows_after (entry_rows road entry) (entries_rows road entries) (inr (entry_ends road entry)) (entries_are_rows road entries)
 
 -- ---- no line feed in the text of a cursor
 
-in_cursor : (key : KeyValue) (mark : Mark) → IsInRange key → All IsOther (cursor_text key (Some mark))
+in_cursor : (key : KeyValue) (mark : Mark) → IsInRange key
+    → LacksFeed (cursor_text key (Some mark))
 in_cursor key mark in_range =
     All-append IsOther (key_text key ++ codes "@") (hexadecimal mark.0)
-    (All-append IsOther (key_text key) (codes "@") (in_key key in_range) (All-cons IsOther 64 [] (λ same. absurd (omega (arith, same))) (All-nil IsOther)))
-    (in_hexadecimal mark.0)
+    (All-append IsOther (key_text key) (codes "@") (in_key _ in_range)
+    (by_test (codes "@") refl)) (in_hexadecimal _)
 
 -- ---- the last row
 
@@ -197,23 +216,13 @@ in_cursor key mark in_range =
 abbrev pub IsInRangeIfAny : Option KeyValue → Type 0
 IsInRangeIfAny after = (key : KeyValue) → after ≡ Some key → IsInRange key
 
--- none of three bytes is a line feed
-in_words : (a b c : ℕ) → IsOther a → IsOther b → IsOther c → All IsOther (a ∷ b ∷ c ∷ [])
-in_words a b c first second third = All-cons IsOther a (b ∷ c ∷ []) first (All-cons IsOther b (c ∷ []) second (All-cons IsOther c [] third (All-nil IsOther)))
-
-pub end_is_row : (after : Option KeyValue) (mark : Mark) → IsInRangeIfAny after → IsRow (end_row after (Some mark))
-end_is_row None mark in_range = record {
-  bytes = codes "end";
+pub end_is_row : (after : Option KeyValue) (mark : Mark) → IsInRangeIfAny after
+    → IsRow (end_row after (Some mark))
+end_is_row None mark in_range =
+    record { bytes = codes "end"; row_is = refl; others = by_test (codes "end") refl }
+end_is_row (Some key) mark in_range = record {
+  bytes = codes "more " ++ cursor_text key (Some mark);
   row_is = refl;
-  others = in_words 101 110 100 (λ same. absurd (omega (arith, same))) (λ same. absurd (omega (arith, same))) (λ same. absurd (omega (arith, same)));
+  others = All-append IsOther (codes "more ") (cursor_text key (Some mark))
+      (by_test (codes "more ") refl) (in_cursor _ _ (in_range key refl));
 }
-end_is_row (Some key) mark in_range =
-    let words : All IsOther (codes "more ") =
-    All-append IsOther (109 ∷ 111 ∷ 114 ∷ []) (101 ∷ 32 ∷ [])
-    (in_words 109 111 114 (λ same. absurd (omega (arith, same))) (λ same. absurd (omega (arith, same))) (λ same. absurd (omega (arith, same))))
-    (All-cons IsOther 101 (32 ∷ []) (λ same. absurd (omega (arith, same))) (All-cons IsOther 32 [] (λ same. absurd (omega (arith, same))) (All-nil IsOther))) in
-    record {
-      bytes = codes "more " ++ cursor_text key (Some mark);
-      row_is = refl;
-      others = All-append IsOther (codes "more ") (cursor_text key (Some mark)) words (in_cursor key mark (in_range key refl));
-    }

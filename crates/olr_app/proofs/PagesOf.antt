@@ -1,7 +1,7 @@
 -- The parts, the keys and the texts of pages, page by page; and why a page isn't there.
 use Rattle.std.proofs.Common.{◌≡◌, ℕ, List, [], ◌∷◌, Option, None, Some, Ok, Err, All, Contains}
-use Rattle.std.proofs.Common.{refl, inl, inr, ◌++◌, map, take, ap, sym, subst, suc, ◌+◌, ◌≤◌, ◌<◌}
-use Rattle.std.proofs.Common.{length, true, false, ◌∙◌, arith}
+use Rattle.std.proofs.Common.{refl, inl, inr, ◌++◌, map, take, ap, sym, subst, ◌+◌, ◌≤◌, ◌<◌, add-one}
+use Rattle.std.proofs.Common.{length, true, false, ◌∙◌}
 use Rattle.std.proofs.Math.Seq.{take-suc}
 use Rattle.std.proofs.lemmas.List.{append-nil, take_all}
 use Rattle.std.proofs.lemmas.List.Elements.{All-nil, All-cons, All-head, All-tail, All-take}
@@ -35,7 +35,8 @@ use Rattle.olr_app.specs.declared.request.Pages.TheVariants.{All as AllPages, On
 use Rattle.olr_app.specs.declared.fault.Fault.TheVariants as fault
 
 -- what a relation to some keys gives holds of all that is related to them
-pub all_related : {A B : Type 0} (K : A → Type 0) (R : A → B → Type 0) (P : B → Type 0) (keys : List A) (all : List B) → All K keys → AllZip R keys all
+pub all_related : {A B : Type 0} (K : A → Type 0) (R : A → B → Type 0) (P : B → Type 0)
+    (keys : List A) (all : List B) → All K keys → AllZip R keys all
     → ((key : A) (one : B) → K key → R key one → P one) → All P all
 all_related K R P [] [] keys is each = All-nil P
 all_related K R P [] (one ∷ all) keys is each = absurd is
@@ -72,39 +73,50 @@ fault_after First Next between other first is = inr (between, first, is)
 
 all_left : {X : Type 0} (P : X → Type 0) (xs ys : List X) → All P (xs ++ ys) → All P xs
 all_left P [] ys all = All-nil P
-all_left P (x ∷ xs) ys all = All-cons P x xs (All-head P x (xs ++ ys) all) (all_left P xs ys (All-tail P x (xs ++ ys) all))
+all_left P (x ∷ xs) ys all = All-cons P x xs (All-head P x (xs ++ ys) all)
+    (all_left P xs ys (All-tail P x (xs ++ ys) all))
 
 all_right : {X : Type 0} (P : X → Type 0) (xs ys : List X) → All P (xs ++ ys) → All P ys
 all_right P [] ys all = all
 all_right P (x ∷ xs) ys all = all_right P xs ys (All-tail P x (xs ++ ys) all)
 
-all_unmapped : {X Y : Type 0} (P : X → Type 0) (f : Y → X) (ys : List Y) → All P (map f ys) → All (λ (y : Y). P (f y)) ys
+all_unmapped : {X Y : Type 0} (P : X → Type 0) (f : Y → X) (ys : List Y) → All P (map f ys)
+    → All (λ (y : Y). P (f y)) ys
 all_unmapped {X} {Y} P f [] all = All-nil (λ (y : Y). P (f y))
-all_unmapped {X} {Y} P f (y ∷ ys) all = All-cons (λ (one : Y). P (f one)) y ys (All-head P (f y) (map f ys) all) (all_unmapped P f ys (All-tail P (f y) (map f ys) all))
+all_unmapped {X} {Y} P f (y ∷ ys) all =
+    All-cons (λ (one : Y). P (f one)) y ys (All-head P (f y) (map f ys) all)
+    (all_unmapped P f ys (All-tail P (f y) (map f ys) all))
 
 -- ---- pages
 
 module _ (P : KeyValue → Type 0) where
-  of_rest : (answers : List KeyValue) (after : Option KeyValue) (rest : List KeyValue) → IsRestAfter answers after rest → All P answers → All P rest
-  of_rest answers None rest is all = subst (λ (l : List KeyValue). All P l) (sym is) all
-  of_rest answers (Some key) rest is all = All-tail P key rest (all_right P is.0 (key ∷ rest) (subst (λ (l : List KeyValue). All P l) is.1 all))
+  of_rest : (answers : List KeyValue) (after : Option KeyValue) (rest : List KeyValue)
+      → IsRestAfter answers after rest → All P answers → All P rest
+  of_rest answers None rest is all = rw is all
+  of_rest answers (Some key) rest is all =
+      All-tail P key rest (all_right P is.0 (key ∷ rest) (rw (sym is.1) all))
 
   abbrev OfPage : PageValue → Type 0
   OfPage page = All P page.keys
 
-  of_page : (answers : List KeyValue) (after : Option KeyValue) (size : ℕ) (page : PageValue) → IsPageAfter answers after size page → All P answers → OfPage page
-  of_page answers after size page is all =
-      subst (λ (l : List KeyValue). All P l) (sym is.is_page.keys) (All-take P size is.rest (of_rest answers after is.rest is.is_rest all))
+  of_page : (answers : List KeyValue) (after : Option KeyValue) (size : ℕ) (page : PageValue)
+      → IsPageAfter answers after size page → All P answers → OfPage page
+  of_page answers after size page is all = rw is.is_page.keys
+      (All-take P size is.rest (of_rest answers after is.rest is.is_rest all))
 
   of_joined : (pages : List PageValue) → All P (joined pages) → All OfPage pages
   of_joined [] all = All-nil OfPage
-  of_joined (page ∷ pages) all = All-cons OfPage page pages (all_left P page.keys (joined pages) all) (of_joined pages (all_right P page.keys (joined pages) all))
+  of_joined (page ∷ pages) all = All-cons OfPage page pages
+      (all_left P page.keys (joined pages) all)
+      (of_joined pages (all_right P page.keys (joined pages) all))
 
-  of_asked : (answers : List KeyValue) (size : ℕ) (pages : Pages) (after : Option KeyValue) (list : List PageValue) → ArePagesAsked answers size pages after list → All P answers
+  of_asked : (answers : List KeyValue) (size : ℕ) (pages : Pages) (after : Option KeyValue)
+      (list : List PageValue) → ArePagesAsked answers size pages after list → All P answers
       → All OfPage list
-  of_asked answers size AllPages after list asked all = of_joined list (of_rest answers None (joined list) asked.keys all)
-  of_asked answers size (One cursor) after list asked all =
-      subst (λ (l : List PageValue). All OfPage l) (sym asked.1) (All-cons OfPage asked.0 [] (of_page answers after size asked.0 asked.2 all) (All-nil OfPage))
+  of_asked answers size AllPages after list asked all =
+      of_joined list (of_rest answers None (joined list) asked.keys all)
+  of_asked answers size (One cursor) after list asked all = rw asked.1
+      (All-cons OfPage asked.0 [] (of_page answers after size asked.0 asked.2 all) (All-nil OfPage))
 
 -- the keys of the pages that are asked for are those of matchings
 pub keys_of_pages : (asked : MatchRequest) (layers : LayersValue) (start : Option CursorRead)
@@ -123,13 +135,15 @@ no_mark_needed pages page X none there more =
 
 -- ---- two lists, element by element
 
-zip_push : {X Y : Type 0} (R : X → Y → Type 0) (xs : List X) (ys : List Y) (x : X) (y : Y) → AllZip R xs ys → R x y → AllZip R (xs ++ x ∷ []) (ys ++ y ∷ [])
+zip_push : {X Y : Type 0} (R : X → Y → Type 0) (xs : List X) (ys : List Y) (x : X) (y : Y)
+    → AllZip R xs ys → R x y → AllZip R (xs ++ x ∷ []) (ys ++ y ∷ [])
 zip_push R [] [] x y they is = (is, tt)
 zip_push R [] (other ∷ ys) x y they is = absurd they
 zip_push R (other ∷ xs) [] x y they is = absurd they
 zip_push R (a ∷ xs) (b ∷ ys) x y they is = (they.0, zip_push R xs ys x y they.1 is)
 
-zip_values : {X Y Z : Type 0} (R : X → Y → Type 0) (f : Z → X) (zs : List Z) (ys : List Y) → AllZip (λ (z : Z) (y : Y). R (f z) y) zs ys → AllZip R (map f zs) ys
+zip_values : {X Y Z : Type 0} (R : X → Y → Type 0) (f : Z → X) (zs : List Z) (ys : List Y)
+    → AllZip (λ (z : Z) (y : Y). R (f z) y) zs ys → AllZip R (map f zs) ys
 zip_values R f [] [] they = tt
 zip_values R f [] (y ∷ ys) they = absurd they
 zip_values R f (z ∷ zs) [] they = absurd they
@@ -139,24 +153,34 @@ zip_values R f (z ∷ zs) (y ∷ ys) they = (they.0, zip_values R f zs ys they.1
 
 module _ (format : Format) (road : RoadMap) (layers : LayersValue) (mark : Mark) where
   abbrev IsText : Page → List ℕ → Type 0
-  IsText page text = IsTextOfPage format road layers mark (page_of page) text
+  IsText page text = IsTextOfPage format road layers (Some mark) (page_of page) text
 
   abbrev pub ShowsPages : List Page → List ℕ → Type 0
-  ShowsPages pages output = (texts : List (List ℕ)) × AllZip IsText pages texts × (output ≡ concat texts)
+  ShowsPages pages output =
+      (texts : List (List ℕ)) × AllZip IsText pages texts × (output ≡ concat texts)
 
-  pub one_more : (pages : List Page) (index : ℕ) (page : Page) (output text : List ℕ) → index < length pages → page ≡ slice_index_or pages index page
-      → ShowsPages (take index pages) output → IsTextOfPage format road layers mark (page_of page) text → ShowsPages (take (index + 1) pages) (output ++ text)
-  one_more pages index page output text inside is so_far shown = (
-    so_far.0 ++ text ∷ [],
-    subst (λ (l : List Page). AllZip IsText l (so_far.0 ++ text ∷ [])) (ap (λ (e : Page). take index pages ++ e ∷ []) is ∙ sym (take-suc pages index page inside) ∙ ap (λ (n : ℕ). take n pages) {x = suc index} {y = index + 1} (omega arith))
-        (zip_push IsText (take index pages) so_far.0 page text so_far.1 shown),
-    ap (λ (l : List ℕ). l ++ text) so_far.2 ∙ ap (λ (l : List ℕ). concat so_far.0 ++ l) (sym (append-nil text)) ∙ sym (concat-append so_far.0 (text ∷ [])),
-  )
+  pub one_more : (pages : List Page) (index : ℕ) (page : Page) (output text : List ℕ)
+      → index < length pages → page ≡ slice_index_or pages index page
+      → ShowsPages (take index pages) output
+      → IsTextOfPage format road layers (Some mark) (page_of page) text
+      → ShowsPages (take (index + 1) pages) (output ++ text)
+  one_more pages index page output text inside is so_far shown =
+      let longer : take index pages ++ page ∷ [] ≡ take (index + 1) pages = simp add-one
+      (ap (λ (e : Page). take index pages ++ e ∷ []) is ∙ sym (take-suc pages index page inside)) in (
+        so_far.0 ++ text ∷ [],
+        subst (λ (l : List Page). AllZip IsText l (so_far.0 ++ text ∷ [])) longer
+            (zip_push IsText (take index pages) so_far.0 page text so_far.1 shown),
+        ap (λ (l : List ℕ). l ++ text) so_far.2
+            ∙ ap (λ (l : List ℕ). concat so_far.0 ++ l) (sym (append-nil text))
+            ∙ sym (concat-append so_far.0 (text ∷ [])),
+      )
 
-  pub all_pages_shown : (pages : List Page) (index : ℕ) (output : List ℕ) → length pages ≤ index → ShowsPages (take index pages) output
+  pub all_pages_shown : (pages : List Page) (index : ℕ) (output : List ℕ) → length pages ≤ index
+      → ShowsPages (take index pages) output
       → AreTextsOfPages format road layers mark (values_of pages) output
   all_pages_shown pages index output past shows = record {
     texts = shows.0;
-    each = zip_values (IsTextOfPage format road layers mark) page_of pages shows.0 (subst (λ (l : List Page). AllZip IsText l shows.0) (take_all index pages past) shows.1);
+    each = zip_values (IsTextOfPage format road layers (Some mark)) page_of pages shows.0
+        (subst (λ (l : List Page). AllZip IsText l shows.0) (take_all index pages past) shows.1);
     whole = shows.2;
   }

@@ -15,7 +15,7 @@ use Rattle.olr_app.specs.Listing.{IsListed}
 use Rattle.olr_app.specs.Matching.{AreMatchings}
 use Rattle.olr_app.specs.Places.{ArePlaces}
 use Rattle.olr_app.specs.Request.{ReadsMap}
-use Rattle.olr_app.specs.Stages.{AndThen}
+use Rattle.olr_app.specs.Stages.{AndThen, NoFault}
 use Rattle.olr_app.specs.Why.{AreReasons}
 use Rattle.olr_app.specs.Writing.{HasStopped, IsWritten}
 use Rattle.olr_app.specs.declared.accepting.Accepted.{Accepted}
@@ -38,8 +38,7 @@ IsReferenceIn Json reference text = IsReferenceJson reference text
 
 -- the same as a stage, which has no fault
 abbrev pub IsShown : Format → Reference → Result (List ℕ) Fault → Type 0
-IsShown format reference (Ok output) = IsReferenceIn format reference output
-IsShown format reference (Err fault) = ⊥
+IsShown format reference = NoFault (IsReferenceIn format reference)
 
 -- the answer on a map; that of `Show` is the same on each
 abbrev pub IsAnswerOn : Request → Accepted → RoadMap → Result (List ℕ) Fault → Type 0
@@ -62,14 +61,8 @@ module _ (texts : Texts) where
   -- the answer of a request that is accepted; that of `Show` depends on no file
   abbrev pub IsAnswerOf : Request → Accepted → Result (List ℕ) Fault → Type 0
   IsAnswerOf (Show text format) accepted answer = IsShown format accepted.reference answer
-  IsAnswerOf (Candidates text tolerances format) accepted answer =
-      AndThen IsMapOfFiles (IsAnswerOn (Candidates text tolerances format) accepted) answer
-  IsAnswerOf (Match asked) accepted answer =
-      AndThen IsMapOfFiles (IsAnswerOn (Match asked) accepted) answer
-  IsAnswerOf (Places asked) accepted answer =
-      AndThen IsMapOfFiles (IsAnswerOn (Places asked) accepted) answer
-  IsAnswerOf (Why asked) accepted answer =
-      AndThen IsMapOfFiles (IsAnswerOn (Why asked) accepted) answer
+  IsAnswerOf request accepted answer =
+      AndThen IsMapOfFiles (IsAnswerOn request accepted) answer
 
   -- The answer of a request by the texts alone, its own and those of the files of a map: the bytes
   -- of the output, or the fault of the first stage that has one.

@@ -6,9 +6,6 @@ use Rattle.olr_binary.specs.declared.refusal.Refused.{Refused}
 use Rattle.olr_binary.specs.declared.refusal.Refused.TheVariants as refused
 use Rattle.olr_binary.specs.declared.refusal.Kind.TheVariants.{Area, GeoCoordinate}
 use Rattle.olr_candidates.specs.declared.fault.LayersFault.{LayersFault}
-use Rattle.olr_candidates.specs.declared.tolerances.Name.{Name}
-use Rattle.olr_candidates.specs.declared.tolerances.Name.TheVariants.{Bearing, Class, Lowest}
-use Rattle.olr_candidates.specs.declared.tolerances.Name.TheVariants.{Percent, Radius, Slack}
 use Rattle.olr_records.specs.declared.file.File.{File}
 use Rattle.olr_records.specs.declared.file.File.TheVariants.{Nodes, Lines, Bans}
 use Rattle.olr_map.specs.declared.fault.MapFault.{MapFault}
@@ -18,6 +15,7 @@ use Rattle.olr_keys.specs.declared.pages.PageFault.{PageFault}
 use Rattle.olr_keys.specs.declared.pages.PageFault.TheVariants as page
 use Rattle.olr_places.specs.declared.limits.Number.{Number}
 use Rattle.olr_places.specs.declared.limits.Number.TheVariants.{Apart, Look, Most, Within}
+use Rattle.olr_why.specs.Text.{tolerance_name}
 
 -- the fault of a text that is refused
 abbrev pub fault_of : Refused → Fault
@@ -62,15 +60,6 @@ abbrev pub file_name : File → List ℕ
 file_name Nodes = codes "nodes"
 file_name Lines = codes "lines"
 file_name Bans = codes "bans"
-
--- the name of a tolerance
-abbrev pub tolerance_name : Name → List ℕ
-tolerance_name Radius = codes "radius"
-tolerance_name Bearing = codes "bearing"
-tolerance_name Class = codes "class"
-tolerance_name Lowest = codes "lowest"
-tolerance_name Percent = codes "percent"
-tolerance_name Slack = codes "slack"
 
 -- the name of a number for places
 abbrev pub number_name : Number → List ℕ

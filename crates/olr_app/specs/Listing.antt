@@ -1,20 +1,20 @@
 -- The candidates of a reference's points. As text: for each point a row with their number, and then
 -- a row for each of them. As JSON: an object with an array of the candidates of each point.
 use Rattle.std.specs.Prelude.{◌≡◌, ℕ, ◌+◌, List, [], ◌∷◌, ◌++◌, length, get_or, codes, decimal}
-use Rattle.std.specs.Prelude.{All, Result, Ok, Err}
+use Rattle.std.specs.Prelude.{All, Result}
 use Rattle.arrayvec.specs.ArrayVec.{ArrayVec}
 use Rattle.serde_json.specs.Data.{Data, member, no_members, object}
 use Rattle.olr_binary.specs.JsonValues.{array_of, IsJsonLine}
 use Rattle.olr_binary.specs.declared.reference.Reference.{Reference}
-use Rattle.olr_candidates.specs.Points.{AreLists, IsFirstTooMany}
+use Rattle.olr_candidates.specs.Points.{AreLists}
 use Rattle.olr_candidates.specs.declared.candidate.Candidate.{Candidate}
 use Rattle.olr_candidates.specs.declared.tolerances.Tolerances.{Tolerances}
 use Rattle.olr_map.specs.RoadMap.{RoadMap}
 use Rattle.olr_map.specs.Rows.{RoadLine, line_ids}
 use Rattle.olr_report.specs.Entries.{HasLine}
 use Rattle.olr_report.specs.Json.{candidate_object}
+use Rattle.olr_app.specs.Stages.{OrTooMany}
 use Rattle.olr_app.specs.declared.fault.Fault.{Fault}
-use Rattle.olr_app.specs.declared.fault.Fault.TheVariants.{TooManyCandidates}
 use Rattle.olr_app.specs.declared.request.Format.{Format}
 use Rattle.olr_app.specs.declared.request.Format.TheVariants.{Json, Text}
 
@@ -82,8 +82,5 @@ pub record IsListing (format : Format) (tolerances : Tolerances) (reference : Re
 
 -- the same as a stage: that text, or the fault of the first point that has more than 64 candidates
 abbrev pub IsListed : Format → Tolerances → Reference → RoadMap → Result (List ℕ) Fault → Type 0
-IsListed format tolerances reference road (Ok output) =
-    IsListing format tolerances reference road output
-IsListed format tolerances reference road (Err fault) = (index : ℕ)
-    × IsFirstTooMany tolerances reference road.lines index
-    × (fault ≡ TooManyCandidates (index + 1))
+IsListed format tolerances reference road =
+    OrTooMany tolerances reference road (IsListing format tolerances reference road)

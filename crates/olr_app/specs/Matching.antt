@@ -1,11 +1,10 @@
 -- The answer of a request for matchings on a map, by the texts alone: stage by stage, in the order
 -- in which the stages may end it with a fault.
-use Rattle.std.specs.Prelude.{◌≡◌, ℕ, ◌+◌, true, List, [], ◌∷◌, map, Option, None, Some, IfSome}
+use Rattle.std.specs.Prelude.{◌≡◌, ℕ, true, List, [], ◌∷◌, map, Option, None, Some, IfSome}
 use Rattle.std.specs.Prelude.{Contains, option_map, Result, Ok, Err}
 use Rattle.std.specs.List.{AllZip, concat}
 use Rattle.olr_binary.specs.declared.reference.Reference.{Reference}
 use Rattle.olr_candidates.specs.declared.tolerances.Tolerances.{Tolerances}
-use Rattle.olr_candidates.specs.Points.{IsFirstTooMany}
 use Rattle.olr_matching.specs.Fingerprint.{IsFingerprint}
 use Rattle.olr_keys.specs.Answers.{AreAnswers}
 use Rattle.olr_keys.specs.Headline.{AreAllPages}
@@ -21,11 +20,10 @@ use Rattle.olr_matching.specs.Matched.{IsMatchedBy}
 use Rattle.olr_matching.specs.declared.matched.Matched.{Matched}
 use Rattle.olr_report.specs.Json.{IsPageJson}
 use Rattle.olr_report.specs.Text.{IsPageText}
-use Rattle.olr_app.specs.Stages.{AndThen}
+use Rattle.olr_app.specs.Stages.{AndThen, NoFault, OrTooMany}
 use Rattle.olr_app.specs.declared.accepting.Accepted.{Accepted}
 use Rattle.olr_app.specs.declared.fault.Fault.{Fault}
 use Rattle.olr_app.specs.declared.fault.Fault.TheVariants.{CursorNotHere, CursorOfOther}
-use Rattle.olr_app.specs.declared.fault.Fault.TheVariants.{TooManyCandidates}
 use Rattle.olr_app.specs.declared.request.Format.{Format}
 use Rattle.olr_app.specs.declared.request.Format.TheVariants.{Json, Text}
 use Rattle.olr_app.specs.declared.request.MatchRequest.{MatchRequest}
@@ -51,11 +49,8 @@ IsStartHere asked road start (Err fault) = (fault ≡ CursorOfOther)
 
 -- the layers of a reference on a map, or the first point that has more than 64 candidates
 abbrev pub AreLayers : Tolerances → Reference → RoadMap → Result LayersValue Fault → Type 0
-AreLayers tolerances reference road (Ok layers) =
-    AreLayersOn road layers × (layers.reference ≡ reference) × (layers.tolerances ≡ tolerances)
-AreLayers tolerances reference road (Err fault) = (index : ℕ)
-    × IsFirstTooMany tolerances reference road.lines index
-    × (fault ≡ TooManyCandidates (index + 1))
+AreLayers tolerances reference road = OrTooMany tolerances reference road (λ (layers : LayersValue).
+    AreLayersOn road layers × (layers.reference ≡ reference) × (layers.tolerances ≡ tolerances))
 
 -- the key of the matching after which the pages begin
 abbrev pub key_of : Option CursorRead → Option KeyValue
@@ -85,16 +80,16 @@ values_of pages = map page_of pages
 
 -- the text of a page in a format
 abbrev pub IsPageIn :
-    Format → RoadMap → Reference → PageValue → List Matched → Mark → List ℕ → Type 0
+    Format → RoadMap → Reference → PageValue → List Matched → Option Mark → List ℕ → Type 0
 IsPageIn Text road reference page matched mark text =
-    IsPageText road reference page matched (Some mark) text
+    IsPageText road reference page matched mark text
 IsPageIn Json road reference page matched mark text =
-    IsPageJson road reference page matched (Some mark) text
+    IsPageJson road reference page matched mark text
 
 -- the text of a page: its keys, the parts of the matching of each, and the mark in the cursor at
--- its end
-pub record IsTextOfPage (format : Format) (road : RoadMap) (layers : LayersValue) (mark : Mark)
-    (page : PageValue) (text : List ℕ) : Type 0 where
+-- its end, or no mark
+pub record IsTextOfPage (format : Format) (road : RoadMap) (layers : LayersValue)
+    (mark : Option Mark) (page : PageValue) (text : List ℕ) : Type 0 where
   pub matched : List Matched
   pub each : AllZip (IsMatchedBy road layers) page.keys matched
   pub text_is : IsPageIn format road layers.reference page matched mark text
@@ -103,7 +98,7 @@ pub record IsTextOfPage (format : Format) (road : RoadMap) (layers : LayersValue
 pub record AreTextsOfPages (format : Format) (road : RoadMap) (layers : LayersValue) (mark : Mark)
     (pages : List PageValue) (output : List ℕ) : Type 0 where
   pub texts : List (List ℕ)
-  pub each : AllZip (IsTextOfPage format road layers mark) pages texts
+  pub each : AllZip (IsTextOfPage format road layers (Some mark)) pages texts
   pub whole : output ≡ concat texts
 
 -- The output: the texts of the pages. Where a page has more, the mark in the cursor at its end is
@@ -118,8 +113,7 @@ pub record IsPagesText (asked : MatchRequest) (road : RoadMap) (layers : LayersV
 -- the same as a stage, which has no fault
 abbrev pub IsPrinted :
     MatchRequest → RoadMap → LayersValue → List PageValue → Result (List ℕ) Fault → Type 0
-IsPrinted asked road layers pages (Ok output) = IsPagesText asked road layers pages output
-IsPrinted asked road layers pages (Err fault) = ⊥
+IsPrinted asked road layers pages = NoFault (IsPagesText asked road layers pages)
 
 -- ---- all stages after the map
 

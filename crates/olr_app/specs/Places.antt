@@ -1,5 +1,5 @@
 -- The places of a reference on a map, and whether its match is unique, by the texts alone: as text or as JSON.
-use Rattle.std.specs.Prelude.{◌≡◌, ℕ, List, Result, Ok, Err}
+use Rattle.std.specs.Prelude.{◌≡◌, ℕ, List, Result}
 use Rattle.olr_binary.specs.JsonValues.{IsJsonLine}
 use Rattle.olr_binary.specs.declared.reference.Reference.{Reference}
 use Rattle.olr_candidates.specs.declared.tolerances.Tolerances.{Tolerances}
@@ -12,7 +12,7 @@ use Rattle.olr_places.specs.Looking.{IsLooked, Looked}
 use Rattle.olr_places.specs.Text.{places_text}
 use Rattle.olr_places.specs.declared.limits.PlaceLimits.{PlaceLimits}
 use Rattle.olr_app.specs.Matching.{AreLayers}
-use Rattle.olr_app.specs.Stages.{AndThen}
+use Rattle.olr_app.specs.Stages.{AndThen, NoFault}
 use Rattle.olr_app.specs.declared.fault.Fault.{Fault}
 use Rattle.olr_app.specs.declared.request.Format.{Format}
 use Rattle.olr_app.specs.declared.request.Format.TheVariants.{Json, Text}
@@ -32,8 +32,7 @@ pub record IsPlacesListing (format : Format) (limits : PlaceLimits) (road : Road
 
 -- the same as a stage, which has no fault
 abbrev pub ArePlacesOn : Format → PlaceLimits → RoadMap → LayersValue → Result (List ℕ) Fault → Type 0
-ArePlacesOn format limits road layers (Ok output) = IsPlacesListing format limits road layers output
-ArePlacesOn format limits road layers (Err fault) = ⊥
+ArePlacesOn format limits road layers = NoFault (IsPlacesListing format limits road layers)
 
 -- the places of a reference in a format, or the first point that has too many candidates
 abbrev pub ArePlaces : Format → Tolerances → PlaceLimits → Reference → RoadMap → Result (List ℕ) Fault → Type 0

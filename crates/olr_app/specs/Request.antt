@@ -9,10 +9,7 @@ use Rattle.olr_app.specs.declared.request.Request.TheVariants.{Candidates, Match
 -- a map is read for the request
 abbrev pub ReadsMap : Request → Type 0
 ReadsMap (Show text format) = ⊥
-ReadsMap (Candidates text tolerances format) = ⊤
-ReadsMap (Match asked) = ⊤
-ReadsMap (Places asked) = ⊤
-ReadsMap (Why asked) = ⊤
+ReadsMap other = ⊤
 
 -- the text of its reference
 abbrev pub text_of : Request → List ℕ
@@ -33,8 +30,5 @@ cursor_in (One cursor) = bytes_of cursor
 
 -- the text of its cursor, or none
 abbrev pub cursor_of : Request → Option (List ℕ)
-cursor_of (Show text format) = None
-cursor_of (Candidates text tolerances format) = None
 cursor_of (Match asked) = cursor_in asked.pages
-cursor_of (Places asked) = None
-cursor_of (Why asked) = None
+cursor_of other = None

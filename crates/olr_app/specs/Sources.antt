@@ -9,7 +9,7 @@ use Rattle.olr_app.specs.declared.fault.Fault.{Fault}
 use Rattle.olr_app.specs.declared.fault.Fault.TheVariants.{BadCursor, CursorNotHere, CursorOfOther}
 use Rattle.olr_app.specs.declared.fault.Fault.TheVariants.{InputNotRead, TooManyCandidates, WriteFailed}
 use Rattle.olr_app.specs.declared.request.Request.{Request}
-use Rattle.olr_app.specs.declared.request.Request.TheVariants.{Candidates, Match, Places, Show, Why}
+use Rattle.olr_app.specs.declared.request.Request.TheVariants.{Show}
 
 -- a fault that there is only once the map is read
 abbrev pub IsAfterMap : Fault → Type 0
@@ -42,7 +42,4 @@ module _ {S : Type 0} (left : S → Option (List ℕ)) (failed : S → ℕ) (old
   -- whatever comes of it.
   abbrev pub AnswerLeaves : {T : Type 0} → File → Request → Result T Fault → Type 0
   AnswerLeaves file (Show text format) result = new ≡ old
-  AnswerLeaves file (Candidates text tolerances format) result = LeavesFile file result
-  AnswerLeaves file (Match asked) result = LeavesFile file result
-  AnswerLeaves file (Places asked) result = LeavesFile file result
-  AnswerLeaves file (Why asked) result = LeavesFile file result
+  AnswerLeaves file other result = LeavesFile file result

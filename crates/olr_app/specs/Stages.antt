@@ -1,7 +1,24 @@
 -- The stages of an answer, each of which finds something or ends the answer with a fault.
-use Rattle.std.specs.Prelude.{◌⊎◌, ⊤, Result, Ok, Err}
+use Rattle.std.specs.Prelude.{◌≡◌, ℕ, ◌+◌, ◌⊎◌, ⊤, Result, Ok, Err}
+use Rattle.olr_binary.specs.declared.reference.Reference.{Reference}
+use Rattle.olr_candidates.specs.Points.{IsFirstTooMany}
+use Rattle.olr_candidates.specs.declared.tolerances.Tolerances.{Tolerances}
+use Rattle.olr_map.specs.RoadMap.{RoadMap}
 use Rattle.olr_app.specs.declared.fault.Fault.{Fault}
-use Rattle.olr_app.specs.declared.fault.Fault.TheVariants.{NoMemory}
+use Rattle.olr_app.specs.declared.fault.Fault.TheVariants.{NoMemory, TooManyCandidates}
+
+-- a stage that has no fault
+abbrev pub NoFault : {A : Type 0} → (A → Type 0) → Result A Fault → Type 0
+NoFault {A} Is (Ok found) = Is found
+NoFault {A} Is (Err fault) = ⊥
+
+-- a stage that may have the fault of the first point with more than 64 candidates
+abbrev pub OrTooMany : {A : Type 0} → Tolerances → Reference → RoadMap → (A → Type 0)
+    → Result A Fault → Type 0
+OrTooMany {A} tolerances reference road Is (Ok found) = Is found
+OrTooMany {A} tolerances reference road Is (Err fault) = (index : ℕ)
+    × IsFirstTooMany tolerances reference road.lines index
+    × (fault ≡ TooManyCandidates (index + 1))
 
 -- Two stages, the second of which goes on from what the first found: it finds something, or the
 -- fault is that of the first stage that has one.

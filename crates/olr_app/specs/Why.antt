@@ -1,5 +1,5 @@
 -- Why a reference has no matching on a map, or that it has one, by the texts alone: as text or as JSON.
-use Rattle.std.specs.Prelude.{◌≡◌, ℕ, List, Result, Ok, Err}
+use Rattle.std.specs.Prelude.{◌≡◌, ℕ, List, Result}
 use Rattle.olr_binary.specs.JsonValues.{IsJsonLine}
 use Rattle.olr_binary.specs.declared.reference.Reference.{Reference}
 use Rattle.olr_candidates.specs.declared.tolerances.Tolerances.{Tolerances}
@@ -8,6 +8,7 @@ use Rattle.olr_why.specs.Json.{why_object}
 use Rattle.olr_why.specs.Reasons.{IsWhy}
 use Rattle.olr_why.specs.Text.{why_text}
 use Rattle.olr_why.specs.declared.why.Why.{Why}
+use Rattle.olr_app.specs.Stages.{NoFault}
 use Rattle.olr_app.specs.declared.fault.Fault.{Fault}
 use Rattle.olr_app.specs.declared.request.Format.{Format}
 use Rattle.olr_app.specs.declared.request.Format.TheVariants.{Json, Text}
@@ -26,5 +27,5 @@ pub record IsWhyListing (format : Format) (tolerances : Tolerances) (nearest : �
 
 -- the same as a stage, which has no fault
 abbrev pub AreReasons : Format → Tolerances → ℕ → Reference → RoadMap → Result (List ℕ) Fault → Type 0
-AreReasons format tolerances nearest reference road (Ok output) = IsWhyListing format tolerances nearest reference road output
-AreReasons format tolerances nearest reference road (Err fault) = ⊥
+AreReasons format tolerances nearest reference road =
+    NoFault (IsWhyListing format tolerances nearest reference road)

@@ -7,7 +7,8 @@ ghost use Rattle.olr_app.specs.declared.fault.Fault.TheVariants.{BadPage as Faul
 ghost use Rattle.olr_app.specs.declared.fault.Fault.TheVariants.{BadTolerance as FaultOfTolerance};
 ghost use Rattle.olr_app.specs.declared.fault.Fault.TheVariants.{NoMemory as OutOfMemory};
 ghost use Rattle.olr_app.specs.Fault.{fault_of, fault_of_layers, fault_of_map, fault_of_page};
-ghost use Rattle.olr_app.specs.Fault.{fault_text, file_name, number_name, tolerance_name};
+ghost use Rattle.olr_app.specs.Fault.{fault_text, file_name, number_name};
+ghost use Rattle.olr_why.specs.Text.{tolerance_name};
 
 use olr_binary::{Kind, Refused};
 use olr_candidates::{BadTolerance, Name};

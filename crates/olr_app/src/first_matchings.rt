@@ -1,24 +1,23 @@
 //! The first page of the matchings of a reference, for one of many references on a map.
 
-ghost use Rattle.std.specs.Prelude.{◌≡◌, All, IfErr, IfOk, List, None, Ok, string_bytes};
+ghost use Rattle.std.specs.Prelude.{◌≡◌, IfErr, IfOk, List, None, Ok, string_bytes};
 ghost use Rattle.olr_binary.specs.Reference.{IsReference};
 ghost use Rattle.olr_keys.specs.Answers.{AreAnswers};
 ghost use Rattle.olr_keys.specs.Key.{KeyValue};
-ghost use Rattle.olr_keys.specs.Matching.{IsKey};
 ghost use Rattle.olr_keys.specs.Page.{IsPageAfter, page_of};
 ghost use Rattle.olr_matching.specs.Layers.{AreLayersOn};
 ghost use Rattle.olr_matching.specs.Searches.{AreSearchesOn};
-ghost use Rattle.olr_app.specs.FirstPage.{IsFirstPage, IsFirstPageOf, IsUnmarkedPage};
+ghost use Rattle.olr_app.specs.FirstPage.{IsFirstPage, IsFirstPageOf};
 ghost use Rattle.olr_app.specs.Stages.{IsStageFault};
 
 use crate::fault::Fault;
-use crate::matching::{layers_of, matched_on_page};
+use crate::matching::{layers_of, text_of_page};
+use crate::request::Format;
 use olr_binary::Reference;
 use olr_candidates::Tolerances;
 use olr_map::Map;
 use olr_matching::{Layers, Page, PageSize, Routes, Searches, TotalsFinder, page};
 use olr_metric::NoMemory;
-use olr_report::json_page;
 use std::alloc::Global;
 
 /// The first page of the keys of layers.
@@ -32,29 +31,6 @@ fn first_keys(alloc: Global, layers: &Layers, size: PageSize) -> Result<Page, No
         return Err(NoMemory);
     };
     Ok(first)
-}
-
-/// The JSON of a page of the matchings of layers, and a line feed. Its cursors have no mark.
-fn unmarked_page(
-    alloc: Global,
-    map: &Map,
-    layers: &Layers,
-    reference: &Reference,
-    routes: &mut Routes<'_>,
-    page: &Page,
-) -> Result<String, NoMemory>
-    requires layers { AreLayersOn map.now layers.now }
-    requires reference { layers.now.reference ≡ reference.now }
-    requires is_reference { IsReference reference.now }
-    requires map { routes.old.road ≡ map.now }
-    requires routes { routes.old.layers ≡ layers.now }
-    requires keys { All (IsKey layers.now.penalties) page.now.keys.items }
-    ensures { IfOk result (λ output.
-        IsUnmarkedPage map.now layers.now (page_of page.now) (string_bytes output)) }
-{
-    let matched = matched_on_page(alloc, map, layers, reference, routes, page)?;
-    let output = json_page(alloc, map, reference, page, &matched, None)?;
-    Ok(output)
 }
 
 /// The JSON of the first page of the matchings of layers, and a line feed, by the searches that the
@@ -76,7 +52,16 @@ fn first_page_of(
 {
     let first = first_keys(alloc, layers, size)?;
     let mut routes = Routes::with_searches(alloc, map, layers, searches);
-    unmarked_page(alloc, map, layers, reference, &mut routes, &first)
+    text_of_page(
+        alloc,
+        map,
+        layers,
+        reference,
+        &mut routes,
+        &first,
+        None,
+        Format::Json,
+    )
 }
 
 /// The JSON of the first page of the matchings of a reference on a map, and a line feed. Its

@@ -169,18 +169,19 @@ fn printed_page(
     reference: &Reference,
     page: &Page,
     matched: &[Matched],
-    mark: &Mark,
+    mark: Option<&Mark>,
     format: Format,
 ) -> Result<String, NoMemory>
     requires reference { IsReference reference.now }
     requires one_each { length matched.now ≡ length page.now.keys.items }
     requires shown { All (CanBeShown map.now reference.now) matched.now }
-    ensures { let page = page_of page.now in IfOk result (λ text.
-        IsPageIn format map.now reference.now page matched.now mark.now (string_bytes text)) }
+    ensures { let page = page_of page.now in let mark = option_map (λ mark. mark.now) mark.entry in
+        IfOk result (λ text.
+        IsPageIn format map.now reference.now page matched.now mark (string_bytes text)) }
 {
     match format {
-        Format::Text => text_page(alloc, map, reference, page, matched, Some(mark)),
-        Format::Json => json_page(alloc, map, reference, page, matched, Some(mark)),
+        Format::Text => text_page(alloc, map, reference, page, matched, mark),
+        Format::Json => json_page(alloc, map, reference, page, matched, mark),
     }
 }
 
@@ -189,7 +190,7 @@ fn printed_page(
 /// # Errors
 ///
 /// [`NoMemory`] where the allocator refused memory.
-pub(crate) fn matched_on_page(
+fn matched_on_page(
     alloc: Global,
     map: &Map,
     layers: &Layers,
@@ -217,19 +218,19 @@ pub(crate) fn matched_on_page(
     Ok(matched)
 }
 
-/// The text of a page in a format.
+/// The text of a page in a format, with a mark in the cursor at its end or without one.
 ///
 /// # Errors
 ///
 /// [`NoMemory`] where the allocator refused memory.
-fn text_of_page(
+pub(crate) fn text_of_page(
     alloc: Global,
     map: &Map,
     layers: &Layers,
     reference: &Reference,
     routes: &mut Routes<'_>,
     page: &Page,
-    mark: &Mark,
+    mark: Option<&Mark>,
     format: Format,
 ) -> Result<String, NoMemory>
     requires layers { AreLayersOn map.now layers.now }
@@ -237,8 +238,8 @@ fn text_of_page(
     requires map { routes.old.road ≡ map.now }
     requires routes { routes.old.layers ≡ layers.now }
     requires keys { All (IsKey layers.now.penalties) page.now.keys.items }
-    ensures text { IfOk result (λ text.
-        IsTextOfPage format map.now layers.now mark.now (page_of page.now) (string_bytes text)) }
+    ensures text { let mark = option_map (λ mark. mark.now) mark.entry in IfOk result (λ text.
+        IsTextOfPage format map.now layers.now mark (page_of page.now) (string_bytes text)) }
     ensures same { routes.new ≡ routes.old }
 {
     let matched = matched_on_page(alloc, map, layers, reference, routes, page)?;
@@ -278,7 +279,7 @@ fn text_of_pages(
             reference,
             &mut routes,
             page,
-            mark,
+            Some(mark),
             format,
         )?;
         output.push_str(&text)?;

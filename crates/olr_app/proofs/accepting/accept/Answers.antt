@@ -1,26 +1,23 @@
 use Rattle.std.proofs.Common.{ap, sym, ◌∙◌, subst, inl, inr, refl, Ok, Err, ℕ, List, Option}
-use Rattle.std.proofs.lemmas.Result.{err_from_is_err_and}
 use Rattle.olr_binary.specs.Outcome.{IsOutcome}
 use Rattle.olr_app.specs.Accepting.{Accepts, IsStart}
 use Rattle.olr_app.specs.Fault.{fault_of}
 use Rattle.olr_app.proofs.Accepts.{accepted_once}
+use Rattle.olr_app.proofs.Single.{exit}
 use Rattle.olr_app.proofs.accepting.accept.Goals as goal
 
 pub returns-in_err-reference-clause-only : goal.returns-in_err-reference-clause-only
 returns-in_err-reference-clause-only c =
-    let p = err_from_is_err_and c.from_residual.result c.from_residual.ensures.1 in
     let request = c.args.request.now in
     let why = c.in_err-reference.field-0.0 in
     let outcome = subst (λ (text : List ℕ). IsOutcome text (Err why)) c.text.ensures
     c.in_err-reference.ensures.outcome in
     let is : Accepts request (Err (fault_of why)) = inl (why, outcome, refl) in
     λ other its. accepted_once c.one_outcome.ensures c.one_cursor.ensures request other
-    (Err (fault_of why)) its is ∙ sym (p.1 ∙ ap Err p.2)
+    (Err (fault_of why)) its is ∙ sym (exit c.from_residual.ensures.1)
 
 pub returns-in_err-start-clause-only : goal.returns-in_err-start-clause-only
 returns-in_err-start-clause-only c =
-    let p = err_from_is_err_and c.from_residual-in_err-start.result
-    c.from_residual-in_err-start.ensures.1 in
     let request = c.args.request.now in
     let reference = c.in_ok-reference.reference in
     let why = c.in_err-start.field-0.0 in
@@ -30,7 +27,7 @@ returns-in_err-start-clause-only c =
     c.in_err-start.ensures in
     let is : Accepts request (Err why) = inr (reference, outcome, start) in
     λ other its. accepted_once c.one_outcome.ensures c.one_cursor.ensures request other (Err why) its
-    is ∙ sym (p.1 ∙ ap Err p.2)
+    is ∙ sym (exit c.from_residual-in_err-start.ensures.1)
 
 pub returns-clause-only : goal.returns-clause-only
 returns-clause-only c =

@@ -15,7 +15,7 @@ use Rattle.olr_app.proofs.matching.matched_on_page.Goals as goal
 pub returns-clause-one_each : goal.returns-clause-one_each
 returns-clause-one_each c =
     AllZip-long (IsMatchedBy c.args.routes.now.road c.args.routes.now.layers) c.deref.result.now c.in_ok-matched.matched.items c.in_ok-matched.ensures.matched
-    ∙ ap (λ (l : List KeyValue). length l) c.deref.ensures.value
+    ∙ ap length c.deref.ensures.value
 
 pub returns-clause-shown : goal.returns-clause-shown
 returns-clause-shown c =

@@ -1,5 +1,4 @@
 use Rattle.std.proofs.Common.{◌≡◌, List, All, Contains, true, sym, subst, string_bytes}
-use Rattle.std.proofs.lemmas.Result.{err_from_is_err_and}
 use Rattle.olr_matching.specs.Fingerprint.{IsFingerprint}
 use Rattle.olr_keys.specs.Matching.{IsKey}
 use Rattle.olr_keys.specs.Page.{PageValue}
@@ -8,40 +7,36 @@ use Rattle.olr_app.specs.Matching.{AreLayers, ArePages, AreTextsOfPages, IsPages
 use Rattle.olr_app.specs.Matching.{IsStartHere, OnLayers, OnStart, values_of}
 use Rattle.olr_app.proofs.PagesOf.{keys_of_pages}
 use Rattle.olr_app.proofs.PagesOf.{fault_after, fault_here}
+use Rattle.olr_app.proofs.Single.{exit}
 use Rattle.olr_app.proofs.matching.matchings_of.Goals as goal
 
 pub returns-in_err-known-clause-fault : goal.returns-in_err-known-clause-fault
 returns-in_err-known-clause-fault c =
-    let p = err_from_is_err_and c.from_residual.result c.from_residual.ensures.1 in
     let asked = c.args.asked.now in
     let accepted = c.args.accepted.now in
-    rw (p.1, p.2) (fault_here (IsStartHere asked c.args.map.now accepted.start)
+    rw (exit c.from_residual.ensures.1) (fault_here (IsStartHere asked c.args.map.now accepted.start)
     (OnStart asked accepted.reference c.args.map.now) c.in_err-known.field-0.0
     c.in_err-known.ensures.fault)
 
 pub returns-in_err-layers-clause-fault : goal.returns-in_err-layers-clause-fault
 returns-in_err-layers-clause-fault c =
-    let p = err_from_is_err_and c.from_residual-in_err-layers.result
-    c.from_residual-in_err-layers.ensures.1 in
     let asked = c.args.asked.now in
     let accepted = c.args.accepted.now in
     let road = c.args.map.now in
     let why = c.in_err-layers.field-0.0 in
-    rw (p.1, p.2) (fault_after (IsStartHere asked road accepted.start)
+    rw (exit c.from_residual-in_err-layers.ensures.1) (fault_after (IsStartHere asked road accepted.start)
     (OnStart asked accepted.reference road) accepted.start why c.in_ok-known.ensures.here
     (fault_here (AreLayers asked.tolerances accepted.reference road)
     (OnLayers asked accepted.start road) why c.in_err-layers.ensures.fault))
 
 pub returns-in_err-pages-clause-fault : goal.returns-in_err-pages-clause-fault
 returns-in_err-pages-clause-fault c =
-    let p = err_from_is_err_and c.from_residual-in_err-pages.result
-    c.from_residual-in_err-pages.ensures.1 in
     let asked = c.args.asked.now in
     let accepted = c.args.accepted.now in
     let road = c.args.map.now in
     let layers = c.in_ok-layers.layers in
     let why = c.in_err-pages.field-0.0 in
-    rw (p.1, p.2) (fault_after (IsStartHere asked road accepted.start)
+    rw (exit c.from_residual-in_err-pages.ensures.1) (fault_after (IsStartHere asked road accepted.start)
     (OnStart asked accepted.reference road) accepted.start why c.in_ok-known.ensures.here
     (fault_after (AreLayers asked.tolerances accepted.reference road)
     (OnLayers asked accepted.start road) layers why c.in_ok-layers.ensures.layers
