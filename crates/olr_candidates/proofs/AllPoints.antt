@@ -1,8 +1,7 @@
 -- The lists of the points of a reference, from those of each.
 use Rattle.olr_metric.proofs.Contained.{first_or_last}
 use Rattle.olr_candidates.proofs.LineCandidates.{line_at}
-use Rattle.std.proofs.Common.{◌≡◌, ℕ, ◌+◌, ◌<◌, ◌≤◌, List, [], ◌∷◌, ◌++◌, length, get_or, inl, inr, ap, ◌∙◌}
-use Rattle.std.proofs.lemmas.Bool.{cases_order}
+use Rattle.std.proofs.Common.{◌≡◌, ℕ, ◌+◌, ◌<◌, ◌≤◌, List, [], ◌∷◌, ◌++◌, length, get_or, inl, inr, ap, ◌∙◌, arith}
 use Rattle.std.proofs.lemmas.List.{length-append, map_push, same_lists}
 use Rattle.std.proofs.lemmas.Option.{slice_get-get_or, slice_get_within}
 use Rattle.arrayvec.specs.ArrayVec.{ArrayVec}
@@ -62,8 +61,7 @@ module _ (tolerances : Tolerances) (reference : Reference) (lines : List RoadLin
       → AreLists tolerances reference lines a → AreLists tolerances reference lines b → a ≡ b
   one_lists law a b is other =
       let many : length a ≡ length b = cc in
-      same_lists a b many (λ k d within. law tolerances reference lines k (get_or a k d)
-      (get_or b k d) (list_of_point a is k d within).0
+      same_lists a b many (λ k d within. law _ _ _ _ _ _ (list_of_point a is k d within).0
       (list_of_point b other k d (rw (← many) within)).0)
 
   pub no_lists_and_too_many : NoListOfPointAndTooMany → (lists : List (List Candidate)) (index : ℕ)
@@ -71,15 +69,13 @@ module _ (tolerances : Tolerances) (reference : Reference) (lines : List RoadLin
   no_lists_and_too_many law lists index are many =
       let within : index < length lists =
       rw are.all (slice_get_within (points_of reference) index many.point many.point_is) in
-      law tolerances reference lines index (get_or lists index []) (list_of_point _ are _ [] within)
-      many
+      law _ _ _ _ _ (list_of_point _ are _ [] within) many
 
   pub one_first : NoListOfPointAndTooMany → (a b : ℕ) → IsFirstTooMany tolerances reference lines a
       → IsFirstTooMany tolerances reference lines b → a ≡ b
-  one_first law a b is other = elim (cases_order a b) [
-    | inl same ↦ same
-    | inr (inl less) ↦ absurd (let list = other.before a less in
-        law tolerances reference lines a list.0 list.1 is.too_many)
-    | inr (inr more) ↦ absurd (let list = is.before b more in
-        law tolerances reference lines b list.0 list.1 other.too_many)
-  ]
+  one_first law a b is other =
+      let least : a < b → ⊥ = λ less. let list = other.before a less in
+      law _ _ _ _ _ list.1 is.too_many in
+      let most : b < a → ⊥ = λ more. let list = is.before b more in
+      law _ _ _ _ _ list.1 other.too_many in
+      omega arith

@@ -80,10 +80,7 @@ points_at lines rank line points at is = sym (cc)
 same_candidate : (a b : Candidate) → a.place.line ≡ b.place.line → a.place.at ≡ b.place.at
     → a.penalty ≡ b.penalty → a ≡ b
 same_candidate a b line at penalty =
-    let whole : ◌≡◌ {A = Candidate}
-    (record { place = record { line = a.place.line; at = a.place.at }; penalty = a.penalty })
-    (record { place = record { line = b.place.line; at = b.place.at }; penalty = b.penalty }) =
-    cc in whole
+    λ i. record { place = record { line = line i; at = at i }; penalty = penalty i }
 
 pub one_candidate : OneProjection
     → (tolerances : Tolerances) (origin : Coordinates) (point : Point) (is_last : Bool)
@@ -94,8 +91,7 @@ one_candidate one tolerances origin point is_last lines rank a b is other =
     let line : other.0 ≡ is.0 = cc in
     let also : IsCandidate tolerances origin point is_last is.0 rank b = rw (← line) other.2 in
     let projection : also.projection ≡ is.2.projection =
-    one (polyline_of origin is.0) is.0.length is_last (spot_of origin (coordinates_of point.at))
-    also.projection is.2.projection also.is_projection is.2.is_projection in
+    one _ _ _ _ _ _ also.is_projection is.2.is_projection in
     same_candidate a b (cc) (cc) (cc)
 
 -- a line that fails a condition is no candidate
@@ -108,9 +104,7 @@ rejected one tolerances origin point is_last lines rank rejection fails candidat
     let also : IsCandidate tolerances origin point is_last fails.0 rank candidate =
     rw (← line) is.2 in
     let same : also.projection ≡ fails.2.projection =
-    one (polyline_of origin fails.0) fails.0.length is_last
-    (spot_of origin (coordinates_of point.at))
-    also.projection fails.2.projection also.is_projection fails.2.is_projection in
+    one _ _ _ _ _ _ also.is_projection fails.2.is_projection in
     not_met _ _ _ _ _ _ fails.2.failed
     (subst (λ (p : Projection). MeetsConditions tolerances point is_last (head_of fails.0) p) same
     also.rates.conditions)

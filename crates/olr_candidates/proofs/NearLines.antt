@@ -4,7 +4,6 @@ use Rattle.std.proofs.Common.{◌≡◌, ℕ, Bool, true, false, List, length, O
 use Rattle.std.specs.Prelude.{◌+◌, ◌==◌}
 use Rattle.std.proofs.lemmas.Bool.{MatchBool-at_false}
 use Rattle.olr_metric.specs.Coordinates.{Coordinates, coordinates_of}
-use Rattle.olr_metric.specs.Plane.{spot_of}
 use Rattle.olr_binary.specs.declared.point.Point.{Point}
 use Rattle.olr_binary.specs.Reference.{points_of}
 use Rattle.olr_map.specs.Rows.{RoadLine}
@@ -19,7 +18,6 @@ use Rattle.olr_candidates.specs.Candidate.{IsWithinRadius, IsAlikeInBearing, IsA
 use Rattle.olr_candidates.specs.Candidates.{IsCandidateAt}
 use Rattle.olr_candidates.specs.Laws.{CandidatesFailNone, IsAsCandidate, NearAreCandidates, OneNearLine}
 use Rattle.olr_candidates.specs.Near.{AreFailed, Describes, FailsExactly, HasPenalty, IsNearLine, IsNearLineAt, none_failed}
-use Rattle.olr_candidates.specs.Projection.{polyline_of}
 use Rattle.olr_candidates.proofs.LineCandidates.{OneProjection}
 
 -- ---- by one projection
@@ -41,33 +39,20 @@ not_raised false Condition exactly is = refl
 same_conditions : (a b : FailedConditions) → a.radius ≡ b.radius → a.bearing ≡ b.bearing
     → a.class ≡ b.class → a.end ≡ b.end → a ≡ b
 same_conditions a b radius bearing class end =
-    let whole : ◌≡◌ {A = FailedConditions}
-    (record { radius = a.radius; bearing = a.bearing; class = a.class; end = a.end })
-    (record { radius = b.radius; bearing = b.bearing; class = b.class; end = b.end }) = cc in whole
+    λ i. record { radius = radius i; bearing = bearing i; class = class i; end = end i }
 
 same_near : (a b : NearLine) → a.line ≡ b.line → a.distance ≡ b.distance → a.at ≡ b.at
     → a.sector ≡ b.sector
     → a.failed ≡ b.failed → a.penalty ≡ b.penalty → a ≡ b
 same_near a b line distance at sector failed penalty =
-    let whole : ◌≡◌ {A = NearLine}
-    (record {
-      line = a.line;
-      distance = a.distance;
-      at = a.at;
-      sector = a.sector;
-      failed =
-          a.failed;
-      penalty = a.penalty;
-    })
-    (record {
-      line = b.line;
-      distance = b.distance;
-      at = b.at;
-      sector = b.sector;
-      failed =
-          b.failed;
-      penalty = b.penalty;
-    }) = cc in whole
+    λ i. record {
+      line = line i;
+      distance = distance i;
+      at = at i;
+      sector = sector i;
+      failed = failed i;
+      penalty = penalty i;
+    }
 
 module _ (tolerances : Tolerances) (point : Point) (is_last : Bool) (line : Line)
     (projection : Projection) where
@@ -160,9 +145,7 @@ module _ (one : OneProjection) (tolerances : Tolerances) (origin : Coordinates) 
       let line : other.0 ≡ is.0 = cc in
       let also : IsNearLine tolerances origin point is_last is.0 rank b = rw (← line) other.2 in
       let same : also.projection ≡ is.2.projection =
-      one (polyline_of origin is.0) is.0.length is_last
-      (spot_of origin (coordinates_of point.at))
-      also.projection is.2.projection also.is_projection is.2.is_projection in
+      one _ _ _ _ _ _ also.is_projection is.2.is_projection in
       rw (← same) also.describes
 
   pub one_near : (a b : NearLine) → IsNearLineAt tolerances origin point is_last lines rank a
@@ -181,9 +164,7 @@ module _ (one : OneProjection) (tolerances : Tolerances) (origin : Coordinates) 
       let also : IsCandidate tolerances origin point is_last is.0 rank candidate =
       rw (← line) other.2 in
       let same : also.projection ≡ is.2.projection =
-      one (polyline_of origin is.0) is.0.length is_last
-      (spot_of origin (coordinates_of point.at))
-      also.projection is.2.projection also.is_projection is.2.is_projection in
+      one _ _ _ _ _ _ also.is_projection is.2.is_projection in
       rw (← same) also.rates
 
   pub candidate_fails_none : (near : NearLine) (candidate : Candidate)

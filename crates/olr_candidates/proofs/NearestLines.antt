@@ -1,7 +1,7 @@
 -- The nearest of the lines that were tested, and those of all lines.
 use Rattle.std.proofs.lemmas.List.FromFn.{length-range_with_len, get_or-range_with_len}
 use Rattle.std.proofs.Common.{◌≡◌, ◌≢◌, Bool, ℕ, ◌+◌, ◌-◌, ◌*◌, ◌<◌, ◌≤◌, List, [], ◌∷◌, ◌++◌, length, get_or, take, drop, All, inl, inr, sym, ◌∙◌, subst, arith, length-append}
-use Rattle.std.specs.Prelude.{◌⊎◌, AllPairs, Contains, min, ◌==◌}
+use Rattle.std.specs.Prelude.{◌⊎◌, AllPairs, Contains, min}
 use Rattle.std.specs.List.{insert, range_with_len}
 use Rattle.std.proofs.lemmas.Bool.{cases_lt}
 use Rattle.std.proofs.lemmas.List.{length-take, get_or-take, get_or_default, take-append-le}
@@ -9,15 +9,14 @@ use Rattle.std.proofs.lemmas.List.Edits.{length-insert}
 use Rattle.std.proofs.lemmas.List.Elements.{All-append, All-cons, All-drop, All-nil, All-take, All-weaker}
 use Rattle.std.proofs.lemmas.List.Sorted.{Contains-permutation, IsPermutation-insert}
 use Rattle.std.proofs.lemmas.Option.{get_or_from_slice_get, slice_get_within}
-use Rattle.olr_metric.specs.Coordinates.{Coordinates, coordinates_of}
+use Rattle.olr_metric.specs.Coordinates.{Coordinates}
 use Rattle.olr_binary.specs.declared.point.Point.{Point}
-use Rattle.olr_binary.specs.Reference.{points_of}
 use Rattle.olr_map.specs.Rows.{RoadLine}
 use Rattle.olr_candidates.specs.declared.near.NearLine.{NearLine}
 use Rattle.olr_candidates.specs.declared.query.Query.{Query}
 use Rattle.olr_candidates.specs.declared.tolerances.Tolerances.{Tolerances}
 use Rattle.olr_candidates.specs.Laws.{NearIsOfLines, NearestAreInOrderOfIds, NearestAreNear, OneListOfNearest}
-use Rattle.olr_candidates.specs.Near.{AreNearest, IsNearer, IsNearLineAt, IsOneNear}
+use Rattle.olr_candidates.specs.Near.{AreNearest, IsNearer, IsOneNear}
 use Rattle.olr_candidates.specs.Nearest.{AnswersNearest, AreNearestAmong, AreNearestWithin, FindsNear, IsAmong, IsBehindLast, Keeps}
 use Rattle.olr_candidates.proofs.ByNumbers.{not_before, one_way, through}
 use Rattle.olr_metric.proofs.Contained.{here, further, no_longer}
@@ -309,26 +308,23 @@ module _ (query : Query) (lines : List RoadLine) where
 
 -- ---- one list
 
-first_of : (tolerances : Tolerances) (origin : Coordinates) (point : Point) (is_last : Bool)
-    (lines : List RoadLine) (count : ℕ) (nearest : List NearLine)
+first_of : {tolerances : Tolerances} {origin : Coordinates} {point : Point} {is_last : Bool}
+    {lines : List RoadLine} {count : ℕ} {nearest : List NearLine}
     → AreNearest tolerances origin point is_last lines count nearest
     → AreFirst IsNearer near_one_way (IsOneNear tolerances origin point is_last lines) nearest
-first_of tolerances origin point is_last lines count nearest are =
-    record { only = are.only; rise = are.rise; others = are.others }
+first_of are = record { only = are.only; rise = are.rise; others = are.others }
 
-one_nearest : (tolerances : Tolerances) (origin : Coordinates) (point : Point) (is_last : Bool)
-    (lines : List RoadLine) (count : ℕ) (a b : List NearLine)
+one_nearest : {tolerances : Tolerances} {origin : Coordinates} {point : Point} {is_last : Bool}
+    {lines : List RoadLine} {count : ℕ} {a b : List NearLine}
     → AreNearest tolerances origin point is_last lines count a
     → AreNearest tolerances origin point is_last lines count b → a ≡ b
-one_nearest tolerances origin point is_last lines count a b is other =
-    same_beginning _ _ a b _ (cc)
-    (first_of _ _ _ _ _ _ a is) (first_of _ _ _ _ _ _ b other)
+one_nearest is other = same_beginning _ _ _ _ _ (cc) (first_of is) (first_of other)
 
 pub one_list_of_nearest : OneListOfNearest
 one_list_of_nearest tolerances reference lines index count a b is other =
     let first : other.first ≡ is.first = cc in
     let point : other.point ≡ is.point = cc in
-    one_nearest _ _ _ _ _ _ a b is.just (rw (← first, ← point) other.just)
+    one_nearest is.just (rw (← first, ← point) other.just)
 
 -- ---- the lines of the list
 
@@ -341,9 +337,7 @@ nearest_are_near tolerances reference lines index count nearest are k d inside =
       point = are.point;
       first_is = are.first_is;
       point_is = are.point_is;
-      just = subst (λ r. IsNearLineAt tolerances (coordinates_of are.first.at) are.point
-          (index + 1 == length (points_of reference)) lines r item)
-          (cc) is.1;
+      just = let rank : is.0 ≡ item.line = cc in rw (← rank) is.1;
     }
 
 pub near_is_of_lines : NearIsOfLines

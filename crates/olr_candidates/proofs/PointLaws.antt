@@ -20,29 +20,23 @@ pub one_list : OneList → OneListOfPoint
 one_list law tolerances reference lines index a b is other =
     let first : other.first ≡ is.first = cc in
     let point : other.point ≡ is.point = cc in
-    law tolerances (coordinates_of is.first.at) is.point (index + 1 == length (points_of reference))
-    lines a b is.just (rw (← first, ← point) other.just)
+    law _ _ _ _ _ a b is.just (rw (← first, ← point) other.just)
 
 pub not_both : NoListAndTooMany → NoListOfPointAndTooMany
 not_both law tolerances reference lines index list are many =
     let first : many.first ≡ are.0.first = cc in
     let point : many.point ≡ are.0.point = cc in
-    law tolerances (coordinates_of are.0.first.at) are.0.point
-    (index + 1 == length (points_of reference)) lines list are.0.just are.1
+    law _ _ _ _ _ list are.0.just are.1
     (rw (← first, ← point) many.many)
 
 pub are_places : HoldsOfEach IsOfLines → HoldsOfEach LiesUpToEnd → ArePlaces
 are_places of_lines up_to_end tolerances reference road index candidates are k d within =
-    let last = index + 1 == length (points_of reference) in
     let at = line_at _ (get_or candidates k d).place.line
-    (of_lines tolerances (coordinates_of are.first.at) are.point last road.lines candidates are.just
-    k d within) in
+    (of_lines _ _ _ _ _ _ are.just k d within) in
     record {
       line = at.0;
       at_rank = at.1;
-      up_to_end =
-          up_to_end tolerances (coordinates_of are.first.at) are.point last road.lines candidates
-          are.just k d within at.0 at.1;
+      up_to_end = up_to_end _ _ _ _ _ _ are.just k d within at.0 at.1;
     }
 
 pub are_departures : HoldsOfEach IsOfLines → HoldsOfEach LiesOnLine → AreDepartures
@@ -54,15 +48,11 @@ are_departures of_lines on_line tolerances reference road index candidates befor
     )) in
     let just : AreCandidates tolerances (coordinates_of are.first.at) are.point false road.lines
     candidates = rw (← not_last) are.just in
-    let at = line_at _ (get_or candidates k d).place.line
-    (of_lines tolerances (coordinates_of are.first.at) are.point false road.lines candidates just k
-    d within) in
+    let at = line_at _ (get_or candidates k d).place.line (of_lines _ _ _ _ _ _ just k d within) in
     record {
       line = at.0;
       at_rank = at.1;
-      before_end =
-          on_line tolerances (coordinates_of are.first.at) are.point false road.lines candidates just
-          k d within at.0 at.1;
+      before_end = on_line _ _ _ _ _ _ just k d within at.0 at.1;
     }
 
 -- a line that fails a condition is no candidate

@@ -43,16 +43,14 @@ same_bearing alongs one none polyline is_last near a b has other =
 same_projection : (a b : Projection) → a.distance ≡ b.distance → a.at ≡ b.at → a.sector ≡ b.sector
     → a ≡ b
 same_projection a b distance at sector =
-    let whole : ◌≡◌ {A = Projection}
-    (record { distance = a.distance; at = a.at; sector = a.sector })
-    (record { distance = b.distance; at = b.at; sector = b.sector }) = cc in whole
+    λ i. record { distance = distance i; at = at i; sector = sector i }
 
 pub one_projection : OneNearest → OneAlong → OneSector → NoSector
     → (polyline : List Spot) (length : ℕ) (is_last : Bool) (p : Spot) (a b : Projection)
     → IsProjection polyline length is_last p a → IsProjection polyline length is_last p b → a ≡ b
 one_projection nearests alongs one none polyline length is_last p a b is_projection other =
     let same : other.near ≡ is_projection.near =
-    nearests polyline p other.near is_projection.near other.nearest is_projection.nearest in
+    nearests _ _ _ _ other.nearest is_projection.nearest in
     same_projection a b
     (cc)
     (cc)

@@ -13,29 +13,24 @@ unfolding lines_of
 lines_of-other byte rest other =
     elim (eqb_tells byte 10) [ inl same ↦ absurd (other same.1) | inr differs ↦ rw differs.0 refl ]
 
-no_lf_head : (byte : ℕ) (rest : List ℕ) → HasNoLf (byte ∷ rest) → byte ≢ 10
-no_lf_head = All-head (λ b. b ≢ 10)
-
-no_lf_tail : (byte : ℕ) (rest : List ℕ) → HasNoLf (byte ∷ rest) → HasNoLf rest
-no_lf_tail = All-tail (λ b. b ≢ 10)
-
 -- a line before an LF
 pub lines_of-lf : (line rest : List ℕ) → HasNoLf line
     → lines_of (line ++ 10 ∷ rest) ≡ line ∷ lines_of rest
 unfolding lines_of
 lines_of-lf [] rest free = refl
 lines_of-lf (byte ∷ line) rest free =
-    lines_of-other _ (line ++ 10 ∷ rest) (no_lf_head _ _ free)
-    ∙ ap (onto byte) (lines_of-lf _ rest (no_lf_tail _ _ free))
+    lines_of-other _ (line ++ 10 ∷ rest) (All-head (λ b. b ≢ 10) byte line free)
+    ∙ ap (onto byte) (lines_of-lf _ rest (All-tail (λ b. b ≢ 10) byte line free))
 
 -- a last line, which no LF ends
 pub lines_of-last : (line : List ℕ) → HasNoLf line → line ≢ [] → lines_of line ≡ line ∷ []
 unfolding lines_of
 lines_of-last [] free some = absurd (some refl)
-lines_of-last (byte ∷ []) free some = lines_of-other _ [] (no_lf_head _ [] free)
+lines_of-last (byte ∷ []) free some = lines_of-other _ [] (All-head (λ b. b ≢ 10) byte [] free)
 lines_of-last (byte ∷ next ∷ line) free some =
-    lines_of-other _ (next ∷ line) (no_lf_head _ (next ∷ line) free)
-    ∙ ap (onto byte) (lines_of-last _ (no_lf_tail _ (next ∷ line) free) (λ e. absurd cc))
+    lines_of-other _ (next ∷ line) (All-head (λ b. b ≢ 10) byte (next ∷ line) free)
+    ∙ ap (onto byte) (lines_of-last _ (All-tail (λ b. b ≢ 10) byte (next ∷ line) free)
+    (λ e. absurd cc))
 
 -- what is consumed up to an LF is the next line
 pub next_of_lf : (line : List ℕ) (a b : Option (List ℕ)) → HasNoLf line
