@@ -17,26 +17,34 @@ use Rattle.olr_route.specs.Walk.{start_of}
 use Rattle.olr_route.proofs.Walks.{found, walks_known}
 
 -- what was reached still is
-pub still_reached : (search : Search) (line at_end : ℕ) (old new : ℕ → Option ℕ) (before after : List Arrival) → IsArrived search line at_end old new before after
-    → (lines : List ℕ) (count : ℕ) → AreReachedFirst old lines count → AreReachedFirst new lines count
-still_reached search line at_end old new before after goes lines count reached index target less is = grind arith
+pub still_reached : (search : Search) (line at_end : ℕ) (old new : ℕ → Option ℕ)
+    (before after : List Arrival) → IsArrived search line at_end old new before after
+    → (lines : List ℕ) (count : ℕ) → AreReachedFirst old lines count
+    → AreReachedFirst new lines count
+still_reached search line at_end old new before after goes lines count reached index target less
+    is = grind arith
 
 -- all of the lines that it is asked for were reached
-pub all_reached : (asked : Option (List ℕ)) (table : ℕ → Option ℕ) (lines : List ℕ) (count : ℕ) → lines ≡ unwrap_or asked [] → IsSome asked → count ≡ length lines
+pub all_reached : (asked : Option (List ℕ)) (table : ℕ → Option ℕ) (lines : List ℕ) (count : ℕ)
+    → lines ≡ unwrap_or asked [] → IsSome asked → count ≡ length lines
     → AreReachedFirst table lines count → AreAllReached asked table
 all_reached None table lines count is some all reached = absurd (cc some)
 all_reached (Some asked) table lines count is some all reached =
-    subst (λ (l : List ℕ). AreReachedFirst table l (length l)) is (subst (λ (n : ℕ). AreReachedFirst table lines n) all reached)
+    subst (λ (l : List ℕ). AreReachedFirst table l (length l)) is
+    (subst (λ (n : ℕ). AreReachedFirst table lines n) all reached)
 
 -- ---- what a search found
 
 -- each line that is asked for is reached
-reached_asked : (asked : Option (List ℕ)) (table : ℕ → Option ℕ) → AreAllReached asked table → (line : ℕ) → IsAskedFor asked line → IsSome (table line)
+reached_asked : (asked : Option (List ℕ)) (table : ℕ → Option ℕ) → AreAllReached asked table
+    → (line : ℕ) → IsAskedFor asked line → IsSome (table line)
 reached_asked None table all line is = absurd all
 reached_asked (Some lines) table all line is = grind (arith, slice_get-get_or)
 
-module _ (road : RoadMap) (lengths : Lengths) (sound : IsSoundMap road) (departure : IsDeparture road lengths.from)
-    (has : HasEnded road lengths.class lengths.from lengths.asked lengths.limit (length_to_start road lengths)) where
+module _ (road : RoadMap) (lengths : Lengths) (sound : IsSoundMap road)
+    (departure : IsDeparture road lengths.from)
+    (has : HasEnded road lengths.class lengths.from lengths.asked lengths.limit
+    (length_to_start road lengths)) where
   abbrev class : ℕ
   class = lengths.class
 
@@ -46,10 +54,12 @@ module _ (road : RoadMap) (lengths : Lengths) (sound : IsSoundMap road) (departu
   abbrev table : ℕ → Option ℕ
   table = length_to_start road lengths
 
-  -- What is known of a line that it was asked for: the least length up to the limit, and the search went as far as that.
+  -- What is known of a line that it was asked for: the least length up to the limit, and the search
+  -- went as far as that.
   record IsTold (line : ℕ) (known : Option ℕ) : Type 0 where
     is : IsLengthWithin road class from (start_of line) lengths.limit known
-    far : (least : ℕ) → IsLeastLength road class from (start_of line) least → least ≤ lengths.limit → least ≤ has.searched
+    far : (least : ℕ) → IsLeastLength road class from (start_of line) least → least ≤ lengths.limit
+        → least ≤ has.searched
 
   told_up_to : (line : ℕ) → IsAskedFor lengths.asked line → (known : Option ℕ) → table line ≡ known
       → IsLengthWithin road class from (start_of line) has.searched known → IsTold line known
@@ -62,18 +72,26 @@ module _ (road : RoadMap) (lengths : Lengths) (sound : IsSoundMap road) (departu
   ]
   told_up_to line is (Some len) known (shortest, within) = record {
     is = (shortest, omega (arith, within, has.at_most));
-    far = λ least other _. omega (arith, within, shortest.long, other.least shortest.behind shortest.is);
+    far = λ least other _. omega (
+      arith,
+      within,
+      shortest.long,
+      other.least shortest.behind
+          shortest.is,
+    );
   }
 
   told : (line : ℕ) → IsAskedFor lengths.asked line → IsTold line (table line)
   told line is = told_up_to line is (table line) refl
-      (found road class from lengths.asked has.searched table has.knows has.settled sound departure line is)
+      (found road class from lengths.asked has.searched table has.knows has.settled sound departure
+      line is)
 
   -- so it holds the lengths of the map
   pub held_by : AreLengthsOn road lengths
   held_by = record {
     from_map = departure;
-    sound = λ line length known. let was = has.knows.sound line length known in (omega (arith, was.0, has.at_most), was.1);
+    sound = λ line length known. let was = has.knows.sound line length known in
+        (omega (arith, was.0, has.at_most), was.1);
     each = λ line is. (told line is).is;
     walks = λ target is n line len rest reaches on least shortest long within.
         walks_known road class from lengths.asked has.searched table has.knows has.settled target is
@@ -83,12 +101,21 @@ module _ (road : RoadMap) (lengths : Lengths) (sound : IsSoundMap road) (departu
 -- ---- the lines of targets
 
 -- a search that is asked for the lines of some places tells the lengths to them
-pub all_told : (lines : List ℕ) (targets : List Place) → lines ≡ map (λ (place : Place). place.line) targets → All (λ (target : Place). Contains lines target.line) targets
-all_told lines targets are = rw are (λ k d inside.
-    (k, omega (arith, inside, length-map targets (λ (place : Place). place.line)), get_or-map (λ (place : Place). place.line) targets k d _ inside))
+pub all_told : (lines : List ℕ) (targets : List Place)
+    → lines ≡ map (λ (place : Place). place.line) targets
+    → All (λ (target : Place). Contains lines target.line) targets
+all_told lines targets are = rw are (λ k d inside. (
+  k,
+  omega (arith, inside, length-map targets (λ (place : Place). place.line)),
+  get_or-map
+      (λ (place : Place). place.line) targets k d _ inside,
+))
 
 -- the lines are on the map where the places are
-pub lines_inside : (road : RoadMap) (lines : List ℕ) (targets : List Place) → lines ≡ map (λ (place : Place). place.line) targets → All (IsPlace road) targets
+pub lines_inside : (road : RoadMap) (lines : List ℕ) (targets : List Place)
+    → lines ≡ map (λ (place : Place). place.line) targets → All (IsPlace road) targets
     → All (λ line. line < length road.lines) lines
-lines_inside road lines targets are on_map = rw are (All-map (λ (line : ℕ). line < length road.lines) (λ (place : Place). place.line) targets
-    (λ k d inside. let on = on_map k d inside in slice_get_within road.lines (get_or targets k d).line on.line on.at_rank))
+lines_inside road lines targets are on_map =
+    rw are (All-map (λ (line : ℕ). line < length road.lines) (λ (place : Place). place.line) targets
+    (λ k d inside. let on = on_map k d inside in
+    slice_get_within road.lines (get_or targets k d).line on.line on.at_rank))

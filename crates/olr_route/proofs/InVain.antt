@@ -21,7 +21,8 @@ module _ (road : RoadMap) (class target : ℕ) where
     joins : Joins road count from line.from length
 
   -- lines that lead on are lines that join
-  joined : (line : ℕ) (row : RoadLine) (rest : List ℕ) → slice_get road.lines line ≡ Some row → LeadTo road class (start_of line) (start_of target) rest
+  joined : (line : ℕ) (row : RoadLine) (rest : List ℕ) → slice_get road.lines line ≡ Some row
+      → LeadTo road class (start_of line) (start_of target) rest
       → AreJoined row.from (walk_length road (start_of line) (start_of target) rest)
   joined line row [] at on = record {
     line = row;
@@ -31,8 +32,11 @@ module _ (road : RoadMap) (class target : ℕ) where
   }
   joined line row (next ∷ rest) at on =
       let turn = on.turns.0 in
-      let more : AreJoined turn.after.from (walk_length road (start_of next) (start_of target) rest) = joined next turn.after rest turn.enters (behind_first on) in
-      let meets = meets_there road line row.to (record { here = row; at = at; to = refl }) next turn in
+      let more : AreJoined turn.after.from
+      (walk_length road (start_of next) (start_of target) rest) =
+      joined next turn.after rest turn.enters (behind_first on) in
+      let meets = meets_there road line row.to (record { here = row; at = at; to = refl }) next
+      turn in
       record {
         line = more.line;
         at = more.at;
@@ -43,18 +47,29 @@ module _ (road : RoadMap) (class target : ℕ) where
           walk_length road (start_of next) (start_of target) rest,
           at,
           refl,
-          subst (λ (node : ℕ). Joins road more.count node more.line.from (walk_length road (start_of next) (start_of target) rest)) meets more.joins,
-          omega (arith, rest_more road (start_of line) (start_of target) next rest, length_here road line row at),
+          subst (λ (node : ℕ). Joins road more.count node more.line.from
+              (walk_length road (start_of next) (start_of target) rest)) meets more.joins,
+          omega (
+            arith,
+            rest_more road (start_of line) (start_of target) next rest,
+            length_here road
+                line row at,
+          ),
         );
       }
 
 -- the goals are too far from the node for what is left
-pub too_far : (search : Search) (goals : GoalLines) (node line at_end : ℕ) → search.goals ≡ Some goals → AreGoalsOn search.map.now goals → EndsAt search.map.now node line
+pub too_far : (search : Search) (goals : GoalLines) (node line at_end : ℕ)
+    → search.goals ≡ Some goals → AreGoalsOn search.map.now goals → EndsAt search.map.now node line
     → search.limit < at_end + slice_index goals.least node → MayGoOn search line at_end → ⊥
 too_far search goals node line at_end is on ends past (next, turn, useful) =
-    let there = joined search.map.now search.class useful.target next turn.after useful.rest turn.enters useful.on in
-    let asked = subst (λ (o : Option GoalLines). IsAskedFor (option_map (λ (g : GoalLines). g.lines) o) useful.target) is useful.is_asked in
+    let there = joined search.map.now search.class useful.target next turn.after useful.rest
+    turn.enters useful.on in
+    let asked = subst (λ (o : Option GoalLines). IsAskedFor
+    (option_map (λ (g : GoalLines). g.lines) o) useful.target) is useful.is_asked in
     let here = meets_there search.map.now line node ends next turn in
     let length = walk_length search.map.now (start_of next) (start_of useful.target) useful.rest in
-    let least = on useful.target node there.count length there.line asked there.at (subst (λ (n : ℕ). Joins search.map.now there.count n there.line.from length) here there.joins) in
+    let least = on useful.target node there.count length there.line asked there.at
+    (subst (λ (n : ℕ). Joins search.map.now there.count n there.line.from length) here
+    there.joins) in
     omega (arith, past, least, useful.within)

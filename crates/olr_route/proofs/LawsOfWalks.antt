@@ -17,37 +17,70 @@ use Rattle.olr_map.specs.Rows.{RoadLine}
 
 -- ---- lengths
 
-pub least_once : (road : RoadMap) (class : ℕ) (from to : Place) (a b : ℕ) → IsLeastLength road class from to a → IsLeastLength road class from to b → a ≡ b
-least_once road class from to a b is other = omega (arith, is.long, other.long, is.least other.behind other.is, other.least is.behind is.is)
+pub least_once : (road : RoadMap) (class : ℕ) (from to : Place) (a b : ℕ)
+    → IsLeastLength road class from to a → IsLeastLength road class from to b → a ≡ b
+least_once road class from to a b is other =
+    omega (arith, is.long, other.long, is.least other.behind other.is, other.least is.behind is.is)
 
-wider_walk : (road : RoadMap) (class wider : ℕ) (from to : Place) (behind : List ℕ) → class ≤ wider → IsWalk road class from to behind → IsWalk road wider from to behind
+wider_walk : (road : RoadMap) (class wider : ℕ) (from to : Place) (behind : List ℕ) → class ≤ wider
+    → IsWalk road class from to behind → IsWalk road wider from to behind
 wider_walk road class wider from to behind more is = record {
   on = record {
     turns = is.on.turns;
     ends = is.on.ends;
     drivable = λ k d inside positive.
-        let clear = is.on.drivable k d inside positive in record { line = clear.line; at = clear.at; within = omega (arith, more, clear.within) };
+        let clear = is.on.drivable k d inside positive in
+        record { line = clear.line; at = clear.at; within = omega (arith, more, clear.within) };
   };
   forwards = is.forwards;
 }
 
-pub no_longer_with_more : (road : RoadMap) (class wider : ℕ) (from to : Place) (a b : ℕ) → class ≤ wider → IsLeastLength road class from to a → IsLeastLength road wider from to b → b ≤ a
-no_longer_with_more road class wider from to a b more is other = omega (arith, is.long, other.least is.behind (wider_walk road class wider from to is.behind more is.is))
+pub no_longer_with_more : (road : RoadMap) (class wider : ℕ) (from to : Place) (a b : ℕ)
+    → class ≤ wider → IsLeastLength road class from to a → IsLeastLength road wider from to b
+    → b ≤ a
+no_longer_with_more road class wider from to a b more is other =
+    omega (
+      arith,
+      is.long,
+      other.least is.behind
+          (wider_walk road class wider from to is.behind more is.is),
+    )
 
 -- ---- a walk that goes on is longer
 
 module _ (road : RoadMap) (sound : IsSoundMap road) (to : Place) (end : IsPlace road to) where
   -- what follows a walk ends at the place too
-  rest_ends : (line : ℕ) (rest : List ℕ) → last_line line rest ≡ to.line → to.at ≤ walk_length road (start_of line) to rest
+  rest_ends : (line : ℕ) (rest : List ℕ) → last_line line rest ≡ to.line
+      → to.at ≤ walk_length road (start_of line) to rest
   rest_ends line [] ends = omega (arith, rest_last road (start_of line) to)
-  rest_ends line (next ∷ rest) ends = omega (arith, rest_more road (start_of line) to next rest, rest_ends next rest ends)
+  rest_ends line (next ∷ rest) ends =
+      omega (arith, rest_more road (start_of line) to next rest, rest_ends next rest ends)
 
-  longer : (place : Place) (behind : List ℕ) (next : ℕ) (more : List ℕ) → AreTurns road place.line (behind ++ next ∷ more) → last_line place.line behind ≡ to.line
-      → last_line place.line (behind ++ next ∷ more) ≡ to.line → (behind ≡ [] → place.at ≤ to.at) → walk_length road place to behind < walk_length road place to (behind ++ next ∷ more)
+  longer : (place : Place) (behind : List ℕ) (next : ℕ) (more : List ℕ)
+      → AreTurns road place.line (behind ++ next ∷ more) → last_line place.line behind ≡ to.line
+      → last_line place.line (behind ++ next ∷ more) ≡ to.line → (behind ≡ [] → place.at ≤ to.at)
+      → walk_length road place to behind < walk_length road place to (behind ++ next ∷ more)
   longer place [] next more (turn, turns) ends ends_more before =
-      let size : to.at ≤ length_at road place.line = omega (arith, end.up_to_end, length_here road to.line end.line end.at_rank, ap (λ (l : ℕ). length_at road l) ends) in
-      let positive : 0 < length_at road place.line = long_before_turn road place.line next sound turn in
-      omega (arith, rest_last road place to, rest_more road place to next more, rest_ends next more ends_more, size, positive, before refl)
+      let size : to.at ≤ length_at road place.line =
+      omega (
+        arith,
+        end.up_to_end,
+        length_here road to.line end.line end.at_rank,
+        ap
+            (λ (l : ℕ). length_at road l) ends,
+      ) in
+      let positive : 0 < length_at road place.line =
+      long_before_turn road place.line next sound turn in
+      omega (
+        arith,
+        rest_last road place to,
+        rest_more road place to next more,
+        rest_ends next more
+            ends_more,
+        size,
+        positive,
+        before refl,
+      )
   longer place (first ∷ behind) next more (turn, turns) ends ends_more before =
       omega (
         arith,
@@ -56,47 +89,65 @@ module _ (road : RoadMap) (sound : IsSoundMap road) (to : Place) (end : IsPlace 
         longer (start_of first) behind next more turns ends ends_more (λ _. omega arith),
       )
 
-pub no_beginning : (road : RoadMap) (class : ℕ) (from to : Place) (behind more : List ℕ) → IsSoundMap road → IsPlace road to → IsWalk road class from to behind → IsWalk road class from to (behind ++ more)
+pub no_beginning : (road : RoadMap) (class : ℕ) (from to : Place) (behind more : List ℕ)
+    → IsSoundMap road → IsPlace road to → IsWalk road class from to behind
+    → IsWalk road class from to (behind ++ more)
     → walk_length road from to (behind ++ more) ≡ walk_length road from to behind → more ≡ []
 no_beginning road class from to behind [] sound end is other same = refl
 no_beginning road class from to behind (next ∷ more) sound end is other same =
-    absurd (omega (arith, same, longer road sound to end from behind next more other.on.turns is.on.ends other.on.ends (λ none. omega (arith, is.forwards none))))
+    absurd (omega (
+      arith,
+      same,
+      longer road sound to end from behind next more other.on.turns
+          is.on.ends other.on.ends (λ none. omega (arith, is.forwards none)),
+    ))
 
 -- ---- one route
 
 module _ (road : RoadMap) (sound : IsSoundMap road) where
-  same_id : (a b : ℕ) → a < length road.lines → b < length road.lines → id_at road a ≡ id_at road b → a ≡ b
-  same_id a b a_inside b_inside same = let less = ids_rise road a b sound in let more = ids_rise road b a sound in grind arith
+  same_id : (a b : ℕ) → a < length road.lines → b < length road.lines → id_at road a ≡ id_at road b
+      → a ≡ b
+  same_id a b a_inside b_inside same = let less = ids_rise road a b sound in
+      let more = ids_rise road b a sound in grind arith
 
-  same_walk : (line other : ℕ) (a b : List ℕ) → AreTurns road line a → AreTurns road other b → IsUpTo (ids_of road a) (ids_of road b) → IsUpTo (ids_of road b) (ids_of road a) → a ≡ b
+  same_walk : (line other : ℕ) (a b : List ℕ) → AreTurns road line a → AreTurns road other b
+      → IsUpTo (ids_of road a) (ids_of road b) → IsUpTo (ids_of road b) (ids_of road a) → a ≡ b
   same_walk line other [] [] turns others up down = refl
   same_walk line other [] (y ∷ b) turns others up down = absurd down
   same_walk line other (x ∷ a) [] turns others up down = absurd up
   same_walk line other (x ∷ a) (y ∷ b) (turn, turns) (next, others) up down =
       let same : id_at road x ≡ id_at road y = grind arith in
-      let here = same_id x y (slice_get_within road.lines x turn.after turn.enters) (slice_get_within road.lines y next.after next.enters) same in
-      ap (λ (r : ℕ). r ∷ a) here ∙ ap (λ (l : List ℕ). y ∷ l) (same_walk x y a b turns others (grind arith) (grind arith))
+      let here = same_id x y (slice_get_within road.lines x turn.after turn.enters)
+      (slice_get_within road.lines y next.after next.enters) same in
+      ap (λ (r : ℕ). r ∷ a) here ∙ ap (λ (l : List ℕ). y ∷ l)
+      (same_walk x y a b turns others (grind arith) (grind arith))
 
-  pub route_once : (class : ℕ) (from to : Place) (a b : List ℕ) → IsRoute road class from to a → IsRoute road class from to b → a ≡ b
+  pub route_once : (class : ℕ) (from to : Place) (a b : List ℕ) → IsRoute road class from to a
+      → IsRoute road class from to b → a ≡ b
   route_once class from to a b is other =
-      let long : walk_length road from to b ≡ walk_length road from to a = omega (arith, is.least b other.is, other.least a is.is) in
-      same_walk from.line from.line a b is.is.on.turns other.is.on.turns (is.first b other.is long) (other.first a is.is (sym long))
+      let long : walk_length road from to b ≡ walk_length road from to a =
+      omega (arith, is.least b other.is, other.least a is.is) in
+      same_walk from.line from.line a b is.is.on.turns other.is.on.turns (is.first b other.is long)
+      (other.first a is.is (sym long))
 
 -- ---- the pieces of a route
 
 module _ (road : RoadMap) (to : Place) (end : IsPlace road to) where
-  all_on : (line at : ℕ) (here : RoadLine) (behind : List ℕ) → slice_get road.lines line ≡ Some here → at ≤ here.length → AreTurns road line behind → last_line line behind ≡ to.line
+  all_on : (line at : ℕ) (here : RoadLine) (behind : List ℕ) → slice_get road.lines line ≡ Some here
+      → at ≤ here.length → AreTurns road line behind → last_line line behind ≡ to.line
       → (behind ≡ [] → at ≤ to.at) → All (IsPieceOn road) (pieces_from road line at behind to.at)
   all_on line at here [] is before turns ends forwards =
       All-cons (IsPieceOn road) (record { line = line; from = at; to = to.at }) []
       (record {
         line = end.line;
-        at_rank = subst (λ (rank : ℕ). slice_get road.lines rank ≡ Some end.line) (sym ends) end.at_rank;
+        at_rank = subst (λ (rank : ℕ). slice_get road.lines rank ≡ Some end.line) (sym ends)
+            end.at_rank;
         forwards = forwards refl;
         up_to_end = end.up_to_end;
       }) (All-nil (IsPieceOn road))
   all_on line at here (next ∷ behind) is before (turn, turns) ends forwards =
-      All-cons (IsPieceOn road) (record { line = line; from = at; to = length_at road line }) (pieces_from road next 0 behind to.at)
+      All-cons (IsPieceOn road) (record { line = line; from = at; to = length_at road line })
+      (pieces_from road next 0 behind to.at)
       (record {
         line = here;
         at_rank = is;
@@ -104,17 +155,22 @@ module _ (road : RoadMap) (to : Place) (end : IsPlace road to) where
         up_to_end = omega (arith, length_here road line here is);
       }) (all_on next 0 turn.after behind turn.enters (omega arith) turns ends (λ _. omega arith))
 
-  all_joined : (line at : ℕ) (behind : List ℕ) → AreTurns road line behind → AreJoined road (pieces_from road line at behind to.at)
+  all_joined : (line at : ℕ) (behind : List ℕ) → AreTurns road line behind
+      → AreJoined road (pieces_from road line at behind to.at)
   all_joined line at [] turns = tt
   all_joined line at (next ∷ []) (turn, turns) = (refl, turn, refl, tt)
-  all_joined line at (next ∷ other ∷ behind) (turn, turns) = (refl, turn, refl, all_joined next 0 (other ∷ behind) turns)
+  all_joined line at (next ∷ other ∷ behind) (turn, turns) =
+      (refl, turn, refl, all_joined next 0 (other ∷ behind) turns)
 
-pub are_route_pieces : (road : RoadMap) (class : ℕ) (from to : Place) (limit : ℕ) (pieces : List Piece) → IsSoundMap road → IsDeparture road from → IsPlace road to
+pub are_route_pieces : (road : RoadMap) (class : ℕ) (from to : Place) (limit : ℕ)
+    (pieces : List Piece) → IsSoundMap road → IsDeparture road from → IsPlace road to
     → IsRouteWithin road class from to limit pieces → AreRoutePieces road class from to pieces
 are_route_pieces road class from to limit pieces sound start end is =
     let walk = is.is.is in
     subst (λ (l : List Piece). AreRoutePieces road class from to l) (sym is.pieces_are) (record {
-      on_map = all_on road to end from.line from.at start.line is.behind start.at_rank (omega (arith, start.before_end)) walk.on.turns walk.on.ends (λ none. omega (arith, walk.forwards none));
+      on_map = all_on road to end from.line from.at start.line is.behind start.at_rank
+          (omega (arith, start.before_end)) walk.on.turns walk.on.ends
+          (λ none. omega (arith, walk.forwards none));
       joined = all_joined road to end from.line from.at is.behind walk.on.turns;
       least = record { behind = is.behind; is = walk; long = refl; least = is.is.least };
       positive = long_walk road from to is.behind start walk.forwards;

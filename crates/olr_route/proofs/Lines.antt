@@ -23,39 +23,58 @@ use Rattle.olr_map.specs.BansFrom.{AreBansFrom}
 use Rattle.olr_map.specs.declared.ban.Ban.{Ban}
 use Rattle.olr_route.specs.Sharing.{HasNoBan}
 
-pub line_at : (lines : List RoadLine) (rank : ℕ) → rank < length lines → (line : RoadLine) × (slice_get lines rank ≡ Some line)
+pub line_at : (lines : List RoadLine) (rank : ℕ) → rank < length lines → (line : RoadLine)
+    × (slice_get lines rank ≡ Some line)
 line_at [] rank within = absurd (omega (arith, within))
 line_at (line ∷ rest) zero within = (line, refl)
 line_at (line ∷ rest) (suc rank) within = line_at rest rank (omega (arith, within))
 
-pub one_line : (lines : List RoadLine) (rank : ℕ) (a b : RoadLine) → slice_get lines rank ≡ Some a → slice_get lines rank ≡ Some b → a ≡ b
+pub one_line : (lines : List RoadLine) (rank : ℕ) (a b : RoadLine) → slice_get lines rank ≡ Some a
+    → slice_get lines rank ≡ Some b → a ≡ b
 one_line lines rank a b is other = same_Some a b (sym is ∙ other)
 
 -- each line of a map is sound
-sound_line : (road : RoadMap) (rank : ℕ) (line : RoadLine) → IsSoundMap road → slice_get road.lines rank ≡ Some line → IsSoundLine (length road.nodes) line
-sound_line road rank line sound at = subst (λ (l : RoadLine). IsSoundLine (length road.nodes) l) (get_or_from_slice_get road.lines rank line line at)
+sound_line : (road : RoadMap) (rank : ℕ) (line : RoadLine) → IsSoundMap road
+    → slice_get road.lines rank ≡ Some line → IsSoundLine (length road.nodes) line
+sound_line road rank line sound at =
+    subst (λ (l : RoadLine). IsSoundLine (length road.nodes) l)
+    (get_or_from_slice_get road.lines rank line line at)
     (sound.lines.each rank line (slice_get_within road.lines rank line at))
 
-pub long_at : (road : RoadMap) (rank : ℕ) (line : RoadLine) → IsSoundMap road → slice_get road.lines rank ≡ Some line → 0 < line.length
+pub long_at : (road : RoadMap) (rank : ℕ) (line : RoadLine) → IsSoundMap road
+    → slice_get road.lines rank ≡ Some line → 0 < line.length
 long_at road rank line sound at = (sound_line road rank line sound at).long
 
 -- its length
-pub length_here : (road : RoadMap) (rank : ℕ) (line : RoadLine) → slice_get road.lines rank ≡ Some line → length_at road rank ≡ line.length
-length_here road rank line at = ap (λ (o : Option RoadLine). unwrap_or (option_map (λ (l : RoadLine). l.length) o) 0) at
+pub length_here : (road : RoadMap) (rank : ℕ) (line : RoadLine)
+    → slice_get road.lines rank ≡ Some line → length_at road rank ≡ line.length
+length_here road rank line at =
+    ap (λ (o : Option RoadLine). unwrap_or (option_map (λ (l : RoadLine). l.length) o) 0) at
 
 -- a line that another one follows has a length
-pub long_before_turn : (road : RoadMap) (a b : ℕ) → IsSoundMap road → IsTurn road a b → 0 < length_at road a
-long_before_turn road a b sound turn = omega (arith, long_at road a turn.before sound turn.leaves, length_here road a turn.before turn.leaves)
+pub long_before_turn : (road : RoadMap) (a b : ℕ) → IsSoundMap road → IsTurn road a b
+    → 0 < length_at road a
+long_before_turn road a b sound turn =
+    omega (
+      arith,
+      long_at road a turn.before sound turn.leaves,
+      length_here road a turn.before
+          turn.leaves,
+    )
 
 -- ---- places
 
-pub start_on_map : (road : RoadMap) (rank : ℕ) → rank < length road.lines → IsPlace road (start_of rank)
-start_on_map road rank within = let at = line_at road.lines rank within in record { line = at.0; at_rank = at.1; up_to_end = omega arith }
+pub start_on_map : (road : RoadMap) (rank : ℕ) → rank < length road.lines
+    → IsPlace road (start_of rank)
+start_on_map road rank within = let at = line_at road.lines rank within in
+    record { line = at.0; at_rank = at.1; up_to_end = omega arith }
 
 -- ---- lists
 
 -- what holds of the elements before one and of that one holds of those up to it
-pub passed_over : (Is Holds : ℕ → Type 0) (xs : List ℕ) (i : ℕ) → ((k d : ℕ) → k < i → Is (get_or xs k d) → Holds (get_or xs k d)) → i < length xs → (Is (get_or xs i 0) → Holds (get_or xs i 0))
+pub passed_over : (Is Holds : ℕ → Type 0) (xs : List ℕ) (i : ℕ)
+    → ((k d : ℕ) → k < i → Is (get_or xs k d) → Holds (get_or xs k d)) → i < length xs
+    → (Is (get_or xs i 0) → Holds (get_or xs i 0))
     → (k d : ℕ) → k < i + 1 → Is (get_or xs k d) → Holds (get_or xs k d)
 passed_over Is Holds xs i before inside here k d lt is =
     let at = get_or_default xs i 0 d inside in let earlier = before k d in grind arith
@@ -63,18 +82,24 @@ passed_over Is Holds xs i before inside here k d lt is =
 -- ---- turns
 
 -- what is found is what gave the value
-pub of_value : {A B : Type 0} → (f : A → B) (found : Option A) (b : B) → option_map f found ≡ Some b → (a : A) × (found ≡ Some a) × (f a ≡ b)
+pub of_value : {A B : Type 0} → (f : A → B) (found : Option A) (b : B) → option_map f found ≡ Some b
+    → (a : A) × (found ≡ Some a) × (f a ≡ b)
 of_value f None b is = absurd cc
 of_value f (Some a) b is = (a, refl, same_Some (f a) b is)
 
-with_origin : (road : RoadMap) (node line : ℕ) → StartsAt road node line → (here : RoadLine) × (slice_get road.lines line ≡ Some here) × (here.from ≡ node)
-with_origin road node line starts = of_value (λ (l : RoadLine). l.from) (slice_get road.lines line) node (sym (slice_get-map (λ (l : RoadLine). l.from) road.lines line) ∙ starts)
+with_origin : (road : RoadMap) (node line : ℕ) → StartsAt road node line → (here : RoadLine)
+    × (slice_get road.lines line ≡ Some here) × (here.from ≡ node)
+with_origin road node line starts =
+    of_value (λ (l : RoadLine). l.from) (slice_get road.lines line) node
+    (sym (slice_get-map (λ (l : RoadLine). l.from) road.lines line) ∙ starts)
 
--- the lines that start where a line ends and to which the turn isn't banned are those that may follow
+-- the lines that start where a line ends and to which the turn isn't banned are those that may
+-- follow
 module _ (road : RoadMap) (line node : ℕ) (ends : EndsAt road node line) where
   pub meets_there : (next : ℕ) (turn : IsTurn road line next) → turn.after.from ≡ node
   meets_there next turn =
-      sym turn.meets ∙ ap (λ (l : RoadLine). l.to) (one_line road.lines line turn.before ends.here turn.leaves ends.at) ∙ ends.to
+      sym turn.meets ∙ ap (λ (l : RoadLine). l.to)
+      (one_line road.lines line turn.before ends.here turn.leaves ends.at) ∙ ends.to
 
   pub starts_there : (next : ℕ) → IsTurn road line next → StartsAt road node next
   starts_there next turn =
@@ -82,13 +107,23 @@ module _ (road : RoadMap) (line node : ℕ) (ends : EndsAt road node line) where
       ∙ ap (option_map (λ (l : RoadLine). l.from)) turn.enters
       ∙ ap Some (meets_there next turn)
 
-  pub turn_there : (next : ℕ) → StartsAt road node next → IsAllowed road line next → IsTurn road line next
+  pub turn_there : (next : ℕ) → StartsAt road node next → IsAllowed road line next
+      → IsTurn road line next
   turn_there next starts allowed =
       let found = with_origin road node next starts in
-      record { before = ends.here; after = found.0; leaves = ends.at; enters = found.1; meets = ends.to ∙ sym found.2; allowed = allowed }
+      record {
+        before = ends.here;
+        after = found.0;
+        leaves = ends.at;
+        enters = found.1;
+        meets =
+            ends.to ∙ sym found.2;
+        allowed = allowed;
+      }
 
 -- a line by its head: its length, the nodes at which it starts and ends, and its class
-module _ (road : RoadMap) (rank : ℕ) (head : Line) (is : option_map head_of (slice_get road.lines rank) ≡ Some head) where
+module _ (road : RoadMap) (rank : ℕ) (head : Line)
+    (is : option_map head_of (slice_get road.lines rank) ≡ Some head) where
   abbrev row : (line : RoadLine) × (slice_get road.lines rank ≡ Some line) × (head_of line ≡ head)
   row = of_value head_of (slice_get road.lines rank) head is
 
@@ -96,35 +131,58 @@ module _ (road : RoadMap) (rank : ℕ) (head : Line) (is : option_map head_of (s
   head_length = length_here road rank row.0 row.1 ∙ ap (λ (h : Line). h.length) row.2
 
   pub origin_of : StartsAt road head.from rank
-  origin_of = slice_get-map (λ (l : RoadLine). l.from) road.lines rank ∙ ap (option_map (λ (l : RoadLine). l.from)) row.1 ∙ ap (λ (h : Line). Some h.from) row.2
+  origin_of = slice_get-map (λ (l : RoadLine). l.from) road.lines rank
+      ∙ ap (option_map (λ (l : RoadLine). l.from)) row.1 ∙ ap (λ (h : Line). Some h.from) row.2
 
   abbrev pub end_of : EndsAt road head.to rank
   end_of = record { here = row.0; at = row.1; to = ap (λ (h : Line). h.to) row.2 }
 
   -- a step over what is left of it
-  pub step_over : (len : ℕ) → IsStepOver road (record { line = rank; to = head.to; length = len; class = head.class })
+  pub step_over : (len : ℕ) → IsStepOver road
+      (record { line = rank; to = head.to; length = len; class = head.class })
   step_over len = record { ends = end_of; class = ap (λ (h : Line). h.class) row.2 }
 
-  pub open_of : (class : ℕ) → head.class ≤ class → (open_line : IsOpen road class rank) × (open_line.line.to ≡ head.to)
-  open_of class within = (record { line = row.0; at = row.1; within = omega (arith, within, ap (λ (h : Line). h.class) row.2) }, ap (λ (h : Line). h.to) row.2)
+  pub open_of : (class : ℕ) → head.class ≤ class → (open_line : IsOpen road class rank)
+      × (open_line.line.to ≡ head.to)
+  open_of class within = (
+    record {
+      line = row.0;
+      at = row.1;
+      within =
+          omega (arith, within, ap (λ (h : Line). h.class) row.2);
+    },
+    ap (λ (h : Line). h.to) row.2,
+  )
 
--- those of the lines that start where a line ends are just those that may follow, where the turn isn't banned
-module _ (road : RoadMap) (line : ℕ) (head : Line) (is : option_map head_of (slice_get road.lines line) ≡ Some head) (lines : List ℕ) (are : IsLinesOf (origins_of road.lines) head.to lines) where
-  pub turn_ahead : (next : ℕ) → Contains lines next → IsAllowed road line next → IsTurn road line next
-  turn_ahead next among = turn_there road line head.to (end_of road line head is) next (All-contains (λ (r : ℕ). slice_get (origins_of road.lines) r ≡ Some head.to) lines next are.only among)
+-- those of the lines that start where a line ends are just those that may follow, where the turn
+-- isn't banned
+module _ (road : RoadMap) (line : ℕ) (head : Line)
+    (is : option_map head_of (slice_get road.lines line) ≡ Some head) (lines : List ℕ)
+    (are : IsLinesOf (origins_of road.lines) head.to lines) where
+  pub turn_ahead : (next : ℕ) → Contains lines next → IsAllowed road line next
+      → IsTurn road line next
+  turn_ahead next among = turn_there road line head.to (end_of road line head is) next
+      (All-contains (λ (r : ℕ). slice_get (origins_of road.lines) r ≡ Some head.to) lines next
+      are.only among)
 
   pub all_ahead : (next : ℕ) → IsTurn road line next → Contains lines next
-  all_ahead next turn = are.all next (starts_there road line head.to (end_of road line head is) next turn)
+  all_ahead next turn = are.all next
+      (starts_there road line head.to (end_of road line head is) next turn)
 
 -- a node at which a line starts is on the map
-pub origin_inside : (road : RoadMap) (node line : ℕ) → IsSoundMap road → StartsAt road node line → node < length road.nodes
+pub origin_inside : (road : RoadMap) (node line : ℕ) → IsSoundMap road → StartsAt road node line
+    → node < length road.nodes
 origin_inside road node line sound starts =
     let found = with_origin road node line starts in
-    subst (λ (n : ℕ). n < length road.nodes) found.2 (sound_line road line found.0 sound found.1).from
+    subst (λ (n : ℕ). n < length road.nodes) found.2
+    (sound_line road line found.0 sound found.1).from
 
 -- and one at which a line ends
-pub end_inside : (road : RoadMap) (node line : ℕ) → IsSoundMap road → EndsAt road node line → node < length road.nodes
-end_inside road node line sound ends = subst (λ (n : ℕ). n < length road.nodes) ends.to (sound_line road line ends.here sound ends.at).to
+pub end_inside : (road : RoadMap) (node line : ℕ) → IsSoundMap road → EndsAt road node line
+    → node < length road.nodes
+end_inside road node line sound ends =
+    subst (λ (n : ℕ). n < length road.nodes) ends.to
+    (sound_line road line ends.here sound ends.at).to
 
 -- ---- the keys of a table
 
@@ -133,36 +191,52 @@ key_differs line key differs = grind (arith, common_steps)
 
 -- ---- bans
 
-module _ (road : RoadMap) (line next : ℕ) (bans : List Ban) (are : AreBansFrom road.bans line bans) where
-  pub allowed_turn : IsNoneTo bans next → IsAllowed road line next
-  allowed_turn none is = none (ban_of line next) (are.each (ban_of line next) is refl) refl
+module _ (road : RoadMap) (line next : ℕ) (bans : List Ban) (are : AreBansFrom road.bans line bans)
+  where
+    pub allowed_turn : IsNoneTo bans next → IsAllowed road line next
+    allowed_turn none is = none (ban_of line next) (are.each (ban_of line next) is refl) refl
 
-  none_to : IsAllowed road line next → IsNoneTo bans next
-  none_to allowed ban among to =
-      let is = All-contains (λ (b : Ban). Contains road.bans b × (b.from ≡ line)) bans ban are.only among in
-      let same : ban ≡ ban_of line next = λ i. record { from = is.1 i; to = to i } in
-      allowed (subst (λ (b : Ban). Contains road.bans b) same is.0)
+    none_to : IsAllowed road line next → IsNoneTo bans next
+    none_to allowed ban among to =
+        let is = All-contains (λ (b : Ban). Contains road.bans b × (b.from ≡ line))
+        bans ban are.only
+        among in
+        let same : ban ≡ ban_of line next = λ i. record { from = is.1 i; to = to i } in
+        allowed (subst (λ (b : Ban). Contains road.bans b) same is.0)
 
-  pub never_allowed : (IsNoneTo bans next → ⊥) → IsAllowed road line next → ⊥
-  never_allowed some allowed = some (none_to allowed)
+    pub never_allowed : (IsNoneTo bans next → ⊥) → IsAllowed road line next → ⊥
+    never_allowed some allowed = some (none_to allowed)
 
 -- no turn from the end of a line is banned just where there are no bans on turns from it
-pub free_of_bans : (road : RoadMap) (line : ℕ) (bans : List Ban) → AreBansFrom road.bans line bans → Decides (nat_eq (length bans) 0) (HasNoBan road line)
-free_of_bans road line [] are = (λ _ next. allowed_turn road line next [] are (λ ban among _. absurd (omega (arith, among.1))), λ _. refl)
-free_of_bans road line (ban ∷ rest) are = (λ never. absurd (grind (arith, nat_tests, never)), λ free. absurd (never_allowed road line ban.to (ban ∷ rest) are (λ none. none ban (0, omega arith, refl) refl) (free ban.to)))
+pub free_of_bans : (road : RoadMap) (line : ℕ) (bans : List Ban) → AreBansFrom road.bans line bans
+    → Decides (nat_eq (length bans) 0) (HasNoBan road line)
+free_of_bans road line [] are = (
+  λ _ next. allowed_turn road line next [] are (λ ban among _. absurd (omega (arith, among.1))),
+  λ _. refl,
+)
+free_of_bans road line (ban ∷ rest) are = (
+  λ never. absurd (grind (arith, nat_tests, never)),
+  λ free. absurd
+      (never_allowed road line ban.to (ban ∷ rest) are
+      (λ none. none ban (0, omega arith, refl) refl)
+      (free ban.to)),
+)
 
 -- ---- bans by the rising ranks of the lines that may not follow
 
 -- what a binary search among them says
-module _ (bans : List Ban) (rise : IsStrictlyIncreasing (map (λ (ban : Ban). ban.to) bans)) (next : ℕ) where
+module _ (bans : List Ban) (rise : IsStrictlyIncreasing (map (λ (ban : Ban). ban.to) bans))
+    (next : ℕ) where
   pub searched : (at : Result ℕ ℕ) → IsSearchInRange at (length bans)
       → IsBinarySearchResult (λ (ban : Ban). nat_cmp ban.to next) bans at
       → MatchBool (is_err at) (IsNoneTo bans next) (IsNoneTo bans next → ⊥)
   searched (Ok i) inside is = λ none.
-      none (get_or bans i (ban_of 0 0)) (Contains-get_or bans i (ban_of 0 0) inside) (grind (arith, common_steps, is (ban_of 0 0)))
+      none (get_or bans i (ban_of 0 0)) (Contains-get_or bans i (ban_of 0 0) inside)
+      (grind (arith, common_steps, is (ban_of 0 0)))
   searched (Err i) inside is = λ ban (k, within, same) to.
       let tos = map (λ (b : Ban). b.to) bans in
-      let gives = search_finds tos next (Err i) rise (search_keys (λ (b : Ban). b.to) bans next (Err i) inside is) in
+      let gives = search_finds tos next (Err i) rise
+      (search_keys (λ (b : Ban). b.to) bans next (Err i) inside is) in
       not_found tos next i gives.1 gives.2 (
         k,
         omega (arith, within, length-map bans (λ (b : Ban). b.to)),

@@ -18,27 +18,47 @@ same_length a b known is other = cc
 abbrev pub worth : ℕ → Option ℕ → ℕ
 worth limit known = unwrap_or known (limit + 1)
 
-total_same : (limit count : ℕ) (old new : ℕ → Option ℕ) → ((other : ℕ) → other < count → new other ≡ old other) → total limit count new ≡ total limit count old
+total_same : (limit count : ℕ) (old new : ℕ → Option ℕ)
+    → ((other : ℕ) → other < count → new other ≡ old other)
+    → total limit count new ≡ total limit count old
 total_same limit zero old new same = refl
 total_same limit (suc count) old new same =
-    omega (arith, total_same limit count old new (λ other less. same other (omega (arith, less))), ap (λ (o : Option ℕ). worth limit o) (same count (omega arith)))
+    omega (
+      arith,
+      total_same limit count old new (λ other less. same other (omega (arith, less))),
+      ap (λ (o : Option ℕ). worth limit o) (same count (omega arith)),
+    )
 
 -- at one line another length is known
-pub total_at : (limit count : ℕ) (old new : ℕ → Option ℕ) (at : ℕ) → at < count → ((other : ℕ) → other ≢ at → new other ≡ old other)
+pub total_at : (limit count : ℕ) (old new : ℕ → Option ℕ) (at : ℕ) → at < count
+    → ((other : ℕ) → other ≢ at → new other ≡ old other)
     → total limit count new + worth limit (old at) ≡ total limit count old + worth limit (new at)
 total_at limit zero old new at inside same = absurd (omega (arith, inside))
 total_at limit (suc count) old new at inside same = elim (cases_lt at count) [
-  | inl before ↦ omega (arith, total_at limit count old new at before same, ap (λ (o : Option ℕ). worth limit o) (same count (λ is. omega (arith, is, before))))
+  | inl before ↦ omega (
+    arith,
+    total_at limit count old new at before same,
+    ap
+        (λ (o : Option ℕ). worth limit o) (same count (λ is. omega (arith, is, before))),
+  )
   | inr last ↦
       let here : at ≡ count = omega (arith, inside, last) in
-      omega (arith, total_same limit count old new (λ other less. same other (λ is. omega (arith, is, here, less))), ap (λ (n : ℕ). worth limit (old n)) here, ap (λ (n : ℕ). worth limit (new n)) here)
+      omega (
+        arith,
+        total_same limit count old new
+            (λ other less. same other (λ is. omega (arith, is, here, less))),
+        ap
+            (λ (n : ℕ). worth limit (old n)) here,
+        ap (λ (n : ℕ). worth limit (new n)) here,
+      )
 ]
 
 -- the length is less than each that is known
 abbrev pub IsShorter : ℕ → Option ℕ → Type 0
 IsShorter offered known = (bound : ℕ) → IsKnownWithin known bound → offered < bound
 
-worth_shorter : (limit len : ℕ) (known : Option ℕ) → len ≤ limit → IsShorter len known → len < worth limit known
+worth_shorter : (limit len : ℕ) (known : Option ℕ) → len ≤ limit → IsShorter len known
+    → len < worth limit known
 worth_shorter limit len None within shorter = omega (arith, within)
 worth_shorter limit len (Some old) within shorter = shorter old (omega arith)
 
@@ -50,11 +70,15 @@ module _ (search : Search) (old new : Starts) where
   now = table_in search.map.now new
 
   -- a line keeps a length that is shorter than the known one
-  pub lowered : AreSound search old → (line len : ℕ) → line < length search.map.now.lines → len ≤ search.limit → Reaches search line len → IsShorter len (before line) → now line ≡ Some len
+  pub lowered : AreSound search old → (line len : ℕ) → line < length search.map.now.lines
+      → len ≤ search.limit → Reaches search line len → IsShorter len (before line)
+      → now line ≡ Some len
       → ((other : ℕ) → other ≢ line → now other ≡ before other) → IsLowered search true old new
   lowered sound line len inside within reached shorter here elsewhere = record {
-    sound = λ other known is. let was = sound other known in let far = elsewhere other in grind arith;
-    falls = λ other bound known. let least = shorter bound in let far = elsewhere other in grind arith;
+    sound = λ other known is. let was = sound other known in let far = elsewhere other in
+        grind arith;
+    falls = λ other bound known. let least = shorter bound in let far = elsewhere other in
+        grind arith;
     less = omega (
       arith,
       total_at search.limit (length search.map.now.lines) before now line inside elsewhere,
@@ -65,7 +89,8 @@ module _ (search : Search) (old new : Starts) where
   }
 
   -- and so do others, one after the other
-  pub lowered_more : (newer : Starts) (kept more : Bool) → IsLowered search kept old new → IsLowered search more new newer → IsLowered search (kept || more) old newer
+  pub lowered_more : (newer : Starts) (kept more : Bool) → IsLowered search kept old new
+      → IsLowered search more new newer → IsLowered search (kept || more) old newer
   lowered_more newer kept more first next = record {
     sound = next.sound;
     falls = λ line bound known. next.falls line bound (first.falls line bound known);
@@ -77,30 +102,54 @@ module _ (search : Search) (old new : Starts) where
 
 module _ (search : Search) (old now new : Starts) where
   -- a length that is no less than one that was offered
-  offered_within : (line : ℕ) (known : Option ℕ) → ((at_start : ℕ) → known ≡ Some at_start → IsOffered search (start_of line) at_start new)
+  offered_within : (line : ℕ) (known : Option ℕ)
+      → ((at_start : ℕ) → known ≡ Some at_start → IsOffered search (start_of line) at_start new)
       → (bound : ℕ) → IsKnownWithin known bound → IsOffered search (start_of line) bound new
   offered_within line None offered bound is = absurd is
   offered_within line (Some at_start) offered bound is = λ next clear turn within.
-      within_more (table_in search.map.now new next) (at_start + rest_of_line search.map.now (start_of line)) (bound + rest_of_line search.map.now (start_of line)) (omega (arith, is))
+      within_more (table_in search.map.now new next)
+      (at_start + rest_of_line search.map.now (start_of line))
+      (bound + rest_of_line search.map.now (start_of line)) (omega (arith, is))
       (offered at_start refl next clear turn (omega (arith, is, within)))
 
   -- one more line is relaxed, and those before it stay so
-  pub offered_more : (line : ℕ) → ((other bound : ℕ) → IsKnownWithin (table_in search.map.now old other) bound → IsKnownWithin (table_in search.map.now now other) bound)
-      → ((other bound : ℕ) → IsKnownWithin (table_in search.map.now now other) bound → IsKnownWithin (table_in search.map.now new other) bound)
-      → ((other bound : ℕ) → other < line → IsKnownWithin (table_in search.map.now old other) bound → IsOffered search (start_of other) bound now)
-      → ((at_start : ℕ) → table_in search.map.now now line ≡ Some at_start → IsOffered search (start_of line) at_start new)
-      → (other bound : ℕ) → other < line + 1 → IsKnownWithin (table_in search.map.now old other) bound → IsOffered search (start_of other) bound new
-  offered_more line before after earlier here other bound inside known = elim (cases_lt other line) [
-    | inl less ↦ λ next clear turn within. after next (bound + rest_of_line search.map.now (start_of other)) (earlier other bound less known next clear turn within)
-    | inr last ↦
-        let same : line ≡ other = omega (arith, inside, last) in
-        offered_within other (table_in search.map.now now other) (subst (λ (n : ℕ). (at_start : ℕ) → table_in search.map.now now n ≡ Some at_start → IsOffered search (start_of n) at_start new) same here)
-        bound (before other bound known)
-  ]
+  pub offered_more : (line : ℕ) → ((other bound : ℕ)
+      → IsKnownWithin (table_in search.map.now old other) bound
+      → IsKnownWithin (table_in search.map.now now other) bound)
+      → ((other bound : ℕ) → IsKnownWithin (table_in search.map.now now other) bound
+      → IsKnownWithin (table_in search.map.now new other) bound)
+      → ((other bound : ℕ) → other < line → IsKnownWithin (table_in search.map.now old other) bound
+      → IsOffered search (start_of other) bound now)
+      → ((at_start : ℕ) → table_in search.map.now now line ≡ Some at_start
+      → IsOffered search (start_of line) at_start new)
+      → (other bound : ℕ) → other < line + 1
+      → IsKnownWithin (table_in search.map.now old other) bound
+      → IsOffered search (start_of other) bound new
+  offered_more line before after earlier here other bound inside known =
+      elim (cases_lt other line) [
+        | inl less ↦ λ next clear turn within. after next
+            (bound + rest_of_line search.map.now (start_of other))
+            (earlier other bound less known next clear turn within)
+        | inr last ↦
+            let same : line ≡ other = omega (arith, inside, last) in
+            offered_within other (table_in search.map.now now other)
+            (subst (λ (n : ℕ). (at_start : ℕ) → table_in search.map.now now n ≡ Some at_start
+            → IsOffered search (start_of n) at_start new) same here)
+            bound (before other bound known)
+      ]
 
   -- after a pass in which no length was kept, each line is relaxed
-  pub all_relaxed : ((line bound : ℕ) → line < length search.map.now.lines → IsKnownWithin (table_in search.map.now old line) bound → IsOffered search (start_of line) bound new)
-      → ((line : ℕ) → table_in search.map.now new line ≡ table_in search.map.now old line) → (asked : Option (List ℕ)) (line : ℕ) → IsRelaxed search.map.now search.class asked search.limit (table_in search.map.now new) line
+  pub all_relaxed : ((line bound : ℕ) → line < length search.map.now.lines
+      → IsKnownWithin (table_in search.map.now old line) bound
+      → IsOffered search (start_of line) bound new)
+      → ((line : ℕ) → table_in search.map.now new line ≡ table_in search.map.now old line)
+      → (asked : Option (List ℕ)) (line : ℕ)
+      → IsRelaxed search.map.now search.class asked search.limit (table_in search.map.now new)
+      line
   all_relaxed offered same asked line len next known clear turn useful =
-      within_more (table_in search.map.now new next) (len + rest_of_line search.map.now (start_of line)) (len + length_at search.map.now line) (omega arith)
-      (offered line len (slice_get_within search.map.now.lines line clear.line clear.at) (subst (λ (o : Option ℕ). IsKnownWithin o len) (sym known ∙ same line) (omega arith)) next clear turn (omega (arith, useful_within search.map.now search.class asked useful)))
+      within_more (table_in search.map.now new next)
+      (len + rest_of_line search.map.now (start_of line)) (len + length_at search.map.now line)
+      (omega arith)
+      (offered line len (slice_get_within search.map.now.lines line clear.line clear.at)
+      (subst (λ (o : Option ℕ). IsKnownWithin o len) (sym known ∙ same line) (omega arith)) next
+      clear turn (omega (arith, useful_within search.map.now search.class asked useful)))

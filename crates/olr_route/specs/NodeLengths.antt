@@ -1,8 +1,9 @@
 -- The lengths of nodes, on pages of 16 nodes each.
 use Rattle.std.specs.Prelude.{◌≡◌, ◌≢◌, ◌+◌, ◌*◌, ◌/◌, ◌%◌, ◌<◌, ℕ, zero, suc, List, Option, Some, None, length, slice_index}
 
--- Lengths in decimetres, page after page, and for each block of 16 nodes the number of its page. The lengths are 0 where a node has none. Page 0 has
--- no length: it serves all blocks that have no page of their own.
+-- Lengths in decimetres, page after page, and for each block of 16 nodes the number of its page.
+-- The lengths are 0 where a node has none. Page 0 has no length: it serves all blocks that have no
+-- page of their own.
 pub record Paged : Type 0 where
   pub pages : List ℕ
   pub lengths : List ℕ
@@ -20,9 +21,11 @@ above_zero (suc length) = Some (suc length)
 abbrev pub length_of : Paged → ℕ → Option ℕ
 length_of paged node = above_zero (slice_index paged.lengths (place_of paged.pages node))
 
--- The lengths are whole pages, and the page of each block is one of them. No two blocks share a page but page 0, which has no length.
+-- The lengths are whole pages, and the page of each block is one of them. No two blocks share a
+-- page but page 0, which has no length.
 pub record ArePages (pages lengths : List ℕ) : Type 0 where
   pub whole : length lengths % 16 ≡ 0
   pub each : (block : ℕ) → slice_index pages block * 16 < length lengths
-  pub apart : (block other : ℕ) → 0 < slice_index pages block → block ≢ other → slice_index pages block ≢ slice_index pages other
+  pub apart : (block other : ℕ) → 0 < slice_index pages block → block ≢ other
+      → slice_index pages block ≢ slice_index pages other
   pub none : (place : ℕ) → place < 16 → slice_index lengths place ≡ 0

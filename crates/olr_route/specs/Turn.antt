@@ -1,4 +1,5 @@
--- How lines of a map follow one another, and what a class limit lets through. Lines are named by their ranks.
+-- How lines of a map follow one another, and what a class limit lets through. Lines are named by
+-- their ranks.
 use Rattle.std.specs.Prelude.{◌≡◌, ℕ, ◌≤◌, List, Some, slice_get, Contains}
 use Rattle.olr_map.specs.declared.ban.Ban.{Ban}
 use Rattle.olr_map.specs.RoadMap.{RoadMap, ban_of}
@@ -12,8 +13,9 @@ IsAllowed road a b = Contains road.bans (ban_of a b) → ⊥
 abbrev pub IsNoneTo : List Ban → ℕ → Type 0
 IsNoneTo bans next = (ban : Ban) → Contains bans ban → ban.to ≡ next → ⊥
 
--- A vehicle at the end of line `a` may go on to line `b`: this one starts at the node where the other ends, and the turn isn't banned. Each condition
--- on neighbouring lines of a walk is a field of this record.
+-- A vehicle at the end of line `a` may go on to line `b`: this one starts at the node where the
+-- other ends, and the turn isn't banned. Each condition on neighbouring lines of a walk is a field
+-- of this record.
 pub record IsTurn (road : RoadMap) (a b : ℕ) : Type 0 where
   pub before : RoadLine
   pub after : RoadLine

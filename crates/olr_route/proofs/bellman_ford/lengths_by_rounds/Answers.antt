@@ -13,17 +13,29 @@ relax-requires-clause-reached c = λ next clear turn. (zero, (clear, turn, omega
 
 pub returns-clause-held : goal.returns-clause-held
 returns-clause-held c =
-    let search : Search = record { map = c.args.map; class = c.args.class; from = c.args.from; limit = c.args.limit; goals = None } in
+    let search : Search = record {
+      map = c.args.map;
+      class = c.args.class;
+      from =
+          c.args.from;
+      limit = c.args.limit;
+      goals = None;
+    } in
     let last = c.in_ok-relax_lines.ensures in
-    subst (AreLengthsOn c.args.map.now) (sym c.new-2.ensures) (held_by c.args.map.now _ c.sound.ensures c.requires (record {
+    subst (AreLengthsOn c.args.map.now) (sym c.new-2.ensures)
+    (held_by c.args.map.now _ c.sound.ensures c.requires (record {
       searched = c.args.limit;
       at_most = omega arith;
       knows = record {
         sound = last.lowered.sound;
         first = λ line clear turn useful.
-            within_more (table_in c.args.map.now c.relax_lines.new.starts line) (0 + rest_of_line c.args.map.now c.args.from) (rest_of_line c.args.map.now c.args.from) (omega arith)
-            (last.lowered.falls line _ (c.loop-starts.invariant.first line clear turn (omega (arith, useful_within c.args.map.now c.args.class None useful))));
+            within_more (table_in c.args.map.now c.relax_lines.new.starts line)
+            (0 + rest_of_line c.args.map.now c.args.from)
+            (rest_of_line c.args.map.now c.args.from) (omega arith)
+            (last.lowered.falls line _ (c.loop-starts.invariant.first line clear turn
+            (omega (arith, useful_within c.args.map.now c.args.class None useful))));
       };
-      settled = all_relaxed search c.loop-starts.starts c.loop-starts.starts c.relax_lines.new.starts last.offered (last.lowered.same c.if-branch.false) None;
+      settled = all_relaxed search c.loop-starts.starts c.loop-starts.starts
+          c.relax_lines.new.starts last.offered (last.lowered.same c.if-branch.false) None;
       far = inr refl;
     }))

@@ -15,20 +15,27 @@ offer-requires-clause-reached c =
     let next = get_or ahead c.loop-next.next-index 0 in
     subst (λ (w : ℕ). Reaches c.args.search.now next w) (sym c.in-Some.ensures.1)
     (c.requires.reached next c.in-Some.ensures.0
-    (turn_ahead _ _ _ c.line.ensures.line _ c.lines_from-ahead.ensures.lines next (Contains-get_or ahead c.loop-next.next-index 0 c.loop-next-test.true) c.if-not-is_allowed.ensures))
+    (turn_ahead _ _ _ c.line.ensures.line _ c.lines_from-ahead.ensures.lines next
+    (Contains-get_or ahead c.loop-next.next-index 0 c.loop-next-test.true)
+    c.if-not-is_allowed.ensures))
 
 pub offer-requires-clause-line : goal.offer-requires-clause-line
 offer-requires-clause-line c =
     let ahead = c.lines_from-ahead.result.now in
-    let turn = turn_ahead c.args.search.now.map.now _ _ c.line.ensures.line _ c.lines_from-ahead.ensures.lines (get_or ahead c.loop-next.next-index 0)
-    (Contains-get_or ahead c.loop-next.next-index 0 c.loop-next-test.true) c.if-not-is_allowed.ensures in
+    let turn = turn_ahead c.args.search.now.map.now _ _ c.line.ensures.line _
+    c.lines_from-ahead.ensures.lines (get_or ahead c.loop-next.next-index 0)
+    (Contains-get_or ahead c.loop-next.next-index 0 c.loop-next-test.true)
+    c.if-not-is_allowed.ensures in
     slice_get_within c.args.search.now.map.now.lines _ turn.after turn.enters
 
 pub loop-next-preserved-then-not-is_allowed : goal.loop-next-preserved-then-not-is_allowed
 loop-next-preserved-then-not-is_allowed c = record {
   lowered = c.loop-next.invariant.lowered;
-  known = passed_over (IsAllowed c.args.search.now.map.now c.args.place.line) (λ n. IsKnownWithin (table_in c.args.search.now.map.now c.loop-next.starts n) c.in-Some.at_end)
-      c.lines_from-ahead.result.now c.loop-next.next-index c.loop-next.invariant.known c.loop-next-test.true (λ allowed. absurd (c.if-not-is_allowed.ensures allowed));
+  known = passed_over (IsAllowed c.args.search.now.map.now c.args.place.line)
+      (λ n. IsKnownWithin (table_in c.args.search.now.map.now c.loop-next.starts n)
+      c.in-Some.at_end)
+      c.lines_from-ahead.result.now c.loop-next.next-index c.loop-next.invariant.known
+      c.loop-next-test.true (λ allowed. absurd (c.if-not-is_allowed.ensures allowed));
 }
 
 pub loop-next-preserved : goal.loop-next-preserved
@@ -36,11 +43,17 @@ loop-next-preserved c =
     let after = c.in_ok-kept.ensures in
     record {
       lowered = lowered_more _ _ _ _ _ _ c.loop-next.invariant.lowered after.lowered;
-      known = passed_over (IsAllowed c.args.search.now.map.now c.args.place.line) (λ n. IsKnownWithin (table_in c.args.search.now.map.now c.offer.new.starts n) c.in-Some.at_end)
-          c.lines_from-ahead.result.now c.loop-next.next-index (λ i d lt allowed. after.lowered.falls _ c.in-Some.at_end (c.loop-next.invariant.known i d lt allowed)) c.loop-next-test.true (λ _. after.known);
+      known = passed_over (IsAllowed c.args.search.now.map.now c.args.place.line)
+          (λ n. IsKnownWithin (table_in c.args.search.now.map.now c.offer.new.starts n)
+          c.in-Some.at_end)
+          c.lines_from-ahead.result.now c.loop-next.next-index
+          (λ i d lt allowed. after.lowered.falls _ c.in-Some.at_end
+          (c.loop-next.invariant.known i d lt allowed)) c.loop-next-test.true
+          (λ _. after.known);
     }
 
 pub returns-clause-offered : goal.returns-clause-offered
 returns-clause-offered c = λ next clear turn within.
     let at = all_ahead _ _ _ c.line.ensures.line _ c.lines_from-ahead.ensures.lines next turn in
-    rw (sym c.in-Some.ensures.1, sym at.2) (c.loop-next.invariant.known at.0 next (omega (arith, at.1)) (rw at.2 turn.allowed))
+    rw (sym c.in-Some.ensures.1, sym at.2)
+    (c.loop-next.invariant.known at.0 next (omega (arith, at.1)) (rw at.2 turn.allowed))

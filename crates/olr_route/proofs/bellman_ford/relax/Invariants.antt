@@ -9,5 +9,7 @@ use Rattle.olr_route.proofs.bellman_ford.relax.Given as goal
 abbrev pub invariant-loop-next : goal.invariant-loop-next
 invariant-loop-next l = record {
   lowered : IsLowered l.search l.kept l.fn.starts l.starts;
-  known : (i d : ℕ) → i < l.next-index → IsAllowed l.search.map.now l.place.line (get_or l.ahead i d) → IsKnownWithin (table_in l.search.map.now l.starts (get_or l.ahead i d)) l.at_end;
+  known : (i d : ℕ) → i < l.next-index
+      → IsAllowed l.search.map.now l.place.line (get_or l.ahead i d)
+      → IsKnownWithin (table_in l.search.map.now l.starts (get_or l.ahead i d)) l.at_end;
 }

@@ -7,13 +7,18 @@ use Rattle.olr_route.specs.Walk.{start_of}
 pub loop-line-preserved-in_default : goal.loop-line-preserved-in_default
 loop-line-preserved-in_default c = record {
   lowered = c.loop-line.invariant.lowered;
-  offered = offered_more c.args.search.now c.args.starts.now c.loop-line.starts c.loop-line.starts c.loop-line.line c.loop-line.invariant.lowered.falls (λ _ _ known. known) c.loop-line.invariant.offered
-      (λ at_start is. let none : Some at_start ≡ None = sym is ∙ sym c.length_to.ensures ∙ c.in_default.is in absurd cc);
+  offered = offered_more c.args.search.now c.args.starts.now c.loop-line.starts c.loop-line.starts
+      c.loop-line.line c.loop-line.invariant.lowered.falls (λ _ _ known. known)
+      c.loop-line.invariant.offered
+      (λ at_start is. let none : Some at_start ≡ None = sym is ∙ sym c.length_to.ensures
+      ∙ c.in_default.is in absurd cc);
 }
 
 pub relax-requires-clause-reached : goal.relax-requires-clause-reached
 relax-requires-clause-reached c = λ next clear turn.
-    let reached = (c.loop-line.invariant.lowered.sound c.loop-line.line c.in-Some.at_start (sym c.length_to.ensures ∙ c.in-Some.is)).1 in
+    let reached =
+    (c.loop-line.invariant.lowered.sound c.loop-line.line c.in-Some.at_start
+    (sym c.length_to.ensures ∙ c.in-Some.is)).1 in
     (suc reached.0, (c.loop-line.line, c.in-Some.at_start, reached.1, clear, turn, omega arith))
 
 pub loop-line-preserved : goal.loop-line-preserved
@@ -21,6 +26,10 @@ loop-line-preserved c =
     let after = c.in_ok-found.ensures in
     record {
       lowered = lowered_more _ _ _ _ _ _ c.loop-line.invariant.lowered after.lowered;
-      offered = offered_more c.args.search.now c.args.starts.now c.loop-line.starts c.relax.new.starts c.loop-line.line c.loop-line.invariant.lowered.falls after.lowered.falls c.loop-line.invariant.offered
-          (λ at_start is. subst (λ (w : ℕ). IsOffered c.args.search.now (start_of c.loop-line.line) w c.relax.new.starts) (same_length _ at_start _ (sym c.length_to.ensures ∙ c.in-Some.is) is) after.offered);
+      offered = offered_more c.args.search.now c.args.starts.now c.loop-line.starts
+          c.relax.new.starts c.loop-line.line c.loop-line.invariant.lowered.falls
+          after.lowered.falls c.loop-line.invariant.offered
+          (λ at_start is. subst (λ (w : ℕ). IsOffered c.args.search.now (start_of c.loop-line.line)
+          w c.relax.new.starts) (same_length _ at_start _ (sym c.length_to.ensures
+          ∙ c.in-Some.is) is) after.offered);
     }

@@ -9,5 +9,7 @@ use Rattle.olr_route.specs.Walk.{start_of}
 abbrev pub invariant-loop-line : goal.invariant-loop-line
 invariant-loop-line l = record {
   lowered : IsLowered l.search l.found l.fn.starts l.starts;
-  offered : (line bound : ℕ) → line < l.line → IsKnownWithin (table_in l.search.map.now l.fn.starts line) bound → IsOffered l.search (start_of line) bound l.starts;
+  offered : (line bound : ℕ) → line < l.line
+      → IsKnownWithin (table_in l.search.map.now l.fn.starts line) bound
+      → IsOffered l.search (start_of line) bound l.starts;
 }

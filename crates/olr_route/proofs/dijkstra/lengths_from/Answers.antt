@@ -4,4 +4,5 @@ use Rattle.olr_route.proofs.Ending.{held_by}
 use Rattle.olr_route.proofs.dijkstra.lengths_from.Goals as goal
 
 pub returns-clause-held : goal.returns-clause-held
-returns-clause-held c = subst (AreLengthsOn c.args.map.now) (sym c.new.ensures) (held_by c.args.map.now _ c.sound.ensures c.requires c.in_ok-starts.ensures.ended)
+returns-clause-held c = subst (AreLengthsOn c.args.map.now) (sym c.new.ensures)
+    (held_by c.args.map.now _ c.sound.ensures c.requires c.in_ok-starts.ensures.ended)

@@ -5,17 +5,28 @@ use Rattle.olr_route.proofs.routes.follow.Goals as goal
 pub loop-next-preserved : goal.loop-next-preserved
 loop-next-preserved c =
     rw (c.in_ok-push.ensures.items, c.from-so_far.ensures, c.rest_of_line.ensures)
-    (following_more _ _ _ _ c.sound.ensures c.requires.groups _ _ _ _ _ c.loop-next.invariant c.in-Some.ensures _ c.piece_to_end.ensures)
+    (following_more _ _ _ _ c.sound.ensures c.requires.groups _ _ _ _ _ c.loop-next.invariant
+    c.in-Some.ensures _ c.piece_to_end.ensures)
 
 pub overflow_add-so_far : goal.overflow_add-so_far
 overflow_add-so_far c =
-    let within = next_within _ _ _ _ c.sound.ensures c.requires.groups _ _ _ _ c.in-Some.next c.loop-next.invariant c.in-Some.ensures in
+    let within = next_within _ _ _ _ c.sound.ensures c.requires.groups _ _ _ _ c.in-Some.next
+    c.loop-next.invariant c.in-Some.ensures in
     omega (arith, within, c.from-so_far.ensures, c.rest_of_line.ensures)
 
 pub loop-next-smaller : goal.loop-next-smaller
 loop-next-smaller c =
-    let within = next_within _ _ _ _ c.sound.ensures c.requires.groups _ _ _ _ c.in-Some.next c.loop-next.invariant c.in-Some.ensures in
-    omega (arith, within, c.from-so_far.ensures, c.rest_of_line.ensures, departure_length c.args.search.now.map.now c.loop-next.place c.loop-next.invariant.start)
+    let within = next_within _ _ _ _ c.sound.ensures c.requires.groups _ _ _ _ c.in-Some.next
+    c.loop-next.invariant c.in-Some.ensures in
+    omega (
+      arith,
+      within,
+      c.from-so_far.ensures,
+      c.rest_of_line.ensures,
+      departure_length
+          c.args.search.now.map.now c.loop-next.place c.loop-next.invariant.start,
+    )
 
 pub returns : goal.returns
-returns c = rw c.in_ok-push-2.ensures.items (following_over _ _ _ _ _ _ _ _ c.loop-next.invariant c.in_default.ensures)
+returns c = rw c.in_ok-push-2.ensures.items
+    (following_over _ _ _ _ _ _ _ _ c.loop-next.invariant c.in_default.ensures)

@@ -11,11 +11,16 @@ returns-then-is_empty c =
         one = one.0;
         another = another.0;
         meets = omega (arith, one.1, another.1, c.if-one-another.false);
-        free = (free_of_bans c.args.map.now _ _ c.bans_from.ensures).0 (sym c.is_empty.ensures ∙ c.if-is_empty.true);
+        free = (free_of_bans c.args.map.now _ _ c.bans_from.ensures).0 (sym c.is_empty.ensures
+            ∙ c.if-is_empty.true);
         other_free = other_none.0 (sym c.is_empty-then-is_empty.ensures ∙ is);
       },
       λ alike. c.is_empty-then-is_empty.ensures ∙ other_none.1 alike.other_free,
     )
 
 pub returns-else-is_empty : goal.returns-else-is_empty
-returns-else-is_empty c = (λ is. absurd (cc (is, c.if-is_empty.false)), λ alike. c.is_empty.ensures ∙ (free_of_bans c.args.map.now _ _ c.bans_from.ensures).1 alike.free)
+returns-else-is_empty c = (
+  λ is. absurd (cc (is, c.if-is_empty.false)),
+  λ alike. c.is_empty.ensures
+      ∙ (free_of_bans c.args.map.now _ _ c.bans_from.ensures).1 alike.free,
+)

@@ -14,11 +14,15 @@ loop-next-preserved c =
     record {
       among = λ rank is.
           let same : get_or ahead i 0 ≡ rank = cc in
-          subst (λ (n : ℕ). Contains ahead n × allowed n) same (Contains-get_or ahead i 0 c.loop-next-test.true, c.if-not-is_allowed.ensures);
+          subst (λ (n : ℕ). Contains ahead n × allowed n) same
+          (Contains-get_or ahead i 0 c.loop-next-test.true, c.if-not-is_allowed.ensures);
       least = passed_over allowed (λ n. get_or ahead i 0 ≤ n) ahead i
-          (λ k d less may. lesser c.loop-next.first (get_or ahead i 0) (get_or ahead k d) (λ is. absurd (cc (c.has_up_to.ensures.1 is, c.if-has_up_to.false))) (c.loop-next.invariant.least k d less may))
+          (λ k d less may. lesser c.loop-next.first (get_or ahead i 0) (get_or ahead k d)
+          (λ is. absurd (cc (c.has_up_to.ensures.1 is, c.if-has_up_to.false)))
+          (c.loop-next.invariant.least k d less may))
           c.loop-next-test.true (λ _. omega arith);
     }
 
 pub returns : goal.returns
-returns c = least_over _ _ _ _ _ c.tight_ahead-ahead.ensures _ c.loop-next.invariant.among (λ k d inside may. c.loop-next.invariant.least k d (omega (arith, inside)) may)
+returns c = least_over _ _ _ _ _ c.tight_ahead-ahead.ensures _ c.loop-next.invariant.among
+    (λ k d inside may. c.loop-next.invariant.least k d (omega (arith, inside)) may)

@@ -7,5 +7,7 @@ pub invariant_of-self : goal.invariant_of-self
 invariant_of-self c =
     let pages = c.self.inside.pages.items in
     let more = c.resize.new.self.items in
-    let is : more ≡ take c.args.count pages ++ replicate (c.args.count - length pages) 0 = search rules in
-    pages_wider pages c.self.inside.lengths.items more (wider pages c.args.count more (search rules) is) c.self.invariant
+    let is : more ≡ take c.args.count pages ++ replicate (c.args.count - length pages) 0 =
+    search rules in
+    pages_wider pages c.self.inside.lengths.items more
+    (wider pages c.args.count more (search rules) is) c.self.invariant

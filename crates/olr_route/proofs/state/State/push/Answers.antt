@@ -7,10 +7,12 @@ push_over-requires-clause-step c = step_over c.args.search.now.map.now c.args.st
 
 pub returns-clause-pushed : goal.returns-clause-pushed
 returns-clause-pushed c =
-    let put = rw (sym (step_length c.args.search.now.map.now c.args.step c.requires.step)) at c.in_ok-push_over.ensures in
+    let put = rw (sym (step_length c.args.search.now.map.now c.args.step c.requires.step)) at
+    c.in_ok-push_over.ensures in
     record {
       kept = put.kept;
       added = put.added;
-      waits = λ clear on. elim (put.waits clear on) [ inl waits ↦ inl waits | inr never ↦ absurd never ];
+      waits = λ clear on. elim (put.waits clear on)
+          [ inl waits ↦ inl waits | inr never ↦ absurd never ];
       grows = put.grows;
     }
