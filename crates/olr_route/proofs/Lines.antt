@@ -198,7 +198,8 @@ module _ (road : RoadMap) (line next : ℕ) (bans : List Ban) (are : AreBansFrom
 
     none_to : IsAllowed road line next → IsNoneTo bans next
     none_to allowed ban among to =
-        let is = All-contains (λ (b : Ban). Contains road.bans b × (b.from ≡ line)) bans ban are.only
+        let is = All-contains (λ (b : Ban). Contains road.bans b × (b.from ≡ line))
+        bans ban are.only
         among in
         let same : ban ≡ ban_of line next = λ i. record { from = is.1 i; to = to i } in
         allowed (subst (λ (b : Ban). Contains road.bans b) same is.0)
@@ -216,7 +217,8 @@ free_of_bans road line [] are = (
 free_of_bans road line (ban ∷ rest) are = (
   λ never. absurd (grind (arith, nat_tests, never)),
   λ free. absurd
-      (never_allowed road line ban.to (ban ∷ rest) are (λ none. none ban (0, omega arith, refl) refl)
+      (never_allowed road line ban.to (ban ∷ rest) are
+      (λ none. none ban (0, omega arith, refl) refl)
       (free ban.to)),
 )
 

@@ -57,9 +57,11 @@ wider pages count more less is block =
     ∙ ap (λ (l : List ℕ). l ++ replicate (count - length pages) 0) (take_all count pages less))
     ∙ elim (cases_lt block (length pages)) [
       | inl inside ↦ get_or_append_left pages (replicate (count - length pages) 0) 0 block inside
-      | inr past ↦ get_or-append_right pages (replicate (count - length pages) 0) (length pages) block 0
+      | inr past ↦ get_or-append_right pages (replicate (count - length pages) 0)
+          (length pages) block 0
           refl past
-          ∙ zeros (count - length pages) (block - length pages) ∙ sym (get_or_past pages block 0 past)
+          ∙ zeros (count - length pages) (block - length pages)
+          ∙ sym (get_or_past pages block 0 past)
     ]
 
 -- a length more
@@ -98,7 +100,8 @@ module _ (pages lengths : List ℕ) (are : ArePages pages lengths) (block : ℕ)
             let old : slice_index lengths (place_of pages node) ≡ 0 =
             are.none (place_of pages node) (omega (arith, was)) in
             ap (λ (place : ℕ). slice_index (lengths ++ replicate 16 0) place) end
-            ∙ get_or-append-add lengths (replicate 16 0) (node % 16) 0 ∙ zeros 16 (node % 16) ∙ sym old
+            ∙ get_or-append-add lengths (replicate 16 0) (node % 16) 0 ∙ zeros 16 (node % 16)
+            ∙ sym old
         | inr differs ↦
             ap (λ (page : ℕ). slice_index (lengths ++ replicate 16 0) (page * 16 + node % 16))
             (get_or-set_other pages block (node / 16) page 0 differs)

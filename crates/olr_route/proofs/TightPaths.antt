@@ -186,7 +186,8 @@ module _ (search : Search) (target : ℕ) (table : ℕ → Option ℕ) (sound : 
               inr (
                 ap (λ (r : ℕ). id_at road r) (sym same),
                 behind.first others
-                    (subst (λ (r : ℕ). Path (start_of r) (len + rest_of_line road place) others) same on),
+                    (subst (λ (r : ℕ). Path (start_of r) (len + rest_of_line road place) others)
+                    same on),
               )
         ]
 

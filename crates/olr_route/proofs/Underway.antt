@@ -204,7 +204,8 @@ module _ (search : Search) where
         | inr (none, turn, now) ↦
             let same : arrival.at_end ≡ at_start = cc (sym now ∙ known) in
             let here : at_end ≡ arrival.at_end + length_at road line = omega (arith, same, long) in
-            elim (goes.waits line none now clear (subst (λ (w : ℕ). MayGoOn search line w) here on)) [
+            elim (goes.waits line none now clear (subst (λ (w : ℕ). MayGoOn search line w)
+            here on)) [
               | inl waits ↦ inl (subst (λ (w : ℕ). Awaits after line w) (sym here) waits)
               | inr reached ↦ inr (λ next more. stays next at_end
                   (known_within (old next) at_end (reached next more)
