@@ -21,9 +21,9 @@ range_kept : (points more : List Degrees) (start end : ℕ) → start < end → 
     → slice_range (points ++ more) start end ≡ slice_range points start end
 range_kept points more start end order inside =
     cc (
-      drop-append-le start points more (omega (arith, order, inside)),
+      drop-append-le start points more (omega arith),
       take-append-le (end - start) (drop start points) more
-          (omega (arith, length-drop start points, order, inside)),
+          (omega (arith, length-drop start points)),
     )
 
 line_kept : (points more : List Degrees) (entry : Entry) → IsWithin points entry

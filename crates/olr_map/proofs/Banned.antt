@@ -20,7 +20,7 @@ pub has_key : (bans : List Ban) (ban : Ban) → Contains bans ban → Contains (
 has_key bans ban contains =
     subst (λ (b : Ban). Contains (ban_keys bans) (ban_key b)) contains.2
     (subst (λ (n : ℕ). Contains (ban_keys bans) n) (get_or-map _ _ _ _ 0 contains.1)
-    (Contains-get_or _ _ 0 (omega (arith, contains.1, length-map bans ban_key))))
+    (Contains-get_or _ _ 0 (omega (arith, length-map bans ban_key))))
 
 -- a ban whose key is there
 pub has_ban : (lines : List RoadLine) (bans : List Ban) (ban : Ban) (rank : ℕ) → AreSoundBans lines bans → length lines < 4294967296 → ban.to < 4294967296
@@ -31,7 +31,7 @@ has_ban lines bans ban rank sound few to there =
     let inside : rank < length bans = omega (arith, slice_get_within keys rank (ban_key ban) there) in
     let found = get_or bans rank ban in
     let key : ban_key found ≡ ban_key ban = sym (get_or-map ban_key _ _ ban 0 inside) ∙ get_or_from_slice_get keys rank _ 0 there in
-    let meets : IsAdjacent lines found = All-get_or (IsAdjacent lines) _ _ ban inside sound.each in
+    let meets = All-get_or (IsAdjacent lines) _ _ ban inside sound.each in
     let below : found.to < 4294967296 = omega (arith, slice_get_within lines found.to meets.second meets.to) in
     rw (← (key_once _ _ below to key)) (Contains-get_or _ _ _ inside)
 

@@ -100,7 +100,7 @@ part_is : (name : List ℕ) (rows : List (List (List ℕ))) → IsName name → 
     → All AreFields rows → All AreFields (part name rows)
 part_is name rows is small all = All-cons AreFields (heading name (length rows)) _ (λ byte cut. (
   joined_lacks byte 32 (name ∷ decimal (length rows) ∷ []) cut.space
-      (is byte cut.below, (decimal_lacks byte _ (λ low. omega (arith, cut.below)) small, tt)),
+      (is byte cut.below, (decimal_lacks byte _ (λ low. omega arith) small, tt)),
   tt,
 )) all
 

@@ -38,7 +38,7 @@ module _ (road : RoadMap) (position : ℕ → ℕ) (start : ℕ) where
     used_up : AreLong (set left rank 0) (near + (line.length + get_or left rank 0))
     used_up other found at = elim (cases_eq other rank) [
       | inl same ↦
-          let ends : IsNear (near + (line.length + get_or left rank 0)) line.to = ends_near in
+          let ends = ends_near in
           inr (rw (← (same_line _ _ _ _ _ same is at)) ends)
       | inr differs ↦ elim (long other found at) [
         | inl apart ↦ inl (omega (arith, get_or-set_other left rank other 0 0 differs))

@@ -40,5 +40,5 @@ bytes_of name = name.now
 
 pub name_at : (names : List (Bor (List ℕ))) (place : ℕ) (name : Bor (List ℕ)) → place < length names → slice_get (map bytes_of names) place ≡ Some (get_or names place name).now
 name_at names place name inside =
-    slice_get-get_or (map bytes_of names) place [] (omega (arith, length-map names bytes_of, inside))
+    slice_get-get_or (map bytes_of names) place [] (omega (arith, length-map names bytes_of))
     ∙ ap (λ (l : List ℕ). Some l) (get_or-map _ _ _ _ [] inside)

@@ -23,7 +23,7 @@ pub node_among : (nodes : List Node) (id rank : ℕ) (place : Coordinates) → I
 node_among nodes id rank place at =
     let inside = slice_get_within nodes rank (node id place) at in
     let size = length-map nodes (λ (n : Node). n.id) in
-    let there : get_or (node_ids nodes) rank 0 ≡ id =
+    let there =
     get_or-map _ _ _ (node id place) 0 inside ∙ ap (λ (n : Node). n.id) (get_or_from_slice_get nodes rank _ (node id place) at) in
     rw (← there) (Contains-get_or _ _ 0 (omega arith))
   where

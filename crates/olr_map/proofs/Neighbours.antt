@@ -9,7 +9,7 @@ use Rattle.olr_map.specs.Rows.{HasEqualNeighbours}
 pub equal_at : (xs : List Coordinates) (k : ℕ) (d : Coordinates) → suc k < length xs → get_or xs k d ≡ get_or xs (suc k) d → HasEqualNeighbours xs
 equal_at (x ∷ y ∷ xs) zero d inside same = record { front = []; rest = xs; place = y; equal = cc }
 equal_at (x ∷ xs) (suc k) d inside same =
-    let deeper = equal_at _ k d (omega (arith, inside)) same in
+    let deeper = equal_at _ k d (omega arith) same in
     record { front = x ∷ deeper.front; rest = deeper.rest; place = deeper.place; equal = ap (λ (l : List Coordinates). x ∷ l) deeper.equal }
 equal_at _ _ d inside same = absurd (omega arith)
 
@@ -34,10 +34,10 @@ pub equal_among : (points : List Degrees) (next : ℕ) (a b : Degrees) → 1 ≤
     → coordinates_of a ≡ coordinates_of b → HasEqualNeighbours (map coordinates_of points)
 equal_among points next a b some inside at_a at_b same =
     let size = length-map points coordinates_of in
-    let before = get_or-map coordinates_of points (next - 1) a (coordinates_of a) (omega (arith, some, inside)) ∙ ap coordinates_of (sym at_a) in
+    let before = get_or-map coordinates_of points (next - 1) a (coordinates_of a) (omega arith) ∙ ap coordinates_of (sym at_a) in
     let this = get_or-map _ _ _ b _ inside ∙ ap coordinates_of (sym at_b) in
-    let up : suc (next - 1) ≡ next = omega (arith, some) in
-    equal_at _ _ _ (omega (arith, size, some, inside))
+    let up : suc (next - 1) ≡ next = omega arith in
+    equal_at _ _ _ (omega arith)
     (before ∙ same ∙ sym this ∙ ap (λ (k : ℕ). get_or (map coordinates_of points) k (coordinates_of a)) (sym up))
 
 pub one_more_differs : (points : List Degrees) (next : ℕ) (a b : Degrees) → 1 ≤ next → next < length points → a ≡ get_or points (next - 1) a → b ≡ get_or points next b

@@ -14,7 +14,7 @@ pub named_known : {lines : List RoadLine} {fields : List (List ℕ)} (index : �
     → IsLineNamed lines fields index rank → IsUnknownLine lines fields index → ⊥
 named_known {lines} index {rank} named unknown =
     let ids = line_ids lines in
-    let there : get_or ids rank 0 ≡ named.id = get_or_from_slice_get ids rank _ 0 named.line in
+    let there = get_or_from_slice_get ids rank _ 0 named.line in
     let same = there ∙ number_once 1 _ _ _ _ _ named.spelled unknown.1 in
     unknown.2 (rw (← same) (Contains-get_or _ _ 0 (slice_get_within ids rank named.id named.line)))
 

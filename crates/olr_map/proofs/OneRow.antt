@@ -1,9 +1,9 @@
 -- A record spells one node, or one line, at most.
 use Rattle.std.proofs.Common.{◌≡◌, ℕ, ℤ, ◌<◌, List, length, get_or, Option, sym, ap, ◌∙◌, inl, inr, arith}
 use Rattle.std.specs.Prelude.{unwrap_or, slice_get}
-use Rattle.std.proofs.lemmas.Bool.{cases_lt}
 use Rattle.std.proofs.lemmas.List.{length-map, get_or-map}
 use Rattle.std.proofs.lemmas.Option.{get_or_from_slice_get, slice_get_within}
+use Rattle.olr_metric.proofs.Neither.{neither_less}
 use Rattle.olr_metric.specs.Coordinates.{Coordinates}
 use Rattle.olr_records.specs.Fields.{SpellsLongitude, SpellsLatitude}
 use Rattle.olr_map.specs.Rows.{SpellsAt, Node, node_ids, IsNode, RoadLine, IsNodeAt, IsEnd, ArePoints, IsLine}
@@ -21,17 +21,11 @@ spells_once once at a b one other =
 
 -- ---- a node
 
-lon_once : (fields : List (List ℕ)) (at : ℕ) (a b : ℤ) → SpellsAt SpellsLongitude fields at a → SpellsAt SpellsLongitude fields at b → a ≡ b
-lon_once fields at a b one other = spells_once (λ text y z p q. signed_once _ y z p.number q.number) _ a b one other
-
-lat_once : (fields : List (List ℕ)) (at : ℕ) (a b : ℤ) → SpellsAt SpellsLatitude fields at a → SpellsAt SpellsLatitude fields at b → a ≡ b
-lat_once fields at a b one other = spells_once (λ text y z p q. signed_once _ y z p.number q.number) _ a b one other
-
 pub node_once : (fields : List (List ℕ)) (a b : Node) → IsNode fields a → IsNode fields b → a ≡ b
 node_once fields a b is other =
     let id = number_once 1 _ _ 0 _ _ is.id other.id in
-    let lon = lon_once _ 1 _ _ is.lon other.lon in
-    let lat = lat_once _ 2 _ _ is.lat other.lat in
+    let lon = spells_once (λ text y z p q. signed_once text y z p.number q.number) 1 _ _ is.lon other.lon in
+    let lat = spells_once (λ text y z p q. signed_once text y z p.number q.number) 2 _ _ is.lat other.lat in
     λ i. record { id = id i; place = record { lon = lon i; lat = lat i } }
 
 -- ---- a line, on nodes whose ids differ
@@ -41,13 +35,8 @@ node_at id place = record { id = id; place = place }
 
 -- an id has one rank
 pub rank_once : (ids : List ℕ) (i j : ℕ) → AllDiffer ids → i < length ids → j < length ids → get_or ids i 0 ≡ get_or ids j 0 → i ≡ j
-rank_once ids i j differ inside_i inside_j same = elim (cases_lt i j) [
-  | inl less ↦ absurd (differ i j 0 less inside_j same)
-  | inr le ↦ elim (cases_lt j i) [
-    | inl less ↦ absurd (differ j i 0 less inside_i (sym same))
-    | inr ge ↦ omega arith
-  ]
-]
+rank_once ids i j differ inside_i inside_j same =
+    neither_less (λ less. differ i j 0 less inside_j same) (λ more. differ j i 0 more inside_i (sym same))
 
 -- the id at the rank of a node is its own
 id_there : (nodes : List Node) (id rank : ℕ) (place : Coordinates) → IsNodeAt nodes id rank place → get_or (node_ids nodes) rank 0 ≡ id

@@ -44,7 +44,7 @@ inside_sound : {Row : Type 0} (table : Table Row) → IsLawful table
     → AllPass (checks_of table (keys_of table front) bad)
 inside_sound {Row} table lawful good bad rest rows front are each =
     let found = zip_split _ _ _ _ _ are.each in
-    let same : found.before ≡ front = rows_once _ lawful _ _ _ found.each each in
+    let same = rows_once _ lawful _ _ _ found.each each in
     let split : rows ≡ front ++ found.at ∷ found.after = cc in
     let size : length rows ≡ length front + suc (length found.after) =
     cc (length-append front (found.at ∷ found.after)) in

@@ -66,8 +66,7 @@ module _ (nodes : List NodeByRank) (entries : List Entry) (points : List Degrees
       target node count long line is_goal is joins =
       let (entry, at, same) = entry_at points entries target line is in
       let from = entry.line.from in
-      let start : IsBetween low high (position_of positions from)
-      = All-contains (StartsBetween entries positions low high) lines target between is_goal entry at in
+      let start = All-contains (StartsBetween entries positions low high) lines target between is_goal entry at in
       let joined : Joins road count node from long
       = rw (ap (λ (l : RoadLine). l.from) same) joins in
       least_at positions north east node long

@@ -9,10 +9,10 @@ use Rattle.std.proofs.lemmas.List.Sorted.{IsPermutation-sym, Contains-permutatio
 use Rattle.std.proofs.lemmas.Option.{get_or_from_slice_get, slice_get_within}
 
 -- each number is less than all behind it
-abbrev Rise : List ℕ → Type 0
+abbrev pub Rise : List ℕ → Type 0
 Rise xs = AllPairs (λ (a b : ℕ). a < b) xs
 
-rest_rises : (x : ℕ) (xs : List ℕ) → Rise (x ∷ xs) → Rise xs
+pub rest_rises : (x : ℕ) (xs : List ℕ) → Rise (x ∷ xs) → Rise xs
 rest_rises x xs rise i j d below inside = rise (suc i) (suc j) d (omega arith) (omega arith)
 
 -- ---- a place as a number of lesser ones
@@ -20,7 +20,7 @@ rest_rises x xs rise i j d below inside = rise (suc i) (suc j) d (omega arith) (
 none_less : (id : ℕ) (xs : List ℕ) → ((k : ℕ) → k < length xs → id ≤ get_or xs k 0) → length (filter (λ other. ltb other id) xs) ≡ 0
 none_less id [] above = refl
 none_less id (x ∷ xs) above =
-    let here : ltb x id ≡ false = le-ltb x id (above 0 (omega arith)) in
+    let here = le-ltb x id (above 0 (omega arith)) in
     ap (λ (b : Bool). length (cond b (x ∷ filter (λ other. ltb other id) xs) (filter (λ other. ltb other id) xs))) here
     ∙ none_less id xs (λ k inside. above (suc k) (omega arith))
 
@@ -32,12 +32,12 @@ lesser (x ∷ xs) zero id rise there =
   where
     above : (x : ℕ) (xs : List ℕ) (id : ℕ) → x ≡ id → Rise (x ∷ xs) → (k : ℕ) → k < length (x ∷ xs) → id ≤ get_or (x ∷ xs) k 0
     above x xs id same rise zero inside = omega arith
-    above x xs id same rise (suc k) inside = let below : x < get_or xs k 0 = rise 0 (suc k) 0 (omega arith) inside in omega arith
+    above x xs id same rise (suc k) inside = let below = rise 0 (suc k) 0 (omega arith) inside in omega arith
 lesser (x ∷ xs) (suc rank) id rise there =
     let inside = slice_get_within xs rank id there in
-    let last : get_or xs rank 0 ≡ id = get_or_from_slice_get xs rank _ 0 there in
-    let below : x < get_or xs rank 0 = rise 0 (suc rank) 0 (omega arith) (omega arith) in
-    let here : ltb x id ≡ true = lt-ltb x id (omega arith) in
+    let last = get_or_from_slice_get xs rank _ 0 there in
+    let below = rise 0 (suc rank) 0 (omega arith) (omega arith) in
+    let here = lt-ltb x id (omega arith) in
     ap (λ (b : Bool). length (cond b (x ∷ filter (λ other. ltb other id) xs) (filter (λ other. ltb other id) xs))) here
     ∙ ap suc (lesser xs rank id (rest_rises x _ rise) there)
 

@@ -6,14 +6,11 @@ use Rattle.std.proofs.lemmas.Bool.{cases_lt}
 use Rattle.std.proofs.lemmas.List.Kept.{AllPairs-from_increasing}
 use Rattle.std.proofs.lemmas.List.Sorted.{IsPermutation-refl, IsPermutation-sym, IsPermutation-trans, IsPermutation-cons, IsPermutation-middle, IsPermutation-map, Contains-permutation}
 use Rattle.olr_index.specs.Repeats.{AllDiffer, Sorts}
+use Rattle.olr_map.proofs.Rising.{Rise, rest_rises}
 
 -- a number is less than each of a list
 abbrev IsBelow : ℕ → List ℕ → Type 0
 IsBelow least xs = (j d : ℕ) → j < length xs → least < slice_index_or xs j d
-
--- each number is less than all after it
-abbrev Rise : List ℕ → Type 0
-Rise xs = AllPairs (λ (a b : ℕ). a < b) xs
 
 rising_cons : (x : ℕ) (xs : List ℕ) → IsBelow x xs → Rise xs → Rise (x ∷ xs)
 rising_cons x xs below rise zero (suc j) d less inside = below j d (omega arith)
@@ -33,9 +30,6 @@ below_rest least x xs below j d inside = below (suc j) d (omega arith)
 -- less than the first of a list that rises is less than each
 below_all : (least x : ℕ) (xs : List ℕ) → least < x → Rise (x ∷ xs) → IsBelow least (x ∷ xs)
 below_all least x xs less rise = below_cons x _ less (λ j d inside. let more = first_below x _ rise j d inside in omega arith)
-
-rising_rest : (x : ℕ) (xs : List ℕ) → Rise (x ∷ xs) → Rise xs
-rising_rest x xs rise i j d less inside = rise (suc i) (suc j) d (omega arith) (omega arith)
 
 module _ {A : Type 0} (key : A → ℕ) where
   -- one more element at its place
@@ -63,8 +57,8 @@ module _ {A : Type 0} (key : A → ℕ) where
       least = λ least before below. below_cons _ (map key (y ∷ xs)) before below;
     }
     | inr above ↦
-        let rest = inserted x xs (rising_rest _ _ rise) (not_behind x y _ new) in
-        let less : key y < key x = other_key (key x) (key y) above (λ e. new (0, omega arith, e)) in
+        let rest = inserted x xs (rest_rises _ _ rise) (not_behind x y _ new) in
+        let less = other_key (key x) (key y) above (λ e. new (0, omega arith, e)) in
         record {
           all = y ∷ rest.all;
           same = IsPermutation-trans _ _ _ (IsPermutation-middle (x ∷ []) y xs) (IsPermutation-cons y (x ∷ xs) rest.all rest.same);

@@ -88,8 +88,8 @@ line_joins nodes fields line is = search rules
 
 pub lines_are_sound : {text : List ℕ} {nodes : List Node} {lines : List RoadLine} → AreSoundNodes nodes → IsLineSet nodes text lines → AreSoundLines nodes lines
 lines_are_sound {nodes} {lines} sound is =
-    let Sound : RoadLine → Type 0 = IsSoundLine (length nodes) in
-    let Joins : RoadLine → Type 0 = JoinsNodes nodes in
+    let Sound = IsSoundLine (length nodes) in
+    let Joins = JoinsNodes nodes in
     record {
       rise = is.2.rise;
       at_most = omega (arith, length_permutation is.0 lines is.2.same);
@@ -114,7 +114,7 @@ no_bans_are_sound lines = record { rise = λ k e. absurd (omega arith); at_most 
 pub map_is_sound : (nodes_text lines_text bans_text : List ℕ) (road : RoadMap) → IsNodeSet nodes_text road.nodes → IsLineSet road.nodes lines_text road.lines
     → IsBanSet road.lines bans_text road.bans → IsSoundMap road
 map_is_sound nodes_text lines_text bans_text road nodes lines bans =
-    let sound : AreSoundNodes road.nodes = nodes_are_sound nodes in
+    let sound = nodes_are_sound nodes in
     record {
       nodes = sound;
       lines = lines_are_sound sound lines;

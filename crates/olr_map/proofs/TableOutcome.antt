@@ -26,7 +26,7 @@ differ_more : (keys : List ℕ) (last : ℕ) → AllDiffer keys → (Contains ke
 differ_more keys last differ new i j d less inside same = elim (cases_lt j (length keys)) [
   | inl low ↦
       differ i j d less low (cc (
-        get_or_append_left keys (last ∷ []) d i (omega (arith, less, low)),
+        get_or_append_left keys (last ∷ []) d i (omega arith),
         get_or_append_left keys (last ∷ []) d j low,
       ))
   | inr high ↦

@@ -146,10 +146,10 @@ pub no_longitude : {lines : List RoadLine} {window : Extent} → (window.west �
 no_longitude empty = nothing_meets (λ line meets. empty meets.lons.band)
 
 pub in_order : (low high : ℤ) → int_lt high low ≡ false → low ≤ℤ high
-in_order low high e = omega (arith, ints, e)
+in_order low high e = omega (arith, ints)
 
 pub out_of_order : {low high : ℤ} → int_lt high low ≡ true → low ≤ℤ high → ⊥
-out_of_order e le = omega (arith, ints, e, le)
+out_of_order e le = omega (arith, ints)
 
 -- ---- one line more, with its extent
 

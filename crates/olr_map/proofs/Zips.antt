@@ -32,7 +32,7 @@ pub zip_at : {A B : Type 0} (R : A → B → Type 0) (xs : List A) (ys : List B)
 zip_at R [] [] at all inside = absurd (omega arith)
 zip_at R (a ∷ xs) (b ∷ ys) zero all inside = search rules
 zip_at R (a ∷ xs) (b ∷ ys) (suc at) all inside =
-    let deeper = zip_at R _ _ _ all.1 (omega (arith, inside)) in
+    let deeper = zip_at R _ _ _ all.1 (omega arith) in
     record {
       left = deeper.left;
       right = deeper.right;

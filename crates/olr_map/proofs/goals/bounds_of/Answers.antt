@@ -27,8 +27,8 @@ loop-rank-preserved c =
     let high = c.greater-high.result in
     let start = c.position_of-start.result in
     let lines = c.args.lines.now in
-    let Old : ℕ → Type 0 = StartsBetween c.args.entries.now c.args.positions.now c.loop-rank.low c.loop-rank.high in
-    let New : ℕ → Type 0 = StartsBetween c.args.entries.now c.args.positions.now low high in
+    let Old = StartsBetween c.args.entries.now c.args.positions.now c.loop-rank.low c.loop-rank.high in
+    let New = StartsBetween c.args.entries.now c.args.positions.now low high in
     let lesser = c.lesser-low.ensures in
     let greater = c.greater-high.ensures in
     All-more New _ _ 0 c.loop-rank-test.true

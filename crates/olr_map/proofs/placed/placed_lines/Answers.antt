@@ -10,7 +10,7 @@ loop-entry-preserved c =
     let inv = c.loop-entry.invariant in
     let long = zip_length _ _ _ inv.extents in
     let place : c.loop-entry.rank ≡ length (extents_of c.loop-entry.lines.items) =
-    omega (arith, length-take-le c.loop-entry.entry-index c.args.entries.now (omega (arith, c.loop-entry-test.true))) in
+    omega (arith, length-take-le c.loop-entry.entry-index c.args.entries.now (omega arith)) in
     record {
       rank = cc;
       in_order = in_order_more _ _ _ _ c.in_ok-push.ensures.items place inv.in_order;
@@ -18,4 +18,4 @@ loop-entry-preserved c =
     }
 
 pub returns-clause-extents : goal.returns-clause-extents
-returns-clause-extents c = rw (← (take_all c.loop-entry.entry-index c.args.entries.now (omega (arith, c.loop-entry-test.false)))) c.loop-entry.invariant.extents
+returns-clause-extents c = rw (← (take_all c.loop-entry.entry-index c.args.entries.now (omega arith))) c.loop-entry.invariant.extents

@@ -18,4 +18,4 @@ loop-rank-preserved c =
     }
 
 pub returns-clause-lines : goal.returns-clause-lines
-returns-clause-lines c = cc (take_all c.loop-rank.rank-index c.args.lines.now (omega (arith, c.loop-rank-test.false)))
+returns-clause-lines c = cc (take_all c.loop-rank.rank-index c.args.lines.now (omega arith))
