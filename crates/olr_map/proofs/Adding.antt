@@ -74,7 +74,7 @@ late fields old new more row stop room sound entries points says late_fault = re
   rows = ap (λ (l : List Degrees). map (line_in l) new.entries.items) points
       ∙ ap (λ (l : List Entry). map (line_in (old.points.items ++ more)) l) entries
       ∙ lines_kept _ _ _ sound.within;
-  stops = stops_late _ _ _ _ _ _ _ (size_of_lines old) room says late_fault;
+  stops = stops_late (size_of_lines old) room says late_fault;
 }
 
 -- one line more

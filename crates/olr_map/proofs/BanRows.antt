@@ -26,9 +26,9 @@ rank_inside rows id rank at =
       length-map rows.entries.items (line_in rows.points.items),
     )
 
-line_there : (rows : LineSet) (rank : ℕ) (other : Entry) → rank < length rows.entries.items
+line_there : (rows : LineSet) {rank : ℕ} (other : Entry) → rank < length rows.entries.items
     → slice_get (lines_of rows) rank ≡ Some (line_in rows.points.items (get_or rows.entries.items rank other))
-line_there rows rank other inside =
+line_there rows {rank} other inside =
     let Line = line_in rows.points.items in
     let line = Line (get_or rows.entries.items rank other) in
     slice_get-get_or (lines_of rows) rank line (omega (arith, length-map rows.entries.items Line))
@@ -43,16 +43,16 @@ pub meets : (rows : LineSet) (from to : ℕ) (e f : Entry) → from < length row
 meets rows from to e f first second same = record {
   first = line_in rows.points.items (get_or rows.entries.items from e);
   second = line_in rows.points.items (get_or rows.entries.items to f);
-  from = line_there rows _ e first;
-  to = line_there rows _ f second;
+  from = line_there rows e first;
+  to = line_there rows f second;
   meet = sym same;
 }
 
 pub never_meets : (rows : LineSet) (from to : ℕ) (e f : Entry) → from < length rows.entries.items → to < length rows.entries.items
     → ((get_or rows.entries.items from e).line.to ≡ (get_or rows.entries.items to f).line.from → ⊥) → IsAdjacent (lines_of rows) (ban_of from to) → ⊥
 never_meets rows from to e f first second apart_there is =
-    let one : line_in rows.points.items (get_or rows.entries.items from e) ≡ is.first = some_once (cc (line_there rows _ e first)) in
-    let other : line_in rows.points.items (get_or rows.entries.items to f) ≡ is.second = some_once (cc (line_there rows _ f second)) in
+    let one : line_in rows.points.items (get_or rows.entries.items from e) ≡ is.first = some_once (cc (line_there rows e first)) in
+    let other : line_in rows.points.items (get_or rows.entries.items to f) ≡ is.second = some_once (cc (line_there rows f second)) in
     apart_there (cc)
   where
     some_once : {a b : RoadLine} → Some a ≡ Some b → a ≡ b

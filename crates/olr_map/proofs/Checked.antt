@@ -136,8 +136,8 @@ refused_of_file table settled before fields why refuses =
 
 -- a fault of a table's text lies in its file
 pub of_file : {Row : Type 0} {table : Table Row} → IsSettled table
-    → (text : List ℕ) (why : MapFault) → IsFaultOfTable table text why → IsOfFile table.file why
-of_file settled text why is = elim is [
+    → (text : List ℕ) {why : MapFault} → IsFaultOfTable table text why → IsOfFile table.file why
+of_file settled text is = elim is [
   | inl header ↦ rw header.0 (tt, refl)
   | inr row ↦ refused_of_file _ settled _ _ _ row.2.refused
 ]

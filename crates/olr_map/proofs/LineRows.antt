@@ -13,8 +13,8 @@ use Rattle.olr_map.specs.Rows.{SpellsAt, Node, node_ids, IsNodeAt}
 use Rattle.olr_map.specs.Faults.{IsUnknown}
 
 -- a field spells one number
-pub number_once : (least greatest : ℕ) (fields : List (List ℕ)) (at a b : ℕ) → SpellsAt (IsNumberWithin least greatest) fields at a → SpellsAt (IsNumberWithin least greatest) fields at b → a ≡ b
-number_once least greatest fields at a b one other =
+pub number_once : (least greatest : ℕ) {fields : List (List ℕ)} (at : ℕ) {a : ℕ} (b : ℕ) → SpellsAt (IsNumberWithin least greatest) fields at a → SpellsAt (IsNumberWithin least greatest) fields at b → a ≡ b
+number_once least greatest at {a} b one other =
     let same = ap (λ (o : Option (List ℕ)). unwrap_or o one.text) (sym one.field ∙ other.field) in
     one.spells.number.value ∙ ap (λ (l : List ℕ). digits_value 10 l) same ∙ sym other.spells.number.value
 
@@ -34,7 +34,7 @@ node_among nodes id rank place at =
 pub known : (nodes : List Node) (fields : List (List ℕ)) (at id rank : ℕ) (place : Coordinates) → SpellsAt (IsNumberWithin 1 9007199254740992) fields at id → IsNodeAt nodes id rank place
     → IsUnknown nodes fields at → ⊥
 known nodes fields at id rank place spelled node unknown =
-    unknown.2 (rw (← (number_once 1 _ _ _ _ _ spelled unknown.1)) (node_among _ _ _ _ node))
+    unknown.2 (rw (← (number_once 1 _ _ _ spelled unknown.1)) (node_among _ _ _ _ node))
 
 -- the points of a line, and those that lie behind the ones before them
 abbrev pub joined : Degrees → List Degrees → Degrees → List Degrees

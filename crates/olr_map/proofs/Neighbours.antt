@@ -22,8 +22,8 @@ place_of_twins (x ∷ front) rest place d = let deeper = place_of_twins front re
 abbrev pub NoneEqualBelow : List Coordinates → ℕ → Type 0
 NoneEqualBelow xs end = (k : ℕ) (d : Coordinates) → suc k < end → get_or xs k d ≡ get_or xs (suc k) d → ⊥
 
-pub none_equal : (xs : List Coordinates) (end : ℕ) → length xs ≤ end → NoneEqualBelow xs end → HasEqualNeighbours xs → ⊥
-none_equal xs end all none has =
+pub none_equal : {xs : List Coordinates} {end : ℕ} → length xs ≤ end → NoneEqualBelow xs end → HasEqualNeighbours xs → ⊥
+none_equal all none has =
     let size = ap length has.equal in
     let at = place_of_twins has.front has.rest has.place has.place in
     none (length has.front) has.place (omega arith)

@@ -14,8 +14,8 @@ use Rattle.olr_map.proofs.LineRows.{number_once}
 
 -- a field spells one value, where its text does
 spells_once : {A : Type 0} {Spells : List ℕ → A → Type 0} → ((text : List ℕ) (a b : A) → Spells text a → Spells text b → a ≡ b)
-    → {fields : List (List ℕ)} (at : ℕ) (a b : A) → SpellsAt Spells fields at a → SpellsAt Spells fields at b → a ≡ b
-spells_once once at a b one other =
+    → {fields : List (List ℕ)} (at : ℕ) {a b : A} → SpellsAt Spells fields at a → SpellsAt Spells fields at b → a ≡ b
+spells_once once at {a} {b} one other =
     let same = ap (λ (o : Option (List ℕ)). unwrap_or o one.text) (sym one.field ∙ other.field) in
     once other.text a b (rw (← same) one.spells) other.spells
 
@@ -23,9 +23,9 @@ spells_once once at a b one other =
 
 pub node_once : (fields : List (List ℕ)) (a b : Node) → IsNode fields a → IsNode fields b → a ≡ b
 node_once fields a b is other =
-    let id = number_once 1 _ _ 0 _ _ is.id other.id in
-    let lon = spells_once (λ text y z p q. signed_once text y z p.number q.number) 1 _ _ is.lon other.lon in
-    let lat = spells_once (λ text y z p q. signed_once text y z p.number q.number) 2 _ _ is.lat other.lat in
+    let id = number_once 1 _ 0 _ is.id other.id in
+    let lon = spells_once (λ text y z p q. signed_once text y z p.number q.number) 1 is.lon other.lon in
+    let lat = spells_once (λ text y z p q. signed_once text y z p.number q.number) 2 is.lat other.lat in
     λ i. record { id = id i; place = record { lon = lon i; lat = lat i } }
 
 -- ---- a line, on nodes whose ids differ
@@ -58,7 +58,7 @@ record SameEnd (from to : ℕ) (first last : Coordinates) : Type 0 where
 end_once : {nodes : List Node} {fields : List (List ℕ)} (index i j : ℕ) {p q : Coordinates} → AllDiffer (node_ids nodes) → IsEnd nodes fields index i p → IsEnd nodes fields index j q
     → SameEnd i j p q
 end_once {nodes} index i j {p} {q} differ is other =
-    let id = number_once 1 _ _ _ _ _ is.spelled other.spelled in
+    let id = number_once 1 _ _ _ is.spelled other.spelled in
     let same = id_there _ _ i p is.node ∙ id ∙ sym (id_there _ _ j q other.node) in
     let rank = rank_once _ i j differ (rank_inside _ _ i p is.node) (rank_inside _ _ j q other.node) same in
     record {
@@ -77,18 +77,18 @@ pub points_once : {nodes : List Node} {fields : List (List ℕ)} {a c b d : ℕ}
 points_once {a} {c} {b} {d} {points} differ is other =
     let start = end_once 1 a b differ is.start other.start in
     let last = end_once 2 c d differ is.end other.end in
-    let between = spells_once shape_once 6 _ _ is.between other.between in
+    let between = spells_once shape_once 6 is.between other.between in
     record {
       from = start.rank;
       to = last.rank;
       points = cc;
     }
 
-pub line_once : (nodes : List Node) → AllDiffer (node_ids nodes) → (fields : List (List ℕ)) (a b : RoadLine) → IsLine nodes fields a → IsLine nodes fields b → a ≡ b
-line_once nodes differ fields a b is other =
-    let id = number_once 1 _ _ 0 _ _ is.id other.id in
-    let class = number_once 0 7 _ 3 _ _ is.class other.class in
-    let form = number_once 0 7 _ 4 _ _ is.form other.form in
-    let size = number_once 0 _ _ 5 _ _ is.length other.length in
+pub line_once : {nodes : List Node} → AllDiffer (node_ids nodes) → (fields : List (List ℕ)) (a b : RoadLine) → IsLine nodes fields a → IsLine nodes fields b → a ≡ b
+line_once differ fields a b is other =
+    let id = number_once 1 _ 0 _ is.id other.id in
+    let class = number_once 0 7 3 _ is.class other.class in
+    let form = number_once 0 7 4 _ is.form other.form in
+    let size = number_once 0 _ 5 _ is.length other.length in
     let same = points_once differ is.points other.points in
     λ i. record { id = id i; from = same.from i; to = same.to i; class = class i; form = form i; length = size i; points = same.points i }

@@ -59,9 +59,9 @@ data IsFirstOrBehind {X : Type 0} (x : X) (xs : List X) (z : X) : Type 0 where
   first : x ≡ z → IsFirstOrBehind x xs z
   behind : Contains xs z → IsFirstOrBehind x xs z
 
-member : {X : Type 0} (x : X) (xs : List X) (z : X) → Contains (x ∷ xs) z → IsFirstOrBehind x xs z
-member x xs z (zero, inside, is) = first is
-member x xs z (suc k, inside, is) = behind (k, omega arith, is)
+member : {X : Type 0} (x : X) {xs : List X} (z : X) → Contains (x ∷ xs) z → IsFirstOrBehind x xs z
+member x z (zero, inside, is) = first is
+member x z (suc k, inside, is) = behind (k, omega arith, is)
 
 here : {X : Type 0} (x : X) (xs : List X) → Contains (x ∷ xs) x
 here x xs = (0, omega arith, refl)
@@ -70,9 +70,9 @@ further : {X : Type 0} (x : X) (xs : List X) (z : X) → Contains xs z → Conta
 further x xs z (k, inside, is) = (suc k, omega arith, is)
 
 same_first : {X : Type 0} (key : X → ℕ) (x y : X) (xs ys : List X) → Rise (map key (x ∷ xs)) → Rise (map key (y ∷ ys)) → Contains (y ∷ ys) x → Contains (x ∷ xs) y → x ≡ y
-same_first key x y xs ys up_x up_y x_in y_in = elim (member y _ x x_in) [
+same_first key x y xs ys up_x up_y x_in y_in = elim (member y x x_in) [
   | first same ↦ sym same
-  | behind x_behind ↦ elim (member x _ y y_in) [
+  | behind x_behind ↦ elim (member x y y_in) [
     | first same ↦ same
     | behind y_behind ↦
         let less = greater _ y _ up_y x x_behind in
@@ -84,7 +84,7 @@ same_first key x y xs ys up_x up_y x_in y_in = elim (member y _ x x_in) [
 -- the members behind equal first elements
 within_rest : {X : Type 0} (key : X → ℕ) (x y : X) (xs ys : List X) → Rise (map key (x ∷ xs)) → x ≡ y → ((z : X) → Contains (x ∷ xs) z → Contains (y ∷ ys) z)
     → (z : X) → Contains xs z → Contains ys z
-within_rest key x y xs ys up same within z contains = elim (member y _ z (within z (further x _ z contains))) [
+within_rest key x y xs ys up same within z contains = elim (member y z (within z (further x _ z contains))) [
   | first is ↦
       let less = greater _ x _ up z contains in
       let equal : key x ≡ key z = cc in

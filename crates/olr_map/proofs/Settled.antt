@@ -175,7 +175,7 @@ fault_settled table settled records rows stop keys why same found (repeat at fir
     let here = subst (λ (l : List ℕ). IsFirstRepeat (keys_read l stop) at) same first in
     rw e (repeat_decides _ settled _ _ _ _ found here)
 fault_settled table settled records rows stop keys why same found (stopped its is differ e) =
-    let stops = when_some _ _ _ _ is found in
+    let stops = when_some _ _ _ is found in
     let apart = subst (λ (l : List ℕ). AllDiffer (with_last l its.key)) same differ in
     rw e (stop_decides _ settled _ _ _ stops apart)
 
@@ -198,10 +198,10 @@ pub text_fault : {Row : Type 0} (table : Table Row) → IsSettled table
 text_fault table settled text records rows stop keys why is same found settles =
     after_header _ _ _ _ is (fault_settled _ settled _ _ _ _ _ same found settles)
 
-pub text_rows : {Row : Type 0} (table : Table Row) (text : List ℕ) (records : List (List (List ℕ)))
-    (rows sorted : List Row) → records_of text ≡ table.header ∷ records
+pub text_rows : {Row : Type 0} {table : Table Row} {text : List ℕ} {records : List (List (List ℕ))}
+    {rows sorted : List Row} → records_of text ≡ table.header ∷ records
     → SpellRows table records rows → Sorts table.key rows sorted → IsTableOf table text sorted
-text_rows table text records rows sorted is say sorts = (
+text_rows {records} {rows} is say sorts = (
   rows,
   record {
     records = records;

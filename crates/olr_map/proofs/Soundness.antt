@@ -83,8 +83,8 @@ line_is_sound nodes sound fields line is =
       apart = is.apart;
     }
 
-line_joins : (nodes : List Node) (fields : List (List ℕ)) (line : RoadLine) → IsLine nodes fields line → JoinsNodes nodes line
-line_joins nodes fields line is = search rules
+line_joins : {nodes : List Node} (fields : List (List ℕ)) (line : RoadLine) → IsLine nodes fields line → JoinsNodes nodes line
+line_joins fields line is = search rules
 
 pub lines_are_sound : {text : List ℕ} {nodes : List Node} {lines : List RoadLine} → AreSoundNodes nodes → IsLineSet nodes text lines → AreSoundLines nodes lines
 lines_are_sound {nodes} {lines} sound is =
@@ -94,7 +94,7 @@ lines_are_sound {nodes} {lines} sound is =
       rise = is.2.rise;
       at_most = omega (arith, length_permutation is.0 lines is.2.same);
       each = All-permutation Sound _ _ is.2.same (each_second _ _ (line_is_sound _ sound.each) _ _ is.1.accepted.each);
-      joined = All-permutation Joins _ _ is.2.same (each_second _ _ (line_joins _) _ _ is.1.accepted.each);
+      joined = All-permutation Joins _ _ is.2.same (each_second _ _ (line_joins) _ _ is.1.accepted.each);
     }
 
 -- ---- bans
@@ -106,8 +106,8 @@ bans_are_sound {lines} {bans} is = record {
   each = All-permutation (IsAdjacent lines) _ _ is.2.same (each_second _ _ (λ fields ban is. is.adjacent) _ _ is.1.accepted.each);
 }
 
-pub no_bans_are_sound : (lines : List RoadLine) → AreSoundBans lines []
-no_bans_are_sound lines = record { rise = λ k e. absurd (omega arith); at_most = omega arith; each = All-nil _ }
+pub no_bans_are_sound : {lines : List RoadLine} → AreSoundBans lines []
+no_bans_are_sound = record { rise = λ k e. absurd (omega arith); at_most = omega arith; each = All-nil _ }
 
 -- ---- the map
 

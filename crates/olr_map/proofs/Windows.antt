@@ -29,11 +29,11 @@ some_and P (Some x) has = (x, refl, has)
 -- the other element at a place
 zip_left : {A B : Type 0} (R : A → B → Type 0) (xs : List A) (ys : List B) (at : ℕ) (y : B) → AllZip R xs ys → slice_get ys at ≡ Some y
     → (x : A) × (slice_get xs at ≡ Some x) × R x y
-zip_left R xs ys at y all is = some_and _ _ (when_some _ _ _ y is (AllZip-right R xs ys all at))
+zip_left R xs ys at y all is = some_and _ _ (when_some _ _ y is (AllZip-right R xs ys all at))
 
 zip_right : {A B : Type 0} (R : A → B → Type 0) (xs : List A) (ys : List B) (at : ℕ) (x : A) → AllZip R xs ys → slice_get xs at ≡ Some x
     → (y : B) × (slice_get ys at ≡ Some y) × R x y
-zip_right R xs ys at x all is = some_and _ _ (when_some _ _ _ x is (AllZip-left R xs ys all at))
+zip_right R xs ys at x all is = some_and _ _ (when_some _ _ x is (AllZip-left R xs ys all at))
 
 -- ---- points and one of their coordinates
 

@@ -15,7 +15,7 @@ returns-in_default-clause-stop c =
 
 pub returns-in_default-2-clause-stop : goal.returns-in_default-2-clause-stop
 returns-in_default-2-clause-stop c =
-    unknown c.in-Ok.ids.0 c.in-Ok.ids.1 c.in-Ok.ensures.ids (inl (c.in-Ok.ids.0, c.in-Ok.ensures.ids.from, when_none _ _ _ c.in_default.is-0 c.find_line.ensures)) refl
+    unknown c.in-Ok.ids.0 c.in-Ok.ids.1 c.in-Ok.ensures.ids (inl (c.in-Ok.ids.0, c.in-Ok.ensures.ids.from, when_none _ _ c.in_default.is-0 c.find_line.ensures)) refl
 
 pub index-requires : goal.index-requires
 index-requires c = omega (arith, rank_inside c.args.lines.now c.in-Ok.ids.0 c.in-Some-Some.from c.in-Some-Some.ensures)

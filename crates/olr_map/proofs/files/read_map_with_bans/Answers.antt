@@ -37,4 +37,4 @@ returns-in_err-bans-clause-fault g c =
 pub returns-clause-map : goal.returns-clause-map
 returns-clause-map g c =
     let read = c.in_ok-bans.ensures.bans in
-    rw c.in_ok-map.ensures (map_reported c.in_ok-network.ensures.accepted (bans_are_sound read.2) (known_left _ _ _ read.1 read.2))
+    rw c.in_ok-map.ensures (map_reported c.in_ok-network.ensures.accepted (bans_are_sound read.2) (known_left _ _ read.1 read.2))

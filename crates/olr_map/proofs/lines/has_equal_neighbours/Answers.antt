@@ -19,4 +19,4 @@ loop-next-preserved c =
     (omega arith, more)
 
 pub returns : goal.returns
-returns c = none_equal _ _ (omega (arith, length-map c.args.points.now coordinates_of)) c.loop-next.invariant.1
+returns c = none_equal (omega (arith, length-map c.args.points.now coordinates_of)) c.loop-next.invariant.1

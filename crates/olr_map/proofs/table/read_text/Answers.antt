@@ -24,6 +24,6 @@ returns-clause-rows g c =
     let rows = g.T.TableFile.rows c.read_rows.new.table in
     let sorted = g.T.TableFile.rows c.settle.new.table in
     let header = when_true _ _ _ c.if-not-branch.false c.in_ok-pass_header.ensures in
-    let say = when_none _ _ _ c.in_ok-settle.ensures.sorted.0 c.in_ok-stop.ensures.rows in
-    text_rows _ _ _ _ _ (cc) say
+    let say = when_none _ _ c.in_ok-settle.ensures.sorted.0 c.in_ok-stop.ensures.rows in
+    text_rows (cc) say
     (rw (← c.in_ok-stop.ensures.same) c.in_ok-settle.ensures.sorted.1)
