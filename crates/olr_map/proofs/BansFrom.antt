@@ -13,13 +13,15 @@ use Rattle.olr_map.specs.RoadMap.{AreSoundBans}
 first_of_pair : (from to : ℕ) → to < 4294967296 → (from * 4294967296 + to) / 4294967296 ≡ from
 first_of_pair from to small = omega arith
 
-module _ (lines : List RoadLine) (bans : List Ban) (sound : AreSoundBans lines bans) (few : length lines < 4294967296) where
+module _ (lines : List RoadLine) (bans : List Ban) (sound : AreSoundBans lines bans)
+    (few : length lines < 4294967296) where
   first_is : (ban : Ban) → Contains bans ban → first_of (ban_key ban) ≡ ban.from
   first_is ban there =
       let meets = All-contains (IsAdjacent lines) _ _ sound.each there in
       first_of_pair _ _ (omega (arith, slice_get_within lines ban.to meets.second meets.to))
 
-  pub bans_of_first : (line : ℕ) (found : List Ban) → AreOfFirst ban_key bans line found → AreBansFrom bans line found
+  pub bans_of_first : (line : ℕ) (found : List Ban) → AreOfFirst ban_key bans line found
+      → AreBansFrom bans line found
   bans_of_first line found is = record {
     only = λ k d inside.
         let at = is.only k d inside in

@@ -228,8 +228,7 @@ line_by_fields sound a b is other same =
       to = to i;
       class = class i;
       form = form i;
-      length =
-          size i;
+      length = size i;
       points = points i;
     }
 

@@ -108,8 +108,7 @@ lines_on : {nodes : List Node} {lines : List RoadLine} → AreSoundLines nodes l
     → All (IsOn nodes) lines
 lines_on sound = λ k d inside. record {
   sound = sound.each k d inside;
-  joins =
-      sound.joined k d inside;
+  joins = sound.joined k d inside;
 }
 
 nodes_are : {nodes : List Node} → AreSoundNodes nodes → All AreFields (map node_fields nodes)

@@ -71,8 +71,7 @@ module _ {Row : Type 0} (table : Table Row) (rows : List Row) (fields : List (Li
   pub stops_at_error : {before : ℕ} (error : RowError) → length rows ≡ before → before < table.most
       → ((n : ℕ) → Refuses (fields_of table n fields) (fault_of error table.file n))
       → StopsAfter table rows fields (record {
-        fault =
-            fault_of error table.file (before + 1);
+        fault = fault_of error table.file (before + 1);
         key = None;
       })
   stops_at_error error size room is = record {

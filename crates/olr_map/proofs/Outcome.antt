@@ -34,19 +34,29 @@ outcome nodes_text lines_text bans_text no_map no_fault =
     }))
     (λ why its.
     let lies = of_file (bans_settled) _ its in
-    no_fault why (lies.0, rw lies.1 (record {
-      nodes = nodes;
-      lines = lines;
-      accepted = accepted;
-      text = fault_within (IsFaultOfTable (bans_table lines)) texts.bans _ refl its;
-    }))))
+    no_fault why (
+      lies.0,
+      rw lies.1 (record {
+        nodes = nodes;
+        lines = lines;
+        accepted = accepted;
+        text = fault_within (IsFaultOfTable (bans_table lines)) texts.bans _ refl its;
+      }),
+    )))
     (λ why its.
     let lies = of_file (lines_settled) _ its in
-    no_fault why (lies.0, rw lies.1 (record {
-      nodes = nodes;
-      accepted = record { sound = nodes_are_sound set; text = set };
-      text = fault_within (IsFaultOfTable (lines_table nodes)) texts.lines _ refl its;
-    }))))
+    no_fault why (
+      lies.0,
+      rw lies.1 (record {
+        nodes = nodes;
+        accepted = record { sound = nodes_are_sound set; text = set };
+        text = fault_within (IsFaultOfTable (lines_table nodes)) texts.lines _ refl its;
+      }),
+    )))
     (λ why its.
     let lies = of_file nodes_settled _ its in
-    no_fault why (lies.0, rw lies.1 (fault_within (IsFaultOfTable nodes_table) texts.nodes _ refl its)))
+    no_fault why (
+      lies.0,
+      rw lies.1
+          (fault_within (IsFaultOfTable nodes_table) texts.nodes _ refl its),
+    ))

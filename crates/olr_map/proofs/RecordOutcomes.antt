@@ -70,8 +70,7 @@ lines_decided nodes n fields pass later no_row =
       to = end;
       class = class.0;
       form = form.0;
-      length =
-          size.0;
+      length = size.0;
       points = points;
     }) (record {
       seven = pass.0;

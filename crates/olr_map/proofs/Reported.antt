@@ -50,7 +50,8 @@ fault_within IsFault left other same is = known_left _ _ same is
 found : {Row S : Type 0} (table : Table Row) → IsSettled table → (left : S → Option (List ℕ))
     (failed : S → ℕ) (old new : S) (why : MapFault)
     → FaultOfFile left failed old new table.file (IsFaultOfTable table) why
-    → (why ≡ fault.NoMemory) ⊎ ((file_of why ≡ Some table.file) × IsFaultWithin (IsFaultOfTable table) (left old) why)
+    → (why ≡ fault.NoMemory) ⊎ ((file_of why ≡ Some table.file)
+    × IsFaultWithin (IsFaultOfTable table) (left old) why)
 found table settled left failed old new why (not_read is) = elim (read_cases _ is) [
   | inl none ↦ inl none.0
   | inr fails ↦ inr (rw fails.0 (refl, tt))
@@ -58,7 +59,11 @@ found table settled left failed old new why (not_read is) = elim (read_cases _ i
 found table settled left failed old new why (of_text whole has) =
     elim (reports_cases (IsFaultOfTable table has.0) _ has.2) [
       | inl none ↦ inl none
-      | inr is ↦ inr ((of_file settled has.0 is).1, fault_within (IsFaultOfTable table) _ _ has.1 is)
+      | inr is ↦ inr (
+        (of_file settled has.0 is).1,
+        fault_within (IsFaultOfTable table) _ _ has.1
+            is,
+      )
     ]
 
 -- ---- what was read
@@ -70,7 +75,8 @@ accepted set = record {
   text = known_left _ _ set.1 set.2;
 }
 
-pub lines_accepted : {nodes_left lines_left : Option (List ℕ)} {nodes : List Node} {lines : List RoadLine}
+pub lines_accepted : {nodes_left lines_left : Option (List ℕ)} {nodes : List Node}
+    {lines : List RoadLine}
     → HasText nodes_left (λ text. IsNodeSet text nodes)
     → HasText lines_left (λ text. IsLineSet nodes text lines)
     → AreLinesAccepted nodes_left lines_left nodes lines
@@ -100,7 +106,8 @@ module _ {S : Type 0} (left : S → Option (List ℕ)) (failed : S → ℕ) (old
         | inr is ↦ rw is.0 (record { nodes = nodes; accepted = accepted set; text = is.1 })
       ]
 
-  pub bans_fault : (nodes_left lines_left : Option (List ℕ)) (nodes : List Node) (lines : List RoadLine) (why : MapFault)
+  pub bans_fault : (nodes_left lines_left : Option (List ℕ)) (nodes : List Node)
+      (lines : List RoadLine) (why : MapFault)
       → AreLinesAccepted nodes_left lines_left nodes lines
       → FaultOfFile left failed old new Bans (IsBansFault lines) why
       → IsFaultLeft (texts_of nodes_left lines_left (left old)) why
@@ -113,7 +120,8 @@ module _ {S : Type 0} (left : S → Option (List ℕ)) (failed : S → ℕ) (old
   -- a fault of the file of lines is not one of bans
   pub not_of_bans : (nodes : List Node) (why : MapFault)
       → FaultOfFile left failed old new Lines (IsLinesFault nodes) why → file_of why ≡ Some Bans → ⊥
-  not_of_bans nodes why its same = elim (found (lines_table nodes) lines_settled left failed old new why its) [
-    | inl none ↦ cc (ap file_of none)
-    | inr is ↦ cc (is.0)
-  ]
+  not_of_bans nodes why its same =
+      elim (found (lines_table nodes) lines_settled left failed old new why its) [
+        | inl none ↦ cc (ap file_of none)
+        | inr is ↦ cc (is.0)
+      ]

@@ -209,8 +209,7 @@ text_rows {records} {rows} is say sorts = (
     accepted = record {
       each = say.each;
       at_most = say.at_most;
-      differ =
-          sorts_differ _ _ _ sorts;
+      differ = sorts_differ _ _ _ sorts;
     };
   },
   sorts,

@@ -66,8 +66,7 @@ module _ {Row : Type 0} (table : Table Row) (settled : IsSettled table) (decided
           good = good;
           bad = bad;
           rest = rest;
-          rows =
-              rows;
+          rows = rows;
           split = refl;
           accepted = are;
           refused = refuses;
@@ -88,8 +87,7 @@ module _ {Row : Type 0} (table : Table Row) (settled : IsSettled table) (decided
           records_outcome [] _ [] (record {
             each = tt;
             at_most = omega arith;
-            differ =
-                λ i j d less inside. absurd (omega arith);
+            differ = λ i j d less inside. absurd (omega arith);
           })
           (λ rows are. let sorted = sorted_rows _ _ are.differ in
           no_rows sorted.0 (

@@ -45,8 +45,7 @@ returns-then-has_equal_neighbours-clause-line c = λ nodes fields says has.
               start = record {
                 id = c.args.row.now.from;
                 spelled = says.numbers.from;
-                node =
-                    ends.from;
+                node = ends.from;
               };
               end = record { id = c.args.row.now.to; spelled = says.numbers.to; node = ends.to };
               between = says.between;

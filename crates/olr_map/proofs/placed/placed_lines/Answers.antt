@@ -14,8 +14,11 @@ loop-entry-preserved c =
     record {
       rank = cc;
       in_order = in_order_more _ _ _ _ c.in_ok-push.ensures.items place inv.in_order;
-      extents = extents_more _ _ _ _ _ _ _ _ c.loop-entry-test.true c.in_ok-push.ensures.items c.extent_of-extent.ensures inv.extents;
+      extents = extents_more _ _ _ _ _ _ _ _ c.loop-entry-test.true c.in_ok-push.ensures.items
+          c.extent_of-extent.ensures inv.extents;
     }
 
 pub returns-clause-extents : goal.returns-clause-extents
-returns-clause-extents c = rw (← (take_all c.loop-entry.entry-index c.args.entries.now (omega arith))) c.loop-entry.invariant.extents
+returns-clause-extents c =
+    rw (← (take_all c.loop-entry.entry-index c.args.entries.now (omega arith)))
+    c.loop-entry.invariant.extents
