@@ -66,7 +66,8 @@ one_more_differs points next a b some inside at_a at_b differ none k d below sam
           let before = get_or-map coordinates_of points (next - 1) a d (omega arith)
           ∙ ap coordinates_of (sym at_a) in
           let this = get_or-map _ _ _ b d inside ∙ ap coordinates_of (sym at_b) in
-          differ (sym before ∙ sym (ap (λ (i : ℕ). get_or (map coordinates_of points) i d) here) ∙ same
+          differ (sym before
+          ∙ sym (ap (λ (i : ℕ). get_or (map coordinates_of points) i d) here) ∙ same
           ∙ ap (λ (i : ℕ). get_or (map coordinates_of points) i d) e ∙ this)
       | inr less ↦ none k d less same
     ]

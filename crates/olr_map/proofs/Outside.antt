@@ -54,8 +54,8 @@ module _ (nodes : List NodeByRank) (entries : List Entry) (points : List Degrees
         ∙ ap (deficit_of position) (get_or_from_slice_get entries rank entry entry at) in
         rw (← same) (omega arith)
 
-    -- the ends of lines that join are no farther apart than these are long, with the deficits of all
-    -- lines
+    -- the ends of lines that join are no farther apart than these are long, with the deficits of
+    -- all lines
     near : (position : ℕ → ℕ) (count from to long : ℕ) → Joins road count from to long
         → abs_diff (position to) (position from) ≤ long + sum_by (deficit_of position) entries
     near position count from to long joins =
