@@ -21,9 +21,9 @@ range_kept : (points more : List Degrees) (start end : ℕ) → start < end → 
     → slice_range (points ++ more) start end ≡ slice_range points start end
 range_kept points more start end order inside =
     cc (
-      drop-append-le start points more (omega (arith, order, inside)),
+      drop-append-le start points more (omega arith),
       take-append-le (end - start) (drop start points) more
-          (omega (arith, length-drop start points, order, inside)),
+          (omega (arith, length-drop start points)),
     )
 
 line_kept : (points more : List Degrees) (entry : Entry) → IsWithin points entry
@@ -74,7 +74,7 @@ late fields old new more row stop room sound entries points says late_fault = re
   rows = ap (λ (l : List Degrees). map (line_in l) new.entries.items) points
       ∙ ap (λ (l : List Entry). map (line_in (old.points.items ++ more)) l) entries
       ∙ lines_kept _ _ _ sound.within;
-  stops = stops_late _ _ _ _ _ _ _ (size_of_lines old) room says late_fault;
+  stops = stops_late (size_of_lines old) room says late_fault;
 }
 
 -- one line more

@@ -24,14 +24,14 @@ no_unknown named either = elim either [
 ]
 
 -- a record that spells two ids, and one that names two lines
-ids_pass : (lines : List RoadLine) (fields : List (List ℕ)) (first second : ℕ)
+ids_pass : (lines : List RoadLine) {fields : List (List ℕ)} {first second : ℕ}
     → SpellsIds fields first second → (n : ℕ) → AllPass (fields_of (bans_table lines) n fields)
-ids_pass lines fields first second says n =
+ids_pass lines {first} {second} says n =
     (says.two, ((first, says.from), ((second, says.to), tt)))
 
-names_pass : (lines : List RoadLine) (fields : List (List ℕ)) (ban : Ban) → length fields ≡ 2
+names_pass : {lines : List RoadLine} {fields : List (List ℕ)} {ban : Ban} → length fields ≡ 2
     → NamesLines lines fields ban → (n : ℕ) → AllPass (fields_of (bans_table lines) n fields)
-names_pass lines fields ban two named n =
+names_pass {ban} two named n =
     (two, ((named.from.id, named.from.spelled), ((named.to.id, named.to.spelled), tt)))
 
 -- a record that is no ban
@@ -42,25 +42,25 @@ pub stops_at : (lines : List RoadLine) → AllDiffer (line_ids lines)
 stops_at lines differ size room (wrong_row error is e) =
     rw e (stops_at_error (bans_table lines) _ _ error size room is)
 stops_at lines differ size room (unknown first second says either e) =
-    rw e (stops_unread (bans_table lines) _ _ _ size room (ids_pass lines _ _ _ says)
+    rw e (stops_unread (bans_table lines) _ _ _ size room (ids_pass lines says)
     (λ repeat. no_unknown repeat.1 either) (inl (either, refl)))
 stops_at lines differ size room (apart ban two named not_adjacent e) =
-    rw e (stops_later (bans_table lines) _ _ _ _ size room (names_pass _ _ _ two named)
+    rw e (stops_later (bans_table lines) _ _ _ _ size room (names_pass two named)
     (λ among. (ban, named, among)) (λ repeat. rw (← (named_once differ _ _ repeat.1 named))
     repeat.2)
     (inr (no_unknown named, inl ((ban, named, not_adjacent), refl))))
 
-pub bans_settled : (lines : List RoadLine) → IsSettled (bans_table lines)
-bans_settled lines = record {
-  pass = λ fields ban is. names_pass _ _ _ is.two is.named;
+pub bans_settled : {lines : List RoadLine} → IsSettled (bans_table lines)
+bans_settled = record {
+  pass = λ fields ban is. names_pass is.two is.named;
   repeats = λ before fields ban is among. (ban, is.named, among);
   within = λ n fields. ((tt, refl), ((tt, refl), tt));
 }
 
 pub bans_lawful : (lines : List RoadLine) → AllDiffer (line_ids lines) → IsLawful (bans_table lines)
 bans_lawful lines differ = record {
-  row_once = ban_once _ differ;
-  settled = bans_settled _;
+  row_once = ban_once differ;
+  settled = bans_settled;
   new = λ before fields ban is repeat. rw (← (named_once differ _ _ repeat.1 is.named)) repeat.2;
   later = λ n fields ban is. (
     no_unknown is.named,

@@ -13,13 +13,15 @@ use Rattle.olr_map.specs.RoadMap.{AreSoundBans}
 first_of_pair : (from to : ℕ) → to < 4294967296 → (from * 4294967296 + to) / 4294967296 ≡ from
 first_of_pair from to small = omega arith
 
-module _ (lines : List RoadLine) (bans : List Ban) (sound : AreSoundBans lines bans) (few : length lines < 4294967296) where
+module _ (lines : List RoadLine) (bans : List Ban) (sound : AreSoundBans lines bans)
+    (few : length lines < 4294967296) where
   first_is : (ban : Ban) → Contains bans ban → first_of (ban_key ban) ≡ ban.from
   first_is ban there =
-      let meets : IsAdjacent lines ban = All-contains (IsAdjacent lines) _ _ sound.each there in
+      let meets = All-contains (IsAdjacent lines) _ _ sound.each there in
       first_of_pair _ _ (omega (arith, slice_get_within lines ban.to meets.second meets.to))
 
-  pub bans_of_first : (line : ℕ) (found : List Ban) → AreOfFirst ban_key bans line found → AreBansFrom bans line found
+  pub bans_of_first : (line : ℕ) (found : List Ban) → AreOfFirst ban_key bans line found
+      → AreBansFrom bans line found
   bans_of_first line found is = record {
     only = λ k d inside.
         let at = is.only k d inside in
@@ -33,11 +35,11 @@ module _ (lines : List RoadLine) (bans : List Ban) (sound : AreSoundBans lines b
         let next = is.only (k + 1) d (omega arith) in
         omega (
           arith,
-          is.rising k (omega (arith, inside, tos, keys)),
-          get_or-map ban_key found k d 0 (omega (arith, inside, tos)),
-          get_or-map ban_key found (k + 1) d 0 (omega (arith, inside, tos)),
-          get_or-map (λ (b : Ban). b.to) found k d 0 (omega (arith, inside, tos)),
-          get_or-map (λ (b : Ban). b.to) found (k + 1) d 0 (omega (arith, inside, tos)),
+          is.rising k (omega arith),
+          get_or-map ban_key found k d 0 (omega arith),
+          get_or-map ban_key found (k + 1) d 0 (omega arith),
+          get_or-map (λ (b : Ban). b.to) found k d 0 (omega arith),
+          get_or-map (λ (b : Ban). b.to) found (k + 1) d 0 (omega arith),
           first_is _ here.0,
           first_is _ next.0,
         );

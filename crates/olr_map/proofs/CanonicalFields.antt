@@ -22,8 +22,8 @@ use Rattle.olr_map.proofs.CanonicalTexts.{Lacks, AllLack, joined_once, map_once,
 -- ---- coordinates
 
 small_within : (z : ℤ) → neg_ℤ (pos 180000000) ≤ℤ z → z ≤ℤ pos 180000000 → mag z < 2 ^ 63
-small_within (pos n) low high = omega (arith, ints, low, high)
-small_within (negsuc n) low high = omega (arith, ints, low, high)
+small_within (pos n) low high = omega (arith, ints)
+small_within (negsuc n) low high = omega (arith, ints)
 
 -- coordinates in range are short
 record AreSmall (place : Coordinates) : Type 0 where
@@ -208,9 +208,9 @@ points_by_shape nodes a b is other from to same =
     ∙ ap (λ (node : Node). other.first.place ∷ other.between ++ node.place ∷ []) last
     ∙ sym other.joined
 
-pub line_by_fields : (nodes : List Node) → AreSoundNodes nodes → (a b : RoadLine) → IsOn nodes a
+pub line_by_fields : {nodes : List Node} → AreSoundNodes nodes → (a b : RoadLine) → IsOn nodes a
     → IsOn nodes b → line_fields nodes a ≡ line_fields nodes b → a ≡ b
-line_by_fields nodes sound a b is other same =
+line_by_fields sound a b is other same =
     let ids = ids_of_nodes sound in
     let id = decimal_injective _ _ (omega arith) (omega arith) cc in
     let from = rank_by_id ids (node_inside _ _ is.sound.from) (node_inside _ _ other.sound.from)
@@ -228,8 +228,7 @@ line_by_fields nodes sound a b is other same =
       to = to i;
       class = class i;
       form = form i;
-      length =
-          size i;
+      length = size i;
       points = points i;
     }
 

@@ -49,9 +49,9 @@ rows_ended (row ∷ rows) = cc (
   rows_ended rows,
 )
 
-rows_by_text : (xs ys : List (List (List ℕ))) → All AreFields xs → All AreFields ys
+rows_by_text : {xs ys : List (List (List ℕ))} → All AreFields xs → All AreFields ys
     → concat (map row_text xs) ≡ concat (map row_text ys) → xs ≡ ys
-rows_by_text xs ys all other same =
+rows_by_text all other same =
     let texts = ended_once _ _ _ (rows_lack _ all) (rows_lack _ other) (cc (rows_ended _)) in
     map_once _ _ row_once _ _ all other texts
 
@@ -100,16 +100,15 @@ part_is : (name : List ℕ) (rows : List (List (List ℕ))) → IsName name → 
     → All AreFields rows → All AreFields (part name rows)
 part_is name rows is small all = All-cons AreFields (heading name (length rows)) _ (λ byte cut. (
   joined_lacks byte 32 (name ∷ decimal (length rows) ∷ []) cut.space
-      (is byte cut.below, (decimal_lacks byte _ (λ low. omega (arith, cut.below)) small, tt)),
+      (is byte cut.below, (decimal_lacks byte _ (λ low. omega arith) small, tt)),
   tt,
 )) all
 
-lines_on : (nodes : List Node) (lines : List RoadLine) → AreSoundLines nodes lines
+lines_on : {nodes : List Node} {lines : List RoadLine} → AreSoundLines nodes lines
     → All (IsOn nodes) lines
-lines_on nodes lines sound = λ k d inside. record {
+lines_on sound = λ k d inside. record {
   sound = sound.each k d inside;
-  joins =
-      sound.joined k d inside;
+  joins = sound.joined k d inside;
 }
 
 nodes_are : {nodes : List Node} → AreSoundNodes nodes → All AreFields (map node_fields nodes)
@@ -121,7 +120,7 @@ lines_are : {nodes : List Node} {lines : List RoadLine} → AreSoundNodes nodes
     → AreSoundLines nodes lines → All AreFields (map (line_fields nodes) lines)
 lines_are {nodes} sound_nodes sound =
     All-map AreFields _ _ (All-weaker (IsOn nodes) (λ line. AreFields (line_fields nodes line))
-    (λ line is byte cut. line_lacks cut sound_nodes is) _ (lines_on _ _ sound))
+    (λ line is byte cut. line_lacks cut sound_nodes is) _ (lines_on sound))
 
 bans_are : {nodes : List Node} {lines : List RoadLine} (bans : List Ban) → AreSoundLines nodes lines
     → All (IsAdjacent lines) bans → All AreFields (map (ban_fields lines) bans)
@@ -172,7 +171,7 @@ lines_by_rows : {nodes others : List Node} {xs : List RoadLine} (ys : List RoadL
     → map (line_fields nodes) xs ≡ map (line_fields others) ys → xs ≡ ys
 lines_by_rows ys sound_nodes sound other same rows =
     let moved = subst (λ (l : List Node). AreSoundLines l ys) (sym same) other in
-    map_once _ _ (line_by_fields _ sound_nodes) _ _ (lines_on _ _ sound) (lines_on _ _ moved)
+    map_once _ _ (line_by_fields sound_nodes) _ _ (lines_on sound) (lines_on moved)
     (cc)
 
 bans_by_rows : {nodes : List Node} {lines others : List RoadLine} {xs ys : List Ban}
@@ -186,7 +185,7 @@ bans_by_rows sound each other same rows =
 pub map_by_text : (a b : RoadMap) → IsSoundMap a → IsSoundMap b
     → canonical_text a ≡ canonical_text b → a ≡ b
 map_by_text a b sound other same =
-    let rows = rows_by_text _ _ (fields_are a sound) (fields_are b other) same in
+    let rows = rows_by_text (fields_are a sound) (fields_are b other) same in
     let apart = λ (road : RoadMap). append_assoc (nodes_part road) (lines_part road)
     (bans_part road) in
     let first = part_once (codes "nodes") _ _ _ _

@@ -1,4 +1,5 @@
--- Texts that are put together from parts, and taken apart again at a byte that the parts don't have.
+-- Texts that are put together from parts, and taken apart again at a byte that the parts don't
+-- have.
 use Rattle.std.proofs.Common.{◌≡◌, ℕ, ℤ, ◌^◌, ◌<◌, ◌≤◌, List, [], ◌∷◌, ◌++◌, append_assoc, map, length, refl, sym, ap, pos, negsuc, arith}
 use Rattle.std.specs.Prelude.{All, ⊤}
 use Rattle.std.specs.List.{flat_map}
@@ -33,7 +34,8 @@ record SameCut (u v s t : List ℕ) : Type 0 where
   front : u ≡ v
   rest : s ≡ t
 
-cut_once : (byte : ℕ) (u v s t : List ℕ) → Lacks byte u → Lacks byte v → u ++ byte ∷ s ≡ v ++ byte ∷ t → SameCut u v s t
+cut_once : (byte : ℕ) (u v s t : List ℕ) → Lacks byte u → Lacks byte v
+    → u ++ byte ∷ s ≡ v ++ byte ∷ t → SameCut u v s t
 cut_once byte [] [] s t lacks other same = record { front = refl; rest = cc }
 cut_once byte [] (d ∷ v) s t lacks other same = let first : d ≡ byte = cc in absurd (other.0 first)
 cut_once byte (c ∷ u) [] s t lacks other same = let first : c ≡ byte = cc in absurd (lacks.0 first)
@@ -47,7 +49,8 @@ cut_once byte (c ∷ u) (d ∷ v) s t lacks other same =
 not_empty : (byte : ℕ) (u s : List ℕ) → [] ≡ u ++ byte ∷ s → ⊥
 not_empty byte u s none = omega (arith, ap length none, length-append u (byte ∷ s))
 
-pub ended_once : (byte : ℕ) (xs ys : List (List ℕ)) → AllLack byte xs → AllLack byte ys → ended byte xs ≡ ended byte ys → xs ≡ ys
+pub ended_once : (byte : ℕ) (xs ys : List (List ℕ)) → AllLack byte xs → AllLack byte ys
+    → ended byte xs ≡ ended byte ys → xs ≡ ys
 ended_once byte [] [] lack other same = refl
 ended_once byte [] (y ∷ ys) lack other same = absurd (not_empty _ y _ same)
 ended_once byte (x ∷ xs) [] lack other same = absurd (not_empty _ x _ (sym same))
@@ -58,24 +61,33 @@ ended_once byte (x ∷ xs) (y ∷ ys) lack other same =
     cc
 
 -- joined texts, with one more separator behind
-further_ended : (byte : ℕ) (xs : List (List ℕ)) → flat_map (λ (x : List ℕ). (byte ∷ []) ++ x) xs ++ byte ∷ [] ≡ byte ∷ ended byte xs
+further_ended : (byte : ℕ) (xs : List (List ℕ))
+    → flat_map (λ (x : List ℕ). (byte ∷ []) ++ x) xs ++ byte ∷ [] ≡ byte ∷ ended byte xs
 further_ended byte [] = refl
 further_ended byte (x ∷ xs) =
-    cc (append_assoc x (flat_map (λ (y : List ℕ). (byte ∷ []) ++ y) xs) (byte ∷ []), further_ended byte xs)
+    cc (
+      append_assoc x (flat_map (λ (y : List ℕ). (byte ∷ []) ++ y) xs) (byte ∷ []),
+      further_ended
+          byte xs,
+    )
 
-joined_ended : (byte : ℕ) (x : List ℕ) (xs : List (List ℕ)) → joined (byte ∷ []) (x ∷ xs) ++ byte ∷ [] ≡ ended byte (x ∷ xs)
+joined_ended : (byte : ℕ) (x : List ℕ) (xs : List (List ℕ))
+    → joined (byte ∷ []) (x ∷ xs) ++ byte ∷ [] ≡ ended byte (x ∷ xs)
 joined_ended byte x xs = cc (
   append_assoc x (flat_map (λ (y : List ℕ). (byte ∷ []) ++ y) xs) (byte ∷ []),
   further_ended _ _,
 )
 
-pub joined_once : (byte : ℕ) (x : List ℕ) (xs : List (List ℕ)) (y : List ℕ) (ys : List (List ℕ)) → AllLack byte (x ∷ xs) → AllLack byte (y ∷ ys)
+pub joined_once : (byte : ℕ) (x : List ℕ) (xs : List (List ℕ)) (y : List ℕ) (ys : List (List ℕ))
+    → AllLack byte (x ∷ xs) → AllLack byte (y ∷ ys)
     → joined (byte ∷ []) (x ∷ xs) ≡ joined (byte ∷ []) (y ∷ ys) → x ∷ xs ≡ y ∷ ys
 joined_once byte x xs y ys lack other same = ended_once _ _ _ lack other
     (cc (joined_ended _ x _, joined_ended _ y _))
 
 -- one of two maps decides the elements, where the function does
-pub map_once : {X Y : Type 0} (P : X → Type 0) (f : X → Y) → ((a b : X) → P a → P b → f a ≡ f b → a ≡ b) → (xs ys : List X) → All P xs → All P ys → map f xs ≡ map f ys → xs ≡ ys
+pub map_once : {X Y : Type 0} (P : X → Type 0) (f : X → Y)
+    → ((a b : X) → P a → P b → f a ≡ f b → a ≡ b) → (xs ys : List X) → All P xs → All P ys
+    → map f xs ≡ map f ys → xs ≡ ys
 map_once P f once [] [] all other same = refl
 map_once P f once (x ∷ xs) (y ∷ ys) all other same =
     let here : f x ≡ f y = cc in
@@ -91,21 +103,27 @@ pub lacks_both : (byte : ℕ) (u v : List ℕ) → Lacks byte u → Lacks byte v
 lacks_both byte [] v lacks other = other
 lacks_both byte (c ∷ u) v lacks other = (lacks.0, lacks_both _ u v lacks.1 other)
 
-further_lack : (byte separator : ℕ) (xs : List (List ℕ)) → (separator ≡ byte → ⊥) → AllLack byte xs → Lacks byte (flat_map (λ (x : List ℕ). (separator ∷ []) ++ x) xs)
+further_lack : (byte separator : ℕ) (xs : List (List ℕ)) → (separator ≡ byte → ⊥) → AllLack byte xs
+    → Lacks byte (flat_map (λ (x : List ℕ). (separator ∷ []) ++ x) xs)
 further_lack byte separator [] differ lack = tt
 further_lack byte separator (x ∷ xs) differ lack =
-    lacks_both byte (separator ∷ x) (flat_map (λ (y : List ℕ). (separator ∷ []) ++ y) xs) (differ, lack.0) (further_lack byte separator xs differ lack.1)
+    lacks_both byte (separator ∷ x) (flat_map (λ (y : List ℕ). (separator ∷ []) ++ y) xs)
+    (differ, lack.0) (further_lack byte separator xs differ lack.1)
 
-pub joined_lacks : (byte separator : ℕ) (xs : List (List ℕ)) → (separator ≡ byte → ⊥) → AllLack byte xs → Lacks byte (joined (separator ∷ []) xs)
+pub joined_lacks : (byte separator : ℕ) (xs : List (List ℕ)) → (separator ≡ byte → ⊥)
+    → AllLack byte xs → Lacks byte (joined (separator ∷ []) xs)
 joined_lacks byte separator [] differ lack = tt
 joined_lacks byte separator (x ∷ xs) differ lack =
     lacks_both _ x _ lack.0 (further_lack _ _ _ differ lack.1)
 
-pub each_lacks : {X : Type 0} (byte : ℕ) (P : X → Type 0) (f : X → List ℕ) → ((x : X) → P x → Lacks byte (f x)) → (xs : List X) → All P xs → AllLack byte (map f xs)
+pub each_lacks : {X : Type 0} (byte : ℕ) (P : X → Type 0) (f : X → List ℕ)
+    → ((x : X) → P x → Lacks byte (f x)) → (xs : List X) → All P xs → AllLack byte (map f xs)
 each_lacks byte P f lacks [] all = tt
-each_lacks byte P f lacks (x ∷ xs) all = (lacks x (All-head P x _ all), each_lacks byte P f lacks xs (All-tail P x _ all))
+each_lacks byte P f lacks (x ∷ xs) all =
+    (lacks x (All-head P x _ all), each_lacks byte P f lacks xs (All-tail P x _ all))
 
-digits_lack : (byte : ℕ) (text : List ℕ) → (48 ≤ byte → 57 < byte) → AllDigits 10 text → Lacks byte text
+digits_lack : (byte : ℕ) (text : List ℕ) → (48 ≤ byte → 57 < byte) → AllDigits 10 text
+    → Lacks byte text
 digits_lack byte [] other digits = tt
 digits_lack byte (c ∷ text) other digits =
     let range = digit_from_value c digits.0 in
@@ -116,6 +134,8 @@ pub decimal_lacks : (byte n : ℕ) → (48 ≤ byte → 57 < byte) → n < 2 ^ 6
 decimal_lacks byte n other small = digits_lack _ _ other (decimal_is_IsNumeral n small).0.1
 
 -- a signed number has a minus sign, too
-pub signed_lacks : (byte : ℕ) (z : ℤ) → (45 ≤ byte → 57 < byte) → mag z < 2 ^ 63 → Lacks byte (signed_decimal z)
+pub signed_lacks : (byte : ℕ) (z : ℤ) → (45 ≤ byte → 57 < byte) → mag z < 2 ^ 63
+    → Lacks byte (signed_decimal z)
 signed_lacks byte (pos n) other small = decimal_lacks _ n (λ low. other (omega arith)) (omega arith)
-signed_lacks byte (negsuc n) other small = ((λ e. omega arith), decimal_lacks _ _ (λ low. other (omega arith)) (omega arith))
+signed_lacks byte (negsuc n) other small =
+    ((λ e. omega arith), decimal_lacks _ _ (λ low. other (omega arith)) (omega arith))

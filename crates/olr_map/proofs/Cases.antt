@@ -13,21 +13,26 @@ when_true A B true holds fact = fact
 when_true A B false holds fact = absurd cc
 
 -- what holds of an option that has a value
-pub when_some : {X : Type 0} (A : Type 0) (B : X → Type 0) (o : Option X) (x : X) → o ≡ Some x → MatchOption o A B → B x
-when_some A B o x is fact = subst (λ (p : Option _). MatchOption p A B) is fact
+pub when_some : {X : Type 0} (A : Type 0) (B : X → Type 0) {o : Option X} (x : X) → o ≡ Some x
+    → MatchOption o A B → B x
+when_some A B x is fact = subst (λ (p : Option _). MatchOption p A B) is fact
 
 -- and of one that has none
-pub when_none : {X : Type 0} (A : Type 0) (B : X → Type 0) (o : Option X) → o ≡ None → MatchOption o A B → A
-when_none A B o is fact = subst (λ (p : Option _). MatchOption p A B) is fact
+pub when_none : {X : Type 0} (A : Type 0) (B : X → Type 0) {o : Option X} → o ≡ None
+    → MatchOption o A B → A
+when_none A B is fact = subst (λ (p : Option _). MatchOption p A B) is fact
 
 -- of both, what follows from it
-pub option_cases : {X : Type 0} (A C : Type 0) {B D : X → Type 0} (o : Option X) → MatchOption o A B → (A → C) → ((x : X) → B x → D x) → MatchOption o C D
+pub option_cases : {X : Type 0} (A C : Type 0) {B D : X → Type 0} (o : Option X) → MatchOption o A B
+    → (A → C) → ((x : X) → B x → D x) → MatchOption o C D
 option_cases A C None fact none some = none fact
 option_cases A C (Some x) fact none some = some x fact
 
 -- what holds of a result
-pub when_ok : {X E : Type 0} (A : X → Type 0) (B : E → Type 0) (r : Result X E) (x : X) → r ≡ Ok x → MatchResult r A B → A x
-when_ok A B r x is fact = subst (λ (s : Result _ _). MatchResult s A B) is fact
+pub when_ok : {X E : Type 0} (A : X → Type 0) (B : E → Type 0) {r : Result X E} {x : X} → r ≡ Ok x
+    → MatchResult r A B → A x
+when_ok A B is fact = subst (λ (s : Result _ _). MatchResult s A B) is fact
 
-pub when_err : {X E : Type 0} (A : X → Type 0) (B : E → Type 0) (r : Result X E) (e : E) → r ≡ Err e → MatchResult r A B → B e
-when_err A B r e is fact = subst (λ (s : Result _ _). MatchResult s A B) is fact
+pub when_err : {X E : Type 0} (A : X → Type 0) (B : E → Type 0) {r : Result X E} {e : E} → r ≡ Err e
+    → MatchResult r A B → B e
+when_err A B is fact = subst (λ (s : Result _ _). MatchResult s A B) is fact

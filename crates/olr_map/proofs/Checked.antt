@@ -71,8 +71,7 @@ module _ {Row : Type 0} (table : Table Row) (rows : List Row) (fields : List (Li
   pub stops_at_error : {before : ℕ} (error : RowError) → length rows ≡ before → before < table.most
       → ((n : ℕ) → Refuses (fields_of table n fields) (fault_of error table.file n))
       → StopsAfter table rows fields (record {
-        fault =
-            fault_of error table.file (before + 1);
+        fault = fault_of error table.file (before + 1);
         key = None;
       })
   stops_at_error error size room is = record {
@@ -136,8 +135,8 @@ refused_of_file table settled before fields why refuses =
 
 -- a fault of a table's text lies in its file
 pub of_file : {Row : Type 0} {table : Table Row} → IsSettled table
-    → (text : List ℕ) (why : MapFault) → IsFaultOfTable table text why → IsOfFile table.file why
-of_file settled text why is = elim is [
+    → (text : List ℕ) {why : MapFault} → IsFaultOfTable table text why → IsOfFile table.file why
+of_file settled text is = elim is [
   | inl header ↦ rw header.0 (tt, refl)
   | inr row ↦ refused_of_file _ settled _ _ _ row.2.refused
 ]

@@ -16,9 +16,9 @@ use Rattle.olr_map.proofs.LineRows.{number_once, known}
 use Rattle.olr_map.proofs.OneRow.{line_once, points_once}
 use Rattle.olr_map.proofs.OneTable.{IsLawful}
 
-row_passes : (nodes : List Node) (fields : List (List ℕ)) (shape : List Coordinates) (row : LineRow)
+row_passes : (nodes : List Node) {fields : List (List ℕ)} {shape : List Coordinates} {row : LineRow}
     → SpellsLine fields shape row → (n : ℕ) → AllPass (fields_of (lines_table nodes) n fields)
-row_passes nodes fields shape row says n =
+row_passes nodes {shape} {row} says n =
     let numbers = says.numbers in (
       numbers.seven,
       (
@@ -39,9 +39,9 @@ row_passes nodes fields shape row says n =
       ),
     )
 
-line_passes : (nodes : List Node) (fields : List (List ℕ)) (line : RoadLine)
+line_passes : {nodes : List Node} (fields : List (List ℕ)) (line : RoadLine)
     → IsLine nodes fields line → (n : ℕ) → AllPass (fields_of (lines_table nodes) n fields)
-line_passes nodes fields line is n =
+line_passes fields line is n =
     let points = is.points in (
       is.seven,
       (
@@ -63,36 +63,36 @@ line_passes nodes fields line is n =
     )
 
 -- a record whose row was read and is no line
-pub stops_late : (nodes : List Node) (lines : List RoadLine) (bad : List (List ℕ)) (row : LineRow)
-    (shape : List Coordinates) (stop : MapFault) (before : ℕ) → length lines ≡ before
+pub stops_late : {nodes : List Node} {lines : List RoadLine} {bad : List (List ℕ)} {row : LineRow}
+    {shape : List Coordinates} {stop : MapFault} {before : ℕ} → length lines ≡ before
     → before < 200000
     → SpellsLine bad shape row → IsLateFault nodes bad (before + 1) stop
     → StopsAfter (lines_table nodes) lines bad (record { fault = stop; key = Some row.id })
-stops_late nodes lines bad row shape stop before size room says late =
+stops_late {nodes} {lines} {bad} {row} {stop} size room says late =
     stops_later (lines_table nodes) lines bad row.id stop size room
-    (row_passes nodes _ _ _ says)
+    (row_passes nodes says)
     (λ among. (row.id, says.numbers.id, among))
-    (λ repeat. rw (← (number_once 1 _ _ 0 _ _ repeat.1 says.numbers.id)) repeat.2) late
+    (λ repeat. rw (← (number_once 1 _ 0 _ repeat.1 says.numbers.id)) repeat.2) late
 
-pub lines_settled : (nodes : List Node) → IsSettled (lines_table nodes)
-lines_settled nodes = record {
-  pass = line_passes _;
+pub lines_settled : {nodes : List Node} → IsSettled (lines_table nodes)
+lines_settled = record {
+  pass = line_passes;
   repeats = λ before fields line is among. (line.id, is.id, among);
   within = λ n fields. ((tt, refl), ((tt, refl), ((tt, refl), tt)));
 }
 
 pub lines_lawful : (nodes : List Node) → AllDiffer (node_ids nodes) → IsLawful (lines_table nodes)
 lines_lawful nodes differ = record {
-  row_once = line_once _ differ;
-  settled = lines_settled _;
-  new = λ before fields line is repeat. rw (← (number_once 1 _ _ 0 _ _ repeat.1 is.id)) repeat.2;
+  row_once = line_once differ;
+  settled = lines_settled;
+  new = λ before fields line is repeat. rw (← (number_once 1 _ 0 _ repeat.1 is.id)) repeat.2;
   later = λ n fields line is. (
     λ unknown. elim unknown [
       | inl from ↦ known _ _ 1 _ _ _ is.points.start.spelled is.points.start.node from
       | inr to ↦ known _ _ 2 _ _ _ is.points.end.spelled is.points.end.node to
     ],
     (
-      λ none. let same = number_once 0 _ _ 5 _ 0 is.length none in let long = is.long in
+      λ none. let same = number_once 0 _ 5 0 is.length none in let long = is.long in
           omega arith,
       (λ equal. is.apart (rw (← (points_once differ equal.3 is.points).points) equal.4), tt),
     ),

@@ -25,6 +25,6 @@ pub nodes_lawful : IsLawful nodes_table
 nodes_lawful = record {
   row_once = node_once;
   settled = nodes_settled;
-  new = λ before fields node is repeat. rw (← (number_once 1 _ _ 0 _ _ repeat.1 is.id)) repeat.2;
+  new = λ before fields node is repeat. rw (← (number_once 1 _ 0 _ repeat.1 is.id)) repeat.2;
   later = λ n fields node is. tt;
 }

@@ -1,5 +1,5 @@
 -- A record spells one ban at most: on lines whose ids differ, an id is that of one rank.
-use Rattle.std.proofs.Common.{◌≡◌, ℕ, List, get_or, sym, ◌∙◌}
+use Rattle.std.proofs.Common.{◌≡◌, ℕ, List, sym, ◌∙◌}
 use Rattle.std.proofs.lemmas.List.Elements.{Contains-get_or}
 use Rattle.std.proofs.lemmas.Option.{get_or_from_slice_get, slice_get_within}
 use Rattle.olr_map.specs.declared.ban.Ban.{Ban}
@@ -14,24 +14,29 @@ pub named_known : {lines : List RoadLine} {fields : List (List ℕ)} (index : �
     → IsLineNamed lines fields index rank → IsUnknownLine lines fields index → ⊥
 named_known {lines} index {rank} named unknown =
     let ids = line_ids lines in
-    let there : get_or ids rank 0 ≡ named.id = get_or_from_slice_get ids rank _ 0 named.line in
-    let same = there ∙ number_once 1 _ _ _ _ _ named.spelled unknown.1 in
+    let there = get_or_from_slice_get ids rank _ 0 named.line in
+    let same = there ∙ number_once 1 _ _ _ named.spelled unknown.1 in
     unknown.2 (rw (← same) (Contains-get_or _ _ 0 (slice_get_within ids rank named.id named.line)))
 
 -- it has one rank
 rank_named_once : {lines : List RoadLine} → AllDiffer (line_ids lines)
-    → {fields : List (List ℕ)} (index : ℕ) {i j : ℕ} → IsLineNamed lines fields index i → IsLineNamed lines fields index j → i ≡ j
+    → {fields : List (List ℕ)} (index : ℕ) {i j : ℕ} → IsLineNamed lines fields index i
+    → IsLineNamed lines fields index j → i ≡ j
 rank_named_once {lines} differ index {i} {j} is other =
     let ids = line_ids lines in
-    let id = number_once 1 _ _ _ _ _ is.spelled other.spelled in
-    rank_once _ i j differ (slice_get_within ids i is.id is.line) (slice_get_within ids j other.id other.line)
+    let id = number_once 1 _ _ _ is.spelled other.spelled in
+    rank_once _ i j differ (slice_get_within ids i is.id is.line)
+    (slice_get_within ids j other.id other.line)
     (get_or_from_slice_get _ i _ 0 is.line ∙ id ∙ sym (get_or_from_slice_get _ j _ 0 other.line))
 
-pub named_once : {lines : List RoadLine} → AllDiffer (line_ids lines) → {fields : List (List ℕ)} (a b : Ban) → NamesLines lines fields a → NamesLines lines fields b → a ≡ b
+pub named_once : {lines : List RoadLine} → AllDiffer (line_ids lines)
+    → {fields : List (List ℕ)} (a b : Ban) → NamesLines lines fields a → NamesLines lines fields b
+    → a ≡ b
 named_once differ a b is other =
     let from = rank_named_once differ 0 is.from other.from in
     let to = rank_named_once differ 1 is.to other.to in
     λ i. record { from = from i; to = to i }
 
-pub ban_once : (lines : List RoadLine) → AllDiffer (line_ids lines) → (fields : List (List ℕ)) (a b : Ban) → IsBan lines fields a → IsBan lines fields b → a ≡ b
-ban_once lines differ fields a b is other = named_once differ a b is.named other.named
+pub ban_once : {lines : List RoadLine} → AllDiffer (line_ids lines)
+    → (fields : List (List ℕ)) (a b : Ban) → IsBan lines fields a → IsBan lines fields b → a ≡ b
+ban_once differ fields a b is other = named_once differ a b is.named other.named

@@ -44,7 +44,7 @@ inside_sound : {Row : Type 0} (table : Table Row) → IsLawful table
     → AllPass (checks_of table (keys_of table front) bad)
 inside_sound {Row} table lawful good bad rest rows front are each =
     let found = zip_split _ _ _ _ _ are.each in
-    let same : found.before ≡ front = rows_once _ lawful _ _ _ found.each each in
+    let same = rows_once _ lawful _ _ _ found.each each in
     let split : rows ≡ front ++ found.at ∷ found.after = cc in
     let size : length rows ≡ length front + suc (length found.after) =
     cc (length-append front (found.at ∷ found.after)) in
@@ -105,9 +105,9 @@ fault_once {Row} table lawful records a b p q =
 -- ---- a text
 
 -- the records after a header are one list
-records_once : (header : List (List ℕ)) (all a b : List (List (List ℕ))) → all ≡ header ∷ a
+records_once : {header : List (List ℕ)} {all a b : List (List (List ℕ))} → all ≡ header ∷ a
     → all ≡ header ∷ b → a ≡ b
-records_once header all a b is other = cc
+records_once is other = cc
 
 pub keys_differ : {Row : Type 0} (table : Table Row) (text : List ℕ) (rows : List Row)
     → IsTableOf table text rows → AllDiffer (keys_of table rows)
@@ -116,7 +116,7 @@ keys_differ table text rows is = rising_differ _ is.2.rise
 pub table_once : {Row : Type 0} {table : Table Row} → IsLawful table
     → {text : List ℕ} (a b : List Row) → IsTableOf table text a → IsTableOf table text b → a ≡ b
 table_once {Row} {table} lawful a b is other =
-    let records = records_once _ _ _ _ is.1.file other.1.file in
+    let records = records_once is.1.file other.1.file in
     let rows = rows_once _ lawful _ _ _
     (subst (λ (l : List (List (List ℕ))). AreRows table l is.0) records is.1.accepted).each
     other.1.accepted.each in
@@ -130,7 +130,7 @@ pub table_or_fault : {Row : Type 0} {table : Table Row} → IsLawful table
 table_or_fault {table} lawful {why} is fault = elim fault [
   | inl header ↦ header.1 is.1.records is.1.file
   | inr refused ↦
-      let records = records_once _ _ _ _ refused.1 is.1.file in
+      let records = records_once refused.1 is.1.file in
       rows_or_fault _ lawful _ is.1.accepted
       (subst (λ (l : List (List (List ℕ))). RefusesRecord table l why) records refused.2)
 ]
@@ -146,7 +146,7 @@ table_fault_once table lawful text a b is other = elim is [
   | inr refused ↦ elim other [
     | inl lacks ↦ absurd (lacks.1 refused.0 refused.1)
     | inr again ↦
-        let records = records_once _ _ _ _ refused.1 again.1 in
+        let records = records_once refused.1 again.1 in
         fault_once _ lawful _ a b (rw (← records) refused.2) again.2
   ]
 ]

@@ -17,14 +17,14 @@ pub outcome : (nodes_text lines_text bans_text : List ℕ)
 outcome nodes_text lines_text bans_text no_map no_fault =
     let texts = known nodes_text lines_text bans_text in
     table_outcome _ nodes_settled nodes_decided _ (λ nodes set.
-    table_outcome _ (lines_settled _) (lines_decided _) _ (λ lines is.
+    table_outcome _ (lines_settled) (lines_decided _) _ (λ lines is.
     let sound = nodes_are_sound set in
     let accepted : AreLinesAccepted texts.nodes texts.lines nodes lines = record {
       nodes_accepted = record { sound = sound; text = set };
       sound = lines_are_sound sound is;
       text = is;
     } in
-    table_outcome _ (bans_settled _) (bans_decided _) _ (λ bans its.
+    table_outcome _ (bans_settled) (bans_decided _) _ (λ bans its.
     let road : RoadMap = record { nodes = nodes; lines = lines; bans = bans } in
     no_map road (record {
       sound = map_is_sound _ _ _ _ set is its;
@@ -33,20 +33,30 @@ outcome nodes_text lines_text bans_text no_map no_fault =
       bans = its;
     }))
     (λ why its.
-    let lies = of_file (bans_settled _) _ _ its in
-    no_fault why (lies.0, rw lies.1 (record {
-      nodes = nodes;
-      lines = lines;
-      accepted = accepted;
-      text = fault_within (IsFaultOfTable (bans_table lines)) texts.bans _ _ refl its;
-    }))))
+    let lies = of_file (bans_settled) _ its in
+    no_fault why (
+      lies.0,
+      rw lies.1 (record {
+        nodes = nodes;
+        lines = lines;
+        accepted = accepted;
+        text = fault_within (IsFaultOfTable (bans_table lines)) texts.bans _ refl its;
+      }),
+    )))
     (λ why its.
-    let lies = of_file (lines_settled _) _ _ its in
-    no_fault why (lies.0, rw lies.1 (record {
-      nodes = nodes;
-      accepted = record { sound = nodes_are_sound set; text = set };
-      text = fault_within (IsFaultOfTable (lines_table nodes)) texts.lines _ _ refl its;
-    }))))
+    let lies = of_file (lines_settled) _ its in
+    no_fault why (
+      lies.0,
+      rw lies.1 (record {
+        nodes = nodes;
+        accepted = record { sound = nodes_are_sound set; text = set };
+        text = fault_within (IsFaultOfTable (lines_table nodes)) texts.lines _ refl its;
+      }),
+    )))
     (λ why its.
-    let lies = of_file nodes_settled _ _ its in
-    no_fault why (lies.0, rw lies.1 (fault_within (IsFaultOfTable nodes_table) texts.nodes _ _ refl its)))
+    let lies = of_file nodes_settled _ its in
+    no_fault why (
+      lies.0,
+      rw lies.1
+          (fault_within (IsFaultOfTable nodes_table) texts.nodes _ refl its),
+    ))

@@ -54,7 +54,7 @@ lines_decided nodes n fields pass later no_row =
     let shape = pass.1.1.1.1.1.1.1.0 in
     end_known _ _ (λ unknown. later.0 (inl (from.0, from.1, unknown))) (λ start first at_start.
     end_known _ _ (λ unknown. later.0 (inr (to.0, to.1, unknown))) (λ end last at_end.
-    let points : List Coordinates = first ∷ shape.0 ++ last ∷ [] in
+    let points = first ∷ shape.0 ++ last ∷ [] in
     let are : ArePoints nodes fields start end points = record {
       first = first;
       last = last;
@@ -70,8 +70,7 @@ lines_decided nodes n fields pass later no_row =
       to = end;
       class = class.0;
       form = form.0;
-      length =
-          size.0;
+      length = size.0;
       points = points;
     }) (record {
       seven = pass.0;

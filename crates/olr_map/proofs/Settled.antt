@@ -34,7 +34,7 @@ repeated {Row} {table} settled {good} more {rows} {at} file say first =
     let front = length-take-le at rows (omega arith) in
     let keys : keys_of table (take at rows) ≡ take at (keys_of table rows) =
     sym (take-map table.key at rows) in
-    let count : length (keys_of table (take at rows)) ≡ at = keys_length table (take at rows)
+    let count = keys_length table (take at rows)
     ∙ front in
     let refused = refuses_repeat table (keys_of table (take at rows)) found.left settled found.right
     found.holds (omega arith)
@@ -61,9 +61,9 @@ repeated {Row} {table} settled {good} more {rows} {at} file say first =
 earlier_repeat : (keys : List ℕ) (last at : ℕ) → at < length keys
     → IsFirstRepeat (keys ++ last ∷ []) at → IsFirstRepeat keys at
 earlier_repeat keys last at inside first =
-    let front : take at (keys ++ last ∷ []) ≡ take at keys =
+    let front =
     take-append-le at keys (last ∷ []) (omega arith) in
-    let same : slice_index (keys ++ last ∷ []) at ≡ slice_index keys at =
+    let same =
     get_or_append_left keys (last ∷ []) 0 at inside in
     record {
       inside = inside;
@@ -82,7 +82,7 @@ last_repeat : (keys : List ℕ) (last at : ℕ) → length keys ≤ at
 last_repeat keys last at behind first =
     let here : at ≡ length keys = omega (arith, length-append keys (last ∷ [])) in
     let front : take at (keys ++ last ∷ []) ≡ keys = cc (take-append_seam keys (last ∷ [])) in
-    let key : slice_index (keys ++ last ∷ []) at ≡ last = get_or_push _ _ 0 _ (sym here) in
+    let key = get_or_push _ _ 0 _ (sym here) in
     record {
       here = here;
       differ = rw (← front) first.before;
@@ -94,7 +94,7 @@ differ_front : (keys more : List ℕ) → AllDiffer (keys ++ more) → AllDiffer
 differ_front keys more differ i j d less inside same =
     differ i j d less (omega (arith, length-append keys more))
     (cc (
-      get_or_append_left keys more d i (omega (arith, less, inside)),
+      get_or_append_left keys more d i (omega arith),
       get_or_append_left keys
           more d j inside,
     ))
@@ -175,7 +175,7 @@ fault_settled table settled records rows stop keys why same found (repeat at fir
     let here = subst (λ (l : List ℕ). IsFirstRepeat (keys_read l stop) at) same first in
     rw e (repeat_decides _ settled _ _ _ _ found here)
 fault_settled table settled records rows stop keys why same found (stopped its is differ e) =
-    let stops = when_some _ _ _ _ is found in
+    let stops = when_some _ _ _ is found in
     let apart = subst (λ (l : List ℕ). AllDiffer (with_last l its.key)) same differ in
     rw e (stop_decides _ settled _ _ _ stops apart)
 
@@ -198,10 +198,10 @@ pub text_fault : {Row : Type 0} (table : Table Row) → IsSettled table
 text_fault table settled text records rows stop keys why is same found settles =
     after_header _ _ _ _ is (fault_settled _ settled _ _ _ _ _ same found settles)
 
-pub text_rows : {Row : Type 0} (table : Table Row) (text : List ℕ) (records : List (List (List ℕ)))
-    (rows sorted : List Row) → records_of text ≡ table.header ∷ records
+pub text_rows : {Row : Type 0} {table : Table Row} {text : List ℕ} {records : List (List (List ℕ))}
+    {rows sorted : List Row} → records_of text ≡ table.header ∷ records
     → SpellRows table records rows → Sorts table.key rows sorted → IsTableOf table text sorted
-text_rows table text records rows sorted is say sorts = (
+text_rows {records} {rows} is say sorts = (
   rows,
   record {
     records = records;
@@ -209,8 +209,7 @@ text_rows table text records rows sorted is say sorts = (
     accepted = record {
       each = say.each;
       at_most = say.at_most;
-      differ =
-          sorts_differ _ _ _ sorts;
+      differ = sorts_differ _ _ _ sorts;
     };
   },
   sorts,

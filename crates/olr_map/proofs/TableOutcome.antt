@@ -26,7 +26,7 @@ differ_more : (keys : List ℕ) (last : ℕ) → AllDiffer keys → (Contains ke
 differ_more keys last differ new i j d less inside same = elim (cases_lt j (length keys)) [
   | inl low ↦
       differ i j d less low (cc (
-        get_or_append_left keys (last ∷ []) d i (omega (arith, less, low)),
+        get_or_append_left keys (last ∷ []) d i (omega arith),
         get_or_append_left keys (last ∷ []) d j low,
       ))
   | inr high ↦
@@ -66,8 +66,7 @@ module _ {Row : Type 0} (table : Table Row) (settled : IsSettled table) (decided
           good = good;
           bad = bad;
           rest = rest;
-          rows =
-              rows;
+          rows = rows;
           split = refl;
           accepted = are;
           refused = refuses;
@@ -88,8 +87,7 @@ module _ {Row : Type 0} (table : Table Row) (settled : IsSettled table) (decided
           records_outcome [] _ [] (record {
             each = tt;
             at_most = omega arith;
-            differ =
-                λ i j d less inside. absurd (omega arith);
+            differ = λ i j d less inside. absurd (omega arith);
           })
           (λ rows are. let sorted = sorted_rows _ _ are.differ in
           no_rows sorted.0 (

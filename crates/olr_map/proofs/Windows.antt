@@ -22,30 +22,37 @@ use Rattle.olr_map.proofs.Zips.{zip_push}
 use Rattle.std.proofs.lemmas.Slice.Zip.{AllZip-left, AllZip-right}
 use Rattle.std.proofs.lemmas.Option.{slice_get-map, slice_get_within, get_or_from_slice_get}
 
-some_and : {X : Type 0} (P : X → Type 0) (o : Option X) → IsSomeAnd o P → (x : X) × (o ≡ Some x) × P x
+some_and : {X : Type 0} (P : X → Type 0) (o : Option X) → IsSomeAnd o P → (x : X) × (o ≡ Some x)
+    × P x
 some_and P None has = absurd has
 some_and P (Some x) has = (x, refl, has)
 
 -- the other element at a place
-zip_left : {A B : Type 0} (R : A → B → Type 0) (xs : List A) (ys : List B) (at : ℕ) (y : B) → AllZip R xs ys → slice_get ys at ≡ Some y
+zip_left : {A B : Type 0} (R : A → B → Type 0) (xs : List A) (ys : List B) (at : ℕ) (y : B)
+    → AllZip R xs ys → slice_get ys at ≡ Some y
     → (x : A) × (slice_get xs at ≡ Some x) × R x y
-zip_left R xs ys at y all is = some_and _ _ (when_some _ _ _ y is (AllZip-right R xs ys all at))
+zip_left R xs ys at y all is = some_and _ _ (when_some _ _ y is (AllZip-right R xs ys all at))
 
-zip_right : {A B : Type 0} (R : A → B → Type 0) (xs : List A) (ys : List B) (at : ℕ) (x : A) → AllZip R xs ys → slice_get xs at ≡ Some x
+zip_right : {A B : Type 0} (R : A → B → Type 0) (xs : List A) (ys : List B) (at : ℕ) (x : A)
+    → AllZip R xs ys → slice_get xs at ≡ Some x
     → (y : B) × (slice_get ys at ≡ Some y) × R x y
-zip_right R xs ys at x all is = some_and _ _ (when_some _ _ _ x is (AllZip-left R xs ys all at))
+zip_right R xs ys at x all is = some_and _ _ (when_some _ _ x is (AllZip-left R xs ys all at))
 
 -- ---- points and one of their coordinates
 
-point_at : (of : Coordinates → ℤ) (points : List Degrees) (number : ℤ) → Contains (map (λ (p : Degrees). of (coordinates_of p)) points) number
+point_at : (of : Coordinates → ℤ) (points : List Degrees) (number : ℤ)
+    → Contains (map (λ (p : Degrees). of (coordinates_of p)) points) number
     → (place : Coordinates) × Contains (map coordinates_of points) place × (of place ≡ number)
 point_at of [] number has = absurd (omega arith)
-point_at of (point ∷ points) number (zero, inside, e) = (coordinates_of point, (0, omega arith, refl), e)
+point_at of (point ∷ points) number (zero, inside, e) =
+    (coordinates_of point, (0, omega arith, refl), e)
 point_at of (point ∷ points) number (suc k, inside, e) =
     let deeper = point_at of points number (k, omega arith, e) in
     (deeper.0, (suc deeper.1.0, omega arith, deeper.1.2), deeper.2)
 
-number_at : (of : Coordinates → ℤ) (points : List Degrees) (place : Coordinates) → Contains (map coordinates_of points) place → Contains (map (λ (p : Degrees). of (coordinates_of p)) points) (of place)
+number_at : (of : Coordinates → ℤ) (points : List Degrees) (place : Coordinates)
+    → Contains (map coordinates_of points) place
+    → Contains (map (λ (p : Degrees). of (coordinates_of p)) points) (of place)
 number_at of [] place has = absurd (omega arith)
 number_at of (point ∷ points) place (zero, inside, e) = (0, omega arith, ap of e)
 number_at of (point ∷ points) place (suc k, inside, e) =
@@ -53,17 +60,21 @@ number_at of (point ∷ points) place (suc k, inside, e) =
     (suc deeper.0, omega arith, deeper.2)
 
 -- the coordinate of a place lies within the span of those of all
-between : (of : Coordinates → ℤ) (points : List Degrees) (least greatest : ℤ) (place : Coordinates) → IsSpan (map (λ (p : Degrees). of (coordinates_of p)) points) least greatest
+between : (of : Coordinates → ℤ) (points : List Degrees) (least greatest : ℤ) (place : Coordinates)
+    → IsSpan (map (λ (p : Degrees). of (coordinates_of p)) points) least greatest
     → Contains (map coordinates_of points) place → (least ≤ℤ of place) × (of place ≤ℤ greatest)
 between of points least greatest place is has =
-    All-contains (λ (number : ℤ). (least ≤ℤ number) × (number ≤ℤ greatest)) _ _ is.within (number_at of _ _ has)
+    All-contains (λ (number : ℤ). (least ≤ℤ number) × (number ≤ℤ greatest)) _ _ is.within
+    (number_at of _ _ has)
 
 up : (a b c : ℤ) → a ≤ℤ b → b ≤ℤ c → a ≤ℤ c
 up a b c first second = omega (arith, ints)
 
 -- ---- extents that meet a window
 
-meets_window : (points : List Degrees) (entry : Entry) {extent window : Extent} → window.south ≤ℤ window.north → window.west ≤ℤ window.east → HasExtent points entry extent → Meets window extent
+meets_window : (points : List Degrees) (entry : Entry) {extent window : Extent}
+    → window.south ≤ℤ window.north → window.west ≤ℤ window.east → HasExtent points entry extent
+    → Meets window extent
     → MeetsWindow window (line_in points entry)
 meets_window points entry lats lons is meets =
     let part = slice_range points entry.start entry.end in
@@ -92,7 +103,9 @@ meets_window points entry lats lons is meets =
       };
     }
 
-extent_meets : (points : List Degrees) (entry : Entry) {extent window : Extent} → HasExtent points entry extent → MeetsWindow window (line_in points entry) → Meets window extent
+extent_meets : (points : List Degrees) (entry : Entry) {extent window : Extent}
+    → HasExtent points entry extent → MeetsWindow window (line_in points entry)
+    → Meets window extent
 extent_meets points entry is meets =
     let part = slice_range points entry.start entry.end in
     let south = between (λ (c : Coordinates). c.lat) _ _ _ _ is.lats meets.lats.one in
@@ -106,54 +119,71 @@ extent_meets points entry is meets =
       not_west = up _ _ _ meets.lons.not_west east.1;
     }
 
-line_at : (points : List Degrees) (entries : List Entry) (rank : ℕ) (entry : Entry) → slice_get entries rank ≡ Some entry → slice_get (lines_in points entries) rank ≡ Some (line_in points entry)
+line_at : (points : List Degrees) (entries : List Entry) (rank : ℕ) (entry : Entry)
+    → slice_get entries rank ≡ Some entry
+    → slice_get (lines_in points entries) rank ≡ Some (line_in points entry)
 line_at points entries rank entry is = cc (slice_get-map (line_in points) entries rank)
 
-rank_meets : (points : List Degrees) (entries : List Entry) (extents : List Extent) (window : Extent) (rank : ℕ) → window.south ≤ℤ window.north → window.west ≤ℤ window.east
-    → AllZip (HasExtent points) entries extents → MeetsAt extents window rank → RankMeetsWindow (lines_in points entries) window rank
+rank_meets : (points : List Degrees) (entries : List Entry) (extents : List Extent)
+    (window : Extent) (rank : ℕ) → window.south ≤ℤ window.north → window.west ≤ℤ window.east
+    → AllZip (HasExtent points) entries extents → MeetsAt extents window rank
+    → RankMeetsWindow (lines_in points entries) window rank
 rank_meets points entries extents window rank lats lons placed meets =
     let found = some_and _ _ meets in
-    let there = zip_left _ _ _ _ _ placed found.1 in
-    (line_in points there.0, line_at _ entries rank _ there.1, meets_window points there.0 lats lons there.2 found.2)
+    let there = zip_left _ _ _ _ _ placed found.1 in (
+      line_in points there.0,
+      line_at _ entries rank _ there.1,
+      meets_window points there.0 lats lons
+          there.2 found.2,
+    )
 
-extent_at : (points : List Degrees) (entries : List Entry) (extents : List Extent) (window : Extent) (rank : ℕ) → AllZip (HasExtent points) entries extents
+extent_at : (points : List Degrees) (entries : List Entry) (extents : List Extent) (window : Extent)
+    (rank : ℕ) → AllZip (HasExtent points) entries extents
     → RankMeetsWindow (lines_in points entries) window rank → MeetsAt extents window rank
 extent_at points entries extents window rank placed meets =
     let found = entry_at _ _ rank _ meets.1 in
     let there = zip_right _ _ _ _ _ placed found.1 in
     rw there.1 (extent_meets points found.0 there.2 (rw found.2 meets.2))
 
-pub window_of : (points : List Degrees) (entries : List Entry) (extents : List Extent) (window : Extent) (ranks : List ℕ) → window.south ≤ℤ window.north → window.west ≤ℤ window.east
-    → AllZip (HasExtent points) entries extents → IsWindow extents window ranks → IsWindowOf (lines_in points entries) window ranks
+pub window_of : (points : List Degrees) (entries : List Entry) (extents : List Extent)
+    (window : Extent) (ranks : List ℕ) → window.south ≤ℤ window.north → window.west ≤ℤ window.east
+    → AllZip (HasExtent points) entries extents → IsWindow extents window ranks
+    → IsWindowOf (lines_in points entries) window ranks
 window_of points entries extents window ranks lats lons placed is = record {
   once = is.once;
-  only = All-weaker (MeetsAt extents window) (RankMeetsWindow (lines_in points entries) window) (λ rank meets. rank_meets _ _ _ _ _ lats lons placed meets) _ is.only;
+  only = All-weaker (MeetsAt extents window) (RankMeetsWindow (lines_in points entries) window)
+      (λ rank meets. rank_meets _ _ _ _ _ lats lons placed meets) _ is.only;
   each = λ rank meets. is.each rank (extent_at _ _ _ _ _ placed meets);
 }
 
 -- a window that ends before it begins
-nothing_meets : {lines : List RoadLine} {window : Extent} → ((line : RoadLine) → MeetsWindow window line → ⊥) → IsWindowOf lines window []
+nothing_meets : {lines : List RoadLine} {window : Extent}
+    → ((line : RoadLine) → MeetsWindow window line → ⊥) → IsWindowOf lines window []
 nothing_meets none = record {
   once = λ i j d less inside. absurd (omega arith);
   only = λ k d inside. absurd (omega arith);
   each = λ rank meets. absurd (none meets.0 meets.2);
 }
 
-pub no_latitude : {lines : List RoadLine} {window : Extent} → (window.south ≤ℤ window.north → ⊥) → IsWindowOf lines window []
+pub no_latitude : {lines : List RoadLine} {window : Extent} → (window.south ≤ℤ window.north → ⊥)
+    → IsWindowOf lines window []
 no_latitude empty = nothing_meets (λ line meets. empty meets.lats.band)
 
-pub no_longitude : {lines : List RoadLine} {window : Extent} → (window.west ≤ℤ window.east → ⊥) → IsWindowOf lines window []
+pub no_longitude : {lines : List RoadLine} {window : Extent} → (window.west ≤ℤ window.east → ⊥)
+    → IsWindowOf lines window []
 no_longitude empty = nothing_meets (λ line meets. empty meets.lons.band)
 
 pub in_order : (low high : ℤ) → int_lt high low ≡ false → low ≤ℤ high
-in_order low high e = omega (arith, ints, e)
+in_order low high e = omega (arith, ints)
 
 pub out_of_order : {low high : ℤ} → int_lt high low ≡ true → low ≤ℤ high → ⊥
-out_of_order e le = omega (arith, ints, e, le)
+out_of_order e le = omega (arith, ints)
 
 -- ---- one line more, with its extent
 
-pub in_order_more : (lines more : List PlacedLine) (rank : ℕ) (extent : Extent) → more ≡ lines ++ with_extent rank extent ∷ [] → rank ≡ length (extents_of lines) → AreInOrder lines → AreInOrder more
+pub in_order_more : (lines more : List PlacedLine) (rank : ℕ) (extent : Extent)
+    → more ≡ lines ++ with_extent rank extent ∷ [] → rank ≡ length (extents_of lines)
+    → AreInOrder lines → AreInOrder more
 in_order_more lines more rank extent is place before =
     let extents : extents_of more ≡ extents_of lines ++ extent ∷ [] =
     cc (map-append (λ (line : PlacedLine). line.extent) lines (with_extent rank extent ∷ [])) in
@@ -163,8 +193,10 @@ in_order_more lines more rank extent is place before =
     ∙ sym (placed_from-push 0 _ _)
     ∙ ap (placed_from 0) (cc)
 
-pub extents_more : (points : List Degrees) (entries : List Entry) (i : ℕ) (d : Entry) (lines more : List PlacedLine) (rank : ℕ) (extent : Extent) → i < length entries
-    → more ≡ lines ++ with_extent rank extent ∷ [] → HasExtent points (get_or entries i d) extent → AllZip (HasExtent points) (take i entries) (extents_of lines)
+pub extents_more : (points : List Degrees) (entries : List Entry) (i : ℕ) (d : Entry)
+    (lines more : List PlacedLine) (rank : ℕ) (extent : Extent) → i < length entries
+    → more ≡ lines ++ with_extent rank extent ∷ [] → HasExtent points (get_or entries i d) extent
+    → AllZip (HasExtent points) (take i entries) (extents_of lines)
     → AllZip (HasExtent points) (take (i + 1) entries) (extents_of more)
 extents_more points entries i d lines more rank extent inside is has before =
     let extents : extents_of more ≡ extents_of lines ++ extent ∷ [] =
@@ -175,13 +207,23 @@ extents_more points entries i d lines more rank extent inside is has before =
 
 -- the window of a band
 abbrev pub wide : ℤ → ℤ → Extent
-wide low high = record { south = low; north = high; west = neg_ℤ (pos 180000000); east = pos 180000000 }
+wide low high = record {
+  south = low;
+  north = high;
+  west = neg_ℤ (pos 180000000);
+  east =
+      pos 180000000;
+}
 
-sound_line : (nodes : ℕ) (lines : List RoadLine) (rank : ℕ) (line : RoadLine) → All (IsSoundLine nodes) lines → slice_get lines rank ≡ Some line → IsSoundLine nodes line
-sound_line nodes lines rank line all at = rw (← (get_or_from_slice_get lines rank _ line at)) (all rank line (slice_get_within lines rank line at))
+sound_line : (nodes : ℕ) (lines : List RoadLine) (rank : ℕ) (line : RoadLine)
+    → All (IsSoundLine nodes) lines → slice_get lines rank ≡ Some line → IsSoundLine nodes line
+sound_line nodes lines rank line all at =
+    rw (← (get_or_from_slice_get lines rank _ line at))
+    (all rank line (slice_get_within lines rank line at))
 
 -- a line that meets a band meets its window: any of its points will do
-meets_wide : {nodes : ℕ} (line : RoadLine) {low high : ℤ} → IsSoundLine nodes line → MeetsBand low high line → MeetsWindow (wide low high) line
+meets_wide : {nodes : ℕ} (line : RoadLine) {low high : ℤ} → IsSoundLine nodes line
+    → MeetsBand low high line → MeetsWindow (wide low high) line
 meets_wide line sound meets =
     let range = All-contains IsInRange line.points meets.southern sound.inside meets.one in
     record {
@@ -197,9 +239,12 @@ meets_wide line sound meets =
       };
     }
 
-pub band_of : (road : RoadMap) (low high : ℤ) (ranks : List ℕ) → IsSoundMap road → IsWindowOf road.lines (wide low high) ranks → IsBandOf road.lines low high ranks
+pub band_of : (road : RoadMap) (low high : ℤ) (ranks : List ℕ) → IsSoundMap road
+    → IsWindowOf road.lines (wide low high) ranks → IsBandOf road.lines low high ranks
 band_of road low high ranks sound is = record {
   once = is.once;
-  only = All-weaker (RankMeetsWindow road.lines (wide low high)) (RankMeetsBand road.lines low high) (λ rank meets. (meets.0, meets.1, meets.2.lats)) ranks is.only;
-  each = λ rank meets. is.each rank (meets.0, meets.1, meets_wide _ (sound_line _ _ _ _ sound.lines.each meets.1) meets.2);
+  only = All-weaker (RankMeetsWindow road.lines (wide low high)) (RankMeetsBand road.lines low high)
+      (λ rank meets. (meets.0, meets.1, meets.2.lats)) ranks is.only;
+  each = λ rank meets. is.each rank
+      (meets.0, meets.1, meets_wide _ (sound_line _ _ _ _ sound.lines.each meets.1) meets.2);
 }

@@ -158,8 +158,7 @@ head_of line = record {
   from = line.from;
   to = line.to;
   class = line.class;
-  form =
-      line.form;
+  form = line.form;
   length = line.length;
 }
 

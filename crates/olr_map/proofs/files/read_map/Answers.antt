@@ -8,5 +8,6 @@ use Rattle.olr_map.proofs.files.read_map.Goals as goal
 
 pub returns-clause-map : goal.returns-clause-map
 returns-clause-map g c =
-    let bans = subst (λ (l : List Ban). AreSoundBans (lines_of c.in_ok-network.network.lines) l) (sym c.new.ensures.items) (no_bans_are_sound _) in
+    let bans = subst (λ (l : List Ban). AreSoundBans (lines_of c.in_ok-network.network.lines) l)
+    (sym c.new.ensures.items) (no_bans_are_sound) in
     rw c.in_ok-map.ensures (map_reported c.in_ok-network.ensures.accepted bans tt)

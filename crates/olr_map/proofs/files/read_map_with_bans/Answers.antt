@@ -30,11 +30,16 @@ map_of-requires-clause-map g c =
 
 pub returns-in_err-bans-clause-fault : goal.returns-in_err-bans-clause-fault
 returns-in_err-bans-clause-fault g c =
-    let p = err_from_is_err_and c.from_residual-in_err-bans.result c.from_residual-in_err-bans.ensures.1 in
-    rw (p.1, p.2) (bans_fault g.S3.Source.left g.S3.Source.failed c.args.bans.now c.read_bans.new.source (g.S1.Source.left c.args.nodes.now) (g.S2.Source.left c.args.lines.now)
-    (nodes_of c.in_ok-network.network.nodes.items) (lines_of c.in_ok-network.network.lines) c.in_err-bans.field-0.0 c.in_ok-network.ensures.accepted c.in_err-bans.ensures.fault)
+    let p = err_from_is_err_and c.from_residual-in_err-bans.result
+    c.from_residual-in_err-bans.ensures.1 in
+    rw (p.1, p.2) (bans_fault g.S3.Source.left g.S3.Source.failed c.args.bans.now
+    c.read_bans.new.source (g.S1.Source.left c.args.nodes.now)
+    (g.S2.Source.left c.args.lines.now)
+    (nodes_of c.in_ok-network.network.nodes.items) (lines_of c.in_ok-network.network.lines)
+    c.in_err-bans.field-0.0 c.in_ok-network.ensures.accepted c.in_err-bans.ensures.fault)
 
 pub returns-clause-map : goal.returns-clause-map
 returns-clause-map g c =
     let read = c.in_ok-bans.ensures.bans in
-    rw c.in_ok-map.ensures (map_reported c.in_ok-network.ensures.accepted (bans_are_sound read.2) (known_left _ _ _ read.1 read.2))
+    rw c.in_ok-map.ensures (map_reported c.in_ok-network.ensures.accepted (bans_are_sound read.2)
+    (known_left _ _ read.1 read.2))

@@ -15,8 +15,10 @@ returns-then-is_same c =
 pub loop-next-preserved : goal.loop-next-preserved
 loop-next-preserved c =
     let more = one_more_differs _ _ _ _ c.loop-next.invariant.0 c.loop-next-test.true
-    c.index-points-next.is c.index-points-next-in-loop-next.is c.if-is_same.ensures c.loop-next.invariant.1 in
+    c.index-points-next.is c.index-points-next-in-loop-next.is c.if-is_same.ensures
+    c.loop-next.invariant.1 in
     (omega arith, more)
 
 pub returns : goal.returns
-returns c = none_equal _ _ (omega (arith, length-map c.args.points.now coordinates_of)) c.loop-next.invariant.1
+returns c = none_equal (omega (arith, length-map c.args.points.now coordinates_of))
+    c.loop-next.invariant.1

@@ -22,7 +22,7 @@ known_ends says ends unknown = elim unknown [
 
 pub returns-then-has_equal_neighbours-clause-line : goal.returns-then-has_equal_neighbours-clause-line
 returns-then-has_equal_neighbours-clause-line c = λ nodes fields says has.
-    let ends = when_some _ _ _ _ c.in-Some.is has in
+    let ends = when_some _ _ _ c.in-Some.is has in
     let grown = c.deref.ensures.value ∙ c.in_ok-append_points.ensures in
     let at : c.len-start.result ≡ length c.args.points.now.items = search rules in
     let more = behind _ _ _ _ _ grown at refl in
@@ -32,7 +32,7 @@ returns-then-has_equal_neighbours-clause-line c = λ nodes fields says has.
       known_ends says ends,
       inr (
         λ zero. c.if-row-eq0.false
-            (number_once 0 _ _ 5 _ 0 says.numbers.size zero),
+            (number_once 0 _ 5 0 says.numbers.size zero),
         inl (
           (
             c.in-Some.ends.from,
@@ -45,8 +45,7 @@ returns-then-has_equal_neighbours-clause-line c = λ nodes fields says has.
               start = record {
                 id = c.args.row.now.from;
                 spelled = says.numbers.from;
-                node =
-                    ends.from;
+                node = ends.from;
               };
               end = record { id = c.args.row.now.to; spelled = says.numbers.to; node = ends.to };
               between = says.between;
@@ -62,7 +61,7 @@ returns-then-has_equal_neighbours-clause-line c = λ nodes fields says has.
 pub returns-then-row-eq0-clause-line : goal.returns-then-row-eq0-clause-line
 returns-then-row-eq0-clause-line c = λ nodes fields says has.
     inr (
-      known_ends says (when_some _ _ _ _ c.in-Some.is has),
+      known_ends says (when_some _ _ _ c.in-Some.is has),
       inl (
         subst (λ (n : ℕ). SpellsAt IsLength fields 5 n) c.if-row-eq0.true says.numbers.size,
         refl,

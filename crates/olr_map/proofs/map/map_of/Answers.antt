@@ -14,13 +14,17 @@ use Rattle.olr_map.proofs.Sets.{starts_known, ends_known}
 use Rattle.olr_map.proofs.Steps.{lines_known}
 use Rattle.olr_map.proofs.map.map_of.Goals as goal
 
--- what is known of the nodes of the lines is known of the entries that are read, and of the nodes that are counted
-known : (nodes_in : List Entry → List ℕ) (nodes count : ℕ) (entries read : List Entry) → read ≡ entries → nodes ≡ count
-    → ((i : ℕ) → i < length (nodes_in entries) → get_or (nodes_in entries) i 0 < nodes) → (i : ℕ) → i < length (nodes_in read) → get_or (nodes_in read) i 0 < count
+-- what is known of the nodes of the lines is known of the entries that are read, and of the nodes
+-- that are counted
+known : (nodes_in : List Entry → List ℕ) (nodes count : ℕ) (entries read : List Entry)
+    → read ≡ entries → nodes ≡ count
+    → ((i : ℕ) → i < length (nodes_in entries) → get_or (nodes_in entries) i 0 < nodes) → (i : ℕ)
+    → i < length (nodes_in read) → get_or (nodes_in read) i 0 < count
 known nodes_in nodes count entries read same size is =
     rw same (rw (← size) is)
 
-sound_lines : (nodes : List NodeByRank) (entries : List Entry) (points : List Degrees) (bans : List Ban) → IsSoundMap (road_of nodes entries points bans)
+sound_lines : (nodes : List NodeByRank) (entries : List Entry) (points : List Degrees)
+    (bans : List Ban) → IsSoundMap (road_of nodes entries points bans)
     → All (IsSoundLine (length nodes)) (lines_in points entries)
 sound_lines nodes entries points bans sound = rw (← (length-map nodes node_of)) sound.lines.each
 
@@ -29,12 +33,15 @@ by_start_of-requires-clause-known c =
     known starts_of _ _ c.args.entries.items c.deref.result.now c.deref.ensures.value (search rules)
     (starts_known _ c.args.points.items _ (sound_lines _ _ _ _ c.requires.map))
 
-grouped : (nodes_in : List Entry → List ℕ) (nodes : ℕ) (entries read : List Entry) (count : ℕ) (groups : List (List ℕ)) → read ≡ entries → count ≡ nodes → IsGrouping (nodes_in read) count groups
+grouped : (nodes_in : List Entry → List ℕ) {nodes : ℕ} {entries read : List Entry} {count : ℕ}
+    {groups : List (List ℕ)} → read ≡ entries → count ≡ nodes
+    → IsGrouping (nodes_in read) count groups
     → IsGrouping (nodes_in entries) nodes groups
-grouped nodes_in nodes entries read count groups same size is =
+grouped nodes_in same size is =
     rw (← size) (rw (← same) is)
 
-placed : (points read : List Degrees) (entries taken : List Entry) (extents kept : List Extent) → read ≡ points → taken ≡ entries → kept ≡ extents → AllZip (HasExtent read) taken extents
+placed : (points read : List Degrees) (entries taken : List Entry) (extents kept : List Extent)
+    → read ≡ points → taken ≡ entries → kept ≡ extents → AllZip (HasExtent read) taken extents
     → AllZip (HasExtent points) entries kept
 placed points read entries taken extents kept same each is all =
     rw is (rw (← each) (rw (← same) all))
@@ -47,11 +54,12 @@ pub steps_of-requires : goal.steps_of-requires
 steps_of-requires c =
     let same = c.deref.ensures.value ∙ sym c.deref-4.ensures.value in
     rw c.lines.ensures (lines_known _ _ _
-    (grouped starts_of _ _ _ _ _ same refl c.in_ok-by_start.ensures))
+    (grouped starts_of same refl c.in_ok-by_start.ensures))
 
 pub by_end_of-requires-clause-known : goal.by_end_of-requires-clause-known
 by_end_of-requires-clause-known c =
-    known ends_of _ _ c.args.entries.items c.deref-5.result.now c.deref-5.ensures.value (search rules)
+    known ends_of _ _ c.args.entries.items c.deref-5.result.now c.deref-5.ensures.value
+    (search rules)
     (ends_known _ c.args.points.items _ (sound_lines _ _ _ _ c.requires.map))
 
 pub invariant_of-result : goal.invariant_of-result
@@ -62,10 +70,11 @@ invariant_of-result c =
       nodes_at_most = c.requires.nodes_at_most;
       lines_at_most = c.requires.lines_at_most;
       within = c.requires.within;
-      started = grouped starts_of _ _ _ _ _ c.deref.ensures.value size c.in_ok-by_start.ensures;
+      started = grouped starts_of c.deref.ensures.value size c.in_ok-by_start.ensures;
       ordered = c.in_ok-steps.ensures.lines ∙ c.lines.ensures;
       stepped = rw (← c.deref-4.ensures.value) (c.in_ok-steps.ensures.steps c.args.points.items);
-      ended = grouped ends_of _ _ _ _ _ c.deref-5.ensures.value size c.in_ok-by_end.ensures;
-      placed = placed _ _ _ _ _ _ c.deref-3.ensures.value c.deref-2.ensures.value c.in_ok-by_extent.ensures c.in_ok-placed_lines.ensures.extents;
+      ended = grouped ends_of c.deref-5.ensures.value size c.in_ok-by_end.ensures;
+      placed = placed _ _ _ _ _ _ c.deref-3.ensures.value c.deref-2.ensures.value
+          c.in_ok-by_extent.ensures c.in_ok-placed_lines.ensures.extents;
       measured = rw (← c.deref-7.ensures.value) c.in_ok-axes.ensures;
     }

@@ -10,12 +10,15 @@ loop-entry-preserved c =
     let inv = c.loop-entry.invariant in
     let long = zip_length _ _ _ inv.extents in
     let place : c.loop-entry.rank ≡ length (extents_of c.loop-entry.lines.items) =
-    omega (arith, length-take-le c.loop-entry.entry-index c.args.entries.now (omega (arith, c.loop-entry-test.true))) in
+    omega (arith, length-take-le c.loop-entry.entry-index c.args.entries.now (omega arith)) in
     record {
       rank = cc;
       in_order = in_order_more _ _ _ _ c.in_ok-push.ensures.items place inv.in_order;
-      extents = extents_more _ _ _ _ _ _ _ _ c.loop-entry-test.true c.in_ok-push.ensures.items c.extent_of-extent.ensures inv.extents;
+      extents = extents_more _ _ _ _ _ _ _ _ c.loop-entry-test.true c.in_ok-push.ensures.items
+          c.extent_of-extent.ensures inv.extents;
     }
 
 pub returns-clause-extents : goal.returns-clause-extents
-returns-clause-extents c = rw (← (take_all c.loop-entry.entry-index c.args.entries.now (omega (arith, c.loop-entry-test.false)))) c.loop-entry.invariant.extents
+returns-clause-extents c =
+    rw (← (take_all c.loop-entry.entry-index c.args.entries.now (omega arith)))
+    c.loop-entry.invariant.extents

@@ -11,10 +11,16 @@ loop-table-preserved g c =
     let old = g.T.TableFile.rows c.loop-table.table in
     let new = g.T.TableFile.rows c.add.new.self in
     let next = when_true _ _ _ c.if-branch.true c.in_ok-next.ensures.found in
-    let added = when_none _ _ _ c.in_default.is c.in_ok-stop.ensures.added in
-    let adds = subst (λ (earlier : g.T.TableFile.Earlier). AddsRow (g.T.TableFile.table_of earlier) c.next.new.row old new) inv.same added.0 in
+    let added = when_none _ _ c.in_default.is c.in_ok-stop.ensures.added in
+    let adds = subst (λ (earlier : g.T.TableFile.Earlier). AddsRow (g.T.TableFile.table_of earlier)
+    c.next.new.row old new) inv.same added.0 in
     record {
-      size = omega (arith, ap (λ (l : List g.T.TableFile.Row). length l) adds.rows, length-append old (adds.row ∷ []));
+      size = omega (
+        arith,
+        ap (λ (l : List g.T.TableFile.Row). length l) adds.rows,
+        length-append
+            old (adds.row ∷ []),
+      );
       at_most = omega arith;
       same = c.in_ok-stop.ensures.same ∙ inv.same;
       collects = collects_more _ _ inv.collects next adds;

@@ -10,5 +10,6 @@ returns-in-Some-clause-fault g c =
 pub returns-in-Some-2-clause-fault : goal.returns-in-Some-2-clause-fault
 returns-in-Some-2-clause-fault g c =
     let table = g.T.TableFile.table_of (g.T.TableFile.before c.args.table.now) in
-    rw c.in_default.is (repeat c.in-Some-2.place (when_some _ _ _ _ c.in-Some-2.is c.in_ok-place.ensures)
+    rw c.in_default.is (repeat c.in-Some-2.place
+    (when_some _ _ _ c.in-Some-2.is c.in_ok-place.ensures)
     (cc))
