@@ -43,7 +43,8 @@ pub ranks_split : (window : Extent) (m : ℕ) (lines : List PlacedLine)
 ranks_split window m lines = cc (ranks_in-append _ _ _, take-append-drop m lines)
 
 -- a block that meets the window
-pub entered : (window : Extent) (at_hand lines : List PlacedLine) {first rest : List PlacedLine} (m : ℕ)
+pub entered : (window : Extent) (at_hand lines : List PlacedLine) {first rest : List PlacedLine}
+    (m : ℕ)
     {value : List ℕ} → first ≡ take m lines → rest ≡ drop m lines → ranks_in window at_hand ≡ []
     → ranks_in window at_hand ++ ranks_in window lines ≡ value
     → ranks_in window first ++ ranks_in window rest ≡ value
@@ -52,7 +53,8 @@ entered window at_hand lines m first_is rest_is none left =
     ∙ sym (ap (λ (ranks : List ℕ). ranks ++ ranks_in window lines) none) ∙ left
 
 -- a block that doesn't
-pub passed : (window : Extent) (at_hand : List PlacedLine) {lines : List PlacedLine} (rest : List PlacedLine) (block : Extent)
+pub passed : (window : Extent) (at_hand : List PlacedLine) {lines : List PlacedLine}
+    (rest : List PlacedLine) (block : Extent)
     {others : List Extent} (m : ℕ) {value : List ℕ} → AreBlocks 64 lines (block ∷ others)
     → m ≡ min (length lines) 64
     → rest ≡ drop m lines → meets window block ≡ false → ranks_in window at_hand ≡ []

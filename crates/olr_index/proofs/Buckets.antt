@@ -44,7 +44,8 @@ index_of keys shift last rise few small heads_of count most = record {
 }
 
 -- a bucket begins where the one before it ends, or further on
-pub heads_rise : {shift : ℕ} {keys : List ℕ} {bucket : ℕ} (low high : ℕ) → IsHead shift keys bucket low
+pub heads_rise : {shift : ℕ} {keys : List ℕ} {bucket : ℕ} (low high : ℕ)
+    → IsHead shift keys bucket low
     → IsHead shift keys (bucket + 1) high → low ≤ high
 heads_rise low high at_low at_high =
     let no : high < low → ⊥ = λ less. let early = at_low.below high less in omega arith in

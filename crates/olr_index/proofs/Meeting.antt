@@ -58,7 +58,8 @@ wider window outer inner covers h =
     }
 
 -- what lies within an extent that doesn't meet a window doesn't meet it
-pub none_within : (window : Extent) {outer : Extent} (inner : Extent) → Covers outer inner → meets window outer ≡ false
+pub none_within : (window : Extent) {outer : Extent} (inner : Extent) → Covers outer inner
+    → meets window outer ≡ false
     → meets window inner ≡ false
 none_within window inner covers none =
     by_test _ (λ h. let yes = if_meets _ _ (wider _ _ _ covers (meets_if _ _ h)) in absurd (cc))
