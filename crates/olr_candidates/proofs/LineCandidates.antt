@@ -41,14 +41,14 @@ rated query lines rank line projection (Err rejection) at is failed =
     (line, at, record { projection = projection; is_projection = is; failed = failed })
 
 -- a line that fails a condition doesn't meet all of them
-pub not_met : (tolerances : Tolerances) (point : Point) (is_last : Bool) (line : Line)
-    (projection : Projection) (rejection : Rejection)
+pub not_met : {tolerances : Tolerances} {point : Point} {is_last : Bool} {line : Line}
+    {projection : Projection} (rejection : Rejection)
     → IsFirstFailed tolerances point is_last line projection rejection
     → MeetsConditions tolerances point is_last line projection → ⊥
-not_met tolerances point is_last line projection (Radius distance) failed meets = omega arith
-not_met tolerances point is_last line projection (Bearing sectors) failed meets = omega arith
-not_met tolerances point is_last line projection (Class classes) failed meets = omega arith
-not_met tolerances point is_last line projection (Position at) failed meets =
+not_met (Radius distance) failed meets = omega arith
+not_met (Bearing sectors) failed meets = omega arith
+not_met (Class classes) failed meets = omega arith
+not_met {is_last = is_last} {line = line} (Position at) failed meets =
     failed.1 (subst (λ k. IsOnLine is_last line.length k) (cc) meets.on_line)
 
 -- ---- the line of a rank
@@ -60,9 +60,9 @@ line_at [] rank within = absurd (omega arith)
 line_at (line ∷ rest) zero within = (line, refl)
 line_at (line ∷ rest) (suc rank) within = line_at rest rank (omega arith)
 
-pub sound_at : (nodes : ℕ) (lines : List RoadLine) (rank : ℕ) (line : RoadLine)
+pub sound_at : {nodes : ℕ} (lines : List RoadLine) (rank : ℕ) {line : RoadLine}
     → All (IsSoundLine nodes) lines → slice_get lines rank ≡ Some line → IsSoundLine nodes line
-sound_at nodes lines rank line all at = rw (← (get_or_from_slice_get lines rank _ line at))
+sound_at lines rank {line = line} all at = rw (← (get_or_from_slice_get lines rank _ line at))
     (all rank line (slice_get_within lines rank line at))
 
 pub head_at : (lines : List RoadLine) (rank : ℕ) (line : RoadLine) (head : Line)
@@ -70,10 +70,10 @@ pub head_at : (lines : List RoadLine) (rank : ℕ) (line : RoadLine) (head : Lin
     → head ≡ head_of line
 head_at lines rank line head at is = sym (cc)
 
-pub points_at : (lines : List RoadLine) (rank : ℕ) (line : RoadLine) (points : List Coordinates)
+pub points_at : (lines : List RoadLine) (rank : ℕ) (line : RoadLine) {points : List Coordinates}
     → slice_get lines rank ≡ Some line
     → option_map (λ l. l.points) (slice_get lines rank) ≡ Some points → points ≡ line.points
-points_at lines rank line points at is = sym (cc)
+points_at lines rank line at is = sym (cc)
 
 -- ---- one line is one candidate at most
 
@@ -105,6 +105,6 @@ rejected one tolerances origin point is_last lines rank rejection fails candidat
     rw (← line) is.2 in
     let same : also.projection ≡ fails.2.projection =
     one _ _ _ _ _ _ also.is_projection fails.2.is_projection in
-    not_met _ _ _ _ _ _ fails.2.failed
+    not_met _ fails.2.failed
     (subst (λ (p : Projection). MeetsConditions tolerances point is_last (head_of fails.0) p) same
     also.rates.conditions)

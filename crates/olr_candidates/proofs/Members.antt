@@ -42,20 +42,20 @@ away_at_most : (distance radius : ℕ) → 1 ≤ radius → distance ≤ 100 * r
 away_at_most distance radius positive near =
     omega (arith, div_below distance radius 101 (omega arith) (omega arith))
 
-classes_at_most : (a b : ℕ) → a ≤ 7 → b < 8 → abs_diff a b ≤ 7
-classes_at_most a b one other = omega arith
+classes_at_most : {a b : ℕ} → a ≤ 7 → b < 8 → abs_diff a b ≤ 7
+classes_at_most one other = omega arith
 
 pub penalty_at_most : SectorsAtMost
-    → (tolerances : Tolerances) (point : Point) (is_last : Bool) (line : Line)
+    → (tolerances : Tolerances) (point : Point) {is_last : Bool} (line : Line)
     (projection : Projection) → MeetsConditions tolerances point is_last line projection
     → line.class ≤ 7
     → penalty_of tolerances point line projection ≤ 360
-penalty_at_most sectors tolerances point is_last line projection is class =
+penalty_at_most sectors tolerances point line projection is class =
     omega (
       arith,
       away_at_most _ _ tolerances.radius_in_range.least is.near,
       sectors projection.sector point.sector,
-      classes_at_most _ _ class point.class_in_range,
+      classes_at_most class point.class_in_range,
       form_at_most line.form point.form,
     )
 
@@ -85,8 +85,8 @@ module _ (tolerances : Tolerances) (origin : Coordinates) (point : Point) (is_la
   pub fits : SectorsAtMost → (nodes : ℕ) → All (IsSoundLine nodes) lines → (candidate : Candidate)
       → IsOneOf tolerances origin point is_last lines candidate → candidate.penalty ≤ 360
   fits sectors nodes sound candidate is =
-      let line = sound_at _ _ _ _ sound is.1.1 in
-      omega (arith, penalty_at_most sectors _ _ _ _ _ is.1.2.rates.conditions line.class)
+      let line = sound_at _ _ sound is.1.1 in
+      omega (arith, penalty_at_most sectors _ _ _ _ is.1.2.rates.conditions line.class)
 
   -- its line
   line_is : (candidate : Candidate) (is : IsOneOf tolerances origin point is_last lines candidate)

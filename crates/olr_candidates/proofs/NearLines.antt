@@ -28,8 +28,8 @@ same_flag true false Condition one other = absurd (one other)
 same_flag false true Condition one other = absurd (other one)
 same_flag _ _ Condition one other = refl
 
-holds : (flag : Bool) (Condition : Type 0) → FailsExactly flag Condition → flag ≡ false → Condition
-holds flag Condition exactly is = MatchBool-at_false (Condition → ⊥) Condition is exactly
+holds : {flag : Bool} (Condition : Type 0) → FailsExactly flag Condition → flag ≡ false → Condition
+holds Condition exactly is = MatchBool-at_false (Condition → ⊥) Condition is exactly
 
 not_raised : (flag : Bool) (Condition : Type 0) → FailsExactly flag Condition → Condition
     → flag ≡ false
@@ -83,10 +83,10 @@ module _ (tolerances : Tolerances) (point : Point) (is_last : Bool) (line : Line
       → failed ≡ none_failed
       → MeetsConditions tolerances point is_last line projection
   met failed are none = record {
-    near = holds _ (IsWithinRadius tolerances projection) are.radius (cc);
-    alike = holds _ (IsAlikeInBearing tolerances point projection) are.bearing (cc);
-    classed = holds _ (IsAlikeInClass tolerances point line) are.class (cc);
-    on_line = holds _ (IsOnLine is_last line.length projection.at) are.end (cc);
+    near = holds (IsWithinRadius tolerances projection) are.radius (cc);
+    alike = holds (IsAlikeInBearing tolerances point projection) are.bearing (cc);
+    classed = holds (IsAlikeInClass tolerances point line) are.class (cc);
+    on_line = holds (IsOnLine is_last line.length projection.at) are.end (cc);
   }
 
   fails_none : (failed : FailedConditions)
@@ -178,12 +178,12 @@ module _ (one : OneProjection) (tolerances : Tolerances) (origin : Coordinates) 
         as_candidate _ _ _ (head_of is.0) is.2.projection rank near candidate is.2.describes rates,
       )
 
-pub near_candidate : (tolerances : Tolerances) (origin : Coordinates) (point : Point)
+pub near_candidate : {tolerances : Tolerances} {origin : Coordinates} {point : Point}
     (is_last : Bool) (lines : List RoadLine) (rank : ℕ) (near : NearLine)
     → IsNearLineAt tolerances origin point is_last lines rank near → near.failed ≡ none_failed
     → (candidate : Candidate) × IsCandidateAt tolerances origin point is_last lines rank candidate
     × IsAsCandidate near candidate
-near_candidate tolerances origin point is_last lines rank near is none =
+near_candidate is_last lines rank near is none =
     let rated = rates_near _ _ is_last (head_of is.0) is.2.projection rank near is.2.describes
     none in (
       rated.0,
@@ -212,7 +212,7 @@ one_near_line one tolerances reference lines index rank a b is other =
 
 pub near_are_candidates : NearAreCandidates
 near_are_candidates tolerances reference lines index rank near is none =
-    let found = near_candidate _ _ _ _ _ _ _ is.just none in (
+    let found = near_candidate _ _ _ _ is.just none in (
       found.0,
       record {
         first = is.first;

@@ -13,10 +13,10 @@ use Rattle.olr_candidates.proofs.WindowAround.{FootBetween, NoShorter, meets_win
 
 pub covers_radius : FootBetween (λ s. s.x) → FootBetween (λ s. s.y) → NoShorter (λ s. s.x)
     → NoShorter (λ s. s.y)
-    → (query : Query) (radius : ℕ) (lines : List RoadLine) (nodes : ℕ) (ranks : List ℕ)
+    → (query : Query) {radius : ℕ} (lines : List RoadLine) {nodes : ℕ} (ranks : List ℕ)
     → All (IsSoundLine nodes) lines → IsNear query lines radius ranks
     → CoverRadius query lines radius ranks
-covers_radius between_x between_y shorter_x shorter_y query radius lines nodes ranks sound near =
+covers_radius between_x between_y shorter_x shorter_y query lines ranks sound near =
     let here : IsInRange (coordinates_of query.point.at) =
     record { lon = query.point.at.lon_in_range; lat = query.point.at.lat_in_range } in
     record {
@@ -28,7 +28,7 @@ covers_radius between_x between_y shorter_x shorter_y query radius lines nodes r
           near.meeting.each rank (
             found.0,
             found.1,
-            meets_window between_x between_y shorter_x shorter_y _ _ _ _ _ near.covers here
-                (sound_at _ _ _ _ sound found.1).inside projection.nearest (omega arith),
+            meets_window between_x between_y shorter_x shorter_y _ _ _ _ near.covers here
+                (sound_at _ _ sound found.1).inside projection.nearest (omega arith),
           );
     }

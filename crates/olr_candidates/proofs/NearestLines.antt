@@ -93,7 +93,7 @@ pub next_rank : (n : ℕ) (ranks : List ℕ) → AreFirstRanks n ranks
     → AreFirstRanks (n + 1) (ranks ++ n ∷ [])
 next_rank n ranks are = record {
   counted = omega (arith, length-append ranks (n ∷ []));
-  only = λ rank is. elim (one_seen _ n _ is) [
+  only = λ rank is. elim (one_seen _ n is) [
     | inl before ↦ omega (arith, are.only rank before)
     | inr same ↦ omega arith
   ];
@@ -125,7 +125,7 @@ module _ (query : Query) (lines : List RoadLine) where
         (λ near among. (still_seen seen rank near.line among.0, among.1)) old so_far.only;
     rise = so_far.rise;
     counted = omega (arith, length-append seen (rank ∷ []));
-    others = λ near among. elim (one_seen _ _ _ among.0) [
+    others = λ near among. elim (one_seen _ _ among.0) [
       | inl before ↦ so_far.others near (before, among.1)
       | inr same ↦
           let farther = is.behind near (rw (← same) among.1) in
@@ -174,7 +174,7 @@ module _ (query : Query) (lines : List RoadLine) where
 
     before_or_next : (other : NearLine) → IsAmong query lines (seen ++ rank ∷ []) other
         → IsAmong query lines seen other ⊎ (other ≡ next)
-    before_or_next other among = elim (one_seen _ _ _ among.0) [
+    before_or_next other among = elim (one_seen _ _ among.0) [
       | inl before ↦ inl (before, among.1)
       | inr same ↦ inr (is_next _ among.1 same)
     ]

@@ -8,9 +8,9 @@ use Rattle.olr_map.specs.declared.Extent.{Extent}
 use Rattle.olr_map.specs.Rows.{RoadLine}
 use Rattle.olr_map.specs.RoadMap.{IsWindowOf, RankMeetsWindow}
 
-pub one_seen : (seen : List ℕ) (rank other : ℕ) → Contains (seen ++ rank ∷ []) other
+pub one_seen : (seen : List ℕ) (rank : ℕ) {other : ℕ} → Contains (seen ++ rank ∷ []) other
     → Contains seen other ⊎ (other ≡ rank)
-one_seen seen rank other is = elim (Contains-push_cases _ _ _ is) [
+one_seen seen rank is = elim (Contains-push_cases _ _ _ is) [
   | inl before ↦ inl before
   | inr same ↦ inr (sym same)
 ]

@@ -110,10 +110,10 @@ record AreBeside (of : Spot → ℤ) (origin : Coordinates) (line : RoadLine) (f
   no_less : f ≤ℤ of (spot_of origin high)
 
 -- those beside the nearest spot
-beside : (of : Spot → ℤ) → FootBetween of → (origin p : Coordinates) (line : RoadLine) (near : Near)
+beside : (of : Spot → ℤ) → FootBetween of → (origin p : Coordinates) (line : RoadLine) {near : Near}
     → IsNearest (polyline_of origin line) (spot_of origin p) near
     → AreBeside of origin line (of near.spot)
-beside of between origin p line near is =
+beside of between origin p line is =
     let first = place_at (spot_of origin) line.points is.i is.a is.nearest.segment.start in
     let second = place_at (spot_of origin) line.points (suc is.i) is.b is.nearest.segment.end in
     let lies = subst (λ s. IsBetween (of is.a) (of is.b) (of s)) (cc)
@@ -140,8 +140,8 @@ beside of between origin p line near is =
       no_less = rw second_is inside.1;
     })
 
-up : (a b c : ℤ) → a ≤ℤ b → b ≤ℤ c → a ≤ℤ c
-up a b c first second = omega (arith, ints)
+up : {a b c : ℤ} → a ≤ℤ b → b ≤ℤ c → a ≤ℤ c
+up first second = omega (arith, ints)
 
 below : (a f p : ℤ) (r : ℕ) → nat_abs (p -ℤ f) ≤ r → a ≤ℤ f → a ≤ℤ (p +ℤ pos r)
 below a f p r near le = omega (arith, ints, near, le)
@@ -149,34 +149,34 @@ below a f p r near le = omega (arith, ints, near, le)
 above : (a f p : ℤ) (r : ℕ) → nat_abs (p -ℤ f) ≤ r → f ≤ℤ a → (p -ℤ pos r) ≤ℤ a
 above a f p r near le = omega (arith, ints, near, le)
 
-itself_below : (p : ℤ) (r : ℕ) → p ≤ℤ (p +ℤ pos r)
-itself_below p r = omega (arith, ints)
+itself_below : {p : ℤ} (r : ℕ) → p ≤ℤ (p +ℤ pos r)
+itself_below r = omega (arith, ints)
 
-itself_above : (p : ℤ) (r : ℕ) → (p -ℤ pos r) ≤ℤ p
-itself_above p r = omega (arith, ints)
+itself_above : {p : ℤ} (r : ℕ) → (p -ℤ pos r) ≤ℤ p
+itself_above r = omega (arith, ints)
 
 pub meets_window : FootBetween (λ s. s.x) → FootBetween (λ s. s.y) → NoShorter (λ s. s.x)
     → NoShorter (λ s. s.y)
-    → (query : Query) (radius : ℕ) (line : RoadLine) (near : Near) (window : Extent)
+    → (query : Query) (radius : ℕ) (line : RoadLine) (near : Near) {window : Extent}
     → CoversRadius query radius window → IsInRange (coordinates_of query.point.at)
     → All IsInRange line.points
     → IsNearest (polyline_of (coordinates_of query.plane) line)
     (spot_of (coordinates_of query.plane) (coordinates_of query.point.at)) near
     → near.distance ≤ 100 * radius → MeetsWindow window line
-meets_window between_x between_y shorter_x shorter_y query radius line near window covers here
+meets_window between_x between_y shorter_x shorter_y query radius line near covers here
     inside is within =
     let origin = coordinates_of query.plane in
     let point = coordinates_of query.point.at in
     let p = spot_of origin point in
     let r = 100 * radius in
-    let xs = beside _ between_x origin point line _ is in
-    let ys = beside _ between_y _ _ line _ is in
+    let xs = beside _ between_x origin point line is in
+    let ys = beside _ between_y _ _ line is in
     let close_x : nat_abs (p.x -ℤ near.spot.x) ≤ r = omega (arith, shorter_x p near.spot) in
     let close_y : nat_abs (p.y -ℤ near.spot.y) ≤ r = omega (arith, shorter_y p near.spot) in
     record {
       lats = record {
-        band = up _ _ _ (covers.south point here (itself_above _ r))
-            (covers.north point here (itself_below _ r));
+        band = up (covers.south point here (itself_above r))
+            (covers.north point here (itself_below r));
         southern = ys.low;
         northern = ys.high;
         one = ys.has_low;
@@ -189,8 +189,8 @@ meets_window between_x between_y shorter_x shorter_y query radius line near wind
             (above (spot_of origin ys.high).y near.spot.y p.y r close_y ys.no_less);
       };
       lons = record {
-        band = up _ _ _ (covers.west point here (itself_above _ r))
-            (covers.east point here (itself_below _ r));
+        band = up (covers.west point here (itself_above r))
+            (covers.east point here (itself_below r));
         western = xs.low;
         eastern = xs.high;
         one = xs.has_low;

@@ -11,10 +11,10 @@ use Rattle.olr_index.specs.declared.window.PlacedLine.{PlacedLine}
 use Rattle.olr_index.proofs.Meeting.{none_within, ranks_in-nil, ranks_in-passed, ranks_in-append, ranks_in-covered}
 
 -- the blocks after the first one
-pub blocks_after : (lines : List PlacedLine) (block : Extent) (others : List Extent) (m : ℕ)
+pub blocks_after : (lines : List PlacedLine) {block : Extent} {others : List Extent} (m : ℕ)
     → AreBlocks 64 lines (block ∷ others) → m ≡ min (length lines) 64
     → AreBlocks 64 (drop m lines) others
-blocks_after lines block others m blocks size =
+blocks_after lines m blocks size =
     let left = length-drop m lines in
     let enough = blocks.enough in
     record {
@@ -27,10 +27,10 @@ blocks_after lines block others m blocks size =
     }
 
 -- the lines of the first one
-first_covered : (lines : List PlacedLine) (block : Extent) (others : List Extent) (m : ℕ)
+first_covered : (lines : List PlacedLine) (block : Extent) {others : List Extent} (m : ℕ)
     → AreBlocks 64 lines (block ∷ others) → m ≡ min (length lines) 64
     → All (λ line. Covers block line.extent) (take m lines)
-first_covered lines block others m blocks size = λ i d below.
+first_covered lines block m blocks size = λ i d below.
     let some = length-take m lines in
     let inside : i < m = omega arith in
     let place : 64 * 0 + i ≡ i = omega arith in
@@ -43,32 +43,34 @@ pub ranks_split : (window : Extent) (m : ℕ) (lines : List PlacedLine)
 ranks_split window m lines = cc (ranks_in-append _ _ _, take-append-drop m lines)
 
 -- a block that meets the window
-pub entered : (window : Extent) (at_hand lines first rest : List PlacedLine) (m : ℕ)
-    (value : List ℕ) → first ≡ take m lines → rest ≡ drop m lines → ranks_in window at_hand ≡ []
+pub entered : (window : Extent) (at_hand lines : List PlacedLine) {first rest : List PlacedLine}
+    (m : ℕ)
+    {value : List ℕ} → first ≡ take m lines → rest ≡ drop m lines → ranks_in window at_hand ≡ []
     → ranks_in window at_hand ++ ranks_in window lines ≡ value
     → ranks_in window first ++ ranks_in window rest ≡ value
-entered window at_hand lines first rest m value first_is rest_is none left =
+entered window at_hand lines m first_is rest_is none left =
     rw (first_is, rest_is) (ranks_split _ m _)
     ∙ sym (ap (λ (ranks : List ℕ). ranks ++ ranks_in window lines) none) ∙ left
 
 -- a block that doesn't
-pub passed : (window : Extent) (at_hand lines rest : List PlacedLine) (block : Extent)
-    (others : List Extent) (m : ℕ) (value : List ℕ) → AreBlocks 64 lines (block ∷ others)
+pub passed : (window : Extent) (at_hand : List PlacedLine) {lines : List PlacedLine}
+    (rest : List PlacedLine) (block : Extent)
+    {others : List Extent} (m : ℕ) {value : List ℕ} → AreBlocks 64 lines (block ∷ others)
     → m ≡ min (length lines) 64
     → rest ≡ drop m lines → meets window block ≡ false → ranks_in window at_hand ≡ []
     → ranks_in window at_hand ++ ranks_in window lines ≡ value
     → ranks_in window [] ++ ranks_in window rest ≡ value
-passed window at_hand lines rest block others m value blocks size rest_is fails none left =
-    let first = ranks_in-covered _ _ _ (first_covered _ _ _ m blocks size) fails in
+passed window at_hand rest block m blocks size rest_is fails none left =
+    let first = ranks_in-covered _ _ _ (first_covered _ _ m blocks size) fails in
     ap (λ (ranks : List ℕ). ranks ++ ranks_in window rest) (ranks_in-nil _ ∙ sym first)
-    ∙ entered _ _ _ _ _ m _ refl rest_is none left
+    ∙ entered _ _ _ m refl rest_is none left
 
 -- no block is left
 pub over : (window : Extent) (at_hand lines : List PlacedLine) (blocks : List Extent)
-    (value : List ℕ) → AreBlocks 64 lines blocks → length blocks ≡ 0 → ranks_in window at_hand ≡ []
+    {value : List ℕ} → AreBlocks 64 lines blocks → length blocks ≡ 0 → ranks_in window at_hand ≡ []
     → ranks_in window at_hand ++ ranks_in window lines ≡ value → (value ≡ [])
     × (ranks_in window at_hand ++ ranks_in window lines ≡ [])
-over window at_hand lines blocks value are none first left =
+over window at_hand lines blocks are none first left =
     let size : length lines ≡ 0 = omega arith in
     let all : ranks_in window at_hand ++ ranks_in window lines ≡ [] =
     rw first (cc (nil_from_length _ size, ranks_in-nil _)) in
@@ -87,14 +89,14 @@ none_at size window lines blocks j d e some are inside fails =
     let below : j / size < length blocks =
     (div-lt_iff_lt-mul some).1 (omega (arith, mul_comm size (length blocks))) in
     let covers = are.cover (j / size) (j % size) d e below (mod-lt j some) (omega arith) in
-    none_within _ _ (get_or lines j d).extent
+    none_within _ (get_or lines j d).extent
     (rw place at covers) fails
 
 ranks_none : (window : Extent) (lines : List PlacedLine)
     → All (λ line. meets window line.extent ≡ false) lines → ranks_in window lines ≡ []
 ranks_none window [] none = ranks_in-nil _
 ranks_none window (line ∷ lines) none =
-    ranks_in-passed _ _ _ _ refl (All-head (λ (l : PlacedLine). meets window l.extent ≡ false) line
+    ranks_in-passed _ _ _ refl (All-head (λ (l : PlacedLine). meets window l.extent ≡ false) line
     _ none)
     ∙ ranks_none _ _ (All-tail (λ (l : PlacedLine). meets window l.extent ≡ false) line _ none)
 

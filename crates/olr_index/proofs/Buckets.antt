@@ -31,11 +31,11 @@ head_here shift keys bucket next up within below here = record {
 }
 
 -- heads of each bucket up to that of the greatest id, and of one more, make an index
-pub index_of : (keys : List ℕ) (shift last : ℕ) (heads : List ℕ) → IsStrictlyIncreasing keys
+pub index_of : (keys : List ℕ) (shift last : ℕ) {heads : List ℕ} → IsStrictlyIncreasing keys
     → length keys < 2 ^ 32 → shift < 64 → AreHeads shift keys heads
     → length heads ≡ last / 2 ^ shift + 1 + 1
     → ((k : ℕ) → k < length keys → slice_index keys k ≤ last) → IsIndex keys shift heads
-index_of keys shift last heads rise few small heads_of count most = record {
+index_of keys shift last rise few small heads_of count most = record {
   rise = rise;
   at_most = few;
   small = small;
@@ -44,9 +44,10 @@ index_of keys shift last heads rise few small heads_of count most = record {
 }
 
 -- a bucket begins where the one before it ends, or further on
-pub heads_rise : (shift : ℕ) (keys : List ℕ) (bucket low high : ℕ) → IsHead shift keys bucket low
+pub heads_rise : {shift : ℕ} {keys : List ℕ} {bucket : ℕ} (low high : ℕ)
+    → IsHead shift keys bucket low
     → IsHead shift keys (bucket + 1) high → low ≤ high
-heads_rise shift keys bucket low high at_low at_high =
+heads_rise low high at_low at_high =
     let no : high < low → ⊥ = λ less. let early = at_low.below high less in omega arith in
     omega arith
 
@@ -109,7 +110,7 @@ pub found_between : {X : Type 0} (f : X → ℕ) (xs : List X) (shift low high i
     → MatchResult r (λ place. slice_get (map f xs) (low + place) ≡ Some id)
     (λ _. Contains (map f xs) id → ⊥)
 found_between f xs shift low high id r at_low at_high rise within found =
-    let le = heads_rise _ _ _ _ _ at_low at_high in
+    let le = heads_rise _ _ at_low at_high in
     let part = part_rises (map f xs) low high le at_high.within rise in
     told r (rw (part_keys f xs low high) at
     (found_by_key f (slice_range xs low high) id r (rw (part_keys f xs low high) part) within
@@ -121,5 +122,5 @@ found_between f xs shift low high id r at_low at_high rise within found =
         → MatchResult r (λ i. slice_get (map f xs) (low + i) ≡ Some id) (λ _. Contains (map f xs) id
         → ⊥)
     told (Ok place) there = found_there (map f xs) low high place id
-        (heads_rise _ _ _ _ _ at_low at_high) at_high.within there
+        (heads_rise _ _ at_low at_high) at_high.within there
     told (Err place) none = nowhere shift (map f xs) low high id at_low at_high none

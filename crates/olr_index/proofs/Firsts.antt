@@ -42,7 +42,7 @@ module _ {T : Type 0} (key_of : T → ℕ) (items : List T) (first : ℕ) where
   module _ {low high : ℕ} (at_low : IsHead 32 (map key_of items) first low)
       (at_high : IsHead 32 (map key_of items) (first + 1) high) where
     pub ordered : low ≤ high
-    ordered = heads_rise _ _ _ _ _ at_low at_high
+    ordered = heads_rise _ _ at_low at_high
 
     pub inside_all : high ≤ length items
     inside_all = omega (arith, length-map items key_of)

@@ -18,18 +18,19 @@ pub record IsKnown (ids : List ℕ) (place : ℕ) (known : BTreeSet ℕ) : Type 
   pub differ : AllDiffer (take place ids)
   pub same : (id : ℕ) → contains nat_cmp known id ≡ list_any (eqb id) (take place ids)
 
-pub nothing_known : (ids : List ℕ) (known : BTreeSet ℕ) → IsEmpty known → IsKnown ids 0 known
-nothing_known ids known empty = record {
+pub nothing_known : {ids : List ℕ} {known : BTreeSet ℕ} → IsEmpty known → IsKnown ids 0 known
+nothing_known empty = record {
   differ = λ i j d below inside. absurd (omega arith);
   same = λ id. ap (list_any _) empty;
 }
 
 -- the id at the place, which the set lacks, comes in
-pub one_more_known : (ids : List ℕ) (place : ℕ) (known more : BTreeSet ℕ) → IsKnown ids place known
+pub one_more_known : (ids : List ℕ) (place : ℕ) {known : BTreeSet ℕ} (more : BTreeSet ℕ)
+    → IsKnown ids place known
     → place < length ids
     → contains nat_cmp known (get_or ids place 0) ≡ false
     → Updates nat_cmp known more (get_or ids place 0) true → IsKnown ids (place + 1) more
-one_more_known ids place known more is inside new updates = record {
+one_more_known ids place more is inside new updates = record {
   differ = rw longer (all_pairs_push (λ (a b : ℕ). a ≢ b) (take place ids) (get_or ids place 0)
       is.differ apart);
   same = λ id. step id ∙ sym (cc longer);
@@ -50,16 +51,16 @@ one_more_known ids place known more is inside new updates = record {
         ∙ list_any-from_Contains nat_eq_equiv (get_or ids place 0) (take place ids) found)
 
 -- the set has the id at the place already
-pub known_again : (ids : List ℕ) (place : ℕ) (known : BTreeSet ℕ) → IsKnown ids place known
+pub known_again : (ids : List ℕ) (place : ℕ) {known : BTreeSet ℕ} → IsKnown ids place known
     → place < length ids → contains nat_cmp known (get_or ids place 0) ≡ true
     → IsFirstRepeat ids place
-known_again ids place known is inside old = record {
+known_again ids place is inside old = record {
   inside = inside;
   repeats = Contains-from_any exact_unsigned_eq _ _ (sym (is.same (get_or ids place 0)) ∙ old);
   before = is.differ;
 }
 
 -- all ids came in
-pub all_known : (ids : List ℕ) (place : ℕ) (known : BTreeSet ℕ) → IsKnown ids place known
+pub all_known : (ids : List ℕ) (place : ℕ) {known : BTreeSet ℕ} → IsKnown ids place known
     → length ids ≤ place → AllDiffer ids
-all_known ids place known is past = rw (← (take_all place ids past)) is.differ
+all_known ids place is past = rw (← (take_all place ids past)) is.differ

@@ -13,11 +13,11 @@ use Rattle.olr_index.specs.declared.window.PlacedLine.{PlacedLine}
 
 -- ---- the test
 
-le_if : (a b : ℤ) → int_le a b ≡ true → a ≤ℤ b
-le_if a b h = grind (arith, ints)
+le_if : {a b : ℤ} → int_le a b ≡ true → a ≤ℤ b
+le_if h = grind (arith, ints)
 
-if_le : (a b : ℤ) → a ≤ℤ b → int_le a b ≡ true
-if_le a b h = grind (arith, ints)
+if_le : {a b : ℤ} → a ≤ℤ b → int_le a b ≡ true
+if_le h = grind (arith, ints)
 
 pub meets_if : (window extent : Extent) → meets window extent ≡ true → Meets window extent
 meets_if window extent h =
@@ -26,17 +26,17 @@ meets_if window extent h =
     both.0 in
     let lons = and_parts (int_le extent.west window.east) (int_le window.west extent.east) both.1 in
     record {
-      not_north = le_if _ _ lats.0;
-      not_south = le_if _ _ lats.1;
-      not_east = le_if _ _ lons.0;
-      not_west = le_if _ _ lons.1;
+      not_north = le_if lats.0;
+      not_south = le_if lats.1;
+      not_east = le_if lons.0;
+      not_west = le_if lons.1;
     }
 
 pub if_meets : (window extent : Extent) → Meets window extent → meets window extent ≡ true
 if_meets window extent h =
     and_from _ _
-    (and_from _ _ (if_le _ _ h.not_north) (if_le _ _ h.not_south))
-    (and_from _ _ (if_le _ _ h.not_east) (if_le _ _ h.not_west))
+    (and_from _ _ (if_le h.not_north) (if_le h.not_south))
+    (and_from _ _ (if_le h.not_east) (if_le h.not_west))
 
 -- the extent of a rank that meets a window
 pub met_extent : (o : Option Extent) (P : Extent → Type 0) → IsSomeAnd o P → (extent : Extent)
@@ -58,9 +58,10 @@ wider window outer inner covers h =
     }
 
 -- what lies within an extent that doesn't meet a window doesn't meet it
-pub none_within : (window outer inner : Extent) → Covers outer inner → meets window outer ≡ false
+pub none_within : (window : Extent) {outer : Extent} (inner : Extent) → Covers outer inner
+    → meets window outer ≡ false
     → meets window inner ≡ false
-none_within window outer inner covers none =
+none_within window inner covers none =
     by_test _ (λ h. let yes = if_meets _ _ (wider _ _ _ covers (meets_if _ _ h)) in absurd (cc))
 
 -- ---- the ranks
@@ -69,17 +70,17 @@ pub ranks_in-nil : (window : Extent) → ranks_in window [] ≡ []
 unfolding ranks_in
 ranks_in-nil window = refl
 
-pub ranks_in-met : (window : Extent) (line : PlacedLine) (lines all : List PlacedLine)
+pub ranks_in-met : (window : Extent) {line : PlacedLine} (lines all : List PlacedLine)
     → all ≡ line ∷ lines → meets window line.extent ≡ true
     → ranks_in window all ≡ line.rank ∷ ranks_in window lines
 unfolding ranks_in
-ranks_in-met window line lines all e h = rw (e, h) refl
+ranks_in-met window lines all e h = rw (e, h) refl
 
-pub ranks_in-passed : (window : Extent) (line : PlacedLine) (lines all : List PlacedLine)
+pub ranks_in-passed : (window : Extent) {line : PlacedLine} (lines all : List PlacedLine)
     → all ≡ line ∷ lines → meets window line.extent ≡ false
     → ranks_in window all ≡ ranks_in window lines
 unfolding ranks_in
-ranks_in-passed window line lines all e h = rw (e, h) refl
+ranks_in-passed window lines all e h = rw (e, h) refl
 
 pub ranks_in-append : (window : Extent) (xs ys : List PlacedLine)
     → ranks_in window (xs ++ ys) ≡ ranks_in window xs ++ ranks_in window ys
@@ -98,7 +99,7 @@ pub ranks_in-covered : (window block : Extent) (lines : List PlacedLine)
     → ranks_in window lines ≡ []
 ranks_in-covered window block [] covers none = ranks_in-nil _
 ranks_in-covered window block (line ∷ lines) covers none =
-    ranks_in-passed _ _ _ _ refl (none_within _ _ _
+    ranks_in-passed _ _ _ refl (none_within _ _
     (All-head (λ (l : PlacedLine). Covers block l.extent) line _ covers) none)
     ∙ ranks_in-covered _ _ _ (All-tail (λ (l : PlacedLine). Covers block l.extent) line _ covers)
     none

@@ -16,8 +16,8 @@ use Rattle.olr_index.specs.Repeats.{AllDiffer}
 use Rattle.olr_index.specs.Repeats.{IsFirstRepeat, Sorts}
 
 -- numbers that differ do so in any order
-pub differ_permuted : (xs ys : List ℕ) → IsPermutation xs ys → AllDiffer xs → AllDiffer ys
-differ_permuted xs ys moved differ =
+pub differ_permuted : {xs ys : List ℕ} → IsPermutation xs ys → AllDiffer xs → AllDiffer ys
+differ_permuted moved differ =
     AllPairs-from_IsDistinct Decides-eqb _
     (IsDistinct-IsPermutation _ nat_eq_equiv.symm _ _ moved
     (IsDistinct-from_AllPairs Decides-eqb _ differ))
@@ -39,7 +39,7 @@ differing_rise xs up differ k inside =
 pub keys_differ_permuted : {X : Type 0} (f : X → ℕ) (xs ys : List X) → IsPermutation xs ys
     → AllDiffer (map f xs) → AllDiffer (map f ys)
 keys_differ_permuted f xs ys moved differ =
-    differ_permuted _ _ (IsPermutation-map f xs ys moved) differ
+    differ_permuted (IsPermutation-map f xs ys moved) differ
 
 keys_up : {X : Type 0} (f : X → ℕ) (xs : List X) → IsNonDecreasingBy f xs → (k : ℕ)
     → k + 1 < length (map f xs) → get_or (map f xs) k 0 ≤ get_or (map f xs) (k + 1) 0
@@ -57,14 +57,14 @@ pub keys_rise : {X : Type 0} (f : X → ℕ) (xs : List X) → IsNonDecreasingBy
     → AllDiffer (map f xs) → IsStrictlyIncreasing (map f xs)
 keys_rise f xs up differ = differing_rise _ (keys_up f _ up) differ
 
-pub sorts_or_first : {X : Type 0} (f : X → ℕ) (xs ys : List X) (ids : List ℕ) (repeat : Option ℕ)
+pub sorts_or_first : {X : Type 0} (f : X → ℕ) {xs ys : List X} {ids : List ℕ} (repeat : Option ℕ)
     → IsPermutation xs ys → (AllDiffer (map f xs) → IsStrictlyIncreasing (map f ys))
     → ids ≡ map f xs
     → MatchOption repeat (AllDiffer ids) (IsFirstRepeat ids)
     → MatchOption repeat (Sorts f xs ys) (IsFirstRepeat (map f xs))
-sorts_or_first f xs ys ids None moved rise same differ =
+sorts_or_first f None moved rise same differ =
     record { same = moved; rise = rise (rw (← same) differ) }
-sorts_or_first f xs ys ids (Some at) moved rise same first = rw (← same) first
+sorts_or_first f (Some at) moved rise same first = rw (← same) first
 
 -- elements whose keys rise once they are sorted differ
 pub sorts_differ : {X : Type 0} (f : X → ℕ) (xs ys : List X) → Sorts f xs ys → AllDiffer (map f xs)
@@ -117,11 +117,11 @@ keys_rising_answer f (x ∷ xs) false some = (
 )
 
 -- a sorted list rises exactly if the numbers that it has differ
-pub sorted_answer : (xs ys : List ℕ) (r : Bool) → IsPermutation xs ys → IsSorted nat_cmp ys
+pub sorted_answer : (xs ys : List ℕ) {r : Bool} → IsPermutation xs ys → IsSorted nat_cmp ys
     → IsTrue r ↔ IsStrictlyIncreasing ys → IsTrue r ↔ AllDiffer xs
-sorted_answer xs ys r moved sorted rises = (
-  λ yes. differ_permuted _ _ (IsPermutation-sym xs ys moved) (rising_differ _ (rises.0 yes)),
+sorted_answer xs ys moved sorted rises = (
+  λ yes. differ_permuted (IsPermutation-sym xs ys moved) (rising_differ _ (rises.0 yes)),
   λ differ. rises.1 (differing_rise _
       (λ k inside. IsNonDecreasingBy-from_sort (λ (x : ℕ). x) ys sorted k (k + 1) 0 (omega arith)
-      inside) (differ_permuted _ _ moved differ)),
+      inside) (differ_permuted moved differ)),
 )

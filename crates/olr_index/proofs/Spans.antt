@@ -120,11 +120,11 @@ number_at : (of : Degrees → ℤ) (points : List Degrees) (i : ℕ) (point : De
 number_at of points i point inside same = get_or-map _ _ i _ _ inside ∙ ap of (sym same)
 
 -- one point more
-pub span_more : (of : Degrees → ℤ) (points : List Degrees) (i : ℕ) (least greatest : ℤ)
+pub span_more : (of : Degrees → ℤ) (points : List Degrees) (i : ℕ) {least greatest : ℤ}
     (point : Degrees) → i < length points → point ≡ get_or points i point
     → IsSpanSoFar of points i least greatest
     → IsSpanSoFar of points (i + 1) (int_min least (of point)) (int_max greatest (of point))
-span_more of points i least greatest point inside same before =
+span_more of points i point inside same before =
     let here : i < length (map of points) = rw (length-map points of) inside in
     let at = number_at _ _ i _ inside same in
     let found : Contains (map of points) (of point) = (i, here, at) in
@@ -143,10 +143,10 @@ span_start of points point inside same =
     record { within = λ k d below. absurd (omega arith); least_is = found; greatest_is = found }
 
 -- all points
-pub span_whole : (of : Degrees → ℤ) (points : List Degrees) (i : ℕ) (least greatest : ℤ)
+pub span_whole : (of : Degrees → ℤ) (points : List Degrees) (i : ℕ) {least greatest : ℤ}
     → length points ≤ i → IsSpanSoFar of points i least greatest
     → IsSpan (map of points) least greatest
-span_whole of points i least greatest all so_far =
+span_whole of points i all so_far =
     let here : length (map of points) ≤ i = rw (length-map points of) all in
     record {
       within = rw (take_all i (map of points) here) at so_far.within;

@@ -7,7 +7,7 @@ pub candidate_by-requires-clause-class : goal.candidate_by-requires-clause-class
 candidate_by-requires-clause-class c =
     let at = c.projection_at-projection.ensures.projection in
     let sound =
-    sound_at _ _ _ _ c.line-line.ensures.sound.lines.each at.1 in
+    sound_at _ _ c.line-line.ensures.sound.lines.each at.1 in
     rw (head_at c.args.map.now.lines c.args.rank at.0 c.line-line.result at.1
     c.line-line.ensures.line) sound.class
 

@@ -12,7 +12,7 @@ pub near_by-requires-clause-class : goal.near_by-requires-clause-class
 near_by-requires-clause-class c =
     let at = c.in_ok-projection.ensures.projection in
     let sound =
-    sound_at _ _ _ _ c.line-line.ensures.sound.lines.each at.1 in
+    sound_at _ _ c.line-line.ensures.sound.lines.each at.1 in
     rw (head_at c.args.map.now.lines c.args.rank at.0 c.line-line.result at.1
     c.line-line.ensures.line) sound.class
 

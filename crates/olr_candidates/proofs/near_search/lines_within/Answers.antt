@@ -5,4 +5,4 @@ pub returns : goal.returns
 returns c =
     covers_radius c.foot_on_segment.ensures.x c.foot_on_segment.ensures.y
     c.no_shorter_than_east.ensures c.no_shorter_than_north.ensures
-    _ _ _ _ _ c.near_lines.ensures.sound.lines.each c.near_lines.ensures.near
+    _ _ _ c.near_lines.ensures.sound.lines.each c.near_lines.ensures.near

@@ -59,7 +59,7 @@ returns c =
       at.0,
       at.1,
       meets_window c.foot_on_segment.ensures.x c.foot_on_segment.ensures.y
-          c.no_shorter_than_east.ensures c.no_shorter_than_north.ensures _ _ _ _ _ near.covers here
-          (sound_at _ _ _ _ c.near_lines-rank-items.ensures.sound.lines.each at.1).inside
+          c.no_shorter_than_east.ensures c.no_shorter_than_north.ensures _ _ _ _ near.covers here
+          (sound_at _ _ c.near_lines-rank-items.ensures.sound.lines.each at.1).inside
           at.2.is_projection.nearest (omega arith),
     ))

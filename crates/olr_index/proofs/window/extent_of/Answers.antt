@@ -22,14 +22,14 @@ loop-point-preserved c =
     let east = greatest_is {x = c.loop-point.extent.east} {y = c.point-item.result.lon}
     (search rules) (search rules) (search rules) c.max-in-loop-point.ensures.value in
     record {
-      lats = rw (south, north) (span_more _ _ _ _ _ _ c.loop-point-test.true c.point-item.is
+      lats = rw (south, north) (span_more _ _ _ _ c.loop-point-test.true c.point-item.is
           c.loop-point.invariant.lats);
-      lons = rw (west, east) (span_more _ _ _ _ _ _ c.loop-point-test.true c.point-item.is
+      lons = rw (west, east) (span_more _ _ _ _ c.loop-point-test.true c.point-item.is
           c.loop-point.invariant.lons);
     }
 
 pub returns : goal.returns
 returns c = record {
-  lats = span_whole _ _ _ _ _ c.loop-point-test.false c.loop-point.invariant.lats;
-  lons = span_whole _ _ _ _ _ c.loop-point-test.false c.loop-point.invariant.lons;
+  lats = span_whole _ _ _ c.loop-point-test.false c.loop-point.invariant.lats;
+  lons = span_whole _ _ _ c.loop-point-test.false c.loop-point.invariant.lons;
 }

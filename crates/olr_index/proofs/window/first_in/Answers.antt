@@ -5,11 +5,11 @@ use Rattle.olr_index.proofs.window.first_in.Goals as goal
 
 pub loop-line-preserved : goal.loop-line-preserved
 loop-line-preserved c =
-    cc (ranks_in-passed _ _ _ _ c.in-Some.ensures.cases.0 (sym c.if-meets.ensures))
+    cc (ranks_in-passed _ _ _ c.in-Some.ensures.cases.0 (sym c.if-meets.ensures))
 
 pub returns-then-meets : goal.returns-then-meets
 returns-then-meets c =
-    cc (ranks_in-met _ _ _ _ c.in-Some.ensures.cases.0 (sym c.if-meets.ensures))
+    cc (ranks_in-met _ _ _ c.in-Some.ensures.cases.0 (sym c.if-meets.ensures))
 
 pub returns : goal.returns
 returns c =

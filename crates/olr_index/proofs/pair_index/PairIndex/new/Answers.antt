@@ -8,7 +8,7 @@ invariant_of-result g c =
     let items = c.args.items.items in
     let keys : c.in_ok-keys.keys.items ≡ map g.T.Keyed.key_of items =
     cc (c.in_ok-keys.ensures, c.deref.ensures.value) in
-    index_of _ _ _ _
+    index_of _ _ _
     c.requires.rise
     (omega (arith, length-map items g.T.Keyed.key_of))
     (omega arith)

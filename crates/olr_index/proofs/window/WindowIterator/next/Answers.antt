@@ -5,7 +5,7 @@ use Rattle.olr_index.proofs.window.WindowIterator.next.Goals as goal
 pub returns-in_err-block-clause-steps : goal.returns-in_err-block-clause-steps
 returns-in_err-block-clause-steps c =
     rw c.from_residual.ensures
-    (over _ _ _ _ _
+    (over _ _ _ _
     c.loop-rank.invariant.covered c.in_err-block.ensures.cases c.in_default.ensures
     c.loop-rank.invariant.left)
 
@@ -14,13 +14,13 @@ loop-rank-preserved c =
     let none = c.in_default.ensures in
     let are = rw c.in_ok-block.ensures.cases.0 at c.loop-rank.invariant.covered in
     record {
-      covered = rw c.split_at.ensures.back (blocks_after _ _ _ _ are c.min.ensures);
+      covered = rw c.split_at.ensures.back (blocks_after _ _ are c.min.ensures);
       left = elim c.if-meets.branch [
         | then-meets w ↦ rw w.self-is
-            (entered _ _ _ _ _ _ _
+            (entered _ _ _ _
             c.split_at.ensures.front c.split_at.ensures.back none c.loop-rank.invariant.left)
         | else-meets w ↦ rw w.self-is
-            (passed _ _ _ _ _ _ _ _
+            (passed _ _ _ _ _
             are c.min.ensures c.split_at.ensures.back (cc) none c.loop-rank.invariant.left)
       ];
     }
