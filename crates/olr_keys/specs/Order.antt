@@ -13,11 +13,9 @@ use Rattle.olr_keys.specs.Key.{KeyValue, AreBefore, IsBefore}
 -- ---- lists of numbers
 
 lists_transitive : (a b c : List ℕ) → AreBefore a b → AreBefore b c → AreBefore a c
-lists_transitive [] [] c one other = absurd one
-lists_transitive [] (y ∷ b) [] one other = other
+lists_transitive a b [] one other = absurd other
+lists_transitive a [] (z ∷ c) one other = absurd one
 lists_transitive [] (y ∷ b) (z ∷ c) one other = tt
-lists_transitive (x ∷ a) [] c one other = absurd one
-lists_transitive (x ∷ a) (y ∷ b) [] one other = other
 lists_transitive (x ∷ a) (y ∷ b) (z ∷ c) (inl one) (inl other) = inl (omega arith)
 lists_transitive (x ∷ a) (y ∷ b) (z ∷ c) (inl one) (inr other) = inl (omega arith)
 lists_transitive (x ∷ a) (y ∷ b) (z ∷ c) (inr one) (inl other) = inl (omega arith)
@@ -25,9 +23,8 @@ lists_transitive (x ∷ a) (y ∷ b) (z ∷ c) (inr one) (inr other) =
     inr (one.0 ∙ other.0, lists_transitive a b c one.1 other.1)
 
 lists_asymmetric : (a b : List ℕ) → AreBefore a b → AreBefore b a → ⊥
-lists_asymmetric [] [] one other = one
+lists_asymmetric a [] one other = one
 lists_asymmetric [] (y ∷ b) one other = other
-lists_asymmetric (x ∷ a) [] one other = one
 lists_asymmetric (x ∷ a) (y ∷ b) (inl one) (inl other) = omega arith
 lists_asymmetric (x ∷ a) (y ∷ b) (inl one) (inr other) = omega arith
 lists_asymmetric (x ∷ a) (y ∷ b) (inr one) (inl other) = omega arith
