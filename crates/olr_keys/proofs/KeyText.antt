@@ -53,7 +53,7 @@ one_key in_range in_range' same =
     let parts = one_cut _ _ _ _ (lacks_total in_range) (lacks_total in_range') (cc (colon _)) in
     let total = decimal_injective _ _ (omega arith) (omega arith) parts.0 in
     let ranks = one_ranks _ _ (ranks_of_key in_range) (ranks_of_key in_range') parts.1 in
-    same_key _ _ _ _ total ranks
+    same_key total ranks
 
 -- ---- no `@` in the text of a key
 

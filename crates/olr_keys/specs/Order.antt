@@ -56,16 +56,16 @@ transitive a b c = lists_transitive (a.total ∷ a.ranks) (b.total ∷ b.ranks) 
 pub asymmetric : (a b : KeyValue) → IsBefore a b → IsBefore b a → ⊥
 asymmetric a b = lists_asymmetric (a.total ∷ a.ranks) (b.total ∷ b.ranks)
 
-pub same_key : (total other : ℕ) (ranks others : List ℕ) → total ≡ other → ranks ≡ others
+pub same_key : {total other : ℕ} {ranks others : List ℕ} → total ≡ other → ranks ≡ others
     → ◌≡◌ {A = KeyValue} (record { total = total; ranks = ranks })
     (record { total = other; ranks = others })
-same_key total other ranks others one two = cc
+same_key one two = cc
 
 by_result : (a b : KeyValue) (result : Ordering)
     → MatchOrdering result (IsBefore a b) (a.total ∷ a.ranks ≡ b.total ∷ b.ranks) (IsBefore b a)
     → MatchOrdering result (IsBefore a b) (a ≡ b) (IsBefore b a)
 by_result a b Less before = before
-by_result a b Equal same = same_key _ _ _ _ (cc) (cc)
+by_result a b Equal same = same_key (cc) (cc)
 by_result a b Greater after = after
 
 pub compared_by : (a b : KeyValue)
