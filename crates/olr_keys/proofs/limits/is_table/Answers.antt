@@ -15,7 +15,8 @@ module _ (penalties : List (Vec ℕ)) (legs : List (Vec (Option ℕ))) where
 
   -- there are 2 to 32 layers, and a list of legs between each two neighbours
   abbrev HaveLengths : Type 0
-  HaveLengths = (2 ≤ length penalties) × (length penalties ≤ 32) × (length legs + 1 ≡ length penalties)
+  HaveLengths = (2 ≤ length penalties) × (length penalties ≤ 32)
+      × (length legs + 1 ≡ length penalties)
 
   -- each list has the legs from its layer to the next one
   abbrev HaveLegs : Type 0

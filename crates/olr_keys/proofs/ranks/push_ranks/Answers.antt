@@ -12,7 +12,8 @@ use Rattle.olr_keys.proofs.ranks.push_ranks.Goals as goal
 short : {rank : ℕ} → IsRank rank → length (decimal rank) ≤ 2
 short {rank} in_range = length-decimal-le 2 rank (omega arith) (omega arith) (omega arith)
 
-module _ {ranks others : List ℕ} {first : ℕ} (whole : ranks ≡ first ∷ others) (are : AreRanks 32 ranks) where
+module _ {ranks others : List ℕ} {first : ℕ} (whole : ranks ≡ first ∷ others)
+    (are : AreRanks 32 ranks) where
   each : All IsRank (first ∷ others)
   each = subst (λ (l : List ℕ). All IsRank l) whole are.each
 
