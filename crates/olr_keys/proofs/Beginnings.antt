@@ -45,7 +45,7 @@ module _ (p : Penalties) (before : Option ℕ) (total : ℕ) (ranks : List ℕ) 
         rest,
         leg + penalty + more,
         (leg, penalty, more, joined, there, later, refl),
-        same ∙ same_key _ _ _ _ (omega arith) (append_assoc ranks (rank ∷ []) rest),
+        same ∙ same_key (omega arith) (append_assoc ranks (rank ∷ []) rest),
       )
 
   pub to_longer : (rank sum : ℕ) → IsJoined p (length ranks) before rank sum → {key : KeyValue}
@@ -58,7 +58,7 @@ module _ (p : Penalties) (before : Option ℕ) (total : ℕ) (ranks : List ℕ) 
         rest,
         left,
         rw (longer_length _) later,
-        same ∙ same_key _ _ _ _ (omega arith) (sym (append_assoc ranks (rank ∷ []) rest)),
+        same ∙ same_key (omega arith) (sym (append_assoc ranks (rank ∷ []) rest)),
       )
 
   pub through_completes : (rank : ℕ) (key : KeyValue)
@@ -82,7 +82,7 @@ module _ (p : Penalties) (before : Option ℕ) (total : ℕ) (ranks : List ℕ) 
   pub ends_here : {key : KeyValue} → length ranks ≡ length p.candidates
       → Completes p before total ranks key → key ≡ record { total = total; ranks = ranks }
   ends_here last ([], more, completion, same) = same
-      ∙ same_key _ _ _ _ (omega arith) (append-nil ranks)
+      ∙ same_key (omega arith) (append-nil ranks)
   ends_here last (rank ∷ rest, more, (leg, penalty, left, joined, there, later, sum), same) =
       absurd (omega (
         arith,
@@ -92,7 +92,7 @@ module _ (p : Penalties) (before : Option ℕ) (total : ℕ) (ranks : List ℕ) 
   pub completes_itself : (key : KeyValue) → length ranks ≡ length p.candidates
       → key ≡ record { total = total; ranks = ranks } → Completes p before total ranks key
   completes_itself key last same =
-      ([], 0, (last, refl), same ∙ same_key _ _ _ _ (omega arith) (sym (append-nil ranks)))
+      ([], 0, (last, refl), same ∙ same_key (omega arith) (sym (append-nil ranks)))
 
   pub whole_in_range : IsTable p → length ranks ≡ length p.candidates
       → IsBeginning p before total ranks → IsInRange record { total = total; ranks = ranks }

@@ -11,11 +11,11 @@ use Rattle.olr_keys.proofs.Least.{same_least}
 use Rattle.olr_keys.proofs.NextKeys.{next_listed}
 
 completes : (p : Penalties) (key : KeyValue) → IsKey p key → Completes p None 0 [] key
-completes p key is = (key.ranks, key.total, is, same_key _ _ _ _ (omega arith) refl)
+completes p key is = (key.ranks, key.total, is, same_key (omega arith) refl)
 
 matching : (p : Penalties) {key : KeyValue} → Completes p None 0 [] key → IsKey p key
 matching p (rest, more, completion, same) =
-    subst (λ (k : KeyValue). IsKey p k) (sym (same ∙ same_key _ _ _ _ (omega arith) refl))
+    subst (λ (k : KeyValue). IsKey p k) (sym (same ∙ same_key (omega arith) refl))
     completion
 
 pub next_of : (p : Penalties) (after : Option KeyValue) {ranks : List ℕ} (found : Option KeyValue)

@@ -5,6 +5,7 @@ use Rattle.std.proofs.lemmas.Fmt.{decimal_injective}
 use Rattle.std.proofs.lemmas.List.Elements.{All-append, All-cons, All-head, All-tail}
 use Rattle.olr_keys.specs.Cursor.{AreRanks, key_text, ranks_text}
 use Rattle.olr_keys.specs.Key.{KeyValue, IsInRange, IsRank}
+use Rattle.olr_keys.specs.Order.{same_key}
 use Rattle.olr_keys.proofs.Lacking.{Lacks, IsCut, lacks_decimal, one_cut, not_cut}
 use Rattle.olr_keys.proofs.RanksText.{later, one_ranks, ranks_text-cons}
 
@@ -46,20 +47,13 @@ too_few cut are is few in_range same =
     let same_ranks = one_ranks _ _ are (ranks_of_key in_range) (cc) in
     omega (arith, ap (λ (l : List ℕ). length l) same_ranks)
 
-abbrev key_from : ℕ → List ℕ → KeyValue
-key_from total ranks = record { total = total; ranks = ranks }
-
-same_parts : {total total' : ℕ} {ranks ranks' : List ℕ} → total ≡ total' → ranks ≡ ranks'
-    → key_from total ranks ≡ key_from total' ranks'
-same_parts one other = cc
-
 -- keys have one text
 pub one_key : {a b : KeyValue} → IsInRange a → IsInRange b → key_text a ≡ key_text b → a ≡ b
 one_key in_range in_range' same =
     let parts = one_cut _ _ _ _ (lacks_total in_range) (lacks_total in_range') (cc (colon _)) in
     let total = decimal_injective _ _ (omega arith) (omega arith) parts.0 in
     let ranks = one_ranks _ _ (ranks_of_key in_range) (ranks_of_key in_range') parts.1 in
-    same_parts total ranks
+    same_key total ranks
 
 -- ---- no `@` in the text of a key
 

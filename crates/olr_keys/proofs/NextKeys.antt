@@ -47,7 +47,7 @@ compare_first : {p : Penalties} {from : ℕ} (total : ℕ) {ranks : List ℕ} (k
     ⊎ IsBefore (record { total = total; ranks = ranks }) key
 compare_first total key first completion is = elim (cases_eq total key.total) [
   | inl same ↦ elim (completion.first key.ranks (rw same is.0)) [
-    | inl equal ↦ inl (same_key _ _ _ _ (sym same) equal)
+    | inl equal ↦ inl (same_key (sym same) equal)
     | inr before ↦ inr (inr (same, before))
   ]
   | inr other ↦ elim (cases_lt key.total total) [

@@ -13,11 +13,9 @@ use Rattle.olr_keys.specs.Key.{KeyValue, AreBefore, IsBefore}
 -- ---- lists of numbers
 
 lists_transitive : (a b c : List ℕ) → AreBefore a b → AreBefore b c → AreBefore a c
-lists_transitive [] [] c one other = absurd one
-lists_transitive [] (y ∷ b) [] one other = other
+lists_transitive a b [] one other = absurd other
+lists_transitive a [] (z ∷ c) one other = absurd one
 lists_transitive [] (y ∷ b) (z ∷ c) one other = tt
-lists_transitive (x ∷ a) [] c one other = absurd one
-lists_transitive (x ∷ a) (y ∷ b) [] one other = other
 lists_transitive (x ∷ a) (y ∷ b) (z ∷ c) (inl one) (inl other) = inl (omega arith)
 lists_transitive (x ∷ a) (y ∷ b) (z ∷ c) (inl one) (inr other) = inl (omega arith)
 lists_transitive (x ∷ a) (y ∷ b) (z ∷ c) (inr one) (inl other) = inl (omega arith)
@@ -25,9 +23,8 @@ lists_transitive (x ∷ a) (y ∷ b) (z ∷ c) (inr one) (inr other) =
     inr (one.0 ∙ other.0, lists_transitive a b c one.1 other.1)
 
 lists_asymmetric : (a b : List ℕ) → AreBefore a b → AreBefore b a → ⊥
-lists_asymmetric [] [] one other = one
+lists_asymmetric a [] one other = one
 lists_asymmetric [] (y ∷ b) one other = other
-lists_asymmetric (x ∷ a) [] one other = one
 lists_asymmetric (x ∷ a) (y ∷ b) (inl one) (inl other) = omega arith
 lists_asymmetric (x ∷ a) (y ∷ b) (inl one) (inr other) = omega arith
 lists_asymmetric (x ∷ a) (y ∷ b) (inr one) (inl other) = omega arith
@@ -59,16 +56,16 @@ transitive a b c = lists_transitive (a.total ∷ a.ranks) (b.total ∷ b.ranks) 
 pub asymmetric : (a b : KeyValue) → IsBefore a b → IsBefore b a → ⊥
 asymmetric a b = lists_asymmetric (a.total ∷ a.ranks) (b.total ∷ b.ranks)
 
-pub same_key : (total other : ℕ) (ranks others : List ℕ) → total ≡ other → ranks ≡ others
+pub same_key : {total other : ℕ} {ranks others : List ℕ} → total ≡ other → ranks ≡ others
     → ◌≡◌ {A = KeyValue} (record { total = total; ranks = ranks })
     (record { total = other; ranks = others })
-same_key total other ranks others one two = cc
+same_key one two = cc
 
 by_result : (a b : KeyValue) (result : Ordering)
     → MatchOrdering result (IsBefore a b) (a.total ∷ a.ranks ≡ b.total ∷ b.ranks) (IsBefore b a)
     → MatchOrdering result (IsBefore a b) (a ≡ b) (IsBefore b a)
 by_result a b Less before = before
-by_result a b Equal same = same_key _ _ _ _ (cc) (cc)
+by_result a b Equal same = same_key (cc) (cc)
 by_result a b Greater after = after
 
 pub compared_by : (a b : KeyValue)

@@ -9,62 +9,57 @@ use Rattle.olr_keys.specs.Table.{AreLegsFrom, IsLayer, IsTable, Penalties, penal
 use Rattle.olr_keys.proofs.limits.is_table.Goals as goal
 use Rattle.olr_keys.proofs.limits.is_table.Goals.{then-have_lengths, else-have_lengths}
 
--- there are 2 to 32 layers, and a list of legs between each two neighbours
-abbrev HaveLengths : List (Vec ℕ) → List (Vec (Option ℕ)) → Type 0
-HaveLengths penalties legs = (2 ≤ length penalties) × (length penalties ≤ 32)
-    × (length legs + 1 ≡ length penalties)
+module _ (penalties : List (Vec ℕ)) (legs : List (Vec (Option ℕ))) where
+  abbrev table : Penalties
+  table = penalties_of penalties legs
 
--- each list has the legs from its layer to the next one
-abbrev HaveLegs : List (Vec ℕ) → List (Vec (Option ℕ)) → Type 0
-HaveLegs penalties legs = (layer : ℕ) → layer < length legs
-    → AreLegsFrom (penalties_of penalties legs) layer
+  -- there are 2 to 32 layers, and a list of legs between each two neighbours
+  abbrev HaveLengths : Type 0
+  HaveLengths = (2 ≤ length penalties) × (length penalties ≤ 32)
+      × (length legs + 1 ≡ length penalties)
 
--- there are as many lists of numbers as layers, and as many lists of entries as lists of legs
-count_is : (penalties : List (Vec ℕ)) (legs : List (Vec (Option ℕ)))
-    → length (penalties_of penalties legs).candidates ≡ length penalties
-count_is penalties legs = length-map penalties (λ (layer : Vec ℕ). layer.items)
+  -- each list has the legs from its layer to the next one
+  abbrev HaveLegs : Type 0
+  HaveLegs = (layer : ℕ) → layer < length legs → AreLegsFrom table layer
 
-legs_is : (penalties : List (Vec ℕ)) (legs : List (Vec (Option ℕ)))
-    → length (penalties_of penalties legs).legs ≡ length legs
-legs_is penalties legs = length-map legs (λ (between : Vec (Option ℕ)). between.items)
+  -- there are as many lists of numbers as layers, and as many lists of entries as lists of legs
+  count_is : length table.candidates ≡ length penalties
+  count_is = length-map penalties (λ (layer : Vec ℕ). layer.items)
 
--- lists that pass the three tests are a table
-table_from : (penalties : List (Vec ℕ)) (legs : List (Vec (Option ℕ))) → HaveLengths penalties legs
-    → All (λ (layer : Vec ℕ). IsLayer layer.items) penalties
-    → HaveLegs penalties legs → IsTable (penalties_of penalties legs)
-table_from penalties legs lengths layers each =
-    let p : Penalties = penalties_of penalties legs in
-    record {
-      layers_at_least = omega (arith, count_is penalties legs);
-      layers_at_most = omega (arith, count_is penalties legs);
-      layers = All-map IsLayer _ _ layers;
-      between = omega (arith, count_is penalties legs, legs_is penalties legs);
-      legs = λ layer between is.
-          let inside : layer < length legs =
-          omega (arith, legs_is penalties legs, slice_get_within p.legs layer between is) in
-          rw (← (get_or_from_slice_get p.legs layer between [] is)) (each layer inside);
-    }
+  legs_is : length table.legs ≡ length legs
+  legs_is = length-map legs (λ (between : Vec (Option ℕ)). between.items)
 
--- the lists of a table pass the three tests
-lengths_of : (penalties : List (Vec ℕ)) (legs : List (Vec (Option ℕ)))
-    → IsTable (penalties_of penalties legs) → HaveLengths penalties legs
-lengths_of penalties legs table =
-    let count : length (penalties_of penalties legs).candidates ≡ length penalties =
-    count_is _ legs in
-    (omega arith, omega arith, omega (arith, legs_is penalties legs))
+  -- lists that pass the three tests are a table
+  table_from : HaveLengths → All (λ (layer : Vec ℕ). IsLayer layer.items) penalties → HaveLegs
+      → IsTable table
+  table_from lengths layers each = record {
+    layers_at_least = omega (arith, count_is);
+    layers_at_most = omega (arith, count_is);
+    layers = All-map IsLayer _ _ layers;
+    between = omega (arith, count_is, legs_is);
+    legs = λ layer between is.
+        let inside : layer < length legs =
+        omega (arith, legs_is, slice_get_within table.legs layer between is) in
+        rw (← (get_or_from_slice_get table.legs layer between [] is)) (each layer inside);
+  }
 
-layers_of : (penalties : List (Vec ℕ)) (legs : List (Vec (Option ℕ)))
-    → IsTable (penalties_of penalties legs) → All (λ (layer : Vec ℕ). IsLayer layer.items) penalties
-layers_of penalties legs table = λ k d inside.
-    rw (← (map_at (λ (layer : Vec ℕ). layer.items) penalties k d))
-    (table.layers k d.items (omega (arith, count_is penalties legs)))
+  -- the lists of a table pass the three tests
+  lengths_of : IsTable table → HaveLengths
+  lengths_of is = (
+    omega (arith, count_is, is.layers_at_least),
+    omega (arith, count_is, is.layers_at_most),
+    omega (arith, count_is, legs_is, is.between),
+  )
 
-legs_of : (penalties : List (Vec ℕ)) (legs : List (Vec (Option ℕ)))
-    → IsTable (penalties_of penalties legs) → HaveLegs penalties legs
-legs_of penalties legs table = λ layer inside.
-    let p : Penalties = penalties_of penalties legs in
-    table.legs layer (slice_index_or p.legs layer [])
-    (slice_get-get_or p.legs layer [] (omega (arith, legs_is penalties legs)))
+  layers_of : IsTable table → All (λ (layer : Vec ℕ). IsLayer layer.items) penalties
+  layers_of is = λ k d inside.
+      rw (← (map_at (λ (layer : Vec ℕ). layer.items) penalties k d))
+      (is.layers k d.items (omega (arith, count_is)))
+
+  legs_of : IsTable table → HaveLegs
+  legs_of is = λ layer inside.
+      is.legs layer (slice_index_or table.legs layer [])
+      (slice_get-get_or table.legs layer [] (omega (arith, legs_is)))
 
 pub returns-then-are_layers : goal.returns-then-are_layers
 returns-then-are_layers c =

@@ -12,25 +12,23 @@ use Rattle.olr_keys.proofs.ranks.push_ranks.Goals as goal
 short : {rank : ℕ} → IsRank rank → length (decimal rank) ≤ 2
 short {rank} in_range = length-decimal-le 2 rank (omega arith) (omega arith) (omega arith)
 
--- the length of the text of the first rank, and of the other ones
-short_first : {ranks others text : List ℕ} {first : ℕ} → ranks ≡ first ∷ others → AreRanks 32 ranks
-    → text ≡ decimal first → length text ≤ 2
-short_first {others} {first} whole are is =
-    omega (
-      arith,
-      ap (λ (l : List ℕ). length l) is,
-      short (All-head IsRank first others (subst (λ (l : List ℕ). All IsRank l) whole are.each)),
-    )
+module _ {ranks others : List ℕ} {first : ℕ} (whole : ranks ≡ first ∷ others)
+    (are : AreRanks 32 ranks) where
+  each : All IsRank (first ∷ others)
+  each = subst (λ (l : List ℕ). All IsRank l) whole are.each
 
-short_other : {ranks others text : List ℕ} {first i : ℕ} → ranks ≡ first ∷ others
-    → AreRanks 32 ranks → i < length others → text ≡ decimal (get_or others i 0) → length text ≤ 2
-short_other {others} {first} {i} whole are inside is =
-    let each = All-tail IsRank first others (subst (λ (l : List ℕ). All IsRank l) whole are.each) in
-    omega (arith, ap length is, short (each i 0 inside))
+  -- the length of the text of the first rank, and of the other ones
+  short_first : {text : List ℕ} → text ≡ decimal first → length text ≤ 2
+  short_first is =
+      omega (arith, ap (λ (l : List ℕ). length l) is, short (All-head IsRank first others each))
 
-fewer : {ranks others : List ℕ} {first : ℕ} → ranks ≡ first ∷ others → AreRanks 32 ranks
-    → length others ≤ 31
-fewer whole are = omega (arith, ap (λ (l : List ℕ). length l) whole)
+  short_other : {text : List ℕ} {i : ℕ} → i < length others → text ≡ decimal (get_or others i 0)
+      → length text ≤ 2
+  short_other {text} {i} inside is =
+      omega (arith, ap length is, short (All-tail IsRank first others each i 0 inside))
+
+  fewer : length others ≤ 31
+  fewer = omega (arith, ap (λ (l : List ℕ). length l) whole)
 
 pub push-requires : goal.push-requires
 push-requires c =
