@@ -3,7 +3,7 @@ use Rattle.std.proofs.Common.{◌≡◌, ℕ, zero, suc, ◌+◌, ◌-◌, ◌<�
 use Rattle.std.specs.Prelude.{AllPairs, Contains, MatchOption, if◌then◌else◌, slice_get}
 use Rattle.std.specs.List.{list_any}
 use Rattle.std.proofs.lemmas.Bool.{both_ways, cases_Bool, le-leb, leb-false, leb-true, ne_eqb, or_parts}
-use Rattle.std.proofs.lemmas.List.{map-append}
+use Rattle.std.proofs.lemmas.List.{get_or-map, length-map, map-append}
 use Rattle.std.proofs.lemmas.List.Elements.{All-cons, All-contains, All-contains_itself, All-filter, All-head, All-nil, All-push, All-tail, All-weaker, Contains-append_cases, Contains-append_left, Contains-append_right, filter_passes}
 use Rattle.std.proofs.lemmas.List.Quantifiers.{all_pairs_push}
 use Rattle.std.proofs.lemmas.Option.{same_Some}
@@ -147,34 +147,16 @@ module _ (limits : PlaceLimits) (first : Shown) where
 
 -- ---- keys of matchings
 
+abbrev key_of : Shown → KeyValue
+key_of one = one.key
+
 key_in : (entries : List Shown) (entry : Shown) → Contains entries entry
     → Contains (keys_of entries) entry.key
-key_in [] entry has = absurd (omega arith)
-key_in (first ∷ entries) entry (zero, inside, same) =
-    (zero, omega arith, ap (λ (one : Shown). one.key) same)
-key_in (first ∷ entries) entry (suc k, inside, same) =
-    Contains-append_right (first.key ∷ []) (keys_of entries) entry.key
-    (key_in entries entry (k, omega arith, same))
-
--- the matching of a key
-record IsOfKey (entries : List Shown) (key : KeyValue) : Type 0 where
-  entry : Shown
-  among : Contains entries entry
-  key_is : entry.key ≡ key
-
-of_key : (entries : List Shown) (key : KeyValue) → Contains (keys_of entries) key
-    → IsOfKey entries key
-of_key [] key has = absurd (omega arith)
-of_key (first ∷ entries) key (zero, inside, same) =
-    record { entry = first; among = (zero, omega arith, refl); key_is = same }
-of_key (first ∷ entries) key (suc k, inside, same) =
-    let found = of_key entries key (k, omega arith, same) in
-    record {
-      entry = found.entry;
-      among =
-          Contains-append_right (first ∷ []) entries found.entry found.among;
-      key_is = found.key_is;
-    }
+key_in entries entry (k, inside, same) = (
+  k,
+  rw (length-map entries key_of) inside,
+  get_or-map key_of entries k entry entry.key inside ∙ ap key_of same,
+)
 
 -- ---- verdicts, by how many places are listed
 
@@ -184,17 +166,23 @@ by_listed : (looked listed : ℕ) (ending : Ending) → 1 ≤ looked
 by_listed looked listed ending some = let more =
     ne_eqb looked 0 (λ none. omega arith) in rw more refl
 
+one_is : (ending : Ending)
+    → (verdict_of_one ending ≡ verdict.Unique) ⊎ (verdict_of_one ending ≡ verdict.Open)
+one_is NoMore = inl refl
+one_is (Beyond gap) = inl refl
+one_is Cut = inr refl
+
 none_is : (listed : ℕ) (ending : Ending)
     → (if nat_le 2 listed then verdict.Ambiguous else verdict_of_one ending) ≡ verdict.None → ⊥
 none_is listed ending is = elim (cases_Bool (nat_le 2 listed)) [
   | inl two ↦ let not_none : verdict.Ambiguous ≡ verdict.None = rw two at is in cc
-  | inr one ↦ some ending (rw one at is)
+  | inr one ↦
+      let is_one : verdict_of_one ending ≡ verdict.None = rw one at is in
+      elim (one_is ending) [
+        | inl unique ↦ cc
+        | inr open_is ↦ cc
+      ]
 ]
-  where
-    some : (ending : Ending) → verdict_of_one ending ≡ verdict.None → ⊥
-    some NoMore is = cc
-    some (Beyond gap) is = cc
-    some Cut is = cc
 
 unique_is : (listed : ℕ) (ending : Ending)
     → (if nat_le 2 listed then verdict.Ambiguous else verdict_of_one ending) ≡ verdict.Unique
@@ -209,13 +197,13 @@ ambiguous_is : (listed : ℕ) (ending : Ending)
     → 2 ≤ listed
 ambiguous_is listed ending is = elim (cases_Bool (nat_le 2 listed)) [
   | inl two ↦ leb-true 2 listed two
-  | inr one ↦ absurd (not_two ending (rw one at is))
+  | inr one ↦
+      let is_one : verdict_of_one ending ≡ verdict.Ambiguous = rw one at is in
+      elim (one_is ending) [
+        | inl unique ↦ absurd (cc)
+        | inr open_is ↦ absurd (cc)
+      ]
 ]
-  where
-    not_two : (ending : Ending) → verdict_of_one ending ≡ verdict.Ambiguous → ⊥
-    not_two NoMore is = cc
-    not_two (Beyond gap) is = cc
-    not_two Cut is = cc
 
 -- ---- no matching
 
@@ -296,11 +284,12 @@ module _ (one_matched : OneMatched) (one_route : OneRoute) {limits : PlaceLimits
     one_cases one is =
         elim (Contains-append_cases (keys_of all) (keys_of left) one.key
         (rw keys_are at is.among)) [
-          | inl here ↦
-              let found = of_key all one.key here in
-              let same = one_shown one_matched one_route were.sound found.entry one found.key_is
-              (All-contains (IsShownAt road layers) all found.entry each found.among) is.is_shown in
-              inl (rw (← same) found.among)
+          | inl (k, here, same) ↦
+              let inside : k < length all = omega (arith, length-map all key_of) in
+              let is_one = one_shown one_matched one_route were.sound (get_or all k head) one
+              (sym (get_or-map key_of all k head one.key inside) ∙ same) (each k head inside)
+              is.is_shown in
+              inl (rw (← is_one) (All-contains_itself all k head inside))
           | inr later ↦ inr later
         ]
 

@@ -17,9 +17,7 @@ bounds-keys-index c =
     c.loop-matched.yielded c.loop-matched.matched-iterator c.loop-matched.yielded_by c.next.result
     c.next.new.self c.in-Some.matched c.in-Some.is c.next.ensures.steps in
     let long = AllZip-long _ c.args.keys.now c.args.all.items c.requires.all in
-    let inside : c.loop-matched.index < length c.args.keys.now =
-    omega arith in
-    inside
+    omega arith
 
 pub opener-requires-clause-key : goal.opener-requires-clause-key
 opener-requires-clause-key c =
@@ -30,8 +28,7 @@ opener-requires-clause-key c =
     c.loop-matched.yielded c.loop-matched.matched-iterator c.loop-matched.yielded_by c.next.result
     c.next.new.self c.in-Some.matched c.in-Some.is c.next.ensures.steps in
     let long = AllZip-long _ c.args.keys.now c.args.all.items c.requires.all in
-    let inside : c.loop-matched.index < length c.args.keys.now =
-    omega arith in
+    let inside : c.loop-matched.index < length c.args.keys.now = omega arith in
     rw c.index-keys-index.is (c.requires.keys c.loop-matched.index c.index-keys-index.result inside)
 
 pub opener-requires-clause-matched : goal.opener-requires-clause-matched
@@ -43,8 +40,7 @@ opener-requires-clause-matched c =
     c.loop-matched.yielded c.loop-matched.matched-iterator c.loop-matched.yielded_by c.next.result
     c.next.new.self c.in-Some.matched c.in-Some.is c.next.ensures.steps in
     let long = AllZip-long _ c.args.keys.now c.args.all.items c.requires.all in
-    let inside : c.loop-matched.index < length c.args.keys.now =
-    omega arith in
+    let inside : c.loop-matched.index < length c.args.keys.now = omega arith in
     matched_at (IsMatchedBy c.args.self.now.map.now c.args.self.now.layers.now) c.args.keys.now
     c.args.all.items c.loop-matched.index
     c.index-keys-index.result c.in-Some.matched c.requires.all
@@ -61,8 +57,7 @@ look_at-requires-clause-count c =
     c.loop-matched.yielded c.loop-matched.matched-iterator c.loop-matched.yielded_by c.next.result
     c.next.new.self c.in-Some.matched c.in-Some.is c.next.ensures.steps in
     let long = AllZip-long _ c.args.keys.now c.args.all.items c.requires.all in
-    let inside : c.loop-matched.index < length c.args.keys.now =
-    omega arith in
+    let inside : c.loop-matched.index < length c.args.keys.now = omega arith in
     omega arith
 
 pub returns-in-Some-2-clause-looks : goal.returns-in-Some-2-clause-looks
@@ -74,8 +69,7 @@ returns-in-Some-2-clause-looks c =
     c.loop-matched.yielded c.loop-matched.matched-iterator c.loop-matched.yielded_by c.next.result
     c.next.new.self c.in-Some.matched c.in-Some.is c.next.ensures.steps in
     let long = AllZip-long _ c.args.keys.now c.args.all.items c.requires.all in
-    let inside : c.loop-matched.index < length c.args.keys.now =
-    omega arith in
+    let inside : c.loop-matched.index < length c.args.keys.now = omega arith in
     let key = c.in_ok-opener.ensures.key in
     ends_within c.args.limits.now c.args.self.now.map.now c.args.self.now.layers.now
     c.args.looking.now c.args.keys.now c.loop-matched.index _ c.loop-matched.invariant.1 inside
@@ -105,8 +99,7 @@ loop-matched-preserved c =
     c.loop-matched.yielded c.loop-matched.matched-iterator c.loop-matched.yielded_by c.next.result
     c.next.new.self c.in-Some.matched c.in-Some.is c.next.ensures.steps in
     let long = AllZip-long _ c.args.keys.now c.args.all.items c.requires.all in
-    let inside : c.loop-matched.index < length c.args.keys.now =
-    omega arith in
+    let inside : c.loop-matched.index < length c.args.keys.now = omega arith in
     let key = c.in_ok-opener.ensures.key in
     let counts = rw c.in_default.is at c.in_ok-ending.ensures.counts in (
       omega (
