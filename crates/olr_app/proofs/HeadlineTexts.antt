@@ -192,7 +192,7 @@ location_ends road (Point earliest latest) =
 entry_ends : (road : RoadMap) (entry : Entry) → EndsRow (entry_rows road entry)
 entry_ends road entry =
     let front : List ℕ = codes "matching " ++ key_text entry.key ++ codes "\n"
-    ++ point_rows road 1 entry.matched.candidates.items ++ leg_rows 1 entry.matched.legs.items
+    ++ point_rows road 1 entry.matched.candidates ++ leg_rows 1 entry.matched.legs
     ++ pieces_row road (codes "route") entry.route in
     ends_after front (location_rows road entry.located) (location_ends road entry.located)
 

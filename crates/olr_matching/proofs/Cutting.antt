@@ -15,7 +15,8 @@ pub record SameCut (u v s t : List ℕ) : Type 0 where
   pub front : u ≡ v
   pub rest : s ≡ t
 
-pub cut_once : (byte : ℕ) (u v s t : List ℕ) → Lacks byte u → Lacks byte v → u ++ byte ∷ s ≡ v ++ byte ∷ t → SameCut u v s t
+pub cut_once : (byte : ℕ) (u v s t : List ℕ) → Lacks byte u → Lacks byte v
+    → u ++ byte ∷ s ≡ v ++ byte ∷ t → SameCut u v s t
 cut_once byte [] [] s t lacks other same = record { front = refl; rest = cc }
 cut_once byte [] (d ∷ v) s t lacks other same = let first : d ≡ byte = cc in absurd (other.0 first)
 cut_once byte (c ∷ u) [] s t lacks other same = let first : c ≡ byte = cc in absurd (lacks.0 first)
@@ -48,7 +49,8 @@ pub record SameNumber (m n : ℕ) (s t : List ℕ) : Type 0 where
   pub number : m ≡ n
   pub rest : s ≡ t
 
-pub number_once : (byte m n : ℕ) (s t : List ℕ) → byte < 48 → m < 2 ^ 64 → n < 2 ^ 64 → decimal m ++ byte ∷ s ≡ decimal n ++ byte ∷ t → SameNumber m n s t
+pub number_once : (byte m n : ℕ) (s t : List ℕ) → byte < 48 → m < 2 ^ 64 → n < 2 ^ 64
+    → decimal m ++ byte ∷ s ≡ decimal n ++ byte ∷ t → SameNumber m n s t
 number_once byte m n s t low small other same =
     let cut = cut_once _ _ _ s t (decimal_lacks _ m low small) (decimal_lacks _ n low other) same in
     record { number = decimal_injective m n small other cut.front; rest = cut.rest }

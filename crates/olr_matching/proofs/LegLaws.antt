@@ -1,10 +1,10 @@
 -- The legs of layers: their penalties in the table, and the range of their lengths.
-use Rattle.std.proofs.Common.{◌≡◌, ℕ, ◌+◌, ◌-◌, ◌*◌, ◌≤◌, List, [], ◌∷◌, length, map, get_or, refl, sym, ◌∙◌, ap, subst, add-one, arith, Option, None, Some, option_map, slice_index_or, unwrap_or}
+use Rattle.std.proofs.Common.{◌≡◌, ℕ, ◌+◌, ◌-◌, ◌*◌, ◌≤◌, List, [], ◌∷◌, length, map, get_or, refl, sym, ◌∙◌, ap, add-one, arith, Option, None, Some, option_map, slice_index_or, unwrap_or}
 use Rattle.std.proofs.Math.ListN.{get_or-map as map_at}
 use Rattle.std.proofs.lemmas.List.{length-map}
 use Rattle.std.proofs.lemmas.List.Sums.{sum_by-cons}
 use Rattle.std.proofs.lemmas.Option.{slice_get-map}
-use Rattle.olr_matching.proofs.Common.{Candidate, IsAdmittedLength, IsDeparture, leg_penalty, Next, Piece, Place, RoadLine, RoadMap, Tolerances}
+use Rattle.olr_matching.proofs.Common.{Candidate, IsAdmittedLength, IsDeparture, leg_penalty, Next, Piece, Place, RoadMap, Tolerances}
 use Rattle.olr_keys.specs.Table.{Penalties, count_of, leg_at}
 use Rattle.olr_matching.specs.Layers.{AreLayersOn, IsCandidateOf, LayersValue, LeadsOn, leg_penalties, penalties_of}
 use Rattle.olr_matching.specs.LayersLaws.{AdmittedLengthsAreInRange, IsAdmittedPenalty, LegsAreAdmitted, PenaltiesAreOfCandidates}
@@ -14,15 +14,19 @@ use Rattle.olr_route.specs.Walk.{IsWalk, length_at, piece_length, pieces_from, w
 -- ---- the table
 
 -- the penalties of a layer, from those of all
-pub layer_is : (penalties : Penalties) (lists : List (List Candidate)) (layer : ℕ) → penalties.candidates ≡ map penalties_of lists
+pub layer_is : (penalties : Penalties) (lists : List (List Candidate)) (layer : ℕ)
+    → penalties.candidates ≡ map penalties_of lists
     → slice_index_or penalties.candidates layer [] ≡ penalties_of (get_or lists layer [])
-layer_is penalties lists layer is = ap (λ candidates. get_or candidates layer []) is ∙ map_at penalties_of lists layer []
+layer_is penalties lists layer is = ap (λ candidates. get_or candidates layer []) is
+    ∙ map_at penalties_of lists layer []
 
 -- how many candidates a layer has
-pub count_is : (penalties : Penalties) (lists : List (List Candidate)) (layer : ℕ) → penalties.candidates ≡ map penalties_of lists
+pub count_is : (penalties : Penalties) (lists : List (List Candidate)) (layer : ℕ)
+    → penalties.candidates ≡ map penalties_of lists
     → count_of penalties layer ≡ length (get_or lists layer [])
 count_is penalties lists layer is =
-    ap length (layer_is penalties _ _ is) ∙ length-map (get_or lists layer []) (λ candidate. candidate.penalty)
+    ap length (layer_is penalties _ _ is)
+    ∙ length-map (get_or lists layer []) (λ candidate. candidate.penalty)
 
 -- the table has the layers
 pub layers_count : {road : RoadMap} {layers : LayersValue} → AreLayersOn road layers
@@ -35,7 +39,8 @@ penalties_are road layers layer index are =
     (slice_get-map (λ candidate. candidate.penalty) (get_or layers.candidates layer []) index)
 
 -- the penalty of a length that a leg admits
-penalty_from : (road : RoadMap) (tolerances : Tolerances) (next : Next) (from to : Place) (length : Option ℕ)
+penalty_from : (road : RoadMap) (tolerances : Tolerances) (next : Next) (from to : Place)
+    (length : Option ℕ)
     → IsAdmittedLength road tolerances next from to length
     → IsAdmittedPenalty road tolerances next from to (option_map (leg_penalty next) length)
 penalty_from road tolerances next from to None none = none
@@ -44,14 +49,17 @@ penalty_from road tolerances next from to (Some length) admitted = (length, admi
 -- the penalty of a leg in the table is that of its length
 pub leg_is : (penalties : Penalties) (lists : List (List Candidate)) (layer first second : ℕ)
     (lengths : List (Option ℕ)) (next : Next)
-    → penalties.candidates ≡ map penalties_of lists → slice_index_or penalties.legs layer [] ≡ leg_penalties next lengths
+    → penalties.candidates ≡ map penalties_of lists
+    → slice_index_or penalties.legs layer [] ≡ leg_penalties next lengths
     → leg_at penalties (layer + 1) first second
-    ≡ option_map (leg_penalty next) (slice_index_or lengths ((first - 1) * length (get_or lists (layer + 1) [])
+    ≡ option_map (leg_penalty next)
+    (slice_index_or lengths ((first - 1) * length (get_or lists (layer + 1) [])
     + (second - 1)) None)
 leg_is penalties lists layer first second lengths next candidates legs =
     let back : layer + 1 - 1 ≡ layer = omega arith in
     rw (back, count_is penalties lists (layer + 1) candidates, legs)
-    (map_at (option_map (leg_penalty next)) lengths ((first - 1) * length (get_or lists (layer + 1) [])
+    (map_at (option_map (leg_penalty next)) lengths
+    ((first - 1) * length (get_or lists (layer + 1) [])
     + (second - 1)) None)
 
 -- what the table has for two candidates, by their ranks
@@ -62,8 +70,10 @@ pub leg_of_ranks : (road : RoadMap) (layers : LayersValue) (layer first second :
     → IsAdmittedPenalty road layers.tolerances next from.place to.place
     (leg_at layers.penalties (layer + 1) first second)
 leg_of_ranks road layers layer first second next from to are leads first_is second_is =
-    rw (sym (leg_is layers.penalties layers.candidates layer first second (get_or layers.lengths layer []) next
-    are.penalties (are.legs layer next leads))) at (penalty_from road layers.tolerances next from.place to.place _
+    rw (sym (leg_is layers.penalties layers.candidates layer first second
+    (get_or layers.lengths layer []) next
+    are.penalties (are.legs layer next leads))) at
+    (penalty_from road layers.tolerances next from.place to.place _
     (are.lengths layer next (first - 1) (second - 1) from to leads first_is second_is))
 
 pub legs_are : LegsAreAdmitted
@@ -75,12 +85,24 @@ legs_are road layers layer next first second from to are leads first_is second_i
 -- ---- lengths
 
 -- each walk from a departure has a positive length
-positive : (road : RoadMap) (class : ℕ) (from to : Place) (behind : List ℕ) → IsDeparture road from → IsWalk road class from to behind
+positive : (road : RoadMap) (class : ℕ) (from to : Place) (behind : List ℕ) → IsDeparture road from
+    → IsWalk road class from to behind
     → 1 ≤ walk_length road from to behind
-positive road class from to [] departure walk = omega (arith, walk.forwards refl, sum_by-cons piece_length (record { line = from.line; from = from.at; to = to.at }) [])
+positive road class from to [] departure walk =
+    omega (
+      arith,
+      walk.forwards refl,
+      sum_by-cons piece_length
+          (record { line = from.line; from = from.at; to = to.at }) [],
+    )
 positive road class from to (next ∷ behind) departure walk =
     let whole = ap (λ o. unwrap_or (option_map (λ line. line.length) o) 0) departure.at_rank in
-    let first : Piece = record { line = from.line; from = from.at; to = length_at road from.line } in
+    let first : Piece = record {
+      line = from.line;
+      from = from.at;
+      to =
+          length_at road from.line;
+    } in
     omega (arith, sum_by-cons piece_length first (pieces_from road next 0 behind to.at))
 
 pub in_range : AdmittedLengthsAreInRange

@@ -10,33 +10,42 @@ use Rattle.olr_matching.proofs.Lists.{push_each, same_some}
 -- the first legs between each two neighbouring candidates
 abbrev pub AreFirstLegs : RoadMap → LayersValue → List ℕ → List Leg → Type 0
 AreFirstLegs road layers ranks legs = (layer : ℕ) (leg : Leg) → slice_get legs layer ≡ Some leg
-    → (first second : ℕ) → slice_get ranks layer ≡ Some first → slice_get ranks (layer + 1) ≡ Some second
+    → (first second : ℕ) → slice_get ranks layer ≡ Some first
+    → slice_get ranks (layer + 1) ≡ Some second
     → IsLegOfPair road layers layer first second leg
 
 -- one leg more
-pub push_leg : (road : RoadMap) (layers : LayersValue) (ranks : List ℕ) (legs pushed : List Leg) (leg : Leg) (layer : ℕ) → length legs ≡ layer
+pub push_leg : (road : RoadMap) (layers : LayersValue) (ranks : List ℕ) (legs pushed : List Leg)
+    (leg : Leg) (layer : ℕ) → length legs ≡ layer
     → pushed ≡ legs ++ leg ∷ []
-    → AreFirstLegs road layers ranks legs → IsLegOfPair road layers layer (slice_index_or ranks layer 0) (slice_index_or ranks (layer + 1) 0) leg
+    → AreFirstLegs road layers ranks legs
+    → IsLegOfPair road layers layer (slice_index_or ranks layer 0)
+    (slice_index_or ranks (layer + 1) 0) leg
     → AreFirstLegs road layers ranks pushed
 push_leg road layers ranks legs pushed leg layer count is they here =
-    let P : ℕ → Leg → Type 0 = λ layer leg. (first second : ℕ) → slice_get ranks layer ≡ Some first → slice_get ranks (layer + 1) ≡ Some second
+    let P : ℕ → Leg → Type 0 = λ layer leg. (first second : ℕ) → slice_get ranks layer ≡ Some first
+    → slice_get ranks (layer + 1) ≡ Some second
     → IsLegOfPair road layers layer first second leg in
     let last : P layer leg = λ first second is_first is_second.
     rw (get_or_from_slice_get ranks (layer + 1) second 0 is_second) at (
-    subst (λ (n : ℕ). IsLegOfPair road layers layer n (slice_index_or ranks (layer + 1) 0) leg) (get_or_from_slice_get ranks layer first 0 is_first)
+    subst (λ (n : ℕ). IsLegOfPair road layers layer n (slice_index_or ranks (layer + 1) 0) leg)
+    (get_or_from_slice_get ranks layer first 0 is_first)
     here) in
     rw (sym is) at (push_each P legs leg they (subst (λ (n : ℕ). P n leg) (sym count) last))
 
 -- the candidate of a rank is that of the pair
-leg_at : (road : RoadMap) (layers : LayersValue) (ranks : List ℕ) (chosen : List Candidate) (legs : List Leg)
+leg_at : (road : RoadMap) (layers : LayersValue) (ranks : List ℕ) (chosen : List Candidate)
+    (legs : List Leg)
     → length legs + 1 ≡ length ranks
     → AreCandidatesAt layers.candidates ranks chosen → AreFirstLegs road layers ranks legs
-    → (layer : ℕ) (leg : Leg) → slice_get legs layer ≡ Some leg → IsLegAt road layers chosen layer leg
+    → (layer : ℕ) (leg : Leg) → slice_get legs layer ≡ Some leg
+    → IsLegAt road layers chosen layer leg
 leg_at road layers ranks chosen legs count candidates they layer leg is =
     let inside : layer < length legs = slice_get_within legs layer leg is in
     let one = slice_index_or ranks layer 0 in
     let other = slice_index_or ranks (layer + 1) 0 in
-    let is_one : slice_get ranks layer ≡ Some one = slice_get-get_or ranks layer 0 (omega (arith, inside, count)) in
+    let is_one : slice_get ranks layer ≡ Some one =
+    slice_get-get_or ranks layer 0 (omega (arith, inside, count)) in
     let is_other : slice_get ranks (layer + 1) ≡ Some other = slice_get-get_or ranks (layer + 1) 0
     (omega (arith, inside, count)) in
     let found = they layer leg is one other is_one is_other in
@@ -47,8 +56,11 @@ leg_at road layers ranks chosen legs count candidates they layer leg is =
     (omega (arith, inside, count, candidates.count)) in
     let is_to : slice_get chosen (layer + 1) ≡ Some to =
     slice_get-get_or chosen (layer + 1) pair.to (omega (arith, inside, count, candidates.count)) in
-    let same_from : from ≡ pair.from = same_some _ from pair.from (candidates.each layer one from is_one is_from).1 pair.from_is.1 in
-    let same_to : to ≡ pair.to = same_some _ to pair.to (candidates.each (layer + 1) other to is_other is_to).1 pair.to_is.1 in
+    let same_from : from ≡ pair.from =
+    same_some _ from pair.from (candidates.each layer one from is_one is_from).1
+    pair.from_is.1 in
+    let same_to : to ≡ pair.to = same_some _ to pair.to
+    (candidates.each (layer + 1) other to is_other is_to).1 pair.to_is.1 in
     record {
       next = pair.next;
       from = pair.from;
@@ -59,8 +71,10 @@ leg_at road layers ranks chosen legs count candidates they layer leg is =
       leg_is = found.leg_is;
     }
 
-pub are_parts : (road : RoadMap) (layers : LayersValue) (key : KeyValue) (ranks : List ℕ) (matched : Matched) → ranks ≡ key.ranks
-    → AreCandidatesAt layers.candidates ranks matched.candidates → length matched.legs + 1 ≡ length ranks
+pub are_parts : (road : RoadMap) (layers : LayersValue) (key : KeyValue) (ranks : List ℕ)
+    (matched : Matched) → ranks ≡ key.ranks
+    → AreCandidatesAt layers.candidates ranks matched.candidates
+    → length matched.legs + 1 ≡ length ranks
     → AreFirstLegs road layers ranks matched.legs → IsMatchedBy road layers key matched
 are_parts road layers key ranks matched same candidates count legs = record {
   candidates = rw same at candidates;

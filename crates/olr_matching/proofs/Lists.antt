@@ -1,5 +1,5 @@
 -- Lists by their indices.
-use Rattle.std.proofs.Common.{◌≡◌, ℕ, suc, ◌+◌, ◌<◌, List, [], ◌∷◌, ◌++◌, length, get_or, take, inl, inr, refl, sym, subst, ap, ◌∙◌, arith, below_more, Option, Some, None, slice_get, slice_index_or, All}
+use Rattle.std.proofs.Common.{◌≡◌, ℕ, suc, ◌+◌, ◌<◌, List, [], ◌∷◌, ◌++◌, length, get_or, take, inl, inr, refl, sym, subst, ap, ◌∙◌, arith, below_more, Option, Some, slice_get, slice_index_or, All}
 use Rattle.std.specs.List.{AllZip}
 use Rattle.std.proofs.Math.ListN.{get_or-eq_default}
 use Rattle.std.proofs.Math.Seq.{get_or-append_seam}
@@ -12,12 +12,14 @@ pub same_some : {X : Type 0} (o : Option X) (x y : X) → o ≡ Some x → o ≡
 same_some o x y one other = same_Some x y (sym one ∙ other)
 
 -- a list that isn't empty is one of the lists
-pub list_inside : {X : Type 0} (lists : List (List X)) (index k : ℕ) (x : X) → slice_get (slice_index_or lists index []) k ≡ Some x
+pub list_inside : {X : Type 0} (lists : List (List X)) (index k : ℕ) (x : X)
+    → slice_get (slice_index_or lists index []) k ≡ Some x
     → index < length lists
 list_inside {X} lists index k x is = elim (cases_lt index (length lists)) [
   | inl inside ↦ inside
   | inr outside ↦
-      let none = ap (λ l. slice_get l k) (sym (get_or-eq_default lists [] {n = index} outside)) ∙ is in
+      let none = ap (λ l. slice_get l k) (sym (get_or-eq_default lists [] {n = index} outside))
+      ∙ is in
       absurd cc
 ]
 
@@ -33,11 +35,14 @@ by_index (x ∷ xs) (y ∷ ys) count each =
     λ i. first i ∷ rest i
 
 -- what holds of all holds of the one at an index
-pub all_at : {X : Type 0} (P : X → Type 0) (xs : List X) (k : ℕ) (x : X) → All P xs → slice_get xs k ≡ Some x → P x
-all_at P xs k x all is = rw (get_or_from_slice_get xs k x x is) at (all k x (slice_get_within xs k x is))
+pub all_at : {X : Type 0} (P : X → Type 0) (xs : List X) (k : ℕ) (x : X) → All P xs
+    → slice_get xs k ≡ Some x → P x
+all_at P xs k x all is = rw (get_or_from_slice_get xs k x x is) at
+    (all k x (slice_get_within xs k x is))
 
 -- what holds of each by its index holds of one more
-pub push_each : {X : Type 0} (P : ℕ → X → Type 0) (xs : List X) (x : X) → ((k : ℕ) (y : X) → slice_get xs k ≡ Some y → P k y) → P (length xs) x
+pub push_each : {X : Type 0} (P : ℕ → X → Type 0) (xs : List X) (x : X)
+    → ((k : ℕ) (y : X) → slice_get xs k ≡ Some y → P k y) → P (length xs) x
     → (k : ℕ) (y : X) → slice_get (xs ++ x ∷ []) k ≡ Some y → P k y
 push_each P xs x each here k y is =
     let inside = slice_get_within (xs ++ x ∷ []) k y is in
@@ -54,11 +59,13 @@ push_each P xs x each here k y is =
 
 -- ---- two lists, element by element
 
-pub zip_more : {X Y : Type 0} (R : X → Y → Type 0) (xs : List X) (ys : List Y) (index : ℕ) (x : X) (y : Y) → index < length xs
+pub zip_more : {X Y : Type 0} (R : X → Y → Type 0) (xs : List X) (ys : List Y) (index : ℕ) (x : X)
+    (y : Y) → index < length xs
     → x ≡ slice_index_or xs index x
     → AllZip R (take index xs) ys → R x y → AllZip R (take (index + 1) xs) (ys ++ y ∷ [])
 zip_more {X} {Y} R xs ys index x y inside is they holds =
-    rw (ap (λ (e : X). take index xs ++ e ∷ []) is ∙ sym (take_more xs index x inside)) at (zip_push R (take index xs) ys x y they holds)
+    rw (ap (λ (e : X). take index xs ++ e ∷ []) is ∙ sym (take_more xs index x inside)) at
+    (zip_push R (take index xs) ys x y they holds)
 
 -- a list of so many elements, of each of which this holds by its index
 abbrev pub HoldsOfAll : {B : Type 0} → (ℕ → B → Type 0) → B → ℕ → List B → Type 0
@@ -70,7 +77,12 @@ pub holds_of_one_more : {B : Type 0} (P : ℕ → B → Type 0) (d : B) (count :
 holds_of_one_more {B} P d count xs y so_far here =
     let more = xs ++ y ∷ [] in
     let earlier : (k : ℕ) → k < count → P k (get_or more k d) =
-    λ k below. rw (sym (get_or_append_left xs (y ∷ []) d k (omega (arith, so_far.0, below)))) at (so_far.1 k below) in
+    λ k below. rw (sym (get_or_append_left xs (y ∷ []) d k (omega (arith, so_far.0, below)))) at
+    (so_far.1 k below) in
     let last =
-    rw so_far.0 at (subst (λ (x : B). P (length xs) x) (sym (get_or-append_seam xs y [] d)) (subst (λ (n : ℕ). P n y) (sym so_far.0) here)) in
-    (omega (arith, length-append xs (y ∷ [])), below_more (λ k. P k (get_or more k d)) count earlier last)
+    rw so_far.0 at (subst (λ (x : B). P (length xs) x) (sym (get_or-append_seam xs y [] d))
+    (subst (λ (n : ℕ). P n y) (sym so_far.0) here)) in (
+      omega (arith, length-append xs (y ∷ [])),
+      below_more (λ k. P k (get_or more k d)) count earlier
+          last,
+    )

@@ -1,11 +1,10 @@
 -- What holds of the parts of every matching.
-use Rattle.std.proofs.Common.{◌≡◌, ℕ, ◌+◌, ◌<◌, List, length, sym, ap, ◌∙◌, zero-add, arith, None, Some, slice_get, slice_index_or, sum_by}
+use Rattle.std.proofs.Common.{◌≡◌, ℕ, ◌+◌, List, length, sym, ap, ◌∙◌, zero-add, arith, None, Some, slice_get, slice_index_or}
 use Rattle.std.proofs.lemmas.Option.{slice_get-get_or, slice_get_within}
 use Rattle.std.proofs.lemmas.List.{length-map}
 use Rattle.olr_matching.proofs.Common.{Candidate, class_limit, IsDeparture, IsPlace, IsSoundMap, LayersValue, Leg, penalties_of, Piece, Place, points_of, RoadMap}
 use Rattle.olr_candidates.specs.Laws.{ArePlaces, AreDepartures}
 use Rattle.olr_route.specs.Route.{AreRoutePieces, IsRouteWithin}
-use Rattle.olr_route.specs.Walk.{piece_length}
 use Rattle.olr_matching.specs.Matched.{AreCandidatesAt, AreSound, IsLegAt, IsOfRank, IsSoundLeg}
 use Rattle.olr_matching.proofs.Admitted.{greatest_at_most, one_length}
 use Rattle.olr_matching.proofs.Keys.{ranks_count}
@@ -14,11 +13,13 @@ use Rattle.olr_matching.proofs.Pairs.{is_place, is_departure}
 -- ---- a leg
 
 abbrev pub PiecesOfRoute : Type 0
-PiecesOfRoute = (road : RoadMap) (class : ℕ) (from to : Place) (limit : ℕ) (pieces : List Piece) → IsSoundMap road → IsDeparture road from
+PiecesOfRoute = (road : RoadMap) (class : ℕ) (from to : Place) (limit : ℕ) (pieces : List Piece)
+    → IsSoundMap road → IsDeparture road from
     → IsPlace road to
     → IsRouteWithin road class from to limit pieces → AreRoutePieces road class from to pieces
 
-sound_leg : (road : RoadMap) (layers : LayersValue) (chosen : List Candidate) (layer : ℕ) (leg : Leg) → PiecesOfRoute → IsSoundMap road
+sound_leg : (road : RoadMap) (layers : LayersValue) (chosen : List Candidate) (layer : ℕ)
+    (leg : Leg) → PiecesOfRoute → IsSoundMap road
     → (at : IsLegAt road layers chosen layer leg)
     → IsDeparture road at.from.place → IsPlace road at.to.place → IsSoundLeg road leg
 sound_leg road layers chosen layer leg law map at departure place =
@@ -38,12 +39,15 @@ sound_leg road layers chosen layer leg law map at departure place =
 -- ---- all parts
 
 -- the candidate of a layer is that of its rank
-of_rank : (candidates : List (List Candidate)) (ranks : List ℕ) (chosen : List Candidate) (layer : ℕ) (candidate : Candidate)
+of_rank : (candidates : List (List Candidate)) (ranks : List ℕ) (chosen : List Candidate)
+    (layer : ℕ) (candidate : Candidate)
     → AreCandidatesAt candidates ranks chosen
-    → slice_get chosen layer ≡ Some candidate → IsOfRank candidates layer (slice_index_or ranks layer 0) candidate
+    → slice_get chosen layer ≡ Some candidate
+    → IsOfRank candidates layer (slice_index_or ranks layer 0) candidate
 of_rank candidates ranks chosen layer candidate they is =
     let inside = slice_get_within chosen _ candidate is in
-    they.each layer (slice_index_or ranks layer 0) candidate (slice_get-get_or ranks layer 0 (omega (arith, inside, they.count))) is
+    they.each layer (slice_index_or ranks layer 0) candidate
+    (slice_get-get_or ranks layer 0 (omega (arith, inside, they.count))) is
 
 pub are_sound : ArePlaces → AreDepartures → PiecesOfRoute → AreSound
 are_sound places departures law road layers key matched map sound is_key parts =
@@ -51,15 +55,18 @@ are_sound places departures law road layers key matched map sound is_key parts =
     let legs = matched.legs in
     let ranks = key.ranks in
     let count : length chosen ≡ length (points_of layers.reference) =
-    parts.candidates.count ∙ sym (zero-add (length ranks)) ∙ ranks_count layers.penalties 0 None ranks key.total is_key ∙ ap
+    parts.candidates.count ∙ sym (zero-add (length ranks))
+    ∙ ranks_count layers.penalties 0 None ranks key.total is_key ∙ ap
     (λ (l : List (List ℕ)). length l) sound.penalties
     ∙ length-map layers.candidates penalties_of ∙ sound.lists.all in
     record {
       candidates = count;
       on_map = λ k d inside.
-          let is : slice_get chosen k ≡ Some (slice_index_or chosen k d) = slice_get-get_or chosen k d inside in
+          let is : slice_get chosen k ≡ Some (slice_index_or chosen k d) =
+          slice_get-get_or chosen k d inside in
           is_place road layers k (slice_index_or ranks k 0) (slice_index_or chosen k d) places sound
-          (of_rank layers.candidates ranks chosen k (slice_index_or chosen k d) parts.candidates is);
+          (of_rank layers.candidates ranks chosen k (slice_index_or chosen k d) parts.candidates
+          is);
       legs = parts.legs.count ∙ count;
       each = λ k d inside.
           let leg = slice_index_or legs k d in
@@ -67,6 +74,7 @@ are_sound places departures law road layers key matched map sound is_key parts =
           let from = of_rank layers.candidates ranks chosen k at.from parts.candidates at.from_is in
           let to = of_rank layers.candidates ranks chosen (k + 1) at.to parts.candidates at.to_is in
           sound_leg road layers chosen k leg law map at
-          (is_departure road layers k (slice_index_or ranks k 0) (slice_index_or ranks (k + 1) 0) at.from at.to departures sound from to)
+          (is_departure road layers k (slice_index_or ranks k 0) (slice_index_or ranks (k + 1) 0)
+          at.from at.to departures sound from to)
           (is_place road layers (k + 1) (slice_index_or ranks (k + 1) 0) at.to places sound to);
     }

@@ -4,26 +4,32 @@ use Rattle.std.proofs.lemmas.List.{append-nil, drop_all, drop_more, length-drop,
 use Rattle.olr_report.proofs.Common.{IsJoined, IsRouteOver, Piece, piece_length, Step, steps_in, steps_of}
 use Rattle.olr_report.proofs.StepLists.{length-steps_in, part-append}
 
--- The joined pieces, and then the part of the rest behind its first `skip` decimetres, at most `left` long, are the steps that are sought.
+-- The joined pieces, and then the part of the rest behind its first `skip` decimetres, at most
+-- `left` long, are the steps that are sought.
 pub record IsPartSoFar (sought : List Step) (part rest : List Piece) (skip left : ℕ) : Type 0 where
   pub joined : IsJoined part
   pub steps_are : steps_of part ++ take left (drop skip (steps_of rest)) ≡ sought
 
-pub part_none : (sought : List Step) (part rest : List Piece) (skip left : ℕ) → IsRouteOver [] part → take left (drop skip (steps_of rest)) ≡ sought
+pub part_none : (sought : List Step) (part rest : List Piece) (skip left : ℕ) → IsRouteOver [] part
+    → take left (drop skip (steps_of rest)) ≡ sought
     → IsPartSoFar sought part rest skip left
 part_none sought part rest skip left none same = record {
   joined = none.joined;
   steps_are = cc;
 }
 
-pub part_more : (sought : List Step) (part new pieces : List Piece) (clipped d : Piece) (i skip left : ℕ) → i < length pieces
+pub part_more : (sought : List Step) (part new pieces : List Piece) (clipped d : Piece)
+    (i skip left : ℕ) → i < length pieces
     → IsPartSoFar sought part (drop i pieces) skip left
-    → steps_in clipped ≡ take left (drop skip (steps_in (get_or pieces i d))) → IsRouteOver (steps_of part ++ steps_in clipped) new
-    → IsPartSoFar sought new (drop (i + 1) pieces) (skip - piece_length (get_or pieces i d)) (left - piece_length clipped)
+    → steps_in clipped ≡ take left (drop skip (steps_in (get_or pieces i d)))
+    → IsRouteOver (steps_of part ++ steps_in clipped) new
+    → IsPartSoFar sought new (drop (i + 1) pieces) (skip - piece_length (get_or pieces i d))
+    (left - piece_length clipped)
 part_more sought part new pieces clipped d i skip left inside so_far clipped_is longer =
     let here : List Step = steps_in (get_or pieces i d) in
     let rest : List Step = steps_of (drop (i + 1) pieces) in
-    let split : take left (drop skip (steps_of (drop i pieces))) ≡ steps_in clipped ++ take (left - piece_length clipped)
+    let split : take left (drop skip (steps_of (drop i pieces))) ≡ steps_in clipped
+    ++ take (left - piece_length clipped)
     (drop (skip - piece_length (get_or pieces i d)) rest) =
     cc (
       drop_more pieces i d inside,
@@ -36,13 +42,21 @@ part_more sought part new pieces clipped d i skip left inside so_far clipped_is 
       joined = longer.joined;
       steps_are =
           cc (append_assoc (steps_of part) (steps_in clipped)
-          (take (left - piece_length clipped) (drop (skip - piece_length (get_or pieces i d)) rest)));
+          (take (left - piece_length clipped)
+          (drop (skip - piece_length (get_or pieces i d)) rest)));
     }
 
 -- the clipped piece is no longer than what is left
-pub clipped_within : (piece clipped : Piece) (skip left : ℕ) → steps_in clipped ≡ take left (drop skip (steps_in piece)) → piece_length clipped ≤ left
+pub clipped_within : (piece clipped : Piece) (skip left : ℕ)
+    → steps_in clipped ≡ take left (drop skip (steps_in piece)) → piece_length clipped ≤ left
 clipped_within piece clipped skip left is =
-    omega (arith, length-steps_in clipped, ap length is, length-take left (drop skip (steps_in piece)))
+    omega (
+      arith,
+      length-steps_in clipped,
+      ap length is,
+      length-take left
+          (drop skip (steps_in piece)),
+    )
 
 none_left : (left skip : ℕ) → take left (drop skip (steps_of [])) ≡ []
 none_left left skip = nil_from_length (take left (drop skip (steps_of [])))

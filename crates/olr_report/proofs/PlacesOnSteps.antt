@@ -9,9 +9,12 @@ use Rattle.olr_report.proofs.OneRoute.{step_behind, step_inside}
 
 -- ---- one piece and the steps behind it
 
-place_here : (piece : Piece) (behind : List Step) (left : ℕ) → IsNotEmpty piece → left ≤ piece_length piece
-    → place_at (steps_in piece ++ behind) left ≡ Some (record { line = piece.line; at = piece.from + left })
-place_here piece behind zero positive within = cc (step_inside piece behind 0 (omega (arith, positive)))
+place_here : (piece : Piece) (behind : List Step) (left : ℕ) → IsNotEmpty piece
+    → left ≤ piece_length piece
+    → place_at (steps_in piece ++ behind) left
+    ≡ Some (record { line = piece.line; at = piece.from + left })
+place_here piece behind zero positive within =
+    cc (step_inside piece behind 0 (omega (arith, positive)))
 place_here piece behind (suc before) positive within =
     let next : piece.from + before + 1 ≡ piece.from + suc before = omega arith in
     ap (λ step. option_map end_of step) (step_inside piece behind before (omega (arith, within)))
@@ -22,7 +25,8 @@ place_behind : (piece : Piece) (behind : List Step) (left : ℕ) → piece_lengt
 place_behind piece behind zero past = absurd (omega (arith, past))
 place_behind piece behind (suc before) past =
     let at : piece_length piece + (before - piece_length piece) ≡ before = omega (arith, past) in
-    let less : suc before - piece_length piece ≡ suc (before - piece_length piece) = omega (arith, past) in
+    let less : suc before - piece_length piece ≡ suc (before - piece_length piece) =
+    omega (arith, past) in
     rw less (cc (step_behind piece behind (before - piece_length piece)))
 
 -- ---- the pieces that are left
@@ -33,9 +37,14 @@ pub record IsAlongRest (sought : Option Place) (rest : List Piece) (left : ℕ) 
   pub within : left ≤ sum_by piece_length rest
   pub positive : 0 < sum_by piece_length rest
 
-module _ (sought : Option Place) (pieces : List Piece) (not_empty : All IsNotEmpty pieces) (i left : ℕ) (d : Piece) (so_far : IsAlongRest sought (drop i pieces) left) where
+module _ (sought : Option Place) (pieces : List Piece) (not_empty : All IsNotEmpty pieces)
+    (i left : ℕ) (d : Piece) (so_far : IsAlongRest sought (drop i pieces) left) where
   pub place_found : i < length pieces → left ≤ piece_length (get_or pieces i d)
-      → sought ≡ Some (record { line = (get_or pieces i d).line; at = (get_or pieces i d).from + left })
+      → sought ≡ Some (record {
+        line = (get_or pieces i d).line;
+        at =
+            (get_or pieces i d).from + left;
+      })
   place_found inside within =
       cc (
         drop_more pieces i d inside,
@@ -57,4 +66,5 @@ module _ (sought : Option Place) (pieces : List Piece) (not_empty : All IsNotEmp
       }
 
   pub place_inside : length pieces ≤ i → ⊥
-  place_inside past = omega (arith, so_far.positive, ap (λ all. sum_by piece_length all) (drop_all i pieces past))
+  place_inside past =
+      omega (arith, so_far.positive, ap (λ all. sum_by piece_length all) (drop_all i pieces past))

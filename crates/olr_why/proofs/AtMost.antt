@@ -1,4 +1,5 @@
--- Tolerances that are at most others. One value with another one in place of one of them is known by that value.
+-- Tolerances that are at most others. One value with another one in place of one of them is known
+-- by that value.
 use Rattle.std.proofs.Common.{◌≡◌, ◌≢◌, ℕ, ◌≤◌, List, [], ◌∷◌, get_or, inl, inr, refl, sym, ◌∙◌, ap, arith}
 use Rattle.std.proofs.lemmas.Bool.{cases_eq}
 use Rattle.olr_why.proofs.Common.{Bearing, Class, IsChanged, IsTolerance, Lowest, Name, order_of, Percent, Radius, Slack, Tolerances, value_of}
@@ -13,7 +14,8 @@ pub record AreAtMost (before after : Tolerances) : Type 0 where
   pub slack : before.slack ≤ after.slack
 
 -- each value is in its range
-abbrev pub in_range : (tolerances : Tolerances) (name : Name) → IsTolerance name (value_of tolerances name)
+abbrev pub in_range : (tolerances : Tolerances) (name : Name)
+    → IsTolerance name (value_of tolerances name)
 in_range tolerances Radius = tolerances.radius_in_range
 in_range tolerances Bearing = tolerances.bearing_in_range
 in_range tolerances Class = tolerances.class_in_range
@@ -35,19 +37,30 @@ by_order t Percent = refl
 by_order t Slack = refl
 
 -- two names of one place in the order are of the same tolerance
-pub same_value : (t : Tolerances) (name other : Name) → order_of other ≡ order_of name → value_of t other ≡ value_of t name
-same_value t name other same = by_order t other ∙ ap (λ (k : ℕ). get_or (values t) k 0) same ∙ sym (by_order t name)
+pub same_value : (t : Tolerances) (name other : Name) → order_of other ≡ order_of name
+    → value_of t other ≡ value_of t name
+same_value t name other same = by_order t other ∙ ap (λ (k : ℕ). get_or (values t) k 0) same
+    ∙ sym (by_order t name)
 
 -- ---- one tolerance changed
 
-module _ {name : Name} {value wider : ℕ} {given before after : Tolerances} (at_most : value ≤ wider) (is : IsChanged name value given before)
+module _ {name : Name} {value wider : ℕ} {given before after : Tolerances} (at_most : value ≤ wider)
+    (is : IsChanged name value given before)
     (also : IsChanged name wider given after) where
-  unchanged : (other : Name) → order_of other ≢ order_of name → value_of before other ≡ value_of after other
+  unchanged : (other : Name) → order_of other ≢ order_of name
+      → value_of before other ≡ value_of after other
   unchanged other differ = is.others other differ ∙ sym (also.others other differ)
 
   no_greater : (other : Name) → value_of before other ≤ value_of after other
   no_greater other = elim (cases_eq (order_of other) (order_of name)) [
-    | inl same ↦ omega (arith, same_value before name other same, same_value after name other same, is.changed_is, also.changed_is, at_most)
+    | inl same ↦ omega (
+      arith,
+      same_value before name other same,
+      same_value after name other same,
+      is.changed_is,
+      also.changed_is,
+      at_most,
+    )
     | inr differ ↦ omega (arith, unchanged other differ)
   ]
 
@@ -63,7 +76,8 @@ module _ {name : Name} {value wider : ℕ} {given before after : Tolerances} (at
   }
 
 -- with the same value
-pub at_most_same : {name : Name} {value : ℕ} {given before after : Tolerances} → IsChanged name value given before
+pub at_most_same : {name : Name} {value : ℕ} {given before after : Tolerances}
+    → IsChanged name value given before
     → IsChanged name value given after
     → AreAtMost before after
 at_most_same {before} {after} is also = record {

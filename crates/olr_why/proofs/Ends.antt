@@ -1,5 +1,5 @@
--- Where tuples end by the layers of a reference, and by the places of its candidates: so there is a tuple of the first points exactly where one ends at
--- their last one.
+-- Where tuples end by the layers of a reference, and by the places of its candidates: so there is a
+-- tuple of the first points exactly where one ends at their last one.
 use Rattle.std.proofs.Common.{◌≡◌, ℕ, zero, suc, add-one, ◌+◌, ◌-◌, ◌<◌, ◌≤◌, List, [], ◌∷◌, length, refl, subst, arith}
 use Rattle.std.specs.Prelude.{⊤, Any, Contains, slice_index_or}
 use Rattle.std.proofs.lemmas.Option.{slice_get_within}
@@ -17,9 +17,11 @@ use Rattle.olr_why.proofs.Tuples.{EndsAt, ends_at_candidate, fewer, last_of, tup
 -- ---- by indices
 
 -- the candidates of the first layer
-pub first_ends : (layers : LayersValue) (ends : List ℕ) → AreBelow (λ _. ⊤) (length (slice_index_or layers.candidates 0 [])) ends
+pub first_ends : (layers : LayersValue) (ends : List ℕ)
+    → AreBelow (λ _. ⊤) (length (slice_index_or layers.candidates 0 [])) ends
     → AreEnds layers 0 ends
-first_ends layers ends all last = (λ there. ((all last).0 there).0, λ inside. (all last).1 (inside, tt))
+first_ends layers ends all last =
+    (λ there. ((all last).0 there).0, λ inside. (all last).1 (inside, tt))
 
 -- a candidate of the next layer that is joined to one of these
 abbrev pub IsJoinedToOne : LayersValue → ℕ → List ℕ → ℕ → Type 0
@@ -27,14 +29,17 @@ IsJoinedToOne layers layer firsts second = Any (λ first. IsJoined layers layer 
 
 -- all those that are joined to the ends of a layer
 pub next_ends : (layers : LayersValue) (layer : ℕ) (ends next : List ℕ) → AreEnds layers layer ends
-    → AreBelow (IsJoinedToOne layers layer ends) (length (slice_index_or layers.candidates (layer + 1) [])) next
+    → AreBelow (IsJoinedToOne layers layer ends)
+    (length (slice_index_or layers.candidates (layer + 1) [])) next
     → AreEnds layers (layer + 1) next
 next_ends layers layer ends next all are =
     subst (λ (n : ℕ). AreEnds layers n next) {x = suc layer} {y = layer + 1} (omega arith) (λ last.
     let one : layer + 1 ≡ suc layer = omega arith in
-    let joined = subst (λ (n : ℕ). AreBelow (IsJoinedToOne layers layer ends) (length (slice_index_or layers.candidates n [])) next) one are in (
+    let joined = subst (λ (n : ℕ). AreBelow (IsJoinedToOne layers layer ends)
+    (length (slice_index_or layers.candidates n [])) next) one are in (
       λ there. let found = (joined last).0 there in
-          let before = found.1 in (found.0, (before.1, (all before.1).0 (before.0, before.2, before.3), before.4)),
+          let before = found.1 in
+          (found.0, (before.1, (all before.1).0 (before.0, before.2, before.3), before.4)),
       λ end. let there : Contains ends end.1.0 = (all end.1.0).1 end.1.1 in
           (joined last).1 (end.0, (there.0, end.1.0, there.1, there.2, end.1.2)),
     ))
@@ -59,25 +64,39 @@ module _ {road : RoadMap} {layers : LayersValue} (are : AreLayersOn road layers)
         found.1,
         (
           place_in_layer are (suc layer) last to found.1,
-          (from.0.place, from.2, admits are layer before last from.0 to from.1 to_is length.0 length.1),
+          (
+            from.0.place,
+            from.2,
+            admits are layer before last from.0 to from.1 to_is length.0
+                length.1,
+          ),
         ),
       )
 
   -- and by its place, by the layers
-  pub is_end : (layer last : ℕ) (candidate : Candidate) → IsCandidateOf layers.candidates layer last candidate
-      → EndsAt road layers.tolerances layers.reference layer candidate.place → IsEnd layers layer last
-  is_end zero last candidate at ends = slice_get_within (slice_index_or layers.candidates 0 []) last candidate at
+  pub is_end : (layer last : ℕ) (candidate : Candidate)
+      → IsCandidateOf layers.candidates layer last candidate
+      → EndsAt road layers.tolerances layers.reference layer candidate.place
+      → IsEnd layers layer last
+  is_end zero last candidate at ends =
+      slice_get_within (slice_index_or layers.candidates 0 []) last candidate at
   is_end (suc layer) last candidate at (is, (place, ends, it)) =
       let found = candidate_in_layer are (ends_at_candidate _ _ _ layer place ends) in
       let from : Candidate = found.1 in
       let from_ends : EndsAt road layers.tolerances layers.reference layer from.place =
       rw found.3 ends in
-      let it_admits : AdmitsPlaces road layers.tolerances layers.reference layer from.place candidate.place =
+      let it_admits : AdmitsPlaces road layers.tolerances layers.reference layer from.place
+      candidate.place =
       rw found.3 it in
       let to_is : IsCandidateOf layers.candidates (layer + 1) last candidate = rw add-one at in
       let length = length_of are layer found.0 last from candidate found.2 to_is it_admits in (
         slice_get_within (slice_index_or layers.candidates (suc layer) []) last candidate at,
-        (found.0, is_end layer found.0 from found.2 from_ends, is_some_from (length_at layers layer found.0 last) length.0 length.1),
+        (
+          found.0,
+          is_end layer found.0 from found.2 from_ends,
+          is_some_from
+              (length_at layers layer found.0 last) length.0 length.1,
+        ),
       )
 
   -- ---- tuples
@@ -96,12 +115,14 @@ module _ {road : RoadMap} {layers : LayersValue} (are : AreLayersOn road layers)
   no_tuple layer ends all none tuple =
       let last = last_of _ _ _ layer tuple in
       let found = candidate_in_layer are (ends_at_candidate _ _ _ layer last.0 last.1) in
-      let there : Contains ends found.0 = (all found.0).1 (is_end layer found.0 found.1 found.2 (rw found.3 last.1)) in
+      let there : Contains ends found.0 =
+      (all found.0).1 (is_end layer found.0 found.1 found.2 (rw found.3 last.1)) in
       omega (arith, there.1, none)
 
   -- the points up to a layer are the first without a tuple, where there is one of those before it
   first_without : (layer : ℕ) (ends : List ℕ) → layer < length (points_of layers.reference)
-      → HasTuple road layers.tolerances layers.reference layer → AreEnds layers layer ends → length ends ≡ 0
+      → HasTuple road layers.tolerances layers.reference layer → AreEnds layers layer ends
+      → length ends ≡ 0
       → IsFirst (HasNoTuple road layers.tolerances layers.reference) (layer + 1)
   first_without layer ends inside has all none = record {
     holds = (
@@ -115,21 +136,28 @@ module _ {road : RoadMap} {layers : LayersValue} (are : AreLayersOn road layers)
   pub without_at_first : (ends : List ℕ) → AreEnds layers 0 ends → length ends ≡ 0
       → IsFirst (HasNoTuple road layers.tolerances layers.reference) 1
   without_at_first ends all none =
-      first_without 0 ends (omega (arith, at_least_two layers.reference are.reference)) record { places = []; count_is = refl; admitted = tt } all none
+      first_without 0 ends (omega (arith, at_least_two layers.reference are.reference))
+      record { places = []; count_is = refl; admitted = tt } all none
 
   -- a later one
-  pub without_later : (layer : ℕ) (before ends : List ℕ) → 1 ≤ layer → layer < length (points_of layers.reference)
-      → AreEnds layers (layer - 1) before → 0 < length before → AreEnds layers (layer - 1 + 1) ends → length ends ≡ 0
+  pub without_later : (layer : ℕ) (before ends : List ℕ) → 1 ≤ layer
+      → layer < length (points_of layers.reference)
+      → AreEnds layers (layer - 1) before → 0 < length before → AreEnds layers (layer - 1 + 1) ends
+      → length ends ≡ 0
       → IsFirst (HasNoTuple road layers.tolerances layers.reference) (layer + 1)
   without_later layer before ends later inside earlier some all none =
       first_without layer ends inside
-      (subst (HasTuple road layers.tolerances layers.reference) {x = suc (layer - 1)} {y = layer} (omega (arith, later))
+      (subst (HasTuple road layers.tolerances layers.reference) {x = suc (layer - 1)} {y = layer}
+      (omega (arith, later))
       (has_tuple (layer - 1) before earlier some))
-      (subst (λ (n : ℕ). AreEnds layers n ends) {x = layer - 1 + 1} {y = layer} (omega (arith, later)) all) none
+      (subst (λ (n : ℕ). AreEnds layers n ends) {x = layer - 1 + 1} {y = layer}
+      (omega (arith, later)) all) none
 
   -- there is one of all points, where one ends in the last layer
-  pub with_all : (layer : ℕ) (ends : List ℕ) → 1 ≤ layer → layer ≡ length (points_of layers.reference) → AreEnds layers (layer - 1) ends
+  pub with_all : (layer : ℕ) (ends : List ℕ) → 1 ≤ layer
+      → layer ≡ length (points_of layers.reference) → AreEnds layers (layer - 1) ends
       → 0 < length ends → HasMatching road layers.tolerances layers.reference
   with_all layer ends later all last some =
-      subst (HasTuple road layers.tolerances layers.reference) {x = suc (layer - 1)} {y = length (points_of layers.reference)} (omega (arith, later, all))
+      subst (HasTuple road layers.tolerances layers.reference) {x = suc (layer - 1)} {y =
+      length (points_of layers.reference)} (omega (arith, later, all))
       (has_tuple (layer - 1) ends last some)

@@ -1,4 +1,5 @@
--- The object of why a reference has no matching has no float, and arrays and objects nest in it seven deep at most.
+-- The object of why a reference has no matching has no float, and arrays and objects nest in it
+-- seven deep at most.
 use Rattle.std.proofs.Common.{ℕ, Option, None, Some, refl, arith}
 use Rattle.serde_json.specs.Data.{string}
 use Rattle.olr_binary.specs.JsonValues.{whole_or_null}
@@ -17,7 +18,8 @@ number_plain (Some count) = record { no_float = refl; shallow = omega arith }
 
 near_plain : (road : RoadMap) (near : NearLine) → IsPlain 3 (near_object road near)
 near_plain road near =
-    let words = all_plain 1 string (λ word. record { no_float = refl; shallow = omega arith }) (failed_conditions near.failed) in
+    let words = all_plain 1 string (λ word. record { no_float = refl; shallow = omega arith })
+    (failed_conditions near.failed) in
     let penalty = number_plain near.penalty in
     let sector = number_plain near.sector in record {
       no_float = rw (words.no_float, penalty.no_float, sector.no_float) refl;

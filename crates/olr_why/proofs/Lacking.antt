@@ -1,11 +1,9 @@
 -- A point without candidates, and a leg without pairs, by the layers of their reference.
-use Rattle.std.proofs.Common.{◌≡◌, ℕ, ◌+◌, ◌*◌, ◌/◌, ◌%◌, ◌<◌, List, [], length, get_or, inl, inr, sym, ◌∙◌, ap, arith, Option, Some, Any, IsSome, option_map, slice_index_or}
-use Rattle.std.proofs.Math.Nat.{div-add-mod, div-lt_iff_lt-mul, eq-zero-or-pos, mod-lt}
-use Rattle.std.proofs.lemmas.List.{length-map}
-use Rattle.std.proofs.lemmas.Option.{slice_get-get_or, slice_get_within}
-use Rattle.olr_why.proofs.Common.{AdmitsPlaces, Candidate, leads_on, Penalties, points_of, RoadMap}
-use Rattle.olr_matching.specs.Layers.{AreLayersOn, LayersValue, length_at, penalties_of}
-use Rattle.olr_matching.specs.Leg.{leg_penalty}
+use Rattle.std.proofs.Common.{◌≡◌, ℕ, ◌+◌, ◌*◌, ◌/◌, ◌%◌, ◌<◌, List, [], length, arith, Option, Some, Any, IsSome, slice_index_or}
+use Rattle.std.proofs.Math.Nat.{div-add-mod, div-lt_iff_lt-mul, mod-lt}
+use Rattle.std.proofs.lemmas.Option.{slice_get_within}
+use Rattle.olr_why.proofs.Common.{AdmitsPlaces, Candidate, leads_on, points_of, RoadMap}
+use Rattle.olr_matching.specs.Layers.{AreLayersOn, LayersValue, length_at}
 use Rattle.olr_matching.proofs.OneLayers.{long, not_empty}
 use Rattle.olr_why.specs.Verdict.{AdmitsNone, HasNoCandidate}
 use Rattle.olr_why.proofs.Lists.{any_some, some_at}
@@ -16,12 +14,18 @@ module _ {road : RoadMap} {layers : LayersValue} (are : AreLayersOn road layers)
   -- ---- points
 
   -- a point whose layer is empty has no candidate
-  pub no_candidate : (index : ℕ) → index < length (points_of layers.reference) → length (slice_index_or layers.candidates index []) ≡ 0
+  pub no_candidate : (index : ℕ) → index < length (points_of layers.reference)
+      → length (slice_index_or layers.candidates index []) ≡ 0
       → HasNoCandidate road layers.tolerances layers.reference index
   no_candidate index inside none = (
     inside,
     λ place is. let found = candidate_in_layer are is in
-        omega (arith, none, slice_get_within (slice_index_or layers.candidates index []) found.0 found.1 found.2),
+        omega (
+          arith,
+          none,
+          slice_get_within (slice_index_or layers.candidates index []) found.0
+              found.1 found.2,
+        ),
   )
 
   -- else it has one
@@ -36,9 +40,11 @@ module _ {road : RoadMap} {layers : LayersValue} (are : AreLayersOn road layers)
   -- how many lengths a leg has: one for each pair
   pub pairs_count : (index : ℕ) → index + 1 < length (points_of layers.reference)
       → length (slice_index_or layers.lengths index [])
-      ≡ length (slice_index_or layers.candidates index []) * length (slice_index_or layers.candidates (index + 1) [])
+      ≡ length (slice_index_or layers.candidates index []) * length
+      (slice_index_or layers.candidates (index + 1) [])
   pairs_count index inside =
-      let leads = leads_on layers.reference index are.reference inside in long road layers index leads.0 are (omega arith) leads.1
+      let leads = leads_on layers.reference index are.reference inside in
+      long road layers index leads.0 are (omega arith) leads.1
 
   -- a leg without a length admits no pair
   pub no_pair : (index : ℕ) → index + 1 < length (points_of layers.reference)
@@ -49,15 +55,18 @@ module _ {road : RoadMap} {layers : LayersValue} (are : AreLayersOn road layers)
     λ from to from_is to_is it.
         let first = candidate_in_layer are from_is in
         let second = candidate_in_layer are to_is in
-        let same : AdmitsPlaces road layers.tolerances layers.reference index first.1.place second.1.place =
+        let same : AdmitsPlaces road layers.tolerances layers.reference index first.1.place
+        second.1.place =
         rw (first.3, second.3) it in
         let known = length_of are index first.0 second.0 first.1 second.1 first.2 second.2 same in
         none (any_some (slice_index_or layers.lengths index [])
-        (first.0 * length (slice_index_or layers.candidates (index + 1) []) + second.0) known.0 known.1),
+        (first.0 * length (slice_index_or layers.candidates (index + 1) []) + second.0) known.0
+        known.1),
   )
 
   -- else it admits one
-  pub some_pair : (index : ℕ) → Any (λ (l : Option ℕ). IsSome l) (slice_index_or layers.lengths index [])
+  pub some_pair : (index : ℕ) → Any (λ (l : Option ℕ). IsSome l)
+      (slice_index_or layers.lengths index [])
       → AdmitsNone road layers.tolerances layers.reference index → ⊥
   some_pair index some (inside, none) =
       let firsts : List Candidate = slice_index_or layers.candidates index [] in

@@ -1,10 +1,9 @@
 -- Options, and lists by their indices.
-use Rattle.std.proofs.Common.{◌≡◌, ℕ, ◌+◌, ◌<◌, List, [], ◌∷◌, ◌++◌, length, get_or, refl, sym, ◌∙◌, ap, subst, inl, inr, arith, ◌↔◌, Bool, true, false, Option, None, Some, MatchOption, Any, Contains, IsSome, is_some, slice_get, slice_index_or}
+use Rattle.std.proofs.Common.{◌≡◌, ℕ, ◌+◌, ◌<◌, List, [], ◌∷◌, ◌++◌, length, refl, sym, ◌∙◌, ap, subst, inl, inr, arith, ◌↔◌, Bool, true, false, Option, None, Some, MatchOption, Any, Contains, IsSome, is_some, slice_get, slice_index_or}
 use Rattle.std.proofs.Math.ListN.{get_or-eq_default}
 use Rattle.std.proofs.lemmas.Bool.{cases_lt}
 use Rattle.std.proofs.lemmas.List.{get_or_default, length_push}
 use Rattle.std.proofs.lemmas.List.Elements.{Contains-append_left, Contains-push, Contains-push_cases}
-use Rattle.std.proofs.lemmas.Option.{slice_get-get_or}
 use Rattle.olr_matching.proofs.Lists.{push_each}
 
 pub some_of : {X : Type 0} (o : Option X) → IsSome o → (x : X) × (o ≡ Some x)
@@ -29,14 +28,17 @@ not_both is is_not = absurd cc
 -- ---- lists of options
 
 -- the index of a value is before the end
-pub some_inside : {X : Type 0} (xs : List (Option X)) (k : ℕ) (x : X) → slice_index_or xs k None ≡ Some x → k < length xs
+pub some_inside : {X : Type 0} (xs : List (Option X)) (k : ℕ) (x : X)
+    → slice_index_or xs k None ≡ Some x → k < length xs
 some_inside {X} xs k x is = elim (cases_lt k (length xs)) [
   | inl inside ↦ inside
-  | inr outside ↦ let none : ◌≡◌ {A = Option X} None (Some x) = sym (get_or-eq_default xs None {n = k} outside) ∙ is in absurd cc
+  | inr outside ↦ let none : ◌≡◌ {A = Option X} None (Some x) =
+      sym (get_or-eq_default xs None {n = k} outside) ∙ is in absurd cc
 ]
 
 -- a list that has a value has one
-pub any_some : {X : Type 0} (xs : List (Option X)) (k : ℕ) (x : X) → slice_index_or xs k None ≡ Some x → Any (λ (o : Option X). IsSome o) xs
+pub any_some : {X : Type 0} (xs : List (Option X)) (k : ℕ) (x : X)
+    → slice_index_or xs k None ≡ Some x → Any (λ (o : Option X). IsSome o) xs
 any_some {X} xs k x is =
     let inside = some_inside xs k x is in
     (k, Some x, inside, get_or_default xs k (Some x) None inside ∙ is, refl)
@@ -45,7 +47,13 @@ any_some {X} xs k x is =
 pub some_at : {X : Type 0} (xs : List (Option X)) → Any (λ (o : Option X). IsSome o) xs
     → (k : ℕ) × (x : X) × (k < length xs) × (slice_index_or xs k None ≡ Some x)
 some_at xs (k, o, inside, at, some) =
-    let found = some_of o some in (k, found.0, inside, get_or_default xs k None o inside ∙ at ∙ found.1)
+    let found = some_of o some in (
+      k,
+      found.0,
+      inside,
+      get_or_default xs k None o inside ∙ at
+          ∙ found.1,
+    )
 
 -- ---- numbers gathered in a list
 
@@ -62,19 +70,22 @@ one_more P bound numbers all holds number = (
     | inr last ↦ (omega (arith, last), subst P last holds)
   ],
   λ below. elim (cases_lt number bound) [
-    | inl earlier ↦ Contains-append_left numbers (bound ∷ []) number ((all number).1 (earlier, below.1))
+    | inl earlier ↦ Contains-append_left numbers (bound ∷ []) number
+        ((all number).1 (earlier, below.1))
     | inr last ↦ let same : bound ≡ number = omega (arith, last, below.0) in
         subst (λ (n : ℕ). Contains (numbers ++ bound ∷ []) n) same (Contains-push numbers bound)
   ],
 )
 
 -- one of which it doesn't
-pub no_more : (P : ℕ → Type 0) (bound : ℕ) (numbers : List ℕ) → AreBelow P bound numbers → (P bound → ⊥) → AreBelow P (bound + 1) numbers
+pub no_more : (P : ℕ → Type 0) (bound : ℕ) (numbers : List ℕ) → AreBelow P bound numbers
+    → (P bound → ⊥) → AreBelow P (bound + 1) numbers
 no_more P bound numbers all fails number = (
   λ there. let found = (all number).0 there in (omega (arith, found.0), found.1),
   λ below. elim (cases_lt number bound) [
     | inl earlier ↦ (all number).1 (earlier, below.1)
-    | inr last ↦ let same : number ≡ bound = omega (arith, last, below.0) in absurd (fails (subst P same below.1))
+    | inr last ↦ let same : number ≡ bound = omega (arith, last, below.0) in
+        absurd (fails (subst P same below.1))
   ],
 )
 

@@ -16,58 +16,94 @@ use Rattle.olr_why.proofs.Tried.{has_matching}
 neither_less : {a b : ℕ} → (a < b → ⊥) → (b < a → ⊥) → a ≡ b
 neither_less not_less not_more = omega arith
 
-module _ (one_layers : OneLayers) (one_list : OneList) (has_key : MatchingHasKey) (reference : Reference) where
+module _ (one_layers : OneLayers) (one_list : OneList) (has_key : MatchingHasKey)
+    (reference : Reference) where
   -- ---- the first matching
 
   module _ (road : RoadMap) (tolerances : Tolerances) where
-    one_first : (a b : KeyValue) → IsFirstMatching road tolerances reference a → IsFirstMatching road tolerances reference b → a ≡ b
+    one_first : (a b : KeyValue) → IsFirstMatching road tolerances reference a
+        → IsFirstMatching road tolerances reference b → a ≡ b
     one_first a b one other =
-        let layers = one_layers road one.layers other.layers one.on other.on (one.reference_is ∙ sym other.reference_is)
+        let layers = one_layers road one.layers other.layers one.on other.on (one.reference_is
+        ∙ sym other.reference_is)
         (one.tolerances_is ∙ sym other.tolerances_is) in
-        let answers = one_list other.layers.penalties one.answers other.answers (rw (← layers) one.are) other.are in
+        let answers = one_list other.layers.penalties one.answers other.answers
+        (rw (← layers) one.are) other.are in
         same_some (slice_get other.answers 0) a b (rw (← answers) one.first) other.first
 
-    one_matching : (a b : Option KeyValue) → MatchOption a (HasMatching road tolerances reference → ⊥) (IsFirstMatching road tolerances reference)
-        → MatchOption b (HasMatching road tolerances reference → ⊥) (IsFirstMatching road tolerances reference) → a ≡ b
-    one_matching a b = one_option a b (λ key is none. none (has_matching road reference has_key is)) one_first
+    one_matching : (a b : Option KeyValue)
+        → MatchOption a (HasMatching road tolerances reference → ⊥)
+        (IsFirstMatching road tolerances reference)
+        → MatchOption b (HasMatching road tolerances reference → ⊥)
+        (IsFirstMatching road tolerances reference) → a ≡ b
+    one_matching a b = one_option a b (λ key is none. none (has_matching road reference has_key is))
+        one_first
 
   module _ (road : RoadMap) (given : Tolerances) where
     -- ---- a greater value
 
-    one_least_enough : {name : Name} {value : ℕ} {a b : KeyValue} → IsLeastEnough road given reference name value a
+    one_least_enough : {name : Name} {value : ℕ} {a b : KeyValue}
+        → IsLeastEnough road given reference name value a
         → IsLeastEnough road given reference name value b → a ≡ b
     one_least_enough {a} {b} one other =
-        one_first road other.enough.changed a b (rw (one_changed one.enough.is_changed other.enough.is_changed) at one.first) other.first
+        one_first road other.enough.changed a b
+        (rw (one_changed one.enough.is_changed other.enough.is_changed) at one.first)
+        other.first
 
-    one_wider : (name : Name) (a b : Option Remedy) → IsWider road given reference name a → IsWider road given reference name b → a ≡ b
-    one_wider name a b = one_option a b (λ remedy is none. none is.0 is.4.above is.4.enough) λ x y is also.
-        let values = neither_less (λ less. also.4.least is.0 is.4.above less is.4.enough) (λ more. is.4.least also.0 also.4.above more also.4.enough) in
+    one_wider : (name : Name) (a b : Option Remedy) → IsWider road given reference name a
+        → IsWider road given reference name b → a ≡ b
+    one_wider name a b = one_option a b (λ remedy is none. none is.0 is.4.above is.4.enough) λ x y
+        is also.
+        let values = neither_less (λ less. also.4.least is.0 is.4.above less is.4.enough)
+        (λ more. is.4.least also.0 also.4.above more also.4.enough) in
         let keys = one_least_enough (rw values at is.4) also.4 in
-        λ i. record { change = (is.2 ∙ ap (Tolerance name) values ∙ sym also.2) i; matching = (is.3 ∙ ap Some keys ∙ sym also.3) i }
+        λ i. record {
+          change = (is.2 ∙ ap (Tolerance name) values ∙ sym also.2) i;
+          matching =
+              (is.3 ∙ ap Some keys ∙ sym also.3) i;
+        }
 
     -- ---- a map without bans
 
-    one_opener : (a b : Option Remedy) → IsOpener road given reference a → IsOpener road given reference b → a ≡ b
-    one_opener a b = one_option a b (λ remedy is none. none is.3 (has_matching (without_bans road) reference has_key is.4)) λ x y is also.
+    one_opener : (a b : Option Remedy) → IsOpener road given reference a
+        → IsOpener road given reference b → a ≡ b
+    one_opener a b = one_option a b
+        (λ remedy is none. none is.3 (has_matching (without_bans road) reference has_key is.4)) λ x
+        y is also.
         let keys = one_first (without_bans road) given is.0 also.0 is.4 also.4 in
-        λ i. record { change = (is.1 ∙ sym also.1) i; matching = (is.2 ∙ ap Some keys ∙ sym also.2) i }
+        λ i. record {
+          change = (is.1 ∙ sym also.1) i;
+          matching =
+              (is.2 ∙ ap Some keys ∙ sym also.2) i;
+        }
 
     -- ---- a lesser value
 
-    one_greatest : {name : Name} {value : ℕ} (a b : Option KeyValue) → IsGreatestUncrowded road given reference name value a
+    one_greatest : {name : Name} {value : ℕ} (a b : Option KeyValue)
+        → IsGreatestUncrowded road given reference name value a
         → IsGreatestUncrowded road given reference name value b → a ≡ b
     one_greatest a b one other =
-        one_matching road other.enough.changed a b (rw (one_changed one.enough.is_changed other.enough.is_changed) at one.first) other.first
+        one_matching road other.enough.changed a b
+        (rw (one_changed one.enough.is_changed other.enough.is_changed) at one.first)
+        other.first
 
-    one_narrower : (name : Name) (a b : Option Remedy) → IsNarrower road given reference name a → IsNarrower road given reference name b → a ≡ b
-    one_narrower name a b = one_option a b (λ remedy is none. none is.0 is.2.below is.2.enough) λ x y is also.
-        let values = neither_less (λ less. is.2.greatest also.0 less also.2.below also.2.enough) (λ more. also.2.greatest is.0 more is.2.below is.2.enough) in
+    one_narrower : (name : Name) (a b : Option Remedy) → IsNarrower road given reference name a
+        → IsNarrower road given reference name b → a ≡ b
+    one_narrower name a b = one_option a b (λ remedy is none. none is.0 is.2.below is.2.enough) λ x
+        y is also.
+        let values = neither_less (λ less. is.2.greatest also.0 less also.2.below also.2.enough)
+        (λ more. also.2.greatest is.0 more is.2.below is.2.enough) in
         let matchings = one_greatest x.matching y.matching (rw values at is.2) also.2 in
-        λ i. record { change = (is.1 ∙ ap (Tolerance name) values ∙ sym also.1) i; matching = matchings i }
+        λ i. record {
+          change = (is.1 ∙ ap (Tolerance name) values ∙ sym also.1) i;
+          matching =
+              matchings i;
+        }
 
     -- ---- all of them
 
-    all_wider : (a b : List Remedy) → AreWider road given reference a → AreWider road given reference b → a ≡ b
+    all_wider : (a b : List Remedy) → AreWider road given reference a
+        → AreWider road given reference b → a ≡ b
     all_wider a b one other =
         let lowest = one_wider Lowest one.of_lowest other.of_lowest one.lowest other.lowest in
         let bearing = one_wider Bearing one.of_bearing other.of_bearing one.bearing other.bearing in
@@ -78,14 +114,17 @@ module _ (one_layers : OneLayers) (one_list : OneList) (has_key : MatchingHasKey
         let bans = one_opener one.of_bans other.of_bans one.bans other.bans in
         rw (one.list_is, other.list_is, lowest, bearing, radius, slack, percent, class, bans) refl
 
-    all_narrower : (a b : List Remedy) → AreNarrower road given reference a → AreNarrower road given reference b → a ≡ b
+    all_narrower : (a b : List Remedy) → AreNarrower road given reference a
+        → AreNarrower road given reference b → a ≡ b
     all_narrower a b one other =
         let radius = one_narrower Radius one.of_radius other.of_radius one.radius other.radius in
-        let bearing = one_narrower Bearing one.of_bearing other.of_bearing one.bearing other.bearing in
+        let bearing = one_narrower Bearing one.of_bearing other.of_bearing one.bearing
+        other.bearing in
         let class = one_narrower Class one.of_class other.of_class one.class other.class in
         rw (one.list_is, other.list_is, radius, bearing, class) refl
 
-    pub one_remedies : (verdict : Verdict) (a b : List Remedy) → AreRemedies road given reference verdict a → AreRemedies road given reference verdict b
+    pub one_remedies : (verdict : Verdict) (a b : List Remedy)
+        → AreRemedies road given reference verdict a → AreRemedies road given reference verdict b
         → a ≡ b
     one_remedies (Crowded number) a b one other = all_narrower a b one other
     one_remedies Match a b one other = one ∙ sym other

@@ -1,4 +1,5 @@
--- One value of tolerances has given numbers, and so one has a given value of one tolerance, all others being as given.
+-- One value of tolerances has given numbers, and so one has a given value of one tolerance, all
+-- others being as given.
 use mathlib.Core.Path.{fun_ext}
 use Rattle.std.proofs.Common.{◌≡◌, ℕ, inl, inr, sym, ◌∙◌, ap, subst}
 use Rattle.std.proofs.Props.{props}
@@ -39,13 +40,16 @@ made values = record {
 }
 
 same_tolerances : (a b : Tolerances) → ((name : Name) → value_of a name ≡ value_of b name) → a ≡ b
-same_tolerances a b same = ap made (fun_ext λ name. same_in_range name (each a name) (each b name) (same name))
+same_tolerances a b same = ap made
+    (fun_ext λ name. same_in_range name (each a name) (each b name) (same name))
 
 -- ---- one tolerance changed
 
 pub one_changed : {name : Name} {value : ℕ} {given a b : Tolerances} → IsChanged name value given a
     → IsChanged name value given b → a ≡ b
-one_changed {name} {a} {b} one other = same_tolerances a b (λ known. elim (cases_eq (order_of known) (order_of name)) [
-  | inl same ↦ same_value a name known same ∙ one.changed_is ∙ sym other.changed_is ∙ sym (same_value b name known same)
-  | inr differ ↦ one.others known differ ∙ sym (other.others known differ)
-])
+one_changed {name} {a} {b} one other =
+    same_tolerances a b (λ known. elim (cases_eq (order_of known) (order_of name)) [
+      | inl same ↦ same_value a name known same ∙ one.changed_is ∙ sym other.changed_is
+          ∙ sym (same_value b name known same)
+      | inr differ ↦ one.others known differ ∙ sym (other.others known differ)
+    ])

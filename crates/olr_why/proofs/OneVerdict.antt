@@ -1,4 +1,5 @@
--- A reference has one verdict; it is that there is a matching exactly where the table of its layers has answers.
+-- A reference has one verdict; it is that there is a matching exactly where the table of its layers
+-- has answers.
 use Rattle.std.proofs.Common.{◌≡◌, ◌≢◌, ℕ, List, [], ◌∷◌, length, refl, inl, inr, ap, arith}
 use Rattle.std.proofs.lemmas.Bool.{cases_lt}
 use Rattle.std.proofs.lemmas.Option.{slice_get_within}
@@ -22,9 +23,11 @@ one_first P a b one other = elim (cases_lt a b) [
 module _ (road : RoadMap) (tolerances : Tolerances) (reference : Reference) where
   -- ---- what one verdict excludes
 
-  crowded : (number : ℕ) → IsVerdict road tolerances reference (Crowded number) → IsUncrowded road tolerances reference → ⊥
+  crowded : (number : ℕ) → IsVerdict road tolerances reference (Crowded number)
+      → IsUncrowded road tolerances reference → ⊥
   crowded number (index, is, first) uncrowded =
-      uncrowded index (slice_get_within (points_of reference) index first.holds.point first.holds.point_is) first.holds
+      uncrowded index (slice_get_within (points_of reference) index first.holds.point
+      first.holds.point_is) first.holds
 
   have_candidates : HasMatching road tolerances reference → HaveCandidates road tolerances reference
   have_candidates tuple index (inside, none) =
@@ -34,12 +37,14 @@ module _ (road : RoadMap) (tolerances : Tolerances) (reference : Reference) wher
   have_pairs tuple index (inside, none) =
       let found = pair_of index inside tuple in none found.0 found.1 found.2 found.3 found.4
 
-  have_tuples : HasMatching road tolerances reference → (count : ℕ) → HasNoTuple road tolerances reference count → ⊥
+  have_tuples : HasMatching road tolerances reference → (count : ℕ)
+      → HasNoTuple road tolerances reference count → ⊥
   have_tuples tuple count (at_most, none) = none (fewer count at_most tuple)
 
   -- ---- one verdict
 
-  pub one_verdict : (a b : Verdict) → IsVerdict road tolerances reference a → IsVerdict road tolerances reference b
+  pub one_verdict : (a b : Verdict) → IsVerdict road tolerances reference a
+      → IsVerdict road tolerances reference b
       → a ≡ b
   one_verdict (Crowded a) (Crowded b) one other =
       ap Crowded (omega (arith, one.1, other.1, one_first _ one.0 other.0 one.2 other.2))
@@ -65,23 +70,27 @@ module _ (road : RoadMap) (tolerances : Tolerances) (reference : Reference) wher
 -- ---- answers
 
 -- answers that aren't empty have a key
-some_key : (penalties : Penalties) (answers : List KeyValue) → AreAnswers penalties answers → answers ≢ [] → (key : KeyValue) × IsKey penalties key
+some_key : (penalties : Penalties) (answers : List KeyValue) → AreAnswers penalties answers
+    → answers ≢ [] → (key : KeyValue) × IsKey penalties key
 some_key penalties [] all some = absurd (some refl)
 some_key penalties (key ∷ keys) all some = (key, all.only 0 key (omega arith))
 
 -- and those of a key aren't empty
-not_empty : (penalties : Penalties) (answers : List KeyValue) (key : KeyValue) → AreAnswers penalties answers → IsKey penalties key → answers ≢ []
+not_empty : (penalties : Penalties) (answers : List KeyValue) (key : KeyValue)
+    → AreAnswers penalties answers → IsKey penalties key → answers ≢ []
 not_empty penalties answers key all is none =
     let there = all.each key is in omega (arith, there.1, ap (λ (l : List KeyValue). length l) none)
 
 -- no point of layers has too many candidates
-pub uncrowded : {road : RoadMap} {layers : LayersValue} → NoListsAndTooMany → AreLayersOn road layers
+pub uncrowded : {road : RoadMap} {layers : LayersValue} → NoListsAndTooMany
+    → AreLayersOn road layers
     → IsUncrowded road layers.tolerances layers.reference
 uncrowded not_both are index inside many = not_both _ _ _ _ index are.lists many
 
 pub match_has_answers : MatchingHasKey → NoListsAndTooMany → MatchHasAnswers
 match_has_answers has_key not_both road layers answers are all = (
-  λ verdict. let key = (has_key road layers are).0 verdict.1 in not_empty layers.penalties answers key.0 all key.1,
+  λ verdict. let key = (has_key road layers are).0 verdict.1 in
+      not_empty layers.penalties answers key.0 all key.1,
   λ some. (
     uncrowded not_both are,
     (has_key road layers are).1 (some_key layers.penalties answers all some),

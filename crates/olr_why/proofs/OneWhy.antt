@@ -1,4 +1,5 @@
--- The map, the reference, the tolerances and the count of nearest lines determine what is shown of all reasons.
+-- The map, the reference, the tolerances and the count of nearest lines determine what is shown of
+-- all reasons.
 use Rattle.std.proofs.Common.{refl}
 use Rattle.olr_candidates.specs.Laws.{NoListOfPointAndTooMany, OneListOfNearest, OneListOfPoint}
 use Rattle.olr_keys.specs.Laws.{OneList}
@@ -21,9 +22,12 @@ pub record Laws : Type 0 where
 pub one_why : Laws → OneWhy
 one_why laws road tolerances reference nearest a b one other =
     let verdict = laws.one_verdict _ _ _ a.verdict b.verdict one.verdict other.verdict in
-    let points = one_points laws.one_list_of_point laws.no_list_and_too_many laws.one_list_of_nearest road tolerances reference one.points other.points in
-    let legs = one_legs laws.one_layers road tolerances reference b.verdict a.legs.items b.legs.items (rw verdict at one.legs) other.legs in
+    let points = one_points laws.one_list_of_point laws.no_list_and_too_many
+    laws.one_list_of_nearest road tolerances reference one.points other.points in
+    let legs = one_legs laws.one_layers road tolerances reference b.verdict a.legs.items
+    b.legs.items (rw verdict at one.legs) other.legs in
     let remedies =
-    one_remedies laws.one_layers laws.one_list laws.matching_has_key reference road tolerances b.verdict a.remedies.items b.remedies.items
+    one_remedies laws.one_layers laws.one_list laws.matching_has_key reference road tolerances
+    b.verdict a.remedies.items b.remedies.items
     (rw verdict at one.remedies) other.remedies in
     (rw (points, legs, verdict, remedies) refl, rw (points, legs, verdict, remedies) refl)

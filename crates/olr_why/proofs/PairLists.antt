@@ -14,14 +14,25 @@ no_pair = record { first = 0; second = 0; length = None; better = None }
 set_cases : {X : Type 0} (xs : List X) (i k : ℕ) (v x : X) → slice_get (slice_set xs i v) k ≡ Some x
     → ((k ≡ i) × (v ≡ x)) ⊎ ((k ≢ i) × (slice_get xs k ≡ Some x))
 set_cases {X} xs i k v x is =
-    let inside : k < length xs = omega (arith, length-set xs i v, slice_get_within (slice_set xs i v) k x is) in
-    let there : get_or (slice_set xs i v) k x ≡ x = get_or_from_slice_get (slice_set xs i v) k x x is in
+    let inside : k < length xs = omega
+    (arith, length-set xs i v, slice_get_within (slice_set xs i v) k x is) in
+    let there : get_or (slice_set xs i v) k x ≡ x =
+    get_or_from_slice_get (slice_set xs i v) k x x is in
     elim (cases_eq k i) [
-      | inl same ↦ inl (same, sym (get_or-set_same xs i v x (omega (arith, same, inside))) ∙ (rw same at there))
-      | inr apart ↦ inr (apart, slice_get-get_or xs k x inside ∙ ap Some (sym (get_or-set_other xs i k v x apart) ∙ there))
+      | inl same ↦ inl (
+        same,
+        sym (get_or-set_same xs i v x (omega (arith, same, inside)))
+            ∙ (rw same at there),
+      )
+      | inr apart ↦ inr (
+        apart,
+        slice_get-get_or xs k x inside
+            ∙ ap Some (sym (get_or-set_other xs i k v x apart) ∙ there),
+      )
     ]
 
-module _ (road : RoadMap) (tolerances : Tolerances) (next : Next) (class first : ℕ) (from : Place) (seconds : List Candidate) where
+module _ (road : RoadMap) (tolerances : Tolerances) (next : Next) (class first : ℕ) (from : Place)
+    (seconds : List Candidate) where
   -- one class limit more was looked at for so many of the pairs of a first candidate
   pub record AreLookedAt (count : ℕ) (pairs : List PairLength) : Type 0 where
     pub long : length pairs ≡ length seconds
@@ -30,10 +41,12 @@ module _ (road : RoadMap) (tolerances : Tolerances) (next : Next) (class first :
     pub behind : (index : ℕ) (pair : PairLength) → count ≤ index → slice_get pairs index ≡ Some pair
         → IsPairAt road tolerances next class first from seconds index pair
 
-module _ {road : RoadMap} {tolerances : Tolerances} {next : Next} {first : ℕ} {from : Place} (seconds : List Candidate) where
+module _ {road : RoadMap} {tolerances : Tolerances} {next : Next} {first : ℕ} {from : Place}
+    (seconds : List Candidate) where
   -- a pair of the second candidate that is read at an index
   pub pair_at : {end : ℕ} (index : ℕ) (d : Candidate) {pair : PairLength}
-      → IsPairOfRanks road tolerances next end from (get_or seconds index d).place first (index + 1) pair
+      → IsPairOfRanks road tolerances next end from (get_or seconds index d).place first (index + 1)
+      pair
       → IsPairAt road tolerances next end first from seconds index pair
   pair_at index d is to to_is = rw (get_or_from_slice_get seconds index to d to_is) at is
 
@@ -42,15 +55,19 @@ module _ {road : RoadMap} {tolerances : Tolerances} {next : Next} {first : ℕ} 
       → index < length pairs → index < length seconds
       → ((pair : PairLength) → slice_get pairs index ≡ Some pair
       → IsPairAt road tolerances next end first from seconds index pair)
-      → IsPairOfRanks road tolerances next end from (get_or seconds index d).place first (index + 1) (get_or pairs index none)
+      → IsPairOfRanks road tolerances next end from (get_or seconds index d).place first (index + 1)
+      (get_or pairs index none)
   read_at index d none pairs inside within each =
-      each (get_or pairs index none) (slice_get-get_or pairs index none inside) (get_or seconds index d) (slice_get-get_or seconds index d within)
+      each (get_or pairs index none) (slice_get-get_or pairs index none inside)
+      (get_or seconds index d) (slice_get-get_or seconds index d within)
 
-module _ {road : RoadMap} {tolerances : Tolerances} {next : Next} {class first : ℕ} {from : Place} {seconds : List Candidate} where
+module _ {road : RoadMap} {tolerances : Tolerances} {next : Next} {class first : ℕ} {from : Place}
+    {seconds : List Candidate} where
   pub one_more_looked_at : {count : ℕ} {pairs : List PairLength} {pair : PairLength}
       → IsPairAt road tolerances next (class + 1) first from seconds count pair
       → AreLookedAt road tolerances next class first from seconds count pairs
-      → AreLookedAt road tolerances next class first from seconds (count + 1) (slice_set pairs count pair)
+      → AreLookedAt road tolerances next class first from seconds (count + 1)
+      (slice_set pairs count pair)
   one_more_looked_at {count} {pairs} {pair} here so_far = record {
     long = length-set pairs count pair ∙ so_far.long;
     before = λ index other below is. elim (set_cases pairs count index pair other is) [
@@ -64,8 +81,10 @@ module _ {road : RoadMap} {tolerances : Tolerances} {next : Next} {class first :
   }
 
   -- each pair is answered, so that the class limit isn't looked at
-  pub all_answered : {pairs : List PairLength} → All (IsAnswered (greatest_admitted tolerances next)) pairs
-      → ArePairsFrom road tolerances next class first from seconds pairs → ArePairsFrom road tolerances next (class + 1) first from seconds pairs
+  pub all_answered : {pairs : List PairLength}
+      → All (IsAnswered (greatest_admitted tolerances next)) pairs
+      → ArePairsFrom road tolerances next class first from seconds pairs
+      → ArePairsFrom road tolerances next (class + 1) first from seconds pairs
   all_answered {pairs} all so_far = record {
     count = so_far.count;
     each = λ index pair is to to_is.

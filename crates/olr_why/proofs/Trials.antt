@@ -1,4 +1,5 @@
--- What is found with some tolerances, by the candidates of the points and the keys of the layers' table.
+-- What is found with some tolerances, by the candidates of the points and the keys of the layers'
+-- table.
 use Rattle.std.proofs.Common.{◌≡◌, ℕ, ◌+◌, ◌*◌, ◌<◌, List, [], ◌∷◌, length, get_or, inl, inr, None, Some, ◌∙◌, ap, subst, arith, All, Any, Contains, Option, slice_get, slice_index_or}
 use Rattle.std.proofs.lemmas.Bool.{cases_lt}
 use Rattle.std.proofs.lemmas.List.{get_or-map, get_or_past, length-map, nil_from_length}
@@ -15,73 +16,94 @@ use Rattle.olr_why.proofs.Places.{candidate_at}
 use Rattle.olr_why.proofs.Tuples.{candidate_of, pair_of}
 
 -- a list without elements is an empty one
-empty_contained : (lists : List (ArrayVec Candidate)) → Any (λ (list : ArrayVec Candidate). array_vec_len list ≡ 0) lists → Contains (lists_of lists) []
+empty_contained : (lists : List (ArrayVec Candidate))
+    → Any (λ (list : ArrayVec Candidate). array_vec_len list ≡ 0) lists
+    → Contains (lists_of lists) []
 empty_contained lists (k, list, inside, is, none) =
     let items : ArrayVec Candidate → List Candidate = λ v. v.items in
     let empty : list.items ≡ [] = nil_from_length list.items none in (
       k,
       omega (arith, inside, length-map lists items),
-      subst (λ (d : List Candidate). get_or (lists_of lists) k d ≡ d) empty (get_or-map items lists k list (items list) inside ∙ ap items is),
+      subst (λ (d : List Candidate). get_or (lists_of lists) k d ≡ d) empty
+          (get_or-map items lists k list (items list) inside ∙ ap items is),
     )
 
 -- a list of nothing but none has none at each index
-none_at : (lengths : List (Option ℕ)) (k : ℕ) → All (λ (length : Option ℕ). length ≡ None) lengths → slice_index_or lengths k None ≡ None
+none_at : (lengths : List (Option ℕ)) (k : ℕ) → All (λ (length : Option ℕ). length ≡ None) lengths
+    → slice_index_or lengths k None ≡ None
 none_at lengths k none = elim (cases_lt k (length lengths)) [
   | inl inside ↦ none k None inside
   | inr outside ↦ get_or_past lengths k None outside
 ]
 
 -- a list without a first one is empty
-none_contained : (answers : List KeyValue) (key : KeyValue) → slice_get answers 0 ≡ None → Contains answers key → ⊥
+none_contained : (answers : List KeyValue) (key : KeyValue) → slice_get answers 0 ≡ None
+    → Contains answers key → ⊥
 none_contained [] key none there = omega (arith, there.1)
 none_contained (first ∷ rest) key none there = cc
 
 -- where each point has its list, none has too many
-pub uncrowded : (road : RoadMap) {tolerances : Tolerances} {reference : Reference} {lists : List (List Candidate)}
-    → AreLists tolerances reference road.lines lists → NoListsAndTooMany → IsUncrowded road tolerances reference
+pub uncrowded : (road : RoadMap) {tolerances : Tolerances} {reference : Reference}
+    {lists : List (List Candidate)}
+    → AreLists tolerances reference road.lines lists → NoListsAndTooMany
+    → IsUncrowded road tolerances reference
 uncrowded road are law index inside many = law _ _ road.lines _ index are many
 
 module _ {road : RoadMap} {tolerances : Tolerances} {reference : Reference} where
   -- ---- by the candidates of the points
 
-  module _ {lists : List (List Candidate)} (are : AreLists tolerances reference road.lines lists) where
-    -- where a list is empty, there is no matching
-    none_with_empty : Contains lists [] → HasMatching road tolerances reference → ⊥
-    none_with_empty (index, inside, empty) matching =
-        let at : slice_get lists index ≡ Some [] = slice_get-get_or lists index [] inside ∙ ap Some empty in
-        let has = candidate_of index (omega (arith, inside, are.all)) matching in
-        let found = candidate_at (are.each index [] at).0 has.1 in
-        absurd (omega (arith, slice_get_within [] found.0 found.1 found.2))
+  module _ {lists : List (List Candidate)} (are : AreLists tolerances reference road.lines lists)
+    where
+      -- where a list is empty, there is no matching
+      none_with_empty : Contains lists [] → HasMatching road tolerances reference → ⊥
+      none_with_empty (index, inside, empty) matching =
+          let at : slice_get lists index ≡ Some [] = slice_get-get_or lists index [] inside
+          ∙ ap Some empty in
+          let has = candidate_of index (omega (arith, inside, are.all)) matching in
+          let found = candidate_at (are.each index [] at).0 has.1 in
+          absurd (omega (arith, slice_get_within [] found.0 found.1 found.2))
 
-    -- nor where a leg admits no pair of the candidates
-    none_with_shut : HasShutLeg road tolerances reference lists → HasMatching road tolerances reference → ⊥
-    none_with_shut shut matching =
-        let index : ℕ = shut.layer in
-        let inside : index + 1 < length (points_of reference) = omega (arith, shut.within, are.all) in
-        let pair = pair_of index inside matching in
-        let first = candidate_at (list_of _ _ _ _ index are (omega (arith, inside, are.all))).0 pair.2 in
-        let second = candidate_at (list_of _ _ _ _ (index + 1) are (omega (arith, inside, are.all))).0 pair.3 in
-        let same : AdmitsPlaces road tolerances reference index first.1.place second.1.place =
-        rw (first.3, second.3) pair.4 in
-        let known = (shut.are same.next same.leads_on).each first.0 second.0 first.1 second.1 first.2 second.2 in
-        (subst (IsAdmittedLength road tolerances same.next first.1.place second.1.place)
-        (none_at shut.lengths (first.0 * length (slice_index_or lists (index + 1) []) + second.0) shut.none) known) same.length same.admitted
+      -- nor where a leg admits no pair of the candidates
+      none_with_shut : HasShutLeg road tolerances reference lists
+          → HasMatching road tolerances reference → ⊥
+      none_with_shut shut matching =
+          let index : ℕ = shut.layer in
+          let inside : index + 1 < length (points_of reference) =
+          omega (arith, shut.within, are.all) in
+          let pair = pair_of index inside matching in
+          let first = candidate_at (list_of _ _ _ _ index are (omega (arith, inside, are.all))).0
+          pair.2 in
+          let second = candidate_at (list_of _ _ _ _ (index + 1) are
+          (omega (arith, inside, are.all))).0 pair.3 in
+          let same : AdmitsPlaces road tolerances reference index first.1.place second.1.place =
+          rw (first.3, second.3) pair.4 in
+          let known = (shut.are same.next same.leads_on).each first.0 second.0 first.1 second.1
+          first.2 second.2 in
+          (subst (IsAdmittedLength road tolerances same.next first.1.place second.1.place)
+          (none_at shut.lengths (first.0 * length (slice_index_or lists (index + 1) []) + second.0)
+          shut.none) known) same.length same.admitted
 
-  pub trial_shut : {lists : List (List Candidate)} → NoListsAndTooMany → AreLists tolerances reference road.lines lists
+  pub trial_shut : {lists : List (List Candidate)} → NoListsAndTooMany
+      → AreLists tolerances reference road.lines lists
       → HasShutLeg road tolerances reference lists → IsTrial road tolerances reference NoMatching
   trial_shut law are shut = (uncrowded road are law, none_with_shut are shut)
 
-  pub trial_with_empty : NoListsAndTooMany → (lists : List (ArrayVec Candidate)) → AreLists tolerances reference road.lines (lists_of lists)
-      → Any (λ (list : ArrayVec Candidate). array_vec_len list ≡ 0) lists → IsTrial road tolerances reference NoMatching
-  trial_with_empty law lists are empty = (uncrowded road are law, none_with_empty are (empty_contained lists empty))
+  pub trial_with_empty : NoListsAndTooMany → (lists : List (ArrayVec Candidate))
+      → AreLists tolerances reference road.lines (lists_of lists)
+      → Any (λ (list : ArrayVec Candidate). array_vec_len list ≡ 0) lists
+      → IsTrial road tolerances reference NoMatching
+  trial_with_empty law lists are empty =
+      (uncrowded road are law, none_with_empty are (empty_contained lists empty))
 
   -- ---- by the keys of the layers' table
 
-  module _ {layers : LayersValue} (on : AreLayersOn road layers) (reference_is : layers.reference ≡ reference)
+  module _ {layers : LayersValue} (on : AreLayersOn road layers)
+      (reference_is : layers.reference ≡ reference)
       (tolerances_is : layers.tolerances ≡ tolerances) (too_many : NoListsAndTooMany) where
     uncrowded_layers : IsUncrowded road tolerances reference
     uncrowded_layers =
-        uncrowded road {lists = layers.candidates} (rw (← reference_is, ← tolerances_is) on.lists) too_many
+        uncrowded road {lists = layers.candidates} (rw (← reference_is, ← tolerances_is) on.lists)
+        too_many
 
     pub trial_matching : {key : KeyValue} → IsFirstKey layers.penalties (Some key)
         → IsTrial road tolerances reference (Matching key)
@@ -98,7 +120,8 @@ module _ {road : RoadMap} {tolerances : Tolerances} {reference : Reference} wher
       },
     )
 
-    pub trial_without : MatchingHasKey → IsFirstKey layers.penalties None → IsTrial road tolerances reference NoMatching
+    pub trial_without : MatchingHasKey → IsFirstKey layers.penalties None
+        → IsTrial road tolerances reference NoMatching
     trial_without law none = (
       uncrowded_layers,
       λ matching.

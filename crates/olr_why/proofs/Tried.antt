@@ -16,7 +16,8 @@ use Rattle.olr_why.proofs.Widened.{matching, too_many}
 -- ---- ranges
 
 -- a value that a tolerance has is within its range
-pub value_in_range : {name : Name} {value : ℕ} {given changed : Tolerances} → IsChanged name value given changed
+pub value_in_range : {name : Name} {value : ℕ} {given changed : Tolerances}
+    → IsChanged name value given changed
     → IsTolerance name value
 value_in_range {name} {changed =
     changed} is = subst (λ (v : ℕ). IsTolerance name v) is.changed_is (in_range changed name)
@@ -29,19 +30,24 @@ module _ (road : RoadMap) (reference : Reference) where
       → IsFirstMatching road tolerances reference key
       → HasMatching road tolerances reference
   has_matching {key = key} law first =
-      let is : IsKey first.layers.penalties key = all_at (IsKey first.layers.penalties) first.answers 0 key first.are.only first.first in
-      rw (← first.reference_is, ← first.tolerances_is) ((law road first.layers first.on).1 (key, is))
+      let is : IsKey first.layers.penalties key =
+      all_at (IsKey first.layers.penalties) first.answers 0 key first.are.only first.first in
+      rw (← first.reference_is, ← first.tolerances_is)
+      ((law road first.layers first.on).1 (key, is))
 
   -- a point has too many candidates, or none has
-  pub not_both : (tolerances : Tolerances) → IsCrowded road tolerances reference → IsUncrowded road tolerances reference → ⊥
-  not_both tolerances (index, many) none = none index (slice_get_within (points_of reference) index many.point many.point_is) many
+  pub not_both : (tolerances : Tolerances) → IsCrowded road tolerances reference
+      → IsUncrowded road tolerances reference → ⊥
+  not_both tolerances (index, many) none =
+      none index (slice_get_within (points_of reference) index many.point many.point_is) many
 
   -- and with tolerances that are at least these too
   still_crowded : {before after : Tolerances} → OneCandidateALine → AreAtMost before after
       → IsCrowded road before reference
       → IsUncrowded road after reference → ⊥
   still_crowded {after =
-      after} law wide (index, many) = not_both after (index, too_many wide law reference road.lines index many)
+      after} law wide (index, many) =
+      not_both after (index, too_many wide law reference road.lines index many)
 
 module _ {road : RoadMap} {reference : Reference} {given : Tolerances} {name : Name} where
   -- ---- the value that was tried
@@ -49,19 +55,27 @@ module _ {road : RoadMap} {reference : Reference} {given : Tolerances} {name : N
   -- a value with which a point has too many candidates
   pub crowded_with : {value : ℕ} → IsTrialWith road given reference name value Crowded
       → IsCrowdedWith road given reference name value
-  crowded_with trial = record { changed = trial.changed; is_changed = trial.is_changed; crowded = trial.is }
+  crowded_with trial = record {
+    changed = trial.changed;
+    is_changed = trial.is_changed;
+    crowded =
+        trial.is;
+  }
 
   -- isn't enough
-  pub crowded_is_none : {value : ℕ} → OneCandidateALine → IsTrialWith road given reference name value Crowded
+  pub crowded_is_none : {value : ℕ} → OneCandidateALine
+      → IsTrialWith road given reference name value Crowded
       → IsEnough road given reference name value → ⊥
   crowded_is_none law trial enough =
-      still_crowded road reference law (at_most_same trial.is_changed enough.is_changed) trial.is enough.uncrowded
+      still_crowded road reference law (at_most_same trial.is_changed enough.is_changed) trial.is
+      enough.uncrowded
 
   -- one that gives no matching isn't enough
   pub without_is_none : {value : ℕ} → IsTrialWith road given reference name value NoMatching
       → IsEnough road given reference name value → ⊥
   without_is_none trial enough =
-      trial.is.1 (matching (at_most_same enough.is_changed trial.is_changed) road reference enough.matching)
+      trial.is.1 (matching (at_most_same enough.is_changed trial.is_changed) road reference
+      enough.matching)
 
   -- one that gives a first matching is
   pub matching_is_enough : {value : ℕ} {key : KeyValue} → MatchingHasKey
@@ -78,11 +92,18 @@ module _ {road : RoadMap} {reference : Reference} {given : Tolerances} {name : N
   }
 
   -- one with which each point has its list
-  pub uncrowded_with : {value : ℕ} {changed : Tolerances} {lists : List (List Candidate)} → NoListsAndTooMany
+  pub uncrowded_with : {value : ℕ} {changed : Tolerances} {lists : List (List Candidate)}
+      → NoListsAndTooMany
       → IsChanged name value given changed
-      → AreLists changed reference road.lines lists → IsUncrowdedWith road given reference name value
+      → AreLists changed reference road.lines lists
+      → IsUncrowdedWith road given reference name value
   uncrowded_with {changed =
-      changed} law is are = record { changed = changed; is_changed = is; uncrowded = uncrowded road are law }
+      changed} law is are = record {
+        changed = changed;
+        is_changed = is;
+        uncrowded =
+            uncrowded road are law;
+      }
 
   -- ---- other values
 
@@ -91,21 +112,25 @@ module _ {road : RoadMap} {reference : Reference} {given : Tolerances} {name : N
     pub none_up_to : {value : ℕ} → IsTrialWith road given reference name value NoMatching
         → IsNoneUpTo road given reference name value
     none_up_to trial lesser above less enough =
-        trial.is.1 (matching (at_most_wider less enough.is_changed trial.is_changed differ) road reference enough.matching)
+        trial.is.1 (matching (at_most_wider less enough.is_changed trial.is_changed differ) road
+        reference enough.matching)
 
     -- where a point has too many candidates with a value, it has with each greater one
     crowded_up : {value greater : ℕ} {changed : Tolerances} → OneCandidateALine → value ≤ greater
         → IsCrowdedWith road given reference name value
         → IsChanged name greater given changed → IsUncrowded road changed reference → ⊥
     crowded_up law less crowded is =
-        still_crowded road reference law (at_most_wider less crowded.is_changed is differ) crowded.crowded
+        still_crowded road reference law (at_most_wider less crowded.is_changed is differ)
+        crowded.crowded
 
     pub crowded_up_is_none : {value greater : ℕ} → OneCandidateALine → value ≤ greater
         → IsCrowdedWith road given reference name value
         → IsEnough road given reference name greater → ⊥
-    crowded_up_is_none law less crowded enough = crowded_up law less crowded enough.is_changed enough.uncrowded
+    crowded_up_is_none law less crowded enough =
+        crowded_up law less crowded enough.is_changed enough.uncrowded
 
-    pub crowded_from : {value : ℕ} → OneCandidateALine → IsCrowdedWith road given reference name value
+    pub crowded_from : {value : ℕ} → OneCandidateALine
+        → IsCrowdedWith road given reference name value
         → AreCrowdedFrom road given reference name value
     crowded_from law crowded greater less below uncrowded =
         crowded_up law less crowded uncrowded.is_changed uncrowded.uncrowded

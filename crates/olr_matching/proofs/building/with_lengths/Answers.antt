@@ -1,6 +1,6 @@
-use Rattle.std.proofs.Common.{◌≡◌, sym, ◌∙◌, ap, subst}
+use Rattle.std.proofs.Common.{sym, ◌∙◌, ap, subst}
 use Rattle.olr_matching.proofs.Common.{LayersValue, lengths_of, lists_of}
-use Rattle.olr_keys.specs.Table.{IsTable, Penalties, penalties_of as vectors_of}
+use Rattle.olr_keys.specs.Table.{Penalties}
 use Rattle.olr_matching.specs.Penalties.{ArePenaltiesOfLegs}
 use Rattle.olr_matching.proofs.Tables.{are_layers, table_of_vectors}
 use Rattle.olr_matching.proofs.building.with_lengths.Goals as goal
@@ -27,10 +27,12 @@ returns-clause-layers c =
     let table =
     rw (c.deref-3.ensures.value, c.deref-4.ensures.value) at c.in_ok-table.ensures in
     let are_legs =
-    subst (λ (it : Penalties). ArePenaltiesOfLegs c.args.reference.now layers.lengths it.legs) (sym table)
+    subst (λ (it : Penalties). ArePenaltiesOfLegs c.args.reference.now layers.lengths it.legs)
+    (sym table)
     (rw c.deref-2.ensures.value at c.in_ok-legs.ensures) in
     let are_penalties = ap (λ it. it.candidates) table
     ∙ (rw c.deref.ensures.value at c.in_ok-penalties.ensures) in
     let is_table = rw c.table.view_is at c.table.invariant in
-    are_layers _ _ _ c.in_ok-copy_of.ensures c.requires.reference c.requires.lists c.requires.lengths
+    are_layers _ _ _ c.in_ok-copy_of.ensures c.requires.reference c.requires.lists
+    c.requires.lengths
     is_table are_penalties are_legs

@@ -6,4 +6,5 @@ use Rattle.olr_matching.proofs.fingerprint_lines.take_map.Given as goal
 
 -- the rows so far are taken in
 abbrev pub invariant-loop-number : goal.invariant-loop-number
-invariant-loop-number l = Extends l.initial.hasher l.hasher (concat (take l.number (canonical_rows l.map)))
+invariant-loop-number l = Extends l.initial.hasher l.hasher
+    (concat (take l.number (canonical_rows l.map)))

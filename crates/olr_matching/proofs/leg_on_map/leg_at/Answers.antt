@@ -17,15 +17,20 @@ returns c =
     let road = c.args.map.now in
     let lists : List (List Candidate) = lists_of c.args.candidates.now in
     let count = count_of c.args.candidates.now in
-    let first = list_of c.args.tolerances.now c.args.reference.now road.lines lists c.args.layer c.requires.lists (omega (arith, count, c.requires.within)) in
-    let second = list_of c.args.tolerances.now c.args.reference.now road.lines lists (c.args.layer + 1) c.requires.lists
+    let first = list_of c.args.tolerances.now c.args.reference.now road.lines lists c.args.layer
+    c.requires.lists (omega (arith, count, c.requires.within)) in
+    let second = list_of c.args.tolerances.now c.args.reference.now road.lines lists
+    (c.args.layer + 1) c.requires.lists
     (omega (arith, count, c.requires.within)) in
-    let not_last : c.args.layer + 1 < length (points_of c.args.reference.now) = omega (arith, count, c.requires.lists.all, c.requires.within) in
+    let not_last : c.args.layer + 1 < length (points_of c.args.reference.now) =
+    omega (arith, count, c.requires.lists.all, c.requires.within) in
     record {
       ends = record {
-        departures = rw c.list_at.ensures (c.places.ensures.departures c.args.tolerances.now c.args.reference.now road
+        departures = rw c.list_at.ensures
+            (c.places.ensures.departures c.args.tolerances.now c.args.reference.now road
             c.args.layer _ not_last first.0);
-        places = rw c.list_at-2.ensures (c.places.ensures.places c.args.tolerances.now c.args.reference.now road
+        places = rw c.list_at-2.ensures
+            (c.places.ensures.places c.args.tolerances.now c.args.reference.now road
             (c.args.layer + 1) _ second.0);
       };
       map_is = refl;

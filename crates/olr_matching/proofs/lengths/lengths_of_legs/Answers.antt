@@ -2,8 +2,7 @@ use Rattle.std.proofs.Common.{◌≡◌, Bool, true, false, ℕ, ◌++◌, List,
 use Rattle.std.specs.Global.{Vec}
 use Rattle.std.proofs.lemmas.List.{length-map, map-append}
 use Rattle.std.proofs.lemmas.List.Elements.{All-push}
-use Rattle.arrayvec.specs.ArrayVec.{ArrayVec}
-use Rattle.olr_matching.proofs.Common.{Candidate, lengths_of, lists_of}
+use Rattle.olr_matching.proofs.Common.{lengths_of, lists_of}
 use Rattle.olr_matching.specs.Lengths.{AreLengthsOfLeg}
 use Rattle.olr_matching.proofs.LengthRows.{lengths_of_leg}
 use Rattle.olr_matching.proofs.Lists.{holds_of_one_more}
@@ -26,17 +25,22 @@ loop-layer-preserved c =
     let here =
     lengths_of_leg _ _ _ _ layer c.leg_at-leg.result leg.items c.leg_at-leg.ensures
     c.in_ok-of_leg.ensures.lengths in
-    let is : lengths_of c.push.new.self.items ≡ lengths_of c.loop-layer.lengths.items ++ leg.items ∷ [] =
-    ap lengths_of c.in_ok-push.ensures.items ∙ map-append (λ (one : Vec (Option ℕ)). one.items) c.loop-layer.lengths.items (leg ∷ []) in
+    let is : lengths_of c.push.new.self.items ≡ lengths_of c.loop-layer.lengths.items ++ leg.items
+    ∷ [] =
+    ap lengths_of c.in_ok-push.ensures.items
+    ∙ map-append (λ (one : Vec (Option ℕ)). one.items) c.loop-layer.lengths.items (leg ∷ []) in
     record {
       legs = rw is (holds_of_one_more Has [] layer (lengths_of c.loop-layer.lengths.items) leg.items
           c.loop-layer.invariant.legs here);
       admit = λ stops. rw is
-          (All-push (λ (lengths : List (Option ℕ)). IsShut lengths → ⊥) (lengths_of c.loop-layer.lengths.items) leg.items (c.loop-layer.invariant.admit stops)
+          (All-push (λ (lengths : List (Option ℕ)). IsShut lengths → ⊥)
+          (lengths_of c.loop-layer.lengths.items) leg.items (c.loop-layer.invariant.admit stops)
           (λ shut. elim c.else-stops_at_shut.branch [
             | else-stops_at_shut-via-then-stops_at_shut+else-is_shut w ↦
-                yes_and_no w.is_shut.result (w.is_shut.ensures.1 (rw w.deref.ensures.value shut)) w.if-is_shut.false
-            | else-stops_at_shut-via-else-stops_at_shut w ↦ yes_and_no c.args.stops_at_shut stops w.if-stops_at_shut.false
+                yes_and_no w.is_shut.result (w.is_shut.ensures.1 (rw w.deref.ensures.value shut))
+                w.if-is_shut.false
+            | else-stops_at_shut-via-else-stops_at_shut w
+                ↦ yes_and_no c.args.stops_at_shut stops w.if-stops_at_shut.false
           ]));
       searches = rw (← c.leg_at-leg.ensures.map_is) c.in_ok-of_leg.ensures.searches;
     }

@@ -1,15 +1,17 @@
-use Rattle.std.proofs.Common.{ℕ, List, [], IsTrue, Option}
+use Rattle.std.proofs.Common.{[], IsTrue}
 use Rattle.olr_matching.proofs.Common.{lengths_of, lists_of}
 use Rattle.olr_matching.specs.Lengths.{AreLengthsOfLeg, AreOpen}
 use Rattle.olr_matching.specs.Searches.{AreSearchesOn}
 use Rattle.olr_matching.proofs.Lists.{HoldsOfAll}
 use Rattle.olr_matching.proofs.lengths.lengths_of_legs.Given as goal
 
--- each leg so far has its lengths, and admits a pair if it stops at one that doesn't; the searches are of this map
+-- each leg so far has its lengths, and admits a pair if it stops at one that doesn't; the searches
+-- are of this map
 abbrev pub invariant-loop-layer : goal.invariant-loop-layer
 invariant-loop-layer l = record {
   legs : HoldsOfAll
-      (λ layer lengths. AreLengthsOfLeg l.map l.tolerances l.reference (lists_of l.candidates) layer lengths)
+      (λ layer lengths. AreLengthsOfLeg l.map l.tolerances l.reference (lists_of l.candidates) layer
+      lengths)
       [] l.layer (lengths_of l.lengths.items);
   admit : IsTrue l.stops_at_shut → AreOpen (lengths_of l.lengths.items);
   searches : AreSearchesOn l.map l.searches;

@@ -1,4 +1,4 @@
-use Rattle.std.proofs.Common.{ℕ, List, [], Option, slice_index_or}
+use Rattle.std.proofs.Common.{[], slice_index_or}
 use Rattle.olr_matching.specs.Layers.{lengths_of}
 use Rattle.olr_matching.specs.Penalties.{ArePenaltiesOfLeg}
 use Rattle.olr_matching.proofs.Lists.{HoldsOfAll}
@@ -7,5 +7,6 @@ use Rattle.olr_matching.proofs.penalties.penalties_of_legs.Given as goal
 -- each leg so far has its penalties
 abbrev pub invariant-loop-layer : goal.invariant-loop-layer
 invariant-loop-layer l = HoldsOfAll
-    (λ layer penalties. ArePenaltiesOfLeg l.reference layer (slice_index_or (lengths_of l.lengths) layer []) penalties)
+    (λ layer penalties. ArePenaltiesOfLeg l.reference layer
+    (slice_index_or (lengths_of l.lengths) layer []) penalties)
     [] l.layer (lengths_of l.legs.items)

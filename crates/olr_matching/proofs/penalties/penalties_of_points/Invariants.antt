@@ -1,8 +1,8 @@
-use Rattle.std.proofs.Common.{◌≡◌, ℕ, map, take}
-use Rattle.std.specs.Global.{Vec}
+use Rattle.std.proofs.Common.{◌≡◌, map, take}
 use Rattle.olr_matching.proofs.Common.{lists_of, penalties_of}
 use Rattle.olr_matching.proofs.penalties.penalties_of_points.Given as goal
 
 -- the penalties of the points so far
 abbrev pub invariant-loop-list : goal.invariant-loop-list
-invariant-loop-list l = map (λ layer. layer.items) l.layers.items ≡ map penalties_of (lists_of (take l.list-index l.candidates))
+invariant-loop-list l = map (λ layer. layer.items) l.layers.items
+    ≡ map penalties_of (lists_of (take l.list-index l.candidates))

@@ -5,4 +5,5 @@ use Rattle.olr_report.proofs.along.place_on.Given as goal
 
 -- the place sought lies along the rest
 abbrev pub invariant-loop-piece : goal.invariant-loop-piece
-invariant-loop-piece l = IsAlongRest (place_at (steps_of l.pieces) l.fn.distance) (drop l.piece-index l.pieces) l.left
+invariant-loop-piece l = IsAlongRest (place_at (steps_of l.pieces) l.fn.distance)
+    (drop l.piece-index l.pieces) l.left

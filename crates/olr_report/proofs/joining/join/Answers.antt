@@ -9,13 +9,16 @@ pub loop-leg-init : goal.loop-leg-init
 loop-leg-init c = no_pieces c.in_ok-route.route.items c.in_ok-route.ensures.items
 
 pub append_all-requires-clause-route : goal.append_all-requires-clause-route
-append_all-requires-clause-route c = route_of_itself (steps_of_legs (take c.loop-leg.leg-index c.args.legs.now)) c.loop-leg.route.items
+append_all-requires-clause-route c =
+    route_of_itself (steps_of_legs (take c.loop-leg.leg-index c.args.legs.now))
+    c.loop-leg.route.items
     c.loop-leg.invariant
 
 pub append_all-requires-clause-forwards : goal.append_all-requires-clause-forwards
 append_all-requires-clause-forwards c =
     rw (c.deref.ensures.value, ap (λ (leg : Leg). leg.route) c.leg.view_is, c.leg-item.is)
-    (All-get_or (λ leg. All IsForwards leg.route) c.args.legs.now c.loop-leg.leg-index c.leg-item.result c.loop-leg-test.true c.requires)
+    (All-get_or (λ leg. All IsForwards leg.route) c.args.legs.now c.loop-leg.leg-index
+    c.leg-item.result c.loop-leg-test.true c.requires)
 
 pub loop-leg-preserved : goal.loop-leg-preserved
 loop-leg-preserved c =
@@ -24,11 +27,13 @@ loop-leg-preserved c =
     let leg = c.leg-item.result in
     let here : c.deref.result.now ≡ (get_or legs i leg).route =
     c.deref.ensures.value ∙ ap (λ (leg : Leg). leg.route) (c.leg.view_is ∙ c.leg-item.is) in
-    steps_more (steps_of_legs (take i legs)) (steps_of c.deref.result.now) (steps_of_legs (take (i + 1) legs)) c.loop-leg.route.items
+    steps_more (steps_of_legs (take i legs)) (steps_of c.deref.result.now)
+    (steps_of_legs (take (i + 1) legs)) c.loop-leg.route.items
     c.append_all.new.route.items c.loop-leg.invariant
     (cc (steps_taken (λ (l : Leg). steps_of l.route) [] legs i leg c.loop-leg-test.true))
     c.in_ok-append_all.ensures
 
 pub returns : goal.returns
 returns c =
-    rw (← (take_all c.loop-leg.leg-index c.args.legs.now c.loop-leg-test.false)) c.loop-leg.invariant
+    rw (← (take_all c.loop-leg.leg-index c.args.legs.now c.loop-leg-test.false))
+    c.loop-leg.invariant

@@ -5,11 +5,13 @@ use Rattle.olr_report.proofs.page_json.json_page.Goals as goal
 
 pub to_json_line-requires-clause-no_float : goal.to_json_line-requires-clause-no_float
 to_json_line-requires-clause-no_float c =
-    let plain = plain_page c.args.map.now c.in_ok-matchings.matchings.items _ _ _ _ _ c.next_cursor-next.ensures c.next_after.ensures in plain.no_float
+    let plain = plain_page c.args.map.now c.in_ok-matchings.matchings.items _ _ _ _ _
+    c.next_cursor-next.ensures c.next_after.ensures in plain.no_float
 
 pub to_json_line-requires-clause-shallow : goal.to_json_line-requires-clause-shallow
 to_json_line-requires-clause-shallow c =
-    let plain = plain_page c.args.map.now c.in_ok-matchings.matchings.items _ _ _ _ _ c.next_cursor-next.ensures c.next_after.ensures in
+    let plain = plain_page c.args.map.now c.in_ok-matchings.matchings.items _ _ _ _ _
+    c.next_cursor-next.ensures c.next_after.ensures in
     let shallow = plain.shallow in omega arith
 
 pub returns : goal.returns
@@ -17,5 +19,6 @@ returns c =
     let list = c.in_ok-matchings.matchings.items in record {
       entries = map entry_of list;
       are_entries = c.in_ok-matchings.ensures;
-      json = rw (← (same_page c.args.map.now list _ _ _ _ _ c.next_cursor-next.ensures c.next_after.ensures)) c.in_ok-line.ensures;
+      json = rw (← (same_page c.args.map.now list _ _ _ _ _ c.next_cursor-next.ensures
+          c.next_after.ensures)) c.in_ok-line.ensures;
     }

@@ -10,7 +10,8 @@ last_behind before first (next ∷ keys) = last_behind (Some first) next keys
 
 last_is : (keys : List KeyValue) → slice_get keys (length keys - 1) ≡ last_of None keys
 last_is [] = refl
-last_is (first ∷ keys) = let count : length (first ∷ keys) - 1 ≡ length keys = omega arith in rw count (last_behind None first keys)
+last_is (first ∷ keys) = let count : length (first ∷ keys) - 1 ≡ length keys = omega arith in
+    rw count (last_behind None first keys)
 
 copied : (found : Option (Bor KeyValue)) → option_map (λ key. key.now) found ≡ option_copied found
 copied _ = refl

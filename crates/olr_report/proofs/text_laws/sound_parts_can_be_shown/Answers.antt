@@ -16,8 +16,10 @@ pub returns : goal.returns
 returns c = λ road reference matched sound. record {
   legs = legs_of road reference matched sound;
   on_map = record {
-    candidates = All-weaker (λ candidate. IsPlace road candidate.place) (λ candidate. HasLine road candidate.place.line)
-        (λ candidate place. slice_get_within road.lines candidate.place.line place.line place.at_rank) matched.candidates sound.on_map;
+    candidates = All-weaker (λ candidate. IsPlace road candidate.place)
+        (λ candidate. HasLine road candidate.place.line)
+        (λ candidate place. slice_get_within road.lines candidate.place.line place.line
+        place.at_rank) matched.candidates sound.on_map;
     legs = All-weaker (IsSoundLeg road) (λ leg. HasPieces road leg.route)
         (has_pieces road) matched.legs sound.each;
   };

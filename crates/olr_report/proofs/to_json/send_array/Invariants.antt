@@ -5,5 +5,7 @@ use Rattle.olr_report.proofs.to_json.send_array.Given as goal
 -- with what the values that are left send, and the end, all of them are sent
 abbrev pub invariant-loop-value : goal.invariant-loop-value
 invariant-loop-value g l = (end : Log)
-    → SendsItems (items_of (map (g.T.ToJson.value l.map) (drop l.value-index l.list))) (g.S.Serializer.written l.out) end
-    → SendsItems (items_of (map (g.T.ToJson.value l.map) l.list)) (g.S.Serializer.written l.initial.out) end
+    → SendsItems (items_of (map (g.T.ToJson.value l.map) (drop l.value-index l.list)))
+    (g.S.Serializer.written l.out) end
+    → SendsItems (items_of (map (g.T.ToJson.value l.map) l.list))
+    (g.S.Serializer.written l.initial.out) end

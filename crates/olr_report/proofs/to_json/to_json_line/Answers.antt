@@ -5,4 +5,5 @@ pub returns : goal.returns
 unfolding lib.Utf8.encode
 returns g c =
     let events = c.in-Ok.ensures.events in
-    line_of _ events.0 _ _ events.1 events.2 c.requires.no_float c.requires.shallow c.in_ok-push.ensures.bytes
+    line_of _ events.0 _ _ events.1 events.2 c.requires.no_float c.requires.shallow
+    c.in_ok-push.ensures.bytes

@@ -14,7 +14,8 @@ loop-index-preserved c =
       | then-is_joined_to_one w ↦ (
         rw w.next-is (omega (arith, w.push.ensures.len)),
         rw (w.next-is, w.push.ensures.items)
-            (one_more P index _ c.loop-index.invariant.1 (c.is_joined_to_one.ensures.0 w.if-is_joined_to_one.true)),
+            (one_more P index _ c.loop-index.invariant.1
+            (c.is_joined_to_one.ensures.0 w.if-is_joined_to_one.true)),
       )
       | else-is_joined_to_one w ↦ (
         rw w.next-is (omega arith),
@@ -25,6 +26,8 @@ loop-index-preserved c =
 
 pub returns : goal.returns
 returns c =
-    let all : c.loop-index.index ≡ length (slice_index_or c.args.layers.now.candidates (c.args.layer + 1) []) =
+    let all : c.loop-index.index ≡ length
+    (slice_index_or c.args.layers.now.candidates (c.args.layer + 1) []) =
     omega (arith, ap (λ (l : List Candidate). length l) c.layer-index-end.ensures.layer) in
-    ends.next_ends c.args.layers.now c.args.layer c.args.ends.now _ c.requires.ends (rw all at c.loop-index.invariant.1)
+    ends.next_ends c.args.layers.now c.args.layer c.args.ends.now _ c.requires.ends
+    (rw all at c.loop-index.invariant.1)

@@ -4,4 +4,5 @@ use Rattle.olr_why.proofs.Lists.{AreBelow}
 use Rattle.olr_why.proofs.chain.next_ends.Given as goal
 
 abbrev pub invariant-loop-index : goal.invariant-loop-index
-invariant-loop-index l = (length l.next.items ≤ l.index) × AreBelow (IsJoinedToOne l.layers l.layer l.ends) l.index l.next.items
+invariant-loop-index l = (length l.next.items ≤ l.index)
+    × AreBelow (IsJoinedToOne l.layers l.layer l.ends) l.index l.next.items

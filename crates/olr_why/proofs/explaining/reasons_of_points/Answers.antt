@@ -7,7 +7,11 @@ use Rattle.olr_why.proofs.explaining.reasons_of_points.Goals as goal
 
 pub loop-index-preserved : goal.loop-index-preserved
 loop-index-preserved c =
-    let OnMap : PointReason → Type 0 = λ point. All (λ (near : NearLine). near.line < length c.args.map.now.lines) point.nearest in record {
-      reasons = one_more_element c.loop-index.invariant.reasons c.in_ok-point.ensures.reason c.in_ok-push.ensures.items;
-      on_map = rw c.in_ok-push.ensures.items (All-push OnMap _ _ c.loop-index.invariant.on_map c.in_ok-point.ensures.on_map);
+    let OnMap : PointReason → Type 0 =
+    λ point. All (λ (near : NearLine). near.line < length c.args.map.now.lines) point.nearest in
+    record {
+      reasons = one_more_element c.loop-index.invariant.reasons c.in_ok-point.ensures.reason
+          c.in_ok-push.ensures.items;
+      on_map = rw c.in_ok-push.ensures.items
+          (All-push OnMap _ _ c.loop-index.invariant.on_map c.in_ok-point.ensures.on_map);
     }

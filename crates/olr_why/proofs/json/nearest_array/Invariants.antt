@@ -5,4 +5,5 @@ use Rattle.olr_why.proofs.json.nearest_array.Given as goal
 
 -- the values so far
 abbrev pub invariant-loop-near : goal.invariant-loop-near
-invariant-loop-near l = map view l.values.items ≡ map (near_object l.map) (take l.near-index l.nearest)
+invariant-loop-near l = map view l.values.items
+    ≡ map (near_object l.map) (take l.near-index l.nearest)

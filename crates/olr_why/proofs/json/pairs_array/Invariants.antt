@@ -5,4 +5,5 @@ use Rattle.olr_why.proofs.json.pairs_array.Given as goal
 
 -- the values so far
 abbrev pub invariant-loop-pair : goal.invariant-loop-pair
-invariant-loop-pair l = map view l.values.items ≡ map (pair_object l.leg.from l.leg.to) (take l.pair-index l.leg.pairs)
+invariant-loop-pair l = map view l.values.items
+    ≡ map (pair_object l.leg.from l.leg.to) (take l.pair-index l.leg.pairs)

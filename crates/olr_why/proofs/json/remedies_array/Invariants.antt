@@ -5,4 +5,5 @@ use Rattle.olr_why.proofs.json.remedies_array.Given as goal
 
 -- the values so far
 abbrev pub invariant-loop-remedy : goal.invariant-loop-remedy
-invariant-loop-remedy l = map view l.values.items ≡ map (remedy_object) (take l.remedy-index l.remedies)
+invariant-loop-remedy l = map view l.values.items
+    ≡ map (remedy_object) (take l.remedy-index l.remedies)

@@ -11,7 +11,14 @@ pub overflow_cast-admits : goal.overflow_cast-admits
 overflow_cast-admits c =
     let most = lengths_at_most c.args.layer c.requires.layers c.requires.within in
     let count = count_by-le-length is_some c.lengths.result.now in
-    omega (arith, count, most, c.admitted-admits.ensures, ap (λ (l : List (Option ℕ)). length l) c.lengths.ensures)
+    omega (
+      arith,
+      count,
+      most,
+      c.admitted-admits.ensures,
+      ap (λ (l : List (Option ℕ)). length l)
+          c.lengths.ensures,
+    )
 
 pub returns : goal.returns
 returns c = record {

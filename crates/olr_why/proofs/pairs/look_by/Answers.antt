@@ -14,15 +14,19 @@ loop-index-init c = record {
 -- the pair before the class limit is looked at
 pub pair_under-requires-clause-lengths : goal.pair_under-requires-clause-lengths
 pair_under-requires-clause-lengths c =
-    let within : c.loop-index.index < length c.loop-index.pairs = omega (arith, c.loop-index.invariant.long, c.loop-index-test.true) in
-    let read = read_at c.args.seconds.now c.loop-index.index no_candidate no_pair c.loop-index.pairs within c.loop-index-test.true
+    let within : c.loop-index.index < length c.loop-index.pairs =
+    omega (arith, c.loop-index.invariant.long, c.loop-index-test.true) in
+    let read = read_at c.args.seconds.now c.loop-index.index no_candidate no_pair c.loop-index.pairs
+    within c.loop-index-test.true
     (λ pair. c.loop-index.invariant.behind c.loop-index.index pair (omega arith)) in
     read.lengths
 
 pub loop-index-preserved : goal.loop-index-preserved
 loop-index-preserved c =
-    let within : c.loop-index.index < length c.loop-index.pairs = omega (arith, c.loop-index.invariant.long, c.loop-index-test.true) in
-    let read = read_at c.args.seconds.now c.loop-index.index no_candidate no_pair c.loop-index.pairs within c.loop-index-test.true
+    let within : c.loop-index.index < length c.loop-index.pairs =
+    omega (arith, c.loop-index.invariant.long, c.loop-index-test.true) in
+    let read = read_at c.args.seconds.now c.loop-index.index no_candidate no_pair c.loop-index.pairs
+    within c.loop-index-test.true
     (λ pair. c.loop-index.invariant.behind c.loop-index.index pair (omega arith)) in
     one_more_looked_at (pair_at c.args.seconds.now c.loop-index.index no_candidate (record {
       first_is = c.pair_under.ensures.first ∙ read.first_is;

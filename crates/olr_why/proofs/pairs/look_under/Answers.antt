@@ -3,4 +3,5 @@ use Rattle.olr_why.proofs.pairs.look_under.Goals as goal
 
 pub returns-then-are_answered : goal.returns-then-are_answered
 returns-then-are_answered c =
-    all_answered (rw c.greatest_admitted.ensures.is at (c.are_answered.ensures.0 c.if-are_answered.true)) c.requires.pairs
+    all_answered (rw c.greatest_admitted.ensures.is at
+    (c.are_answered.ensures.0 c.if-are_answered.true)) c.requires.pairs

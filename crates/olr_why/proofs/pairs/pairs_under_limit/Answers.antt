@@ -6,4 +6,5 @@ use Rattle.olr_why.proofs.pairs.pairs_under_limit.Goals as goal
 pub loop-index-preserved : goal.loop-index-preserved
 loop-index-preserved c =
     one_more_element c.loop-index.invariant
-    (pair_at c.args.seconds.now c.loop-index.index no_candidate (rw (← c.in_ok-reach.ensures.asked.1) c.pair_of-pair.ensures)) c.in_ok-push.ensures.items
+    (pair_at c.args.seconds.now c.loop-index.index no_candidate
+    (rw (← c.in_ok-reach.ensures.asked.1) c.pair_of-pair.ensures)) c.in_ok-push.ensures.items

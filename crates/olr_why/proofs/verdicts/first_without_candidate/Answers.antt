@@ -19,4 +19,5 @@ returns-then-is_empty-clause-first c = λ road are.
 pub returns-clause-first : goal.returns-clause-first
 returns-clause-first c = λ road are.
     let count = points_count are c.table.ensures c.layers-point-end.ensures.count in
-    λ index none. some_candidate are index (c.loop-point.invariant index (omega (arith, count, none.0))) none
+    λ index none. some_candidate are index
+    (c.loop-point.invariant index (omega (arith, count, none.0))) none

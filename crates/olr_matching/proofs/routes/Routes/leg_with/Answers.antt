@@ -1,5 +1,4 @@
 use Rattle.std.proofs.Common.{ap}
-use Rattle.olr_matching.proofs.Common.{LayersValue, RoutesValue}
 use Rattle.olr_matching.proofs.Pairs.{leg_of_pair}
 use Rattle.olr_matching.proofs.routes.Routes.leg_with.Goals as goal
 
@@ -17,4 +16,5 @@ pub returns : goal.returns
 returns c = rw (← c.self.view_is)
     (leg_of_pair _ _ _ _ _ _ _ _ c.next_of.result c.args.route.items c.length-length.ensures
     (rw (← c.layers.view_is) c.next_of.ensures)
-    c.leg_penalty.ensures.is c.from.ensures c.self.invariant.sound (rw (← c.self.view_is) at c.requires.route))
+    c.leg_penalty.ensures.is c.from.ensures c.self.invariant.sound
+    (rw (← c.self.view_is) at c.requires.route))

@@ -1,7 +1,6 @@
 use Rattle.std.proofs.Common.{arith, subst, sym, ◌∙◌}
-use Rattle.olr_matching.specs.Matched.{AreCandidatesAt, IsLegOfPair}
+use Rattle.olr_matching.specs.Matched.{AreCandidatesAt}
 use Rattle.olr_matching.specs.Routes.{RoutesValue}
-use Rattle.olr_matching.specs.declared.pair.Pair.{Pair}
 use Rattle.olr_matching.proofs.Legs.{are_parts, push_leg}
 use Rattle.olr_matching.proofs.routes.Routes.parts.Goals as goal
 
@@ -25,4 +24,5 @@ returns-clause-matched c =
     let At : RoutesValue → Type 0 = λ routes. AreCandidatesAt routes.layers.candidates ranks
     c.candidates_of.result.items in
     are_parts _ _ _ _ _ c.ranks-ranks.ensures.is
-    (subst At (c.self-2.view_is ∙ loop.same) c.candidates_of.ensures) (omega arith) (rw (sym loop.same) loop.each)
+    (subst At (c.self-2.view_is ∙ loop.same) c.candidates_of.ensures) (omega arith)
+    (rw (sym loop.same) loop.each)

@@ -17,17 +17,25 @@ returns g c =
     let written = g.S.Serializer.written in
     let first = written c.begin_map.new.self in
     let legs = entry.matched.legs in
-    let cursor = subst (λ (text : List ℕ). SendsMember (codes "cursor") (string text) first (written c.send_member.new.out))
+    let cursor = subst (λ (text : List ℕ). SendsMember (codes "cursor") (string text) first
+    (written c.send_member.new.out))
     c.write-cursor.ensures.cursor.same c.in_ok-send_member.ensures in
-    let located = subst (λ (l : List Leg). SendsBefore (located_members road entry.located l) (written c.send_member.new.out) (written c.send_located.new.out))
-    (c.deref.ensures.value ∙ ap (λ (matched : Matched). matched.legs) c.matched.view_is) c.in_ok-send_located.ensures in
-    let total = subst (λ (n : ℕ). SendsMember (codes "total") (whole n) (written c.send_member-3.new.out) (written c.send_member-4.new.out))
-    (c.from.ensures ∙ ap (λ (key : KeyValue). key.total) c.key.view_is) c.in_ok-send_member-4.ensures in
+    let located =
+    subst (λ (l : List Leg). SendsBefore (located_members road entry.located l)
+    (written c.send_member.new.out) (written c.send_located.new.out))
+    (c.deref.ensures.value ∙ ap (λ (matched : Matched). matched.legs) c.matched.view_is)
+    c.in_ok-send_located.ensures in
+    let total = subst (λ (n : ℕ). SendsMember (codes "total") (whole n)
+    (written c.send_member-3.new.out) (written c.send_member-4.new.out))
+    (c.from.ensures ∙ ap (λ (key : KeyValue). key.total) c.key.view_is)
+    c.in_ok-send_member-4.ensures in
     on_ok_weaker c.end_map.result (λ ended.
-    let points = rw (ap (λ (matched : Matched). matched.candidates) c.matched.view_is) at c.in_ok-send_member-2.ensures in
+    let points = rw (ap (λ (matched : Matched). matched.candidates) c.matched.view_is) at
+    c.in_ok-send_member-2.ensures in
     let route = c.in_ok-send_member-3.ensures in (
       first,
-      subst (λ n. Logs (written c.args.out.now) first (map_begins (Some (suc n)))) (sym (count_located road legs entry.located _)) c.in_ok-begin_map.ensures,
+      subst (λ n. Logs (written c.args.out.now) first (map_begins (Some (suc n))))
+          (sym (count_located road legs entry.located _)) c.in_ok-begin_map.ensures,
       (
         cursor.named,
         written c.send_member.new.out,
@@ -43,7 +51,13 @@ returns g c =
             written c.send_member-3.new.out,
             route.name_sent,
             route.value_sent,
-            (total.named, written c.send_member-4.new.out, total.name_sent, total.value_sent, ended),
+            (
+              total.named,
+              written c.send_member-4.new.out,
+              total.name_sent,
+              total.value_sent,
+              ended,
+            ),
           ),
         ),
       ),

@@ -15,12 +15,14 @@ loop-high-preserved-then-branch-2 c = record {
   at_least = c.loop-high.invariant.at_least;
   uncrowded = c.loop-high.invariant.uncrowded;
   crowded =
-      crowded_from c.requires c.one_candidate_a_line.ensures (rw c.if-branch-2.true at c.in_ok-is_crowded_with-2.ensures);
+      crowded_from c.requires c.one_candidate_a_line.ensures
+      (rw c.if-branch-2.true at c.in_ok-is_crowded_with-2.ensures);
 }
 
 pub returns : goal.returns
 returns c = record {
   below = omega (arith, c.loop-high.invariant.lower, c.loop-high.invariant.at_most);
   uncrowded = c.loop-high.invariant.uncrowded;
-  greatest = λ value above. c.loop-high.invariant.crowded value (omega (arith, above, c.loop-high-test.false));
+  greatest = λ value above. c.loop-high.invariant.crowded value
+      (omega (arith, above, c.loop-high-test.false));
 }

@@ -10,4 +10,5 @@ returns-in_default c = record {
 
 pub returns : goal.returns
 returns c =
-    uncrowded_with c.no_lists_and_too_many.ensures c.changed-tolerances.ensures (rw c.in-Some.is at c.in_ok-_lists.ensures)
+    uncrowded_with c.no_lists_and_too_many.ensures c.changed-tolerances.ensures
+    (rw c.in-Some.is at c.in_ok-_lists.ensures)

@@ -22,9 +22,11 @@ pub loop-value-preserved : goal.loop-value-preserved
 loop-value-preserved c =
     below_more
     (λ (value : ℕ). c.args.self.now.given.now.lowest < value
-    → IsEnough c.args.self.now.map.now c.args.self.now.given.now c.args.self.now.reference.now Lowest value → ⊥)
+    → IsEnough c.args.self.now.map.now c.args.self.now.given.now c.args.self.now.reference.now
+    Lowest value → ⊥)
     c.loop-value.value c.loop-value.invariant (λ above. rw c.in_default.is at c.in_ok-key.ensures)
 
 pub returns : goal.returns
 returns c =
-    none_up_to_greatest (λ value above less enough. c.loop-value.invariant value (omega (arith, less, c.loop-value-test.false)) above enough)
+    none_up_to_greatest (λ value above less enough. c.loop-value.invariant value
+    (omega (arith, less, c.loop-value-test.false)) above enough)

@@ -6,5 +6,6 @@ pub returns : goal.returns
 returns c = (
   c.in-Some.value,
   refl,
-  lowering.greatest_uncrowded c.in_ok-matching.matching (rw c.in-Some.is at c.in_ok-value.ensures) c.in_ok-matching.ensures,
+  lowering.greatest_uncrowded c.in_ok-matching.matching (rw c.in-Some.is at c.in_ok-value.ensures)
+      c.in_ok-matching.ensures,
 )

@@ -5,7 +5,8 @@ use Rattle.olr_why.proofs.trying.Question.wider.Goals as goal
 pub returns-in_default-first : goal.returns-in_default-first
 returns-in_default-first c =
     none_in c.loop-bracket.invariant
-    (omega (arith, c.loop-bracket-test.false)) c.one_candidate_a_line.ensures c.requires.name c.in_default-first.is
+    (omega (arith, c.loop-bracket-test.false)) c.one_candidate_a_line.ensures c.requires.name
+    c.in_default-first.is
 
 pub returns : goal.returns
 returns c = (
