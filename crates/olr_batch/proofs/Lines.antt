@@ -25,7 +25,7 @@ value_of : (what : What) (tolerances : Tolerances) (road : RoadMap) (reference :
     → IsAnswerTo what tolerances road reference (Ok output) → (value : Data) × (output ≡ compact_text value ++ codes "\n")
 value_of Candidates tolerances road reference output is = (listing_object road is.lists, is.text_is.line_is)
 value_of (Match size) tolerances road reference output is =
-    (page_object road is.2.4.json.entries (next_after is.2.1) None, is.2.4.json.json.line_is)
+    (page_object road is.2.4.text_is.entries (next_after is.2.1) None, is.2.4.text_is.json.line_is)
 value_of (Places limits) tolerances road reference output is =
     (places_object road limits is.2.looked, is.2.output_is.line_is)
 value_of (Why nearest) tolerances road reference output is = (why_object road is.why, is.output_is.line_is)
@@ -38,13 +38,3 @@ module _ (asked : BatchRequest) (road : RoadMap) (number : ℕ) (key : Option (L
   found_line output line is written =
       let value = value_of asked.what asked.tolerances road is.0 output is.2 in
       inl (value.0, subst (λ (bytes : List ℕ). IsAnswer asked road text (Ok bytes)) value.1 is, written value.0 value.1)
-
-  -- the line of a fault
-  pub faulty_line : (why : Fault) (name line : List ℕ) → IsFaultFor asked road text why → name ≡ fault_text why
-      → line ≡ fault_line name key number → IsLineOfText asked road number key text line
-  faulty_line why name line is named written =
-      inr (why, is, written ∙ ap (λ (n : List ℕ). fault_line n key number) named)
-
-  -- memory was refused for the line of an answer
-  pub without_memory : (output : List ℕ) → IsAnswer asked road text (Ok output) → IsFaultFor asked road text fault.NoMemory
-  without_memory output is = inr (refl, is.0, is.1)

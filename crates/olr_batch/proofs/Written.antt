@@ -51,10 +51,6 @@ abbrev pub lines_left : Option (List ℕ) → List (List ℕ)
 lines_left None = []
 lines_left (Some bytes) = lines_of bytes
 
-starts : (at_hand : List ℕ) (input : Option (List ℕ)) → at_hand ≡ [] → IsLeft [] input (prepend_known at_hand input)
-starts at_hand None none = tt
-starts at_hand (Some text) none = rw none refl
-
 pub split_of : (done : List (List ℕ)) (input left : Option (List ℕ)) → IsLeft done input left
     → IfSome input (λ text. lines_of text ≡ done ++ lines_left left)
 split_of done None left is = tt
@@ -96,28 +92,19 @@ hand_of done at_hand None rest is = tt
 hand_of done at_hand (Some text) None is = tt
 hand_of done at_hand (Some text) (Some after) is = refl
 
-module _ (asked : BatchRequest) (road : RoadMap) where
-  pub started : (at_hand : List ℕ) (input known : Option (List ℕ)) → at_hand ≡ []
-      → IsWrittenTo asked road 1 input (prepend_known at_hand input) known known
-  started at_hand input known none = record {
-    done = [];
-    outputs = [];
-    counted = refl;
-    are = refl;
-    left_is = starts at_hand input none;
-    took = takes_none known;
-  }
-
-  pub one_more : (number next : ℕ) (input left rest old between new : Option (List ℕ)) (output : List ℕ)
-      → IsWrittenTo asked road number input left old between → IsOutputOfNext asked road number left rest output
-      → Appends between new output → next ≡ number + 1 → IsWrittenTo asked road next input rest old new
-  one_more number next input left rest old between new output so_far is took counted = record {
-    done = so_far.done ++ is.line ∷ [];
-    outputs = so_far.outputs ++ output ∷ [];
-    counted = counted ∙ ap (λ n. n + 1) (so_far.counted ∙ sym (length_more so_far.done is.line));
-    are = one_output_more asked road 1 number so_far.done so_far.outputs is.line output is.said so_far.are (so_far.counted ∙ omega arith)
-        is.says is.written;
-    left_is = one_line_more so_far.done is.line input left rest so_far.left_is is.is_next;
-    took = subst (λ (bytes : List ℕ). Appends old new bytes) (sym (concat_more so_far.outputs output))
-        (Appends-trans old between new (concat so_far.outputs) output so_far.took took);
-  }
+module _ {asked : BatchRequest} {road : RoadMap} where
+  pub one_more : {number next : ℕ} {input left rest old between new : Option (List ℕ)}
+      {output : List ℕ} → IsWrittenTo asked road number input left old between
+      → IsOutputOfNext asked road number left rest output → Appends between new output
+      → next ≡ number + 1 → IsWrittenTo asked road next input rest old new
+  one_more {number} {next} {input} {left} {rest} {old} {between} {new} {output} so_far is took
+      counted = record {
+        done = so_far.done ++ is.line ∷ [];
+        outputs = so_far.outputs ++ output ∷ [];
+        counted = counted ∙ ap (λ n. n + 1) (so_far.counted ∙ sym (length_more so_far.done is.line));
+        are = one_output_more asked road 1 number so_far.done so_far.outputs is.line output is.said
+            so_far.are (so_far.counted ∙ omega arith) is.says is.written;
+        left_is = one_line_more so_far.done is.line input left rest so_far.left_is is.is_next;
+        took = rw (concat_more so_far.outputs output)
+            (Appends-trans old between new (concat so_far.outputs) output so_far.took took);
+      }

@@ -36,10 +36,8 @@ request_for (Why nearest) tolerances text = request.Why (why_asked text toleranc
 
 -- an answer is the output of a run; one with matchings shows the same page, but the cursor at the end of an output has a mark
 abbrev pub IsSameAnswer : What → RoadMap → List ℕ → List ℕ → Type 0
-IsSameAnswer Candidates road output answer = answer ≡ output
 IsSameAnswer (Match size) road output answer = ShowsSame road output answer
-IsSameAnswer (Places limits) road output answer = answer ≡ output
-IsSameAnswer (Why nearest) road output answer = answer ≡ output
+IsSameAnswer other road output answer = answer ≡ output
 
 -- The answer to a text is what a run prints for it on the same files.
 abbrev pub AnswersAreOfRuns : Type 0

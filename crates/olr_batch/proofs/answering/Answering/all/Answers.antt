@@ -1,5 +1,5 @@
 use Rattle.std.proofs.Common.{◌≡◌, ◌≤◌, ◌-◌, ◌^◌, rules, true, false, [], refl, subst, inl, inr, ◌∙◌, arith}
-use Rattle.std.proofs.lemmas.Result.{err_from_is_err_and}
+use Rattle.olr_app.proofs.Single.{exit}
 use Rattle.olr_map.specs.RoadMap.{RoadMap}
 use Rattle.olr_messages.specs.Messages.{left_of}
 use Rattle.olr_batch.specs.Steps.{IsStepStopped, IsWrittenNext}
@@ -11,7 +11,6 @@ use Rattle.olr_batch.proofs.answering.Answering.all.Goals as goal
 
 pub returns-in_err-next-clause-fault : goal.returns-in_err-next-clause-fault
 returns-in_err-next-clause-fault g c =
-    let p = err_from_is_err_and c.from_residual.result c.from_residual.ensures.1 in
     let inv = c.loop-number.invariant in
     let left = left_of c.loop-number.self.messages (g.S.Source.left c.loop-number.input) in
     let step = subst (λ (asked : BatchRequest). IsStepStopped g.O.Sink.taken g.O.Sink.failed g.O.Sink.put_gives g.O.Sink.flush_gives asked c.args.self.now.on.now.map.now
@@ -21,7 +20,7 @@ returns-in_err-next-clause-fault g c =
     c.loop-number.number left (left_of c.next.new.self.messages (g.S.Source.left c.next.new.input)) c.next.new.self.messages.at_hand
     (g.S.Source.failed c.loop-number.input) (g.S.Source.failed c.next.new.input) c.loop-number.out c.next.new.out c.in_err-next.field-0.0) inv.map
     c.in_err-next.ensures.fault) in
-    rw (p.1, p.2) (stopped g.S.Source.left g.S.Source.failed g.O.Sink.taken g.O.Sink.failed g.O.Sink.put_gives g.O.Sink.flush_gives c.args.self.now.on.now.asked.now
+    rw (exit c.from_residual.ensures.1) (stopped g.S.Source.left g.S.Source.failed g.O.Sink.taken g.O.Sink.failed g.O.Sink.put_gives g.O.Sink.flush_gives c.args.self.now.on.now.asked.now
     c.args.self.now.on.now.map.now c.loop-number.number c.args.input.now c.loop-number.input c.args.out.now c.loop-number.out left inv.so_far inv.none_failed
     inv.no_input_failed c.next.new.input c.next.new.out c.next.new.self.messages.at_hand c.in_err-next.field-0.0 step)
 
@@ -55,24 +54,21 @@ loop-number-preserved g c =
     record {
       map = c.in_ok-next.ensures.map ∙ inv.map;
       asked = c.in_ok-next.ensures.asked ∙ inv.asked;
-      so_far = one_more c.args.self.now.on.now.asked.now c.args.self.now.on.now.map.now c.loop-number.number _ (g.S.Source.left c.args.input.now) left rest
-          (g.O.Sink.taken c.args.out.now) (g.O.Sink.taken c.loop-number.out) (g.O.Sink.taken c.next.new.out) step.output inv.so_far step.of_next step.took refl;
+      so_far = one_more inv.so_far step.of_next step.took refl;
       none_failed = step.none_failed ∙ inv.none_failed;
       no_input_failed = c.in_ok-next.ensures.none_failed ∙ inv.no_input_failed;
     }
 
 pub returns-in_err-pass_on_unless-clause-fault : goal.returns-in_err-pass_on_unless-clause-fault
 returns-in_err-pass_on_unless-clause-fault g c =
-    let p = err_from_is_err_and c.from_residual-in_err-pass_on_unless.result
-    c.from_residual-in_err-pass_on_unless.ensures.1 in
     let inv = c.loop-number.invariant in
-    rw (p.1, p.2, c.in_err-pass_on_unless.ensures.fault.0) (
+    rw (exit c.from_residual-in_err-pass_on_unless.ensures.1, c.in_err-pass_on_unless.ensures.fault.0) (
       c.loop-number.out,
       [],
       begun g.O.Sink.taken g.O.Sink.failed g.O.Sink.flush_gives c.args.self.now.on.now.asked.now c.args.self.now.on.now.map.now c.loop-number.number
           (g.S.Source.left c.args.input.now) (left_of c.loop-number.self.messages (g.S.Source.left c.loop-number.input)) c.args.out.now
           c.loop-number.out inv.so_far inv.none_failed c.loop-number.out
-          (same g.O.Sink.taken g.O.Sink.failed g.O.Sink.flush_gives c.loop-number.out),
+          same,
       inl refl,
       c.in_err-pass_on_unless.ensures.fault.1,
       inv.no_input_failed,
