@@ -44,7 +44,8 @@ module _ (laws : LawsBelow) where
   module _ (nodes lines bans : List ℕ) (road : RoadMap) (is_map : IsMapOf nodes lines bans road)
       (tolerances : Tolerances) (text : Bor (List ℕ)) where
     abbrev OfRun : What → Result (List ℕ) Fault → Type 0
-    OfRun what answer = IsAnswerOfRun (known nodes lines bans) (request_for what tolerances text) answer
+    OfRun what answer = IsAnswerOfRun (known nodes lines bans) (request_for what tolerances text)
+        answer
 
     abbrev OfRecord : What → Result (List ℕ) Fault → Type 0
     OfRecord what answer = AndThen (IsReferenceOf text.now) (IsAnswerTo what tolerances road) answer
@@ -78,7 +79,8 @@ module _ (laws : LawsBelow) where
     -- The fault of a run on the map is that of the record: for matchings by the law on first pages.
     on_map : (what : What) (accepted : Accepted) (other : RoadMap) (fault : Fault)
         → IsReferenceOf text.now (Ok accepted.reference)
-        → IsMapOf nodes lines bans other → IsAnswerTo what tolerances other accepted.reference (Err fault)
+        → IsMapOf nodes lines bans other
+        → IsAnswerTo what tolerances other accepted.reference (Err fault)
         → OfRecord what (Err fault)
     on_map what accepted other fault of_text its is = inr (
       accepted.reference,

@@ -13,12 +13,17 @@ use Rattle.olr_app.proofs.AnswerOf.{unfailed}
 use Rattle.olr_batch.specs.Run.{IsStopped}
 use Rattle.olr_batch.specs.declared.asked.BatchRequest.{BatchRequest}
 
-module _ {S I O : Type 0} (left : S → Option (List ℕ)) (failed : S → ℕ) (in_left : I → Option (List ℕ)) (in_failed : I → ℕ)
-    (taken : O → Option (List ℕ)) (out_failed : O → ℕ) (put_gives : O → List ℕ → Result ℕ Failed → O → Type 0)
-    (flush_gives : O → Result (Unit {0}) Failed → O → Type 0) (asked : BatchRequest) (road : RoadMap)
-    (old_in new_in : I) (old_out new_out : O) (old new : S) (file : File) (whole : IsReadWhole left failed old new) where
+module _ {S I O : Type 0} (left : S → Option (List ℕ)) (failed : S → ℕ) (in_left : I
+    → Option (List ℕ)) (in_failed : I → ℕ)
+    (taken : O → Option (List ℕ)) (out_failed : O → ℕ) (put_gives : O → List ℕ → Result ℕ Failed → O
+    → Type 0)
+    (flush_gives : O → Result (Unit {0}) Failed → O → Type 0) (asked : BatchRequest)
+    (road : RoadMap)
+    (old_in new_in : I) (old_out new_out : O) (old new : S) (file : File)
+    (whole : IsReadWhole left failed old new) where
   pub leaves_file : {T : Type 0} (result : Result T Fault)
-      → IfErr result (IsStopped in_left in_failed taken out_failed put_gives flush_gives asked road old_in new_in old_out new_out)
+      → IfErr result (IsStopped in_left in_failed taken out_failed put_gives flush_gives asked road
+      old_in new_in old_out new_out)
       → LeavesFile left failed old new file result
   leaves_file (Ok done) is = whole
   leaves_file (Err NoMemory) is = inr (inl (map.NoMemory, refl, unfailed file whole))

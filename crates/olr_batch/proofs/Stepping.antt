@@ -19,7 +19,8 @@ where_over A B false is all = all
 where_over A B true is all = absurd cc
 
 -- where nothing is left at hand and in the source, the source is at its end
-pub at_end_of : (at_hand : List ℕ) (left : Option (List ℕ)) → IsAtEnd (prepend_known at_hand left) → IsAtEnd left
+pub at_end_of : (at_hand : List ℕ) (left : Option (List ℕ)) → IsAtEnd (prepend_known at_hand left)
+    → IsAtEnd left
 at_end_of at_hand None is = tt
 at_end_of [] (Some bytes) is = is
 at_end_of (byte ∷ at_hand) (Some bytes) is = absurd cc
@@ -35,7 +36,8 @@ module _ {O : Type 0} {taken : O → Option (List ℕ)} {failed : O → ℕ}
   same {sink} = record { kept = takes_none (taken sink); none_failed = refl }
 
   -- whether a whole record is at hand or not, no byte was taken
-  pub same_passed : (at_hand : Bool) {old new : O} → IsPassedOn taken failed flush_gives at_hand old new
+  pub same_passed : (at_hand : Bool) {old new : O}
+      → IsPassedOn taken failed flush_gives at_hand old new
       → IsSame taken failed flush_gives old new
   same_passed true is = rw is same
   same_passed false is = is.0

@@ -12,7 +12,8 @@ IsUnbannedFor (Why nearest) road unbanned = AreUnbanned road unbanned
 IsUnbannedFor other road unbanned = ⊤
 
 -- it holds in one way at most
-pub IsUnbannedFor-prop : (what : What) (road : RoadMap) (unbanned : Option RoadMap) → IsProp (IsUnbannedFor what road unbanned)
+pub IsUnbannedFor-prop : (what : What) (road : RoadMap) (unbanned : Option RoadMap)
+    → IsProp (IsUnbannedFor what road unbanned)
 IsUnbannedFor-prop (Why nearest) road None = Prim.hlevel props
 IsUnbannedFor-prop (Why nearest) road (Some other) = Prim.hlevel props
 IsUnbannedFor-prop other road unbanned = Prim.hlevel props

@@ -32,7 +32,8 @@ returns-in_default-put_whole-clause-fault g c =
         says = c.content-content.ensures reads.line reads.is_front;
         written = c.in_ok-write_record.ensures;
       }),
-      subst (λ (bytes : List ℕ). HasStopped g.O.Sink.taken g.O.Sink.failed g.O.Sink.put_gives g.O.Sink.flush_gives bytes c.pass_on_unless.new.out
+      subst (λ (bytes : List ℕ). HasStopped g.O.Sink.taken g.O.Sink.failed g.O.Sink.put_gives
+          g.O.Sink.flush_gives bytes c.pass_on_unless.new.out
           c.put_whole.new.out) c.deref.ensures.value c.in_default-put_whole.ensures.stopped,
       c.in-Ok.ensures.none_failed,
     )
@@ -54,12 +55,16 @@ returns-clause-moves g c =
       };
       took = takes_after c.put_whole.new.out
           c.write_record.new.line.items passed
-          (subst (λ (bytes : List ℕ). Appends (g.O.Sink.taken c.pass_on_unless.new.out) (g.O.Sink.taken c.put_whole.new.out) bytes)
+          (subst (λ (bytes : List ℕ). Appends (g.O.Sink.taken c.pass_on_unless.new.out)
+          (g.O.Sink.taken c.put_whole.new.out) bytes)
           c.deref.ensures.value c.in-Ok-put_whole.ensures.whole);
       none_failed = c.in-Ok-put_whole.ensures.none_failed ∙ passed.none_failed;
     }
 
 pub next_record-requires : goal.next_record-requires
 next_record-requires g c = record {
-  may_ask = may_ask g.O.Sink.taken g.O.Sink.failed g.O.Sink.flush_gives c.holds_whole-is_at_hand.result c.args.self.now.messages.at_hand c.args.out.now c.pass_on_unless.new.out c.holds_whole-is_at_hand.ensures c.in_ok-pass_on_unless.ensures.passed_on;
+  may_ask = may_ask g.O.Sink.taken g.O.Sink.failed g.O.Sink.flush_gives
+      c.holds_whole-is_at_hand.result c.args.self.now.messages.at_hand c.args.out.now
+      c.pass_on_unless.new.out c.holds_whole-is_at_hand.ensures
+      c.in_ok-pass_on_unless.ensures.passed_on;
 }
