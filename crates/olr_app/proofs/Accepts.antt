@@ -24,7 +24,7 @@ read_of key mark = record { key = key; mark = mark }
 
 same_read : (one other : CursorRead) → one.key ≡ other.key → one.mark ≡ other.mark → one ≡ other
 same_read one other key mark =
-    ap (λ (k : KeyValue). read_of k one.mark) key ∙ ap (read_of other.key) mark
+    ap (λ k. read_of k one.mark) key ∙ ap (read_of other.key) mark
 
 abbrev accepted_of : Reference → Option CursorRead → Accepted
 accepted_of reference start = record { reference = reference; start = start }
@@ -32,7 +32,7 @@ accepted_of reference start = record { reference = reference; start = start }
 same_accepted : (one other : Accepted) → one.reference ≡ other.reference
     → one.start ≡ other.start → one ≡ other
 same_accepted one other reference start =
-    ap (λ (r : Reference). accepted_of r one.start) reference
+    ap (λ r. accepted_of r one.start) reference
     ∙ ap (accepted_of other.reference) start
 
 -- ---- a reference
@@ -100,7 +100,8 @@ accepted_once outcome cursor request one other is again =
 
 -- where a request is refused, what passes on the refusal reports it
 pub passed_on : {T : Type 0} {request : Request} {fault : Fault} {result : Result T Fault}
-    → ((other : Result Accepted Fault) → Accepts request other → other ≡ err_of Accepted Fault fault)
+    → ((other : Result Accepted Fault) → Accepts request other
+    → other ≡ err_of Accepted Fault fault)
     → result ≡ Err fault → ReportsRefusal request result
 passed_on only same = record {
   reports = λ why is. same ∙ ap Err (sym (same_err (only (Err why) is)));
@@ -108,6 +109,7 @@ passed_on only same = record {
 
 -- where it is accepted, there is no refusal to report
 pub none_refused : {T : Type 0} {request : Request} {accepted : Accepted} {result : Result T Fault}
-    → ((other : Result Accepted Fault) → Accepts request other → other ≡ ok_of Accepted Fault accepted)
+    → ((other : Result Accepted Fault) → Accepts request other
+    → other ≡ ok_of Accepted Fault accepted)
     → ReportsRefusal request result
 none_refused only = record { reports = λ why is. no_ok_and_err (sym (only (Err why) is)) }

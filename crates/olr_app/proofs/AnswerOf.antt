@@ -111,10 +111,10 @@ pub reason_of_refusal : (texts : Texts) (request : Request) (why : Fault)
     → Accepts request (Err why) → IsReason texts request why
 reason_of_refusal texts request why is = elim is [
   | inl its ↦ rw its.2 (reason_of_refused texts request its.0
-      (inl (subst (λ (fault : Fault). Accepts request (Err fault)) its.2 (inl its))))
+      (inl (subst (λ fault. Accepts request (Err fault)) its.2 (inl its))))
   | inr its ↦
       let bad : why ≡ BadCursor = start_fault (cursor_of request) why its.2 in
-      rw bad (inl (subst (λ (fault : Fault). Accepts request (Err fault)) bad (inr its)))
+      rw bad (inl (subst (λ fault. Accepts request (Err fault)) bad (inr its)))
 ]
 
 module _ (texts : Texts) (request : Request) (reads : ReadsMap request) (accepted : Accepted)

@@ -1,5 +1,5 @@
 -- The first page for one of many references is that of a run for it alone.
-use Rattle.std.proofs.Common.{◌≡◌, ℕ, List, Option, None, Some, Ok, Err, Bor, refl, sym}
+use Rattle.std.proofs.Common.{◌≡◌, ℕ, List, None, Ok, Err, Bor, refl, sym}
 use Rattle.std.proofs.Common.{subst, ◌∙◌, inl, inr}
 use Rattle.std.proofs.lemmas.Option.{none-some}
 use Rattle.olr_binary.specs.declared.reference.Reference.{Reference}
@@ -7,7 +7,6 @@ use Rattle.olr_candidates.specs.declared.tolerances.Tolerances.{Tolerances}
 use Rattle.olr_keys.specs.Answers.{AreAnswers}
 use Rattle.olr_keys.specs.Key.{KeyValue}
 use Rattle.olr_keys.specs.Page.{IsPageAfter, PageValue}
-use Rattle.olr_keys.specs.declared.cursor.CursorRead.{CursorRead}
 use Rattle.olr_map.specs.RoadMap.{IsSoundMap, RoadMap}
 use Rattle.olr_matching.specs.Layers.{LayersValue}
 use Rattle.olr_app.specs.FirstPage.{IsFirstPage, IsFirstPageOf}
@@ -28,7 +27,7 @@ module _ (laws : Laws) (road : RoadMap) (sound : IsSoundMap road) where
       (first : List ℕ) → AreAnswers layers.penalties keys → IsPageAfter keys None size page
       → IsFirstPageOf size road layers (Ok first) → IsTextOfPage Json road layers None page first
   same_page {size} {layers} {keys} {page} first are is its =
-      let again = subst (λ (l : List KeyValue). IsPageAfter l None size its.1)
+      let again = subst (λ l. IsPageAfter l None size its.1)
       (laws.list _ _ _ its.2 are) its.3 in
       rw (laws.page _ _ _ _ _ _ are is again) its.4
 
@@ -52,9 +51,9 @@ module _ (laws : Laws) (road : RoadMap) (sound : IsSoundMap road) where
       let on = on_map (first_asked text tolerances size) None accepted road output refl is in
       let layers : its.0 ≡ on.layers = laws.layers _ _ _ its.1.0 on.are_layers
       (its.1.1 ∙ sym on.reference_is) (its.1.2 ∙ sym on.are_tolerances) in
-      let begins = subst (λ (start : Option CursorRead).
+      let begins = subst (λ start.
       IsPageAfter on.keys (key_of start) size on.page) none on.is_page in
-      let first = same_page page on.are_keys begins (subst (λ (l : LayersValue).
+      let first = same_page page on.are_keys begins (subst (λ l.
       IsFirstPageOf size road l (Ok page)) layers its.2) in
       let shown = on.is_text in
       let parts = parts_once laws road on.layers sound on.page.keys shown.matched first.matched

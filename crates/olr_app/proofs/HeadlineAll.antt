@@ -30,7 +30,6 @@ use Rattle.olr_app.specs.Matching.{AreLayers, IsOfInputs, IsTextOfPage, key_of}
 use Rattle.olr_app.specs.Request.{bytes_of}
 use Rattle.olr_app.specs.declared.request.Format.{Format}
 use Rattle.olr_app.specs.declared.request.Pages.TheVariants.{All as EveryPage, One}
-use Rattle.olr_app.specs.declared.request.Request.{Request}
 use Rattle.olr_app.specs.declared.request.Request.TheVariants.{Match}
 use Rattle.olr_app.proofs.HeadlineOutputs.{ShowsPage, next_cursor, page_shows}
 use Rattle.olr_app.proofs.HeadlineRests.{next_exists, next_in_range}
@@ -158,7 +157,7 @@ module _ (laws : Laws) (format : Format) (inputs : Inputs) (size : ℕ) (at_leas
       follow = more_runs format inputs (bytes_of begins) (cursor_text key (Some mark)) run are.runs
           (is_run marked) (shows_next (Some key) next) are.follow;
       sizes = All-cons HasSizeOf run are.runs refl are.sizes;
-      whole = ap (λ (l : List ℕ). output ++ l) are.whole;
+      whole = ap (λ l. output ++ l) are.whole;
     }
 
   -- ---- pages
@@ -166,7 +165,8 @@ module _ (laws : Laws) (format : Format) (inputs : Inputs) (size : ℕ) (at_leas
   -- a key after which the pages go on, in range
   cursor_at : (key : KeyValue) → IsInRange key
       → IsFingerprint text.now inputs.tolerances road mark
-      → IsStart (Some (cursor_text key (Some mark))) (Ok (Some (record { key = key; mark = Some mark })))
+      → IsStart (Some (cursor_text key (Some mark)))
+      (Ok (Some (record { key = key; mark = Some mark })))
   cursor_at key in_range fingerprint = (
     record { key = key; mark = Some mark },
     refl,
@@ -186,7 +186,8 @@ module _ (laws : Laws) (format : Format) (inputs : Inputs) (size : ℕ) (at_leas
   runs_of begins start after is_start at of_inputs [] texts resumed ended marked each = absurd ended
   runs_of begins start after is_start at of_inputs (page ∷ pages) [] resumed ended marked each =
       absurd each
-  runs_of begins start after is_start at of_inputs (page ∷ []) (output ∷ other ∷ texts) resumed ended
+  runs_of begins start after is_start at of_inputs (page ∷ []) (output ∷ other ∷ texts) resumed
+      ended
       marked each =
       absurd each.1
   runs_of begins start after is_start at of_inputs (page ∷ []) (output ∷ []) resumed ended marked
@@ -199,9 +200,11 @@ module _ (laws : Laws) (format : Format) (inputs : Inputs) (size : ℕ) (at_leas
       let here : AreMarked (page ∷ []) =
       λ one there. marked one (Contains-append_left (page ∷ []) (next ∷ pages) one there) in
       let fingerprint = here page (0, omega arith, refl) ended.0 in
-      let in_range = in_range begins start is_start of_inputs page is_page output each.0 last.0 last.1
+      let in_range = in_range begins start is_start of_inputs page is_page output each.0 last.0
+      last.1
       in
-      more begins start is_start of_inputs page is_page output each.0 last.0 (concat texts) here last.1
+      more begins start is_start of_inputs page is_page output each.0 last.0 (concat texts) here
+      last.1
       (runs_of (Some (at_bytes (cursor_text last.0 (Some mark))))
       (Some (record { key = last.0; mark = Some mark })) (last_of after page.keys)
       (cursor_at last.0 in_range fingerprint) (sym (last.2 after)) fingerprint (next ∷ pages) texts
@@ -211,7 +214,7 @@ module _ (laws : Laws) (format : Format) (inputs : Inputs) (size : ℕ) (at_leas
 pub all_pages : Laws → AllPages
 all_pages laws format inputs size request output asks is =
     let all : IsOutput (files_of inputs) (Match (request_of inputs asks.text size EveryPage format))
-    output = subst (λ (r : Request). IsOutput (files_of inputs) r output) asks.request_is is in
+    output = subst (λ r. IsOutput (files_of inputs) r output) asks.request_is is in
     let stages = all.2.2 in
     let pages = stages.2.2.1.2 in
     let printed = stages.2.2.2 in

@@ -89,7 +89,8 @@ module _ (laws : Laws) {format : Format} {inputs : Inputs} (all : Matchings inpu
   module _ {cursor : Option (List ℕ)} (run : Run format)
       (prints : PrintsPage format inputs (facts_of all) cursor run.output) where
     in_range : (key : KeyValue) → next_after prints.page ≡ Some key → IsInRange key
-    in_range = next_in_range _ _ _ _ prints.is_page _ laws.in_range all.are_layers.table all.are_keys
+    in_range = next_in_range _ _ _ _ prints.is_page _ laws.in_range all.are_layers.table
+        all.are_keys
 
     shows_page : ShowsPage format all.road all.layers.reference prints.page
         prints.is_text.matched prints.mark run.output
@@ -122,8 +123,8 @@ module _ (laws : Laws) {format : Format} {inputs : Inputs} (all : Matchings inpu
       shown = rw (append-nil run.shown) (page_shown None is);
     }
 
-    -- where its output goes on at a cursor, that is the cursor of the last key of the page, with the
-    -- fingerprint of the inputs
+    -- where its output goes on at a cursor, that is the cursor of the last key of the page, with
+    -- the fingerprint of the inputs
     pub next_of_run : (following : List ℕ) → Shows format run.shown (Some following) run.output
         → (key : KeyValue) × (next_after prints.page ≡ Some key)
         × IsFingerprint inputs.text inputs.tolerances all.road prints.mark
@@ -151,7 +152,7 @@ module _ (laws : Laws) {format : Format} {inputs : Inputs} (all : Matchings inpu
         let next = next_of_run following is in
         let names : Names (Some following) (Some next.0) =
         (record { key = next.0; mark = Some prints.mark }, refl, next.3) in
-        let rest = subst (λ (o : Option KeyValue). IsRestAfter all.keys o later.rest)
+        let rest = subst (λ o. IsRestAfter all.keys o later.rest)
         (one_name laws.cursor (Some following) later.named (Some next.0) later.names names)
         later.is_rest in
         record {
@@ -205,13 +206,14 @@ module _ (laws : Laws) where
     as_page keys text is = record {
       entries = is.entries;
       are_entries = is.are_entries;
-      text_is = ap (λ (l : List ℕ). l ++ codes "end\n") is.parts_are;
+      text_is = ap (λ l. l ++ codes "end\n") is.parts_are;
     }
 
     text_once : (keys : List KeyValue) (a b : List ℕ) → AreShown Text road layers keys a
         → AreShown Text road layers keys b → a ≡ b
     text_once keys a b is is' =
-        let parts = parts_once laws road layers sound keys is.matched is'.matched is.each is'.each in
+        let parts = parts_once laws road layers sound keys is.matched is'.matched is.each
+        is'.each in
         append_cancel_right a b (codes "end\n")
         (laws.text _ _ _ _ _ _ _ (laws.text_of_same_parts _ _ _ _ is'.matched _ _ parts
         (as_page keys a is)) (as_page keys b is'))
@@ -224,7 +226,8 @@ module _ (laws : Laws) where
       let is = chain laws all cursor runs follow in
       let is' = chain laws all cursor others follow' in
       let named = one_name laws.cursor cursor is'.named is.named is'.names is.names in
-      let rest = subst (λ (o : Option KeyValue). IsRestAfter all.keys o is'.rest) named is'.is_rest in
+      let rest = subst (λ o. IsRestAfter all.keys o is'.rest) named
+      is'.is_rest in
       let rests : is'.rest ≡ is.rest = one_rest _ _ _ _ _ laws.page all.are_keys rest is.is_rest in
       text_once all.road all.is_map.sound all.layers is.rest _ _ is.shown (rw (sym rests) is'.shown)
 
@@ -249,7 +252,7 @@ module _ (laws : Laws) {format : Format} {inputs : Inputs} (all : Matchings inpu
       fewer (Some go.0) (Some next.0) left runs
       (record { key = next.0; mark = Some prints.mark }, refl, next.3)
       (left_after _ _ _ _ prints.is_page next.0 next.1) go.3 in
-      let here = subst (λ (o : Option KeyValue). IsRestAfter all.keys o prints.is_page.rest)
+      let here = subst (λ o. IsRestAfter all.keys o prints.is_page.rest)
       (one_name laws.cursor cursor prints.named named prints.names names) prints.is_page.is_rest in
       let same : rest ≡ prints.is_page.rest = one_rest _ _ _ _ _ laws.page all.are_keys is here in
       let longer : prints.size < length prints.is_page.rest =

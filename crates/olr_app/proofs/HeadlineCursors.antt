@@ -4,16 +4,13 @@ use Rattle.std.proofs.Common.{◌≡◌, ℕ, List, Option, None, Some, Ok, Err,
 use Rattle.std.specs.Prelude.{Contains, IfSome, Result}
 use Rattle.std.proofs.lemmas.List.Elements.{All-contains}
 use Rattle.olr_binary.specs.Outcome.{IsOutcome}
-use Rattle.olr_binary.specs.declared.reference.Reference.{Reference}
 use Rattle.olr_candidates.specs.Points.{IsFirstTooMany}
 use Rattle.olr_matching.specs.Fingerprint.{IsFingerprint}
 use Rattle.olr_keys.specs.Cursor.{IsMark}
-use Rattle.olr_keys.specs.Key.{KeyValue}
 use Rattle.olr_keys.specs.Matching.{IsKey}
 use Rattle.olr_keys.specs.declared.cursor.CursorRead.{CursorRead}
 use Rattle.olr_keys.specs.declared.mark.Mark.{Mark}
 use Rattle.olr_map.specs.RoadMap.{RoadMap}
-use Rattle.olr_matching.specs.Layers.{LayersValue}
 use Rattle.olr_app.specs.Accepting.{Accepts, IsStart}
 use Rattle.olr_app.specs.Answer.{IsAnswer, IsAnswerOf, IsAnswerOn, IsMapOfFiles}
 use Rattle.olr_app.specs.Headline.{EachHasCursor, GoesOnHere, Inputs, IsCursorHere, Matchings}
@@ -28,7 +25,6 @@ use Rattle.olr_app.specs.declared.fault.Fault.{Fault}
 use Rattle.olr_app.specs.declared.request.Format.{Format}
 use Rattle.olr_app.specs.declared.request.MatchRequest.{MatchRequest}
 use Rattle.olr_app.specs.declared.request.Pages.TheVariants.{One}
-use Rattle.olr_app.specs.declared.request.Request.{Request}
 use Rattle.olr_app.specs.declared.request.Request.TheVariants.{Match}
 use Rattle.olr_app.proofs.HeadlineChain.{next_of_run}
 use Rattle.olr_app.proofs.HeadlineRests.{next_within}
@@ -86,7 +82,7 @@ module _ (laws : Laws) (inputs : Inputs) (all : Matchings inputs) (fault : Fault
       Contains all.keys read.key × IsOfInputs inputs.text inputs.tolerances all.road read)
 
   moved : {start other : Option CursorRead} → start ≡ other → IsReadHere start → IsReadHere other
-  moved same is = subst (λ (at : Option CursorRead). IsReadHere at) same is
+  moved same is = subst (λ at. IsReadHere at) same is
 
   read_here : (cursor : Option (List ℕ)) (start : Option CursorRead)
       → IsCursorHere inputs all cursor → IsStart cursor (Ok start) → IsReadHere start
@@ -95,8 +91,8 @@ module _ (laws : Laws) (inputs : Inputs) (all : Matchings inputs) (fault : Fault
       let same = laws.cursor _ _ _ _ _ here.1 is.2 in
       let read_of : Option Mark → CursorRead = λ mark. record { key = is.0.key; mark = mark } in
       moved (sym is.1) (
-        subst (λ (key : KeyValue). Contains all.keys key) same.0 here.2,
-        subst (λ (mark : Option Mark).
+        subst (λ key. Contains all.keys key) same.0 here.2,
+        subst (λ mark.
             IsOfInputs inputs.text inputs.tolerances all.road (read_of mark)) same.1 here.3,
       )
 
@@ -118,14 +114,15 @@ module _ (laws : Laws) (inputs : Inputs) (all : Matchings inputs) (fault : Fault
     unfolding asked
     no_start_here_fault start here is =
         let read : IsReadHere (Some is.1) = moved is.2 here in
-        is.3 (subst (λ (t : List ℕ). IsOfInputs t inputs.tolerances all.road is.1) (sym text_is)
+        is.3 (subst (λ t. IsOfInputs t inputs.tolerances all.road is.1) (sym text_is)
         read.1)
 
     no_layers_fault : AreLayers inputs.tolerances all.layers.reference all.road (Err fault) → ⊥
     no_layers_fault is =
         let first : IsFirstTooMany all.layers.tolerances all.layers.reference all.road.lines is.0 =
         rw all.are_tolerances is.1 in
-        laws.no_lists_and_too_many _ _ _ all.layers.candidates is.0 all.are_layers.lists first.too_many
+        laws.no_lists_and_too_many _ _ _ all.layers.candidates is.0 all.are_layers.lists
+        first.too_many
 
     no_pages_fault : (start : Option CursorRead) → IsReadHere start
         → ArePages asked all.layers start (Err fault) → ⊥
@@ -142,12 +139,12 @@ module _ (laws : Laws) (inputs : Inputs) (all : Matchings inputs) (fault : Fault
         (no_start_here_fault accepted.start read)
         (λ here is_here. no_fault (AreLayers inputs.tolerances accepted.reference all.road)
         (OnLayers asked here all.road) fault
-        (λ is. no_layers_fault (subst (λ (r : Reference).
+        (λ is. no_layers_fault (subst (λ r.
         AreLayers inputs.tolerances r all.road (Err fault)) same is))
         (λ layers are_layers. no_fault (ArePages asked layers here)
         (IsPrinted asked all.road layers) fault
         (λ is. no_pages_fault here (moved (sym is_here.0) read)
-        (subst (λ (l : LayersValue). ArePages asked l here (Err fault))
+        (subst (λ l. ArePages asked l here (Err fault))
         (laws.layers all.road layers all.layers are_layers.0 all.are_layers (are_layers.1 ∙ same)
         (are_layers.2 ∙ sym all.are_tolerances)) is))
         (λ list are_pages printed. printed)))
@@ -165,13 +162,14 @@ module _ (laws : Laws) (inputs : Inputs) (all : Matchings inputs) (fault : Fault
               (laws.outcome text.now (Ok all.layers.reference) (Err its.0) outcome its.1)
           | inr its ↦ no_start_fault (bytes_of begins) here its.2
         ])
-        (λ accepted is. no_fault (IsMapOfFiles (files_of inputs)) (IsAnswerOn (Match asked) accepted)
+        (λ accepted is. no_fault (IsMapOfFiles (files_of inputs))
+        (IsAnswerOn (Match asked) accepted)
         fault
         (λ why. laws.no_map_and_fault _ _ _ all.road why.0 all.is_map (why.1, why.2))
         (λ road is_map ends. no_matchings_fault accepted
         (same_reference laws.outcome is.0 outcome)
         (read_here (bytes_of begins) accepted.start here is.1)
-        (subst (λ (r : RoadMap). AreMatchings asked accepted r (Err fault))
+        (subst (λ r. AreMatchings asked accepted r (Err fault))
         (laws.map _ _ _ _ _ is_map all.is_map) ends)))
 
 pub none_refused : Laws → NoneRefused
@@ -179,4 +177,4 @@ unfolding asked
 none_refused laws format inputs all cursor request fault here asks answer =
     no_answer_fault laws inputs all fault asks.text asks.text_is asks.size asks.begins format
     (rw asks.cursor_is here)
-    (subst (λ (r : Request). IsAnswer (files_of inputs) r (Err fault)) asks.request_is answer)
+    (subst (λ r. IsAnswer (files_of inputs) r (Err fault)) asks.request_is answer)

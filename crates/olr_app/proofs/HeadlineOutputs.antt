@@ -70,7 +70,8 @@ json_next (Some key) mark = refl
 
 pub page_shows : JsonReadsAsPage → (format : Format) (road : RoadMap) (reference : Reference)
     (page : PageValue) (matched : List Matched) (mark : Mark) (output : List ℕ)
-    → IsInRangeIfAny (next_after page) → IsPageIn format road reference page matched (Some mark) output
+    → IsInRangeIfAny (next_after page)
+    → IsPageIn format road reference page matched (Some mark) output
     → ShowsPage format road reference page matched mark output
 page_shows reads Text road reference page matched mark output in_range is = record {
   entries = is.entries;
@@ -89,7 +90,7 @@ page_shows reads Json road reference page matched mark output in_range is =
         value = page_read.value;
         reads_as = page_read.reads_as;
         matchings = page_read.matchings;
-        next_is = page_read.next ∙ ap (λ (d : Data). Some d) (json_next (next_after page) mark);
+        next_is = page_read.next ∙ ap (λ d. Some d) (json_next (next_after page) mark);
       };
     }
 
@@ -98,13 +99,13 @@ page_shows reads Json road reference page matched mark output in_range is =
 one_row : (a b : Option (List ℕ)) → last_row_of a ≡ last_row_of b → a ≡ b
 one_row None None same = refl
 one_row None (Some b) same =
-    let first : 101 ≡ 109 = ap (λ (l : List ℕ). get_or l 0 0) same in absurd (omega (arith, first))
+    let first : 101 ≡ 109 = ap (λ l. get_or l 0 0) same in absurd (omega (arith, first))
 one_row (Some a) None same =
-    let first : 109 ≡ 101 = ap (λ (l : List ℕ). get_or l 0 0) same in absurd (omega (arith, first))
+    let first : 109 ≡ 101 = ap (λ l. get_or l 0 0) same in absurd (omega (arith, first))
 one_row (Some a) (Some b) same =
     let words : codes "more " ++ a ≡ codes "more " ++ b =
     append_cancel_right (codes "more " ++ a) (codes "more " ++ b) (10 ∷ []) same in
-    ap (λ (l : List ℕ). Some l) (append_cancel_left (codes "more ") a b words)
+    ap (λ l. Some l) (append_cancel_left (codes "more ") a b words)
 
 one_next : (a b : Option (List ℕ)) → next_of a ≡ next_of b → a ≡ b
 one_next None None same = refl
@@ -129,12 +130,12 @@ one_object a b next next' output is is' =
     let json : is.json ≡ is'.json =
     append_cancel_right is.json is'.json (codes "\n") (sym is.output_is ∙ is'.output_is) in
     let value : is.value ≡ is'.value = same_Some is.value is'.value
-    (sym is.reads_as ∙ ap (λ (l : List ℕ). read l) json ∙ is'.reads_as) in
+    (sym is.reads_as ∙ ap (λ l. read l) json ∙ is'.reads_as) in
     let arrays : array (items_of a) ≡ array (items_of b) =
     same_Some (array (items_of a)) (array (items_of b))
-    (sym is.matchings ∙ ap (λ (d : Data). get (codes "matchings") d) value ∙ is'.matchings) in
+    (sym is.matchings ∙ ap (λ d. get (codes "matchings") d) value ∙ is'.matchings) in
     let ends : next_of next ≡ next_of next' = same_Some (next_of next) (next_of next')
-    (sym is.next_is ∙ ap (λ (d : Data). get (codes "next") d) value ∙ is'.next_is) in
+    (sym is.next_is ∙ ap (λ d. get (codes "next") d) value ∙ is'.next_is) in
     (one_array a b (one_items (items_of a) (items_of b) arrays), one_next next next' ends)
 
 pub one_shown : (format : Format) (a b : List (Part format)) (next next' : Option (List ℕ))
@@ -151,7 +152,7 @@ rows_append : (road : RoadMap) (a b : List Entry)
     → entries_rows road (a ++ b) ≡ entries_rows road a ++ entries_rows road b
 rows_append road [] b = refl
 rows_append road (entry ∷ a) b =
-    ap (λ (l : List ℕ). entry_rows road entry ++ l) (rows_append road a b)
+    ap (λ l. entry_rows road entry ++ l) (rows_append road a b)
     ∙ sym (append_assoc (entry_rows road entry) (entries_rows road a) (entries_rows road b))
 
 pub parts_append : (format : Format) (road : RoadMap) (a b : List Entry)

@@ -1,4 +1,5 @@
--- Pages of a rising list, each of a size of its own: the keys of a page, and those of the pages after it.
+-- Pages of a rising list, each of a size of its own: the keys of a page, and those of the pages
+-- after it.
 use Rattle.std.proofs.Common.{◌≡◌, ℕ, ◌+◌, ◌<◌, ◌≤◌, List, [], ◌∷◌, ◌++◌, length, drop, Bool, true, false, Option, None, Some, inl, inr, refl, sym, ap, ◌∙◌, subst, append_assoc, length-take, arith}
 use Rattle.std.specs.Prelude.{Contains, if◌then◌else◌}
 use Rattle.std.proofs.lemmas.Bool.{cases_lt}
@@ -39,11 +40,16 @@ one_rest penalties keys after a b law answers one other =
     (whole_page _ _ b _ (omega arith) other))
 
 -- what is left after keys of the rest is the rest after the last of them
-after_keys : (keys : List KeyValue) (after : Option KeyValue) (front left : List KeyValue) → IsRestAfter keys after (front ++ left) → IsRestAfter keys (last_of after front) left
+after_keys : (keys : List KeyValue) (after : Option KeyValue) (front left : List KeyValue)
+    → IsRestAfter keys after (front ++ left) → IsRestAfter keys (last_of after front) left
 after_keys keys after [] left rest = rest
 after_keys keys None (key ∷ front) left rest = after_keys keys (Some key) front left ([], sym rest)
 after_keys keys (Some after) (key ∷ front) left rest =
-    after_keys _ _ front left (rest.0 ++ after ∷ [], rest.1 ∙ sym (append_assoc rest.0 (after ∷ []) (key ∷ (front ++ left))))
+    after_keys _ _ front left (
+      rest.0 ++ after ∷ [],
+      rest.1
+          ∙ sym (append_assoc rest.0 (after ∷ []) (key ∷ (front ++ left))),
+    )
 
 -- a key that has a rest is one of the list
 has_rest : (keys : List KeyValue) (key : KeyValue) (rest : List KeyValue)
@@ -93,8 +99,8 @@ module _ (keys : List KeyValue) (named : Option KeyValue) (size : ℕ) (page : P
   pub left_after : (key : KeyValue) → next_after page ≡ Some key
       → IsRestAfter keys (Some key) (drop size is.rest)
   left_after key next =
-      let whole = subst (λ (l : List KeyValue). IsRestAfter keys named l) (sym parts) is.is_rest in
-      subst (λ (o : Option KeyValue). IsRestAfter keys o (drop size is.rest))
+      let whole = subst (λ l. IsRestAfter keys named l) (sym parts) is.is_rest in
+      subst (λ o. IsRestAfter keys o (drop size is.rest))
       (last_from named page.keys key (next_some page.more page.keys key next))
       (after_keys keys named page.keys (drop size is.rest) whole)
 
@@ -105,8 +111,8 @@ module _ (keys : List KeyValue) (named : Option KeyValue) (size : ℕ) (page : P
   page_and_rest penalties key rest law answers next is_rest =
       let same = one_rest penalties keys (Some key) rest (drop size is.rest) law answers is_rest
       (left_after key next) in
-      subst (λ (l : List KeyValue). IsRestAfter keys named l)
-      (sym (ap (λ (l : List KeyValue). page.keys ++ l) same ∙ parts)) is.is_rest
+      subst (λ l. IsRestAfter keys named l)
+      (sym (ap (λ l. page.keys ++ l) same ∙ parts)) is.is_rest
 
   some_keys : 1 ≤ size → page.more ≡ true → 1 ≤ length page.keys
   some_keys least more =
@@ -123,7 +129,7 @@ module _ (keys : List KeyValue) (named : Option KeyValue) (size : ℕ) (page : P
   next_exists least more =
       let last = last_exists page.keys (some_keys least more) in (
         last.0,
-        ap (λ (m : Bool). if m then last_of None page.keys else None) more ∙ last.1,
+        ap (λ m. if m then last_of None page.keys else None) more ∙ last.1,
         λ before. last_from before page.keys last.0 last.1,
       )
 
@@ -137,7 +143,7 @@ module _ (keys : List KeyValue) (named : Option KeyValue) (size : ℕ) (page : P
   pub page_is_rest : 1 ≤ size → next_after page ≡ None → IsRestAfter keys named page.keys
   page_is_rest least none =
       let last = next_none page.more page.keys (some_keys least) none in
-      subst (λ (l : List KeyValue). IsRestAfter keys named l)
+      subst (λ l. IsRestAfter keys named l)
       (sym (is.is_page.keys ∙ take_all size is.rest (at_most last))) is.is_rest
 
   -- the last key of a page behind which more follow

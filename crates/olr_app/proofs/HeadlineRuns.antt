@@ -24,9 +24,7 @@ use Rattle.olr_app.specs.Request.{bytes_of}
 use Rattle.olr_app.specs.declared.accepting.Accepted.{Accepted}
 use Rattle.olr_app.specs.declared.request.Format.{Format}
 use Rattle.olr_app.specs.declared.request.MatchRequest.{MatchRequest}
-use Rattle.olr_app.specs.declared.request.Pages.{Pages}
 use Rattle.olr_app.specs.declared.request.Pages.TheVariants.{One}
-use Rattle.olr_app.specs.declared.request.Request.{Request}
 use Rattle.olr_app.specs.declared.request.Request.TheVariants.{Match}
 use Rattle.olr_app.proofs.Single.{same_ok}
 
@@ -114,7 +112,7 @@ pub on_map : (asked : MatchRequest) (begins : Option (Bor (List ℕ))) (accepted
     → AreMatchings asked accepted road (Ok output) → OnMap asked accepted road output
 on_map asked begins accepted road output one is =
     let answers = is.2.2.1.0 in
-    let pages = subst (λ (pages : Pages).
+    let pages = subst (λ pages.
     ArePagesAsked answers asked.size pages (key_of is.0) is.2.2.0) one is.2.2.1.2 in
     let printed = is.2.2.2 in
     record {
@@ -125,13 +123,15 @@ on_map asked begins accepted road output one is =
       keys = answers;
       are_keys = is.2.2.1.1;
       page = pages.0;
-      is_page = subst (λ (at : Option CursorRead). IsPageAfter answers (key_of at) asked.size pages.0)
+      is_page = subst (λ at. IsPageAfter answers (key_of at) asked.size
+          pages.0)
           is.1.0 pages.2;
       mark = printed.mark;
       marked = printed.marked pages.0 (only_page is.2.2.0 pages.0 pages.1);
       is_text = rw printed.texts.whole
-          (page_text pages.0 printed.texts.texts (subst (λ (l : List PageValue).
-          AllZip (IsTextOfPage asked.format road is.2.0 (Some printed.mark)) l printed.texts.texts) pages.1
+          (page_text pages.0 printed.texts.texts (subst (λ l.
+          AllZip (IsTextOfPage asked.format road is.2.0 (Some printed.mark)) l printed.texts.texts)
+          pages.1
           printed.texts.each));
     }
 
@@ -149,7 +149,7 @@ prints format inputs cursor run is =
     let asks = is.asks in
     let asked : MatchRequest = request_of inputs asks.text asks.size (One asks.begins) format in
     let output : IsOutput (files_of inputs) (Match asked) run.output =
-    subst (λ (request : Request). IsOutput (files_of inputs) request run.output) asks.request_is
+    subst (λ request. IsOutput (files_of inputs) request run.output) asks.request_is
     is.writes in
     let accepted : Accepted = output.0 in
     let on = on_map asked asks.begins accepted output.2.0 run.output refl output.2.2 in
@@ -159,8 +159,8 @@ prints format inputs cursor run is =
         layers = on.layers;
         keys = on.keys;
         is_map = output.2.1;
-        is_reference = subst (λ (text : List ℕ). IsOutcome text (Ok on.layers.reference))
-            asks.text_is (subst (λ (reference : Reference). IsOutcome asks.text.now (Ok reference))
+        is_reference = subst (λ text. IsOutcome text (Ok on.layers.reference))
+            asks.text_is (subst (λ reference. IsOutcome asks.text.now (Ok reference))
             (sym on.reference_is) output.1.0);
         are_tolerances = on.are_tolerances;
         are_layers = on.are_layers;
@@ -168,14 +168,14 @@ prints format inputs cursor run is =
       };
       page = record {
         named = key_of accepted.start;
-        names = subst (λ (at : Option (List ℕ)). Names at (key_of accepted.start)) asks.cursor_is
+        names = subst (λ at. Names at (key_of accepted.start)) asks.cursor_is
             (start_names (bytes_of asks.begins) accepted.start output.1.1);
         size = asks.size;
         at_least = asks.at_least;
         page = on.page;
         is_page = on.is_page;
         mark = on.mark;
-        marked = λ more. subst (λ (text : List ℕ).
+        marked = λ more. subst (λ text.
             IsFingerprint text inputs.tolerances output.2.0 on.mark) asks.text_is (on.marked more);
         is_text = on.is_text;
       };
@@ -192,5 +192,5 @@ pub run_prints : Laws → {format : Format} {inputs : Inputs} (all : Matchings i
     → PrintsPage format inputs (facts_of all) cursor run.output
 run_prints laws {format} {inputs} all {cursor} {run} is =
     let printed = prints format inputs cursor run is in
-    subst (λ (facts : Facts). PrintsPage format inputs facts cursor run.output)
+    subst (λ facts. PrintsPage format inputs facts cursor run.output)
     (one_facts laws inputs printed.all all) printed.page

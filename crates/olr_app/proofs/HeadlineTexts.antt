@@ -1,7 +1,7 @@
 -- The text of a page is whole rows and a last row, which says whether more matchings follow; and a
 -- text is cut in one way before its last row.
 use Rattle.std.proofs.Common.{◌≡◌, ℕ, ◌<◌, ◌^◌, ◌/◌, ◌%◌, List, [], ◌∷◌, ◌++◌, length, get_or}
-use Rattle.std.proofs.Common.{false, refl, sym, subst, ap, ◌∙◌, append-nil, length-append, arith}
+use Rattle.std.proofs.Common.{false, refl, sym, ap, ◌∙◌, append-nil, length-append, arith}
 use Rattle.std.proofs.Common.{append_assoc, inl, inr, Option, None, Some}
 use Rattle.std.proofs.Math.Facts.{eqb_no}
 use Rattle.std.proofs.Math.Seq.{get_or-append_seam}
@@ -47,7 +47,8 @@ not_cut text front later lacks same =
     (ap (λ l. get_or l (length front) 0) same ∙ get_or-append_seam front 10 later 0)
 
 -- a text is cut in one way at its last line feed
-pub last_cut : (front later front' later' : List ℕ) → LacksFeed later → LacksFeed later' → front ++ 10 ∷ later ≡ front' ++ 10 ∷ later' → (front ≡ front') × (later ≡ later')
+pub last_cut : (front later front' later' : List ℕ) → LacksFeed later → LacksFeed later'
+    → front ++ 10 ∷ later ≡ front' ++ 10 ∷ later' → (front ≡ front') × (later ≡ later')
 last_cut [] later [] later' lacks lacks' same = (refl, cc)
 last_cut [] later (first ∷ front') later' lacks lacks' same =
     let rest : later ≡ front' ++ 10 ∷ later' = cc in absurd (not_cut later front' later' lacks rest)
@@ -56,7 +57,8 @@ last_cut (first ∷ front) later [] later' lacks lacks' same =
 last_cut (first ∷ front) later (first' ∷ front') later' lacks lacks' same =
     let one : first ≡ first' = cc in
     let others : front ++ 10 ∷ later ≡ front' ++ 10 ∷ later' = cc in
-    let rest : (front ≡ front') × (later ≡ later') = last_cut front later front' later' lacks lacks' others in
+    let rest : (front ≡ front') × (later ≡ later') =
+    last_cut front later front' later' lacks lacks' others in
     let fronts : front ≡ front' = rest.0 in (cc, rest.1)
 
 -- ---- the texts of keys
@@ -71,15 +73,18 @@ abbrev behind_first : List ℕ → List ℕ
 behind_first [] = []
 behind_first (rank ∷ ranks) = 46 ∷ decimal rank ++ behind_first ranks
 
-ranks_text-cons : (rank : ℕ) (ranks : List ℕ) → ranks_text (rank ∷ ranks) ≡ decimal rank ++ behind_first ranks
+ranks_text-cons : (rank : ℕ) (ranks : List ℕ)
+    → ranks_text (rank ∷ ranks) ≡ decimal rank ++ behind_first ranks
 ranks_text-cons rank [] = sym (append-nil (decimal rank))
-ranks_text-cons rank (next ∷ ranks) = ap (λ (l : List ℕ). decimal rank ++ (46 ∷ l)) (ranks_text-cons next ranks)
+ranks_text-cons rank (next ∷ ranks) =
+    ap (λ l. decimal rank ++ (46 ∷ l)) (ranks_text-cons next ranks)
 
 in_decimal : (n : ℕ) → n < 2 ^ 64 → LacksFeed (decimal n)
 in_decimal n small i d inside same =
     let numeral = decimal_is_IsNumeral n small in
     let digit = digit_at (decimal n) i numeral.0.1 inside in
-    let here = sym (get_or_default (decimal n) i d 0 inside) ∙ same in absurd (omega (arith, digit.0, here))
+    let here = sym (get_or_default (decimal n) i d 0 inside) ∙ same in
+    absurd (omega (arith, digit.0, here))
 
 in_rank : (rank : ℕ) → IsRank rank → LacksFeed (decimal rank)
 in_rank rank is = in_decimal _ (omega arith)
@@ -113,8 +118,10 @@ other_digit value same = grind (arith, nat_tests)
 pub in_hexadecimal : (bytes : List ℕ) → LacksFeed (hexadecimal bytes)
 in_hexadecimal [] = All-nil IsOther
 in_hexadecimal (byte ∷ bytes) =
-    All-cons IsOther (digit_glyph false (byte / 16)) (digit_glyph false (byte % 16) ∷ hexadecimal bytes) (other_digit _)
-    (All-cons IsOther (digit_glyph false (byte % 16)) (hexadecimal bytes) (other_digit (byte % 16)) (in_hexadecimal bytes))
+    All-cons IsOther (digit_glyph false (byte / 16))
+    (digit_glyph false (byte % 16) ∷ hexadecimal bytes) (other_digit _)
+    (All-cons IsOther (digit_glyph false (byte % 16)) (hexadecimal bytes) (other_digit (byte % 16))
+    (in_hexadecimal bytes))
 
 -- ---- a text has one last row
 
@@ -161,7 +168,11 @@ abbrev pub EndsRow : List ℕ → Type 0
 EndsRow text = (front : List ℕ) × (text ≡ front ++ 10 ∷ [])
 
 pub ends_after : (front text : List ℕ) → EndsRow text → EndsRow (front ++ text)
-ends_after front text ends = (front ++ ends.0, ap (λ l. front ++ l) ends.1 ∙ sym (append_assoc front ends.0 (10 ∷ [])))
+ends_after front text ends = (
+  front ++ ends.0,
+  ap (λ l. front ++ l) ends.1
+      ∙ sym (append_assoc front ends.0 (10 ∷ [])),
+)
 
 pub rows_after : (front text : List ℕ) → AreRows front → AreRows text → AreRows (front ++ text)
 rows_after front text are are' = elim are' [
@@ -174,8 +185,13 @@ rows_after front text are are' = elim are' [
 feed_ends : (front : List ℕ) → EndsRow (front ++ codes "\n")
 feed_ends front = (front, refl)
 
-part_ends : (road : RoadMap) (name : List ℕ) (part : Option (Vec _)) → EndsRow (part_row road name part)
-part_ends road name None = (name ++ codes " none", sym (append_assoc name (codes " none") (10 ∷ [])))
+part_ends : (road : RoadMap) (name : List ℕ) (part : Option (Vec _))
+    → EndsRow (part_row road name part)
+part_ends road name None = (
+  name
+      ++ codes " none",
+  sym (append_assoc name (codes " none") (10 ∷ [])),
+)
 part_ends road name (Some part) = feed_ends _
 
 place_ends : (road : RoadMap) (name : List ℕ) (place : Place) → EndsRow (place_row road name place)
@@ -199,7 +215,8 @@ entry_ends road entry =
 pub entries_are_rows : (road : RoadMap) (entries : List Entry) → AreRows (entries_rows road entries)
 entries_are_rows road [] = inl refl
 entries_are_rows road (entry ∷ entries) =
-    rows_after (entry_rows road entry) (entries_rows road entries) (inr (entry_ends road entry)) (entries_are_rows road entries)
+    rows_after (entry_rows road entry) (entries_rows road entries) (inr (entry_ends road entry))
+    (entries_are_rows road entries)
 
 -- ---- no line feed in the text of a cursor
 

@@ -1,7 +1,7 @@
 -- The value of the candidates of points: it has no float, and arrays and objects nest in it four deep at most.
 use Rattle.std.proofs.Common.{◌≡◌, List, [], ◌∷◌, map, codes, refl, ap, arith}
 use Rattle.arrayvec.specs.ArrayVec.{ArrayVec}
-use Rattle.serde_json.specs.Data.{Data, array, member, no_members, object}
+use Rattle.serde_json.specs.Data.{array, member, no_members, object}
 use Rattle.serde_json.specs.View.{items_of}
 use Rattle.olr_binary.specs.JsonValues.{array_of}
 use Rattle.olr_candidates.specs.Points.{lists_of}
@@ -15,13 +15,13 @@ module _ (road : RoadMap) where
   each_array : (lists : List (ArrayVec Candidate)) → map (λ (list : ArrayVec Candidate). candidates_array road list.items) lists
       ≡ map (candidates_array road) (lists_of lists)
   each_array [] = refl
-  each_array (list ∷ lists) = ap (λ (l : List Data). candidates_array road list.items ∷ l) (each_array lists)
+  each_array (list ∷ lists) = ap (λ l. candidates_array road list.items ∷ l) (each_array lists)
 
   -- the object, from lists of bounded length
   pub same_lists : (lists : List (ArrayVec Candidate))
       → object (member (codes "points") (array_of (λ (list : ArrayVec Candidate). candidates_array road list.items) lists) no_members)
       ≡ listing_object road (lists_of lists)
-  same_lists lists = ap (λ (l : List Data). object (member (codes "points") (array (items_of l)) no_members)) (each_array lists)
+  same_lists lists = ap (λ l. object (member (codes "points") (array (items_of l)) no_members)) (each_array lists)
 
   listing_plain : (lists : List (List Candidate)) → IsPlain 4 (listing_object road lists)
   listing_plain lists =

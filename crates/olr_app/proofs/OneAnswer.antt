@@ -62,7 +62,7 @@ use Rattle.olr_app.proofs.Single.{IsSingle, first_then, no_fault_once, no_ok_and
 same_line : {value other : Data} {text again : List ℕ} → value ≡ other → IsJsonLine value text
     → IsJsonLine other again → text ≡ again
 same_line same is its =
-    is.line_is ∙ ap (λ (value : Data). compact_text value ++ codes "\n") same ∙ sym its.line_is
+    is.line_is ∙ ap (λ value. compact_text value ++ codes "\n") same ∙ sym its.line_is
 
 reference_in : (format : Format) (reference : Reference) (text other : List ℕ)
     → IsReferenceIn format reference text → IsReferenceIn format reference other → text ≡ other
@@ -106,7 +106,7 @@ module _ (laws : Laws) where
       absurd (laws.no_lists_and_too_many _ _ _ has.0 is.0 has.1 is.1.too_many)
   lists_or_fault tolerances reference road Is lists once (Err one) (Err other) is again =
       let index = laws.first_too_many _ _ _ is.0 again.0 is.1 again.1 in
-      ap Err (is.2 ∙ ap (λ (i : ℕ). TooManyCandidates (i + 1)) index ∙ sym again.2)
+      ap Err (is.2 ∙ ap (λ i. TooManyCandidates (i + 1)) index ∙ sym again.2)
 
   pub layers_once : (tolerances : Tolerances) (reference : Reference) (road : RoadMap)
       → IsSingle (AreLayers tolerances reference road)
@@ -130,7 +130,7 @@ module _ (laws : Laws) where
       → one ≡ other
   asked_once size All after one other are is again = laws.chain _ _ _ _ _ _ are is again
   asked_once size (One cursor) after one other are is again =
-      is.1 ∙ ap (λ (page : PageValue). page ∷ []) (laws.page _ _ _ _ _ _ are is.2 again.2)
+      is.1 ∙ ap (λ page. page ∷ []) (laws.page _ _ _ _ _ _ are is.2 again.2)
       ∙ sym again.1
 
   -- no pages come after a key that isn't a matching's; a request for all pages has no cursor
@@ -140,14 +140,14 @@ module _ (laws : Laws) where
       → AreAnswers penalties answers → ArePagesAsked answers size pages (key_of start) list → ⊥
   no_both size All start list read begins has other are asked = none-some read (sym begins ∙ has)
   no_both {penalties} {answers} size (One cursor) start list read begins has other are asked =
-      let after = subst (λ (s : Option CursorRead). IsPageAfter answers (key_of s) size asked.0)
+      let after = subst (λ s. IsPageAfter answers (key_of s) size asked.0)
       has asked.2 in
       other (All-contains (IsKey penalties) _ _ are.only (laws.no_page_after_others _ _ _ _ after))
 
   pages_once : (asked : MatchRequest) (layers : LayersValue) (start : Option CursorRead)
       → IsStart (cursor_in asked.pages) (Ok start) → IsSingle (ArePages asked layers start)
   pages_once asked layers start begins (Ok one) (Ok other) is again =
-      let its = subst (λ (answers : List KeyValue).
+      let its = subst (λ answers.
       ArePagesAsked answers asked.size asked.pages (key_of start) other)
       (laws.list _ _ _ again.1 is.1) again.2 in
       ap Ok (asked_once asked.size asked.pages (key_of start) one other is.1 is.2 its)
@@ -166,8 +166,8 @@ module _ (laws : Laws) where
   with_mark P page mark other true more same ends is = subst P (same more) is
   with_mark P page mark other false more same ends is = ends more
 
-  -- The text of a page is one by the same parts of its matchings, and where more follow, by the same
-  -- mark.
+  -- The text of a page is one by the same parts of its matchings, and where more follow, by the
+  -- same mark.
   one_in : (format : Format) (road : RoadMap) (reference : Reference) (page : PageValue)
       (matched others : List Matched) (mark other : Option Mark) (text again : List ℕ)
       → AllZip IsSameMatched matched others → (page.more ≡ true → mark ≡ other)
@@ -229,7 +229,7 @@ module _ (laws : Laws) where
         ap mark_of (is.marked page has more ∙ sym (again.marked page has more)) in
         let texts = texts_once asked.format (Some is.mark) (Some again.mark) pages is.texts.texts
         again.texts.texts marks is.texts.each again.texts.each in
-        is.texts.whole ∙ ap (λ (all : List (List ℕ)). concat all) texts ∙ sym again.texts.whole)
+        is.texts.whole ∙ ap (λ all. concat all) texts ∙ sym again.texts.whole)
 
   -- ---- the cursor
 
@@ -241,7 +241,7 @@ module _ (laws : Laws) where
     not_both : (start : Option CursorRead) (read : CursorRead) → IfSome start IsItsOwn
         → start ≡ Some read → ¬ (IsItsOwn read) → ⊥
     not_both start read here is other =
-        other (subst (λ (s : Option CursorRead). IfSome s IsItsOwn) is here)
+        other (subst (λ s. IfSome s IsItsOwn) is here)
 
     here_once : (start : Option CursorRead) → IsSingle (IsStartHere asked road start)
     here_once start (Ok one) (Ok other) is again = ap Ok (is.0 ∙ sym again.0)
@@ -271,7 +271,7 @@ module _ (laws : Laws) where
       first_then _ (ArePlacesOn format limits road) (layers_once tolerances reference road)
       (λ layers are. no_fault_once _ (λ one other is again.
       let its : IsLooked limits road layers is.answers again.looked =
-      subst (λ (keys : List KeyValue). IsLooked limits road layers keys again.looked)
+      subst (λ keys. IsLooked limits road layers keys again.looked)
       (laws.list _ _ _ again.all is.all) again.is_looked in
       let looked = laws.looking limits road layers is.answers again.looked is.looked sound its
       is.is_looked in
@@ -282,7 +282,8 @@ module _ (laws : Laws) where
       (reference : Reference) (road : RoadMap)
       → IsSingle (AreReasons format tolerances nearest reference road)
   reasons_once format tolerances nearest reference road = no_fault_once _ (λ one other is again.
-      let shown = laws.why road tolerances reference nearest is.why again.why is.is_why again.is_why in
+      let shown = laws.why road tolerances reference nearest is.why again.why is.is_why
+      again.is_why in
       reasons_in format road is.why again.why one other shown.0 shown.1 is.output_is
       again.output_is)
 
@@ -331,5 +332,6 @@ refused_by_name law texts request refused (Err fault) is its = elim its [
         ∙ ap fault_of (same_err (law (text_of request) (Err named.0) (Err refused) named.1 is)))
     | inr cursor ↦ no_ok_and_err (law (text_of request) (Ok cursor.0) (Err refused) cursor.1 is)
   ]
-  | inr later ↦ no_ok_and_err (law (text_of request) (Ok later.0.reference) (Err refused) later.1.0 is)
+  | inr later ↦ no_ok_and_err (law (text_of request) (Ok later.0.reference) (Err refused) later.1.0
+      is)
 ]

@@ -42,29 +42,35 @@ all_related K R P [] [] keys is each = All-nil P
 all_related K R P [] (one ∷ all) keys is each = absurd is
 all_related K R P (key ∷ more) [] keys is each = absurd is
 all_related K R P (key ∷ more) (one ∷ all) keys is each =
-    All-cons P one all (each key one (All-head K key more keys) is.0) (all_related K R P more all (All-tail K key more keys) is.1 each)
+    All-cons P one all (each key one (All-head K key more keys) is.0)
+    (all_related K R P more all (All-tail K key more keys) is.1 each)
 
 -- a position that isn't in the answers is the key of a cursor, and not that of a matching
-pub not_here : (penalties : Penalties) (answers : List KeyValue) (start : Option CursorRead) → AreAnswers penalties answers → (IsPosition answers (key_of start) → ⊥)
+pub not_here : (penalties : Penalties) (answers : List KeyValue) (start : Option CursorRead)
+    → AreAnswers penalties answers → (IsPosition answers (key_of start) → ⊥)
     → (read : CursorRead) × (start ≡ Some read) × ¬ (IsKey penalties read.key)
 not_here penalties answers None are never = absurd (never tt)
 not_here penalties answers (Some read) are never = (read, refl, λ is. never (are.each read.key is))
 
 -- the fault of a page is that of a stage which has the one where the cursor isn't here
-pub page_fault : {A : Type 0} (Stage : Result A Fault → Type 0) (why : PageFault) → (why ≡ CursorNotHere → Stage (Err fault.CursorNotHere)) → IsStageFault Stage (fault_of_page why)
+pub page_fault : {A : Type 0} (Stage : Result A Fault → Type 0) (why : PageFault)
+    → (why ≡ CursorNotHere → Stage (Err fault.CursorNotHere))
+    → IsStageFault Stage (fault_of_page why)
 page_fault Stage CursorNotHere is = is refl
 page_fault Stage NoMemory is = tt
 
 -- ---- stages
 
 -- the fault of the first of two stages is that of both
-pub fault_here : {A B : Type 0} (First : Result A Fault → Type 0) (Next : A → Result B Fault → Type 0) (why : Fault) → IsStageFault First why
+pub fault_here : {A B : Type 0} (First : Result A Fault → Type 0) (Next : A → Result B Fault
+    → Type 0) (why : Fault) → IsStageFault First why
     → IsStageFault (AndThen First Next) why
 fault_here First Next fault.NoMemory is = tt
 fault_here First Next other is = inl is
 
 -- where the first stage finds something, the fault of the second is that of both
-pub fault_after : {A B : Type 0} (First : Result A Fault → Type 0) (Next : A → Result B Fault → Type 0) (between : A) (why : Fault) → First (Ok between)
+pub fault_after : {A B : Type 0} (First : Result A Fault → Type 0) (Next : A → Result B Fault
+    → Type 0) (between : A) (why : Fault) → First (Ok between)
     → IsStageFault (Next between) why → IsStageFault (AndThen First Next) why
 fault_after First Next between fault.NoMemory first is = tt
 fault_after First Next between other first is = inr (between, first, is)
@@ -128,9 +134,12 @@ keys_of_pages asked layers start list are =
     are.2 are.1.only)
 
 -- where no page has more, nothing is asked of the mark
-pub no_mark_needed : (pages : List Page) (page : PageValue) (X : Type 0) → All (λ (one : Page). one.more ≡ false) pages → Contains (values_of pages) page → page.more ≡ true → X
+pub no_mark_needed : (pages : List Page) (page : PageValue) (X : Type 0)
+    → All (λ (one : Page). one.more ≡ false) pages → Contains (values_of pages) page
+    → page.more ≡ true → X
 no_mark_needed pages page X none there more =
-    let never = All-contains (λ (one : PageValue). one.more ≡ false) (values_of pages) page (All-map (λ (one : PageValue). one.more ≡ false) page_of pages none) there in
+    let never = All-contains (λ (one : PageValue). one.more ≡ false) (values_of pages) page
+    (All-map (λ (one : PageValue). one.more ≡ false) page_of pages none) there in
     absurd cc
 
 -- ---- two lists, element by element
@@ -166,12 +175,12 @@ module _ (format : Format) (road : RoadMap) (layers : LayersValue) (mark : Mark)
       → ShowsPages (take (index + 1) pages) (output ++ text)
   one_more pages index page output text inside is so_far shown =
       let longer : take index pages ++ page ∷ [] ≡ take (index + 1) pages = simp add-one
-      (ap (λ (e : Page). take index pages ++ e ∷ []) is ∙ sym (take-suc pages index page inside)) in (
+      (ap (λ e. take index pages ++ e ∷ []) is ∙ sym (take-suc pages index page inside)) in (
         so_far.0 ++ text ∷ [],
-        subst (λ (l : List Page). AllZip IsText l (so_far.0 ++ text ∷ [])) longer
+        subst (λ l. AllZip IsText l (so_far.0 ++ text ∷ [])) longer
             (zip_push IsText (take index pages) so_far.0 page text so_far.1 shown),
-        ap (λ (l : List ℕ). l ++ text) so_far.2
-            ∙ ap (λ (l : List ℕ). concat so_far.0 ++ l) (sym (append-nil text))
+        ap (λ l. l ++ text) so_far.2
+            ∙ ap (λ l. concat so_far.0 ++ l) (sym (append-nil text))
             ∙ sym (concat-append so_far.0 (text ∷ [])),
       )
 
@@ -181,6 +190,6 @@ module _ (format : Format) (road : RoadMap) (layers : LayersValue) (mark : Mark)
   all_pages_shown pages index output past shows = record {
     texts = shows.0;
     each = zip_values (IsTextOfPage format road layers (Some mark)) page_of pages shows.0
-        (subst (λ (l : List Page). AllZip IsText l shows.0) (take_all index pages past) shows.1);
+        (subst (λ l. AllZip IsText l shows.0) (take_all index pages past) shows.1);
     whole = shows.2;
   }

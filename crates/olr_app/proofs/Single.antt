@@ -66,7 +66,8 @@ module _ {A B : Type 0} (First : Result A Fault → Type 0) (Next : A → Result
       | inr later ↦ record { first = Ok later.0; is = later.1; goes_on = later.2 }
     ]
 
-    module _ (single : IsSingle First) (next : (found : A) → First (Ok found) → IsSingle (Next found))
+    module _ (single : IsSingle First) (next : (found : A) → First (Ok found)
+        → IsSingle (Next found))
       where
         from_first : (first : Result A Fault) (one other : Result B Fault) → First first
             → GoesOn first one → GoesOn first other → one ≡ other
@@ -78,5 +79,5 @@ module _ {A B : Type 0} (First : Result A Fault → Type 0) (Next : A → Result
             let a = begun one is in
             let b = begun other again in
             from_first a.first one other a.is a.goes_on
-            (subst (λ (first : Result A Fault). GoesOn first other)
+            (subst (λ first. GoesOn first other)
             (single b.first a.first b.is a.is) b.goes_on)

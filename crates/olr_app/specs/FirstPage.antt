@@ -19,7 +19,8 @@ IsFirstPageOf size road layers = NoFault (λ (output : List ℕ). (answers : Lis
     × (page : PageValue) × AreAnswers layers.penalties answers
     × IsPageAfter answers None size page × IsTextOfPage Json road layers None page output)
 
--- the JSON of the first page of a reference's matchings, or the first point that has too many candidates
+-- the JSON of the first page of a reference's matchings, or the first point that has too many
+-- candidates
 abbrev pub IsFirstPage :
     Tolerances → ℕ → Reference → RoadMap → Result (List ℕ) Fault → Type 0
 IsFirstPage tolerances size reference road =

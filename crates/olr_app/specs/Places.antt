@@ -1,4 +1,5 @@
--- The places of a reference on a map, and whether its match is unique, by the texts alone: as text or as JSON.
+-- The places of a reference on a map, and whether its match is unique, by the texts alone: as text
+-- or as JSON.
 use Rattle.std.specs.Prelude.{◌≡◌, ℕ, List, Result}
 use Rattle.olr_binary.specs.JsonValues.{IsJsonLine}
 use Rattle.olr_binary.specs.declared.reference.Reference.{Reference}
@@ -22,8 +23,10 @@ abbrev pub IsPlacesIn : Format → PlaceLimits → Looked → List ℕ → Type 
 IsPlacesIn Text limits looked text = text ≡ places_text limits looked
 IsPlacesIn Json limits looked text = IsJsonLine (places_object limits looked) text
 
--- The places of all matchings of these layers, which are looked at in their order as far as is asked for, in a format.
-pub record IsPlacesListing (format : Format) (limits : PlaceLimits) (road : RoadMap) (layers : LayersValue) (output : List ℕ) : Type 0 where
+-- The places of all matchings of these layers, which are looked at in their order as far as is
+-- asked for, in a format.
+pub record IsPlacesListing (format : Format) (limits : PlaceLimits) (road : RoadMap)
+    (layers : LayersValue) (output : List ℕ) : Type 0 where
   pub answers : List KeyValue
   pub looked : Looked
   pub all : AreAnswers layers.penalties answers
@@ -31,10 +34,12 @@ pub record IsPlacesListing (format : Format) (limits : PlaceLimits) (road : Road
   pub output_is : IsPlacesIn format limits looked output
 
 -- the same as a stage, which has no fault
-abbrev pub ArePlacesOn : Format → PlaceLimits → RoadMap → LayersValue → Result (List ℕ) Fault → Type 0
+abbrev pub ArePlacesOn : Format → PlaceLimits → RoadMap → LayersValue → Result (List ℕ) Fault
+    → Type 0
 ArePlacesOn format limits road layers = NoFault (IsPlacesListing format limits road layers)
 
 -- the places of a reference in a format, or the first point that has too many candidates
-abbrev pub ArePlaces : Format → Tolerances → PlaceLimits → Reference → RoadMap → Result (List ℕ) Fault → Type 0
+abbrev pub ArePlaces : Format → Tolerances → PlaceLimits → Reference → RoadMap
+    → Result (List ℕ) Fault → Type 0
 ArePlaces format tolerances limits reference road =
     AndThen (AreLayers tolerances reference road) (ArePlacesOn format limits road)

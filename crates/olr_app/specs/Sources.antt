@@ -25,15 +25,16 @@ abbrev pub IsOfRequest : Fault → Type 0
 IsOfRequest fault = ((refused : Refused) × (fault ≡ fault_of refused)) ⊎ (fault ≡ BadCursor)
 
 module _ {S : Type 0} (left : S → Option (List ℕ)) (failed : S → ℕ) (old new : S) where
-  -- What a fault leaves of the source of a file, where a map is read. No call of it was made where the
-  -- text of the reference or of the cursor is refused; with a fault of the map it is what the reading of
-  -- the map left; and after the map it was read to its end.
+  -- What a fault leaves of the source of a file, where a map is read. No call of it was made where
+  -- the text of the reference or of the cursor is refused; with a fault of the map it is what the
+  -- reading of the map left; and after the map it was read to its end.
   abbrev pub FaultLeaves : File → Fault → Type 0
   FaultLeaves file fault = (IsOfRequest fault × (new ≡ old))
       ⊎ ((why : MapFault) × (fault ≡ fault_of_map why) × IsEffect left failed old new file why)
       ⊎ (IsAfterMap fault × IsReadWhole left failed old new)
 
-  -- What becomes of the source of a file, where a map is read: with an answer it was read to its end.
+  -- What becomes of the source of a file, where a map is read: with an answer it was read to its
+  -- end.
   abbrev pub LeavesFile : {T : Type 0} → File → Result T Fault → Type 0
   LeavesFile file (Ok answer) = IsReadWhole left failed old new
   LeavesFile file (Err fault) = FaultLeaves file fault

@@ -81,7 +81,8 @@ pub fn first_page(
     requires { IsReference reference.now }
     ensures page { IfOk result (λ output.
         IsFirstPage tolerances.now size reference.now map.now (Ok (string_bytes output))) }
-    ensures fault { IfErr result (IsStageFault (IsFirstPage tolerances.now size reference.now map.now)) }
+    ensures fault { IfErr result (IsStageFault
+        (IsFirstPage tolerances.now size reference.now map.now)) }
 {
     let (layers, searches) = layers_of(alloc, map, reference, tolerances)?;
     let output = first_page_of(alloc, map, &layers, searches, reference, size)?;

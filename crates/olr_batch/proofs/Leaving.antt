@@ -3,32 +3,30 @@ use Rattle.std.proofs.Common.{ℕ, List, Option, Ok, Err, refl, inl, inr}
 use Rattle.std.specs.Prelude.{IfErr, Result}
 use Rattle.olr_metric.specs.declared.failure.Failed.{Failed}
 use Rattle.olr_records.specs.declared.file.File.{File}
-use Rattle.olr_records.specs.declared.file.File.TheVariants.{Bans, Lines, Nodes}
-use Rattle.olr_map.specs.Files.{IsEffect, IsReadWhole}
+use Rattle.olr_map.specs.Files.{IsReadWhole}
 use Rattle.olr_map.specs.RoadMap.{RoadMap}
 use Rattle.olr_map.specs.declared.fault.MapFault.TheVariants as map
 use Rattle.olr_app.specs.Sources.{LeavesFile}
 use Rattle.olr_app.specs.declared.fault.Fault.{Fault}
 use Rattle.olr_app.specs.declared.fault.Fault.TheVariants.{InputNotRead, NoMemory, WriteFailed}
+use Rattle.olr_app.proofs.AnswerOf.{unfailed}
 use Rattle.olr_batch.specs.Run.{IsStopped}
 use Rattle.olr_batch.specs.declared.asked.BatchRequest.{BatchRequest}
 
-module _ {S : Type 0} (left : S → Option (List ℕ)) (failed : S → ℕ) (old new : S) where
-  -- a file that was read to its end has no failure
-  unfailed : (file : File) → IsReadWhole left failed old new → IsEffect left failed old new file map.NoMemory
-  unfailed Nodes whole = whole.none_failed
-  unfailed Lines whole = whole.none_failed
-  unfailed Bans whole = whole.none_failed
-
-module _ {S I O : Type 0} (left : S → Option (List ℕ)) (failed : S → ℕ) (in_left : I → Option (List ℕ)) (in_failed : I → ℕ)
-    (taken : O → Option (List ℕ)) (out_failed : O → ℕ) (put_gives : O → List ℕ → Result ℕ Failed → O → Type 0)
-    (flush_gives : O → Result (Unit {0}) Failed → O → Type 0) (asked : BatchRequest) (road : RoadMap)
-    (old_in new_in : I) (old_out new_out : O) (old new : S) (file : File) (whole : IsReadWhole left failed old new) where
+module _ {S I O : Type 0} (left : S → Option (List ℕ)) (failed : S → ℕ) (in_left : I
+    → Option (List ℕ)) (in_failed : I → ℕ)
+    (taken : O → Option (List ℕ)) (out_failed : O → ℕ) (put_gives : O → List ℕ → Result ℕ Failed → O
+    → Type 0)
+    (flush_gives : O → Result (Unit {0}) Failed → O → Type 0) (asked : BatchRequest)
+    (road : RoadMap)
+    (old_in new_in : I) (old_out new_out : O) (old new : S) (file : File)
+    (whole : IsReadWhole left failed old new) where
   pub leaves_file : {T : Type 0} (result : Result T Fault)
-      → IfErr result (IsStopped in_left in_failed taken out_failed put_gives flush_gives asked road old_in new_in old_out new_out)
+      → IfErr result (IsStopped in_left in_failed taken out_failed put_gives flush_gives asked road
+      old_in new_in old_out new_out)
       → LeavesFile left failed old new file result
   leaves_file (Ok done) is = whole
-  leaves_file (Err NoMemory) is = inr (inl (map.NoMemory, refl, unfailed left failed old new file whole))
+  leaves_file (Err NoMemory) is = inr (inl (map.NoMemory, refl, unfailed file whole))
   leaves_file (Err InputNotRead) is = inr (inr (tt, whole))
   leaves_file (Err WriteFailed) is = inr (inr (tt, whole))
   leaves_file (Err other) is = absurd is

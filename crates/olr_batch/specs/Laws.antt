@@ -1,4 +1,5 @@
--- Laws on the answers to records. Each is the contract of a public function that does nothing at run time.
+-- Laws on the answers to records. Each is the contract of a public function that does nothing at
+-- run time.
 use Rattle.std.specs.Prelude.{◌≡◌, ℕ, List, Result, Ok, Err}
 use Rattle.std.specs.Borrow.{Bor}
 use Rattle.olr_candidates.specs.declared.tolerances.Tolerances.{Tolerances}
@@ -21,11 +22,13 @@ use Rattle.olr_batch.specs.declared.asked.What.TheVariants.{Candidates, Match, P
 
 -- the request for the places of a text, as JSON
 abbrev pub places_asked : Bor (List ℕ) → Tolerances → PlaceLimits → PlacesRequest
-places_asked text tolerances limits = record { text = text; tolerances = tolerances; limits = limits; format = Json }
+places_asked text tolerances limits =
+    record { text = text; tolerances = tolerances; limits = limits; format = Json }
 
 -- the request for the reasons of a text, as JSON
 abbrev pub why_asked : Bor (List ℕ) → Tolerances → ℕ → WhyRequest
-why_asked text tolerances nearest = record { text = text; tolerances = tolerances; nearest = nearest; format = Json }
+why_asked text tolerances nearest =
+    record { text = text; tolerances = tolerances; nearest = nearest; format = Json }
 
 -- the request by which a run is asked for the same of a text alone, as JSON
 abbrev pub request_for : What → Tolerances → Bor (List ℕ) → Request
@@ -34,29 +37,37 @@ request_for (Match size) tolerances text = request.Match (first_asked text toler
 request_for (Places limits) tolerances text = request.Places (places_asked text tolerances limits)
 request_for (Why nearest) tolerances text = request.Why (why_asked text tolerances nearest)
 
--- an answer is the output of a run; one with matchings shows the same page, but the cursor at the end of an output has a mark
+-- an answer is the output of a run; one with matchings shows the same page, but the cursor at the
+-- end of an output has a mark
 abbrev pub IsSameAnswer : What → RoadMap → List ℕ → List ℕ → Type 0
-IsSameAnswer Candidates road output answer = answer ≡ output
 IsSameAnswer (Match size) road output answer = ShowsSame road output answer
-IsSameAnswer (Places limits) road output answer = answer ≡ output
-IsSameAnswer (Why nearest) road output answer = answer ≡ output
+IsSameAnswer other road output answer = answer ≡ output
 
 -- The answer to a text is what a run prints for it on the same files.
 abbrev pub AnswersAreOfRuns : Type 0
-AnswersAreOfRuns = (nodes lines bans : List ℕ) (road : RoadMap) (asked : BatchRequest) (text : Bor (List ℕ)) (output answer : List ℕ)
-    → IsMapOf nodes lines bans road → IsAnswerOfRun (known nodes lines bans) (request_for asked.what asked.tolerances text) (Ok output)
+AnswersAreOfRuns = (nodes lines bans : List ℕ) (road : RoadMap) (asked : BatchRequest)
+    (text : Bor (List ℕ)) (output answer : List ℕ)
+    → IsMapOf nodes lines bans road
+    → IsAnswerOfRun (known nodes lines bans) (request_for asked.what asked.tolerances text)
+    (Ok output)
     → IsAnswer asked road text.now (Ok answer) → IsSameAnswer asked.what road output answer
 
 -- A text has a fault in place of an answer exactly where such a run ends with this fault.
 abbrev pub FaultsAreOfRuns : Type 0
-FaultsAreOfRuns = (nodes lines bans : List ℕ) (road : RoadMap) (asked : BatchRequest) (text : Bor (List ℕ)) (fault : Fault)
+FaultsAreOfRuns = (nodes lines bans : List ℕ) (road : RoadMap) (asked : BatchRequest)
+    (text : Bor (List ℕ)) (fault : Fault)
     → IsMapOf nodes lines bans road
-    → (IsAnswerOfRun (known nodes lines bans) (request_for asked.what asked.tolerances text) (Err fault) → IsAnswer asked road text.now (Err fault))
-    × (IsAnswer asked road text.now (Err fault) → IsAnswerOfRun (known nodes lines bans) (request_for asked.what asked.tolerances text) (Err fault))
+    → (IsAnswerOfRun (known nodes lines bans) (request_for asked.what asked.tolerances text)
+    (Err fault) → IsAnswer asked road text.now (Err fault))
+    × (IsAnswer asked road text.now (Err fault)
+    → IsAnswerOfRun (known nodes lines bans) (request_for asked.what asked.tolerances text)
+    (Err fault))
 
--- A text has one answer, or one fault in place of it, and not both: by the map and what is asked, whatever stands before it.
+-- A text has one answer, or one fault in place of it, and not both: by the map and what is asked,
+-- whatever stands before it.
 abbrev pub OneAnswer : Type 0
-OneAnswer = (road : RoadMap) (asked : BatchRequest) (text : List ℕ) (one other : Result (List ℕ) Fault) → IsSoundMap road
+OneAnswer = (road : RoadMap) (asked : BatchRequest) (text : List ℕ)
+    (one other : Result (List ℕ) Fault) → IsSoundMap road
     → IsAnswer asked road text one → IsAnswer asked road text other → one ≡ other
 
 -- The laws of the crates below that these rest on.

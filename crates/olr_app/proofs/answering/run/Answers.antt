@@ -1,4 +1,4 @@
-use Rattle.std.proofs.Common.{subst, ℕ, List, string_bytes}
+use Rattle.std.proofs.Common.{subst, string_bytes}
 use Rattle.std.specs.Io.KnownBytes.{Appends}
 use Rattle.olr_records.specs.declared.file.File.TheVariants.{Bans, Lines, Nodes}
 use Rattle.olr_app.specs.Writing.{HasStopped, IsWritten}
@@ -67,18 +67,20 @@ pub returns-in_default-clause-fault : goal.returns-in_default-clause-fault
 returns-in_default-clause-fault g c = (
   string_bytes c.in_ok-output.output,
   c.in_ok-output.ensures.output,
-  subst (λ (bytes : List ℕ). HasStopped g.O.Sink.taken g.O.Sink.failed g.O.Sink.put_gives
+  subst (λ bytes. HasStopped g.O.Sink.taken g.O.Sink.failed g.O.Sink.put_gives
       g.O.Sink.flush_gives bytes c.args.out.now c.write_whole.new.out) c.as_bytes.ensures.value
       c.in_default.ensures.stopped,
 )
 
 pub returns-in_default-clause-nodes_source : goal.returns-in_default-clause-nodes_source
 returns-in_default-clause-nodes_source g c =
-    answer.unwritten_leaves _ _ _ _ Nodes _ _ c.args.request.now _ c.in_ok-output.ensures.nodes_source
+    answer.unwritten_leaves _ _ _ _ Nodes _ _ c.args.request.now _
+    c.in_ok-output.ensures.nodes_source
 
 pub returns-in_default-clause-lines_source : goal.returns-in_default-clause-lines_source
 returns-in_default-clause-lines_source g c =
-    answer.unwritten_leaves _ _ _ _ Lines _ _ c.args.request.now _ c.in_ok-output.ensures.lines_source
+    answer.unwritten_leaves _ _ _ _ Lines _ _ c.args.request.now _
+    c.in_ok-output.ensures.lines_source
 
 pub returns-in_default-clause-bans_source : goal.returns-in_default-clause-bans_source
 returns-in_default-clause-bans_source g c =
@@ -88,10 +90,10 @@ pub returns-clause-answered : goal.returns-clause-answered
 returns-clause-answered g c = record {
   output = string_bytes c.in_ok-output.output;
   is_output = c.in_ok-output.ensures.output;
-  took = subst (λ (bytes : List ℕ).
+  took = subst (λ bytes.
       Appends (g.O.Sink.taken c.args.out.now) (g.O.Sink.taken c.write_whole.new.out) bytes)
       c.as_bytes.ensures.value c.in-Ok.ensures.whole;
-  written = subst (λ (bytes : List ℕ). IsWritten g.O.Sink.put_gives g.O.Sink.flush_gives bytes
+  written = subst (λ bytes. IsWritten g.O.Sink.put_gives g.O.Sink.flush_gives bytes
       c.args.out.now c.write_whole.new.out) c.as_bytes.ensures.value c.in-Ok.ensures.written;
   none_failed = c.in-Ok.ensures.none_failed;
 }

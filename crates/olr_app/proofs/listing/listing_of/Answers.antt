@@ -1,7 +1,5 @@
-use Rattle.std.proofs.Common.{List, string_bytes, subst}
-use Rattle.arrayvec.specs.ArrayVec.{ArrayVec}
+use Rattle.std.proofs.Common.{string_bytes, subst}
 use Rattle.olr_candidates.specs.Points.{lists_of}
-use Rattle.olr_candidates.specs.declared.candidate.Candidate.{Candidate}
 use Rattle.olr_app.specs.Listing.{IsListingIn}
 use Rattle.olr_app.proofs.PointsOnMap.{lists_on_map}
 use Rattle.olr_app.proofs.listing.listing_of.Goals as goal
@@ -14,6 +12,6 @@ pub returns-clause-text : goal.returns-clause-text
 returns-clause-text c = record {
   lists = lists_of c.in_ok-lists.lists.items;
   candidates = c.in_ok-lists.ensures.lists;
-  text_is = subst (λ (lists : List (ArrayVec Candidate)). IsListingIn c.args.format c.args.map.now (lists_of lists) (string_bytes c.in_ok-text.text))
+  text_is = subst (λ lists. IsListingIn c.args.format c.args.map.now (lists_of lists) (string_bytes c.in_ok-text.text))
       c.deref.ensures.value c.in_ok-text.ensures;
 }

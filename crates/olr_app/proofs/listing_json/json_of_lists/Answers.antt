@@ -1,5 +1,4 @@
 use Rattle.std.proofs.Common.{arith, string_bytes, subst}
-use Rattle.serde_json.specs.Data.{Data}
 use Rattle.olr_binary.specs.JsonValues.{IsJsonLine}
 use Rattle.olr_app.proofs.JsonListing.{plain_lists, same_lists}
 use Rattle.olr_app.proofs.listing_json.json_of_lists.Goals as goal
@@ -13,4 +12,4 @@ to_json_line-requires-clause-shallow c =
     let shallow = plain.shallow in omega arith
 
 pub returns : goal.returns
-returns c = subst (λ (value : Data). IsJsonLine value (string_bytes c.in_ok-text.text)) (same_lists c.args.map.now c.args.lists.now) c.in_ok-text.ensures
+returns c = subst (λ value. IsJsonLine value (string_bytes c.in_ok-text.text)) (same_lists c.args.map.now c.args.lists.now) c.in_ok-text.ensures

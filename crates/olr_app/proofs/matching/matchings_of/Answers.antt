@@ -1,4 +1,4 @@
-use Rattle.std.proofs.Common.{◌≡◌, List, All, Contains, true, sym, subst, string_bytes}
+use Rattle.std.proofs.Common.{◌≡◌, All, Contains, true, sym, subst, string_bytes}
 use Rattle.olr_matching.specs.Fingerprint.{IsFingerprint}
 use Rattle.olr_keys.specs.Matching.{IsKey}
 use Rattle.olr_keys.specs.Page.{PageValue}
@@ -14,7 +14,8 @@ pub returns-in_err-known-clause-fault : goal.returns-in_err-known-clause-fault
 returns-in_err-known-clause-fault c =
     let asked = c.args.asked.now in
     let accepted = c.args.accepted.now in
-    rw (exit c.from_residual.ensures.1) (fault_here (IsStartHere asked c.args.map.now accepted.start)
+    rw (exit c.from_residual.ensures.1)
+    (fault_here (IsStartHere asked c.args.map.now accepted.start)
     (OnStart asked accepted.reference c.args.map.now) c.in_err-known.field-0.0
     c.in_err-known.ensures.fault)
 
@@ -24,7 +25,8 @@ returns-in_err-layers-clause-fault c =
     let accepted = c.args.accepted.now in
     let road = c.args.map.now in
     let why = c.in_err-layers.field-0.0 in
-    rw (exit c.from_residual-in_err-layers.ensures.1) (fault_after (IsStartHere asked road accepted.start)
+    rw (exit c.from_residual-in_err-layers.ensures.1)
+    (fault_after (IsStartHere asked road accepted.start)
     (OnStart asked accepted.reference road) accepted.start why c.in_ok-known.ensures.here
     (fault_here (AreLayers asked.tolerances accepted.reference road)
     (OnLayers asked accepted.start road) why c.in_err-layers.ensures.fault))
@@ -36,7 +38,8 @@ returns-in_err-pages-clause-fault c =
     let road = c.args.map.now in
     let layers = c.in_ok-layers.layers in
     let why = c.in_err-pages.field-0.0 in
-    rw (exit c.from_residual-in_err-pages.ensures.1) (fault_after (IsStartHere asked road accepted.start)
+    rw (exit c.from_residual-in_err-pages.ensures.1)
+    (fault_after (IsStartHere asked road accepted.start)
     (OnStart asked accepted.reference road) accepted.start why c.in_ok-known.ensures.here
     (fault_after (AreLayers asked.tolerances accepted.reference road)
     (OnLayers asked accepted.start road) layers why c.in_ok-layers.ensures.layers
@@ -45,7 +48,7 @@ returns-in_err-pages-clause-fault c =
 
 pub text_of_pages-requires-clause-keys : goal.text_of_pages-requires-clause-keys
 text_of_pages-requires-clause-keys c =
-    subst (λ (list : List Page). All (λ (page : Page).
+    subst (λ list. All (λ (page : Page).
     All (IsKey c.in_ok-layers.layers.penalties) page.keys.items) list) (sym c.deref-2.ensures.value)
     (keys_of_pages c.args.asked.now c.in_ok-layers.layers c.args.accepted.now.start
     c.in_ok-pages.pages.items c.in_ok-pages.ensures.pages)
@@ -60,10 +63,10 @@ returns-clause-text c =
     let pages = c.in_ok-pages.pages.items in
     let shown : IsPagesText asked road layers (values_of pages) output = record {
       mark = mark;
-      marked = subst (λ (list : List Page). (page : PageValue) → Contains (values_of list) page
+      marked = subst (λ list. (page : PageValue) → Contains (values_of list) page
           → page.more ≡ true → IsFingerprint asked.text.now asked.tolerances road mark)
           c.deref.ensures.value c.in_ok-mark.ensures;
-      texts = subst (λ (list : List Page).
+      texts = subst (λ list.
           AreTextsOfPages asked.format road layers mark (values_of list) output)
           c.deref-2.ensures.value c.in_ok-output.ensures;
     } in (

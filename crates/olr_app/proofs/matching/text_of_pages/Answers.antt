@@ -1,17 +1,20 @@
-use Rattle.std.proofs.Common.{ℕ, List, ◌++◌, ap, ◌∙◌, string_bytes}
+use Rattle.std.proofs.Common.{◌++◌, ap, ◌∙◌, string_bytes}
 use Rattle.olr_app.proofs.PagesOf.{one_more, all_pages_shown}
 use Rattle.olr_app.proofs.matching.text_of_pages.Goals as goal
 
 pub loop-page-preserved : goal.loop-page-preserved
 loop-page-preserved c =
     let before = c.loop-page.invariant in
-    let shown = one_more c.args.format c.args.map.now c.args.layers.now c.args.mark.now c.args.pages.now c.loop-page.page-index c.page-item.result (string_bytes c.loop-page.output)
-    (string_bytes c.in_ok-text.text) c.loop-page-test.true c.page-item.is before.2 c.in_ok-text.ensures.text in
-    let bytes = c.in_ok-push_str.ensures.bytes ∙ ap (λ (more : List ℕ). string_bytes c.loop-page.output ++ more) c.deref.ensures in
-    (ap (λ routes. routes.road) c.text_of_page.ensures.same ∙ before.0, ap (λ routes. routes.layers) c.text_of_page.ensures.same ∙ before.1, (shown.0, shown.1, bytes ∙ shown.2))
+    let shown = one_more _ _ _ _ c.args.pages.now c.loop-page.page-index _
+    (string_bytes c.loop-page.output) _ c.loop-page-test.true c.page-item.is before.2
+    c.in_ok-text.ensures.text in
+    let bytes = c.in_ok-push_str.ensures.bytes ∙ ap (λ more. string_bytes c.loop-page.output ++ more) c.deref.ensures in (
+      ap (λ routes. routes.road) c.text_of_page.ensures.same ∙ before.0,
+      ap (λ routes. routes.layers) c.text_of_page.ensures.same ∙ before.1,
+      (shown.0, shown.1, bytes ∙ shown.2),
+    )
 
 pub returns : goal.returns
 returns c =
-    let shown = c.loop-page.invariant in
-    all_pages_shown c.args.format c.args.map.now c.args.layers.now c.args.mark.now c.args.pages.now c.loop-page.page-index (string_bytes c.loop-page.output) c.loop-page-test.false
-    shown.2
+    all_pages_shown _ _ _ _ c.args.pages.now c.loop-page.page-index (string_bytes c.loop-page.output)
+    c.loop-page-test.false c.loop-page.invariant.2

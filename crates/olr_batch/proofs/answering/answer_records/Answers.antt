@@ -1,27 +1,29 @@
 use Rattle.std.proofs.Common.{refl, subst}
-use Rattle.std.proofs.lemmas.Result.{err_from_is_err_and}
+use Rattle.olr_app.proofs.Single.{exit}
 use Rattle.olr_batch.specs.Run.{IsStopped}
 use Rattle.olr_batch.proofs.Stopping.{none_begun}
 use Rattle.olr_batch.proofs.answering.answer_records.Goals as goal
 
 pub returns-in_err-new-clause-fault : goal.returns-in_err-new-clause-fault
 returns-in_err-new-clause-fault g c =
-    let p = err_from_is_err_and c.from_residual-in_err-new.result c.from_residual-in_err-new.ensures.1 in
-    rw (p.1, p.2) (
-      none_begun g.O.Sink.taken g.O.Sink.failed g.O.Sink.flush_gives c.args.asked.now c.args.map.now (g.S.Source.left c.args.input.now) c.args.out.now,
+    rw (exit c.from_residual-in_err-new.ensures.1) (
+      none_begun g.O.Sink.taken g.O.Sink.failed g.O.Sink.flush_gives c.args.asked.now c.args.map.now
+          (g.S.Source.left c.args.input.now) c.args.out.now,
       refl,
     )
 
 pub returns-in_err-unbanned-clause-fault : goal.returns-in_err-unbanned-clause-fault
 returns-in_err-unbanned-clause-fault g c =
-    let p = err_from_is_err_and c.from_residual.result c.from_residual.ensures.1 in
-    rw (p.1, p.2) (
-      none_begun g.O.Sink.taken g.O.Sink.failed g.O.Sink.flush_gives c.args.asked.now c.args.map.now (g.S.Source.left c.args.input.now) c.args.out.now,
+    rw (exit c.from_residual.ensures.1) (
+      none_begun g.O.Sink.taken g.O.Sink.failed g.O.Sink.flush_gives c.args.asked.now c.args.map.now
+          (g.S.Source.left c.args.input.now) c.args.out.now,
       refl,
     )
 
 pub returns-in_err-all-clause-fault : goal.returns-in_err-all-clause-fault
 returns-in_err-all-clause-fault g c =
-    let p = err_from_is_err_and c.from_residual-in_err-all.result c.from_residual-in_err-all.ensures.1 in
-    rw (p.1, p.2) (subst (λ on. IsStopped g.S.Source.left g.S.Source.failed g.O.Sink.taken g.O.Sink.failed g.O.Sink.put_gives g.O.Sink.flush_gives on.now.asked.now on.now.map.now
-    c.args.input.now c.all.new.input c.args.out.now c.all.new.out c.in_err-all.field-0.0) c.in_ok-new.ensures.on c.in_err-all.ensures.fault)
+    rw (exit c.from_residual-in_err-all.ensures.1)
+    (subst (λ on. IsStopped g.S.Source.left g.S.Source.failed g.O.Sink.taken g.O.Sink.failed
+    g.O.Sink.put_gives g.O.Sink.flush_gives on.now.asked.now on.now.map.now
+    c.args.input.now c.all.new.input c.args.out.now c.all.new.out c.in_err-all.field-0.0)
+    c.in_ok-new.ensures.on c.in_err-all.ensures.fault)

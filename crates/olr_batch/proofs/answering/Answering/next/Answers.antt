@@ -1,18 +1,17 @@
 use Rattle.std.proofs.Common.{◌≡◌, rules, true, [], refl, inl, inr, subst, ◌∙◌, List, ℕ}
-use Rattle.std.proofs.lemmas.Result.{err_from_is_err_and}
 use Rattle.std.specs.Io.KnownBytes.{Appends}
 use Rattle.olr_messages.specs.Content.{message_of}
 use Rattle.olr_app.specs.Writing.{HasStopped}
 use Rattle.olr_batch.proofs.Stepping.{may_ask, same, same_passed, takes_after, where_found}
+use Rattle.olr_app.proofs.Single.{exit}
 use Rattle.olr_batch.proofs.answering.Answering.next.Goals as goal
 
 pub returns-in_err-pass_on_unless-clause-fault : goal.returns-in_err-pass_on_unless-clause-fault
 returns-in_err-pass_on_unless-clause-fault g c =
-    let p = err_from_is_err_and c.from_residual.result c.from_residual.ensures.1 in
-    rw (p.1, p.2, c.in_err-pass_on_unless.ensures.fault.0) (
+    rw (exit c.from_residual.ensures.1, c.in_err-pass_on_unless.ensures.fault.0) (
       c.args.out.now,
       [],
-      same g.O.Sink.taken g.O.Sink.failed g.O.Sink.flush_gives c.args.out.now,
+      same,
       inl refl,
       c.in_err-pass_on_unless.ensures.fault.1,
       refl,
@@ -21,10 +20,10 @@ returns-in_err-pass_on_unless-clause-fault g c =
 pub returns-in_default-put_whole-clause-fault : goal.returns-in_default-put_whole-clause-fault
 returns-in_default-put_whole-clause-fault g c =
     let is_found : c.in-Ok.found ≡ true = search rules in
-    let reads = where_found _ _ c.in-Ok.found is_found c.in-Ok.ensures.moves in (
+    let reads = where_found _ _ _ is_found c.in-Ok.ensures.moves in (
       c.pass_on_unless.new.out,
       c.write_record.new.line.items,
-      same_passed g.O.Sink.taken g.O.Sink.failed g.O.Sink.flush_gives c.holds_whole-is_at_hand.result c.args.out.now c.pass_on_unless.new.out
+      same_passed c.holds_whole-is_at_hand.result
           c.in_ok-pass_on_unless.ensures.passed_on,
       inr (record {
         line = reads.line;
@@ -33,7 +32,8 @@ returns-in_default-put_whole-clause-fault g c =
         says = c.content-content.ensures reads.line reads.is_front;
         written = c.in_ok-write_record.ensures;
       }),
-      subst (λ (bytes : List ℕ). HasStopped g.O.Sink.taken g.O.Sink.failed g.O.Sink.put_gives g.O.Sink.flush_gives bytes c.pass_on_unless.new.out
+      subst (λ (bytes : List ℕ). HasStopped g.O.Sink.taken g.O.Sink.failed g.O.Sink.put_gives
+          g.O.Sink.flush_gives bytes c.pass_on_unless.new.out
           c.put_whole.new.out) c.deref.ensures.value c.in_default-put_whole.ensures.stopped,
       c.in-Ok.ensures.none_failed,
     )
@@ -41,8 +41,8 @@ returns-in_default-put_whole-clause-fault g c =
 pub returns-clause-moves : goal.returns-clause-moves
 returns-clause-moves g c =
     let is_found : c.in-Ok.found ≡ true = search rules in
-    let reads = where_found _ _ c.in-Ok.found is_found c.in-Ok.ensures.moves in
-    let passed = same_passed g.O.Sink.taken g.O.Sink.failed g.O.Sink.flush_gives c.holds_whole-is_at_hand.result c.args.out.now c.pass_on_unless.new.out
+    let reads = where_found _ _ _ is_found c.in-Ok.ensures.moves in
+    let passed = same_passed c.holds_whole-is_at_hand.result
     c.in_ok-pass_on_unless.ensures.passed_on in
     record {
       output = c.write_record.new.line.items;
@@ -53,15 +53,18 @@ returns-clause-moves g c =
         says = c.content-content.ensures reads.line reads.is_front;
         written = c.in_ok-write_record.ensures;
       };
-      took = takes_after g.O.Sink.taken g.O.Sink.failed g.O.Sink.flush_gives c.args.out.now c.pass_on_unless.new.out c.put_whole.new.out
+      took = takes_after c.put_whole.new.out
           c.write_record.new.line.items passed
-          (subst (λ (bytes : List ℕ). Appends (g.O.Sink.taken c.pass_on_unless.new.out) (g.O.Sink.taken c.put_whole.new.out) bytes)
+          (subst (λ (bytes : List ℕ). Appends (g.O.Sink.taken c.pass_on_unless.new.out)
+          (g.O.Sink.taken c.put_whole.new.out) bytes)
           c.deref.ensures.value c.in-Ok-put_whole.ensures.whole);
       none_failed = c.in-Ok-put_whole.ensures.none_failed ∙ passed.none_failed;
     }
 
 pub next_record-requires : goal.next_record-requires
 next_record-requires g c = record {
-  may_ask = may_ask g.O.Sink.taken g.O.Sink.failed g.O.Sink.flush_gives c.holds_whole-is_at_hand.result c.args.self.now.messages.at_hand
-      c.args.out.now c.pass_on_unless.new.out c.holds_whole-is_at_hand.ensures c.in_ok-pass_on_unless.ensures.passed_on;
+  may_ask = may_ask g.O.Sink.taken g.O.Sink.failed g.O.Sink.flush_gives
+      c.holds_whole-is_at_hand.result c.args.self.now.messages.at_hand c.args.out.now
+      c.pass_on_unless.new.out c.holds_whole-is_at_hand.ensures
+      c.in_ok-pass_on_unless.ensures.passed_on;
 }
