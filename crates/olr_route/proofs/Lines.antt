@@ -16,7 +16,7 @@ use Rattle.olr_route.specs.Nodes.{EndsAt, StartsAt}
 use Rattle.std.specs.List.Sorted.{IsBinarySearchResult, IsSearchInRange, IsStrictlyIncreasing}
 use Rattle.std.specs.Ordering.{nat_cmp}
 use Rattle.std.specs.Result.{is_err}
-use Rattle.olr_index.proofs.Finding.{not_found, search_finds, search_keys}
+use Rattle.olr_index.proofs.Finding.{found_by_key}
 use Rattle.std.proofs.lemmas.Bool.Decides.{nat_tests}
 use Rattle.std.proofs.lemmas.List.{get_or-map, get_or_default, length-map}
 use Rattle.olr_map.specs.BansFrom.{AreBansFrom}
@@ -234,10 +234,7 @@ module _ (bans : List Ban) (rise : IsStrictlyIncreasing (map (λ (ban : Ban). ba
       none (get_or bans i (ban_of 0 0)) (Contains-get_or bans i (ban_of 0 0) inside)
       (grind (arith, common_steps, is (ban_of 0 0)))
   searched (Err i) inside is = λ ban (k, within, same) to.
-      let tos = map (λ (b : Ban). b.to) bans in
-      let gives = search_finds tos next (Err i) rise
-      (search_keys (λ (b : Ban). b.to) bans next (Err i) inside is) in
-      not_found tos next i gives.1 gives.2 (
+      found_by_key (λ (b : Ban). b.to) bans next (Err i) rise inside is (
         k,
         omega (arith, within, length-map bans (λ (b : Ban). b.to)),
         get_or-map (λ (b : Ban). b.to) bans k ban next within ∙ ap (λ (b : Ban). b.to) same ∙ to,
