@@ -1,20 +1,8 @@
 -- A request is accepted in one way, or refused with one fault.
 use Rattle.std.proofs.Common.{◌≡◌, ℕ, List, Option, None, Some, Ok, Err, ap, refl, sym, ◌∙◌}
 use Rattle.std.specs.Prelude.{Result}
-use Rattle.olr_binary.specs.declared.reference.Reference.{Reference}
-use Rattle.olr_keys.specs.CursorLaws.{OneCursor}
-use Rattle.olr_keys.specs.Key.{KeyValue}
-use Rattle.olr_keys.specs.declared.cursor.CursorRead.{CursorRead}
-use Rattle.olr_keys.specs.declared.mark.Mark.{Mark}
-use Rattle.olr_app.specs.Accepting.{Accepts, IsReferenceOf, IsStart, ReportsRefusal}
-use Rattle.olr_app.specs.Fault.{fault_of}
-use Rattle.olr_app.specs.Laws.{OneOutcome}
-use Rattle.olr_app.specs.Request.{cursor_of, text_of}
-use Rattle.olr_app.specs.Stages.{AndThen}
-use Rattle.olr_app.specs.declared.accepting.Accepted.{Accepted}
-use Rattle.olr_app.specs.declared.fault.Fault.{Fault}
-use Rattle.olr_app.specs.declared.fault.Fault.TheVariants.{BadCursor}
-use Rattle.olr_app.specs.declared.request.Request.{Request}
+use Rattle.olr_app.proofs.Common.{Reference, OneCursor, KeyValue, CursorRead, Mark, Accepts, IsStart, fault_of, OneOutcome, cursor_of, text_of, AndThen, Accepted, Fault, BadCursor, Request}
+use Rattle.olr_app.specs.Accepting.{IsReferenceOf, ReportsRefusal}
 use Rattle.olr_app.proofs.Single.{IsSingle, err_of, first_then, no_ok_and_err, ok_of, same_err, same_ok}
 
 -- ---- records by their fields

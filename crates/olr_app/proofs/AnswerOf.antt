@@ -6,25 +6,16 @@ use Rattle.olr_metric.specs.declared.failure.Failed.{Failed}
 use Rattle.olr_binary.specs.declared.refusal.Refused.{Refused}
 use Rattle.olr_binary.specs.declared.refusal.Refused.TheVariants as refused
 use Rattle.olr_records.specs.declared.file.File.{File}
-use Rattle.olr_records.specs.declared.file.File.TheVariants.{Nodes}
+use Rattle.olr_app.proofs.Common.{Nodes, RoadMap, Accepts, IsAnswer, IsAnswerOf, IsAnswerOn, IsMapOfFiles, IsOutput, fault_of, fault_of_map, cursor_of, AndThen, IsStageFault, Accepted, Fault, BadCursor, TooManyCandidates, Format, Request, Candidates, Match, Places, Show}
 use Rattle.olr_map.specs.Files.{IsEffect, IsFaultLeft, IsMapLeft, IsReadWhole, Texts}
-use Rattle.olr_map.specs.RoadMap.{RoadMap}
 use Rattle.olr_map.specs.declared.fault.MapFault.{MapFault}
 use Rattle.olr_map.specs.declared.fault.MapFault.TheVariants as map
-use Rattle.olr_app.specs.Accepting.{Accepts}
-use Rattle.olr_app.specs.Answer.{IsAnswer, IsAnswerOf, IsAnswerOn, IsFault, IsMapOfFiles, IsOutput}
+use Rattle.olr_app.specs.Answer.{IsFault}
 use Rattle.olr_app.specs.Answer.{IsReason}
-use Rattle.olr_app.specs.Fault.{fault_of, fault_of_map}
-use Rattle.olr_app.specs.Request.{ReadsMap, cursor_of}
+use Rattle.olr_app.specs.Request.{ReadsMap}
 use Rattle.olr_app.specs.Sources.{AnswerLeaves, FaultLeaves, IsOfRequest}
-use Rattle.olr_app.specs.Stages.{AndThen, IsStageFault}
-use Rattle.olr_app.specs.declared.accepting.Accepted.{Accepted}
-use Rattle.olr_app.specs.declared.fault.Fault.{Fault}
-use Rattle.olr_app.specs.declared.fault.Fault.TheVariants.{BadCursor, CursorNotHere, CursorOfOther}
-use Rattle.olr_app.specs.declared.fault.Fault.TheVariants.{NoMemory, TooManyCandidates, WriteFailed}
-use Rattle.olr_app.specs.declared.request.Format.{Format}
-use Rattle.olr_app.specs.declared.request.Request.{Request}
-use Rattle.olr_app.specs.declared.request.Request.TheVariants.{Candidates, Match, Places, Show}
+use Rattle.olr_app.specs.declared.fault.Fault.TheVariants.{CursorNotHere, CursorOfOther}
+use Rattle.olr_app.specs.declared.fault.Fault.TheVariants.{NoMemory, WriteFailed}
 use Rattle.olr_app.proofs.Accepts.{start_fault}
 use Rattle.olr_app.proofs.Single.{err_of, ok_of}
 

@@ -2,21 +2,10 @@
 use Rattle.std.proofs.Common.{◌≡◌, ℕ, List, None, Ok, Err, Bor, refl, sym}
 use Rattle.std.proofs.Common.{subst, ◌∙◌, inl, inr}
 use Rattle.std.proofs.lemmas.Option.{none-some}
-use Rattle.olr_binary.specs.declared.reference.Reference.{Reference}
-use Rattle.olr_candidates.specs.declared.tolerances.Tolerances.{Tolerances}
-use Rattle.olr_keys.specs.Answers.{AreAnswers}
-use Rattle.olr_keys.specs.Key.{KeyValue}
-use Rattle.olr_keys.specs.Page.{IsPageAfter, PageValue}
-use Rattle.olr_map.specs.RoadMap.{IsSoundMap, RoadMap}
-use Rattle.olr_matching.specs.Layers.{LayersValue}
+use Rattle.olr_app.proofs.Common.{Reference, Tolerances, AreAnswers, KeyValue, IsPageAfter, PageValue, IsSoundMap, RoadMap, LayersValue, Laws, AreMatchings, IsTextOfPage, key_of, Accepted, Fault, Json}
 use Rattle.olr_app.specs.FirstPage.{IsFirstPage, IsFirstPageOf}
 use Rattle.olr_app.specs.FirstPageLaws.{FirstFaultIsOfRun, FirstPageIsOfRun, OneFirstPage, OnePlaces}
 use Rattle.olr_app.specs.FirstPageLaws.{ShowsSame, first_asked}
-use Rattle.olr_app.specs.Laws.{Laws}
-use Rattle.olr_app.specs.Matching.{AreMatchings, IsTextOfPage, key_of}
-use Rattle.olr_app.specs.declared.accepting.Accepted.{Accepted}
-use Rattle.olr_app.specs.declared.fault.Fault.{Fault}
-use Rattle.olr_app.specs.declared.request.Format.TheVariants.{Json}
 use Rattle.olr_app.proofs.HeadlineRuns.{on_map}
 use Rattle.olr_app.proofs.OneAnswer.{layers_once, page_once, parts_once, places_once}
 use Rattle.olr_app.proofs.Single.{IsSingle, first_then, no_fault_once}

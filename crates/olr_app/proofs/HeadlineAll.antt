@@ -6,31 +6,13 @@ use Rattle.std.specs.Prelude.{All, Contains, IfSome}
 use Rattle.std.proofs.lemmas.List.{append-nil}
 use Rattle.std.proofs.lemmas.List.Elements.{All-cons, All-nil, Contains-append_left}
 use Rattle.std.proofs.lemmas.List.Elements.{Contains-append_right}
-use Rattle.olr_binary.specs.Outcome.{IsOutcome}
-use Rattle.olr_binary.specs.declared.reference.Reference.{Reference}
-use Rattle.olr_matching.specs.Fingerprint.{IsFingerprint}
-use Rattle.olr_keys.specs.Answers.{AreAnswers}
-use Rattle.olr_keys.specs.Cursor.{cursor_text}
+use Rattle.olr_app.proofs.Common.{IsOutcome, Reference, IsFingerprint, AreAnswers, cursor_text, IsInRange, KeyValue, IsPageAfter, PageValue, last_of, CursorRead, Mark, RoadMap, LayersValue, next_after, IsStart, IsOutput, Laws, AreLayers, IsOfInputs, IsTextOfPage, key_of, bytes_of, Format, One, Match}
 use Rattle.olr_keys.specs.Headline.{AreEnded, AreResumed}
-use Rattle.olr_keys.specs.Key.{IsInRange, KeyValue}
-use Rattle.olr_keys.specs.Page.{IsPageAfter, PageValue, last_of}
-use Rattle.olr_keys.specs.declared.cursor.CursorRead.{CursorRead}
-use Rattle.olr_keys.specs.declared.mark.Mark.{Mark}
 use Rattle.olr_map.specs.Files.{IsMapOf}
-use Rattle.olr_map.specs.RoadMap.{RoadMap}
-use Rattle.olr_matching.specs.Layers.{LayersValue}
-use Rattle.olr_report.specs.Text.{next_after}
-use Rattle.olr_app.specs.Accepting.{IsStart}
-use Rattle.olr_app.specs.Answer.{IsOutput}
 use Rattle.olr_app.specs.Headline.{AllPages, FollowEachOther, HasSize, Inputs, IsRunAt}
 use Rattle.olr_app.specs.Headline.{Run, files_of, joined_outputs, request_of}
 use Rattle.olr_app.specs.HeadlineOutputs.{Shows, parts_of}
-use Rattle.olr_app.specs.Laws.{Laws}
-use Rattle.olr_app.specs.Matching.{AreLayers, IsOfInputs, IsTextOfPage, key_of}
-use Rattle.olr_app.specs.Request.{bytes_of}
-use Rattle.olr_app.specs.declared.request.Format.{Format}
-use Rattle.olr_app.specs.declared.request.Pages.TheVariants.{All as EveryPage, One}
-use Rattle.olr_app.specs.declared.request.Request.TheVariants.{Match}
+use Rattle.olr_app.specs.declared.request.Pages.TheVariants.{All as EveryPage}
 use Rattle.olr_app.proofs.HeadlineOutputs.{ShowsPage, next_cursor, page_shows}
 use Rattle.olr_app.proofs.HeadlineRests.{next_exists, next_in_range}
 

@@ -6,23 +6,13 @@ use Rattle.std.proofs.lemmas.List.{append-nil, map-append, append_cancel_right, 
 use Rattle.std.proofs.lemmas.List.Elements.{All-append}
 use Rattle.std.specs.List.{AllZip}
 use Rattle.std.specs.Prelude.{codes}
-use Rattle.olr_map.specs.RoadMap.{RoadMap, IsSoundMap}
+use Rattle.olr_app.proofs.Common.{RoadMap, IsSoundMap, OneCursor, IsInRange, KeyValue, IsRestAfter, PageValue, IsFingerprint, LayersValue, IsMatchedBy, next_after, IsPageText, Laws, Format, Text}
 use Rattle.olr_keys.specs.Cursor.{IsCursorOf}
-use Rattle.olr_keys.specs.CursorLaws.{OneCursor}
-use Rattle.olr_keys.specs.Key.{IsInRange, KeyValue}
-use Rattle.olr_keys.specs.Page.{IsRestAfter, PageValue}
-use Rattle.olr_matching.specs.Fingerprint.{IsFingerprint}
-use Rattle.olr_matching.specs.Layers.{LayersValue}
-use Rattle.olr_matching.specs.Matched.{IsMatchedBy}
 use Rattle.olr_report.specs.Entries.{Entry, IsEntryOf}
-use Rattle.olr_report.specs.Text.{next_after, IsPageText}
 use Rattle.olr_app.specs.Headline.{AreShown, FollowEachOther, Headline, Inputs}
 use Rattle.olr_app.specs.Headline.{Matchings, Names, Run, joined, SizesAgree}
 use Rattle.olr_app.specs.Headline.{GoOn, RunsEnd}
 use Rattle.olr_app.specs.HeadlineOutputs.{Part, Shows, parts_of}
-use Rattle.olr_app.specs.Laws.{Laws}
-use Rattle.olr_app.specs.declared.request.Format.{Format}
-use Rattle.olr_app.specs.declared.request.Format.TheVariants.{Text}
 use Rattle.olr_app.proofs.HeadlineOutputs.{ShowsPage, key_next, next_cursor, none_next, one_shown}
 use Rattle.olr_app.proofs.HeadlineOutputs.{page_shows, parts_append}
 use Rattle.olr_app.proofs.HeadlineRests.{next_in_range, next_more, page_and_rest, page_is_rest}

@@ -3,29 +3,11 @@ use Rattle.std.proofs.Common.{inl, inr}
 use Rattle.std.proofs.Common.{◌≡◌, ℕ, List, Option, None, Some, Ok, Err, Bor, refl, sym, ◌∙◌, subst}
 use Rattle.std.specs.Prelude.{Contains, IfSome, Result}
 use Rattle.std.proofs.lemmas.List.Elements.{All-contains}
-use Rattle.olr_binary.specs.Outcome.{IsOutcome}
+use Rattle.olr_app.proofs.Common.{IsOutcome, IsFingerprint, IsKey, CursorRead, Mark, RoadMap, Accepts, IsStart, IsAnswer, IsAnswerOf, IsAnswerOn, IsMapOfFiles, Laws, AreLayers, AreMatchings, ArePages, IsOfInputs, IsPrinted, IsStartHere, OnLayers, OnStart, bytes_of, AndThen, Accepted, Fault, Format, MatchRequest, One, Match}
 use Rattle.olr_candidates.specs.Points.{IsFirstTooMany}
-use Rattle.olr_matching.specs.Fingerprint.{IsFingerprint}
 use Rattle.olr_keys.specs.Cursor.{IsMark}
-use Rattle.olr_keys.specs.Matching.{IsKey}
-use Rattle.olr_keys.specs.declared.cursor.CursorRead.{CursorRead}
-use Rattle.olr_keys.specs.declared.mark.Mark.{Mark}
-use Rattle.olr_map.specs.RoadMap.{RoadMap}
-use Rattle.olr_app.specs.Accepting.{Accepts, IsStart}
-use Rattle.olr_app.specs.Answer.{IsAnswer, IsAnswerOf, IsAnswerOn, IsMapOfFiles}
 use Rattle.olr_app.specs.Headline.{EachHasCursor, GoesOnHere, Inputs, IsCursorHere, Matchings}
 use Rattle.olr_app.specs.Headline.{NoneRefused, files_of, request_of}
-use Rattle.olr_app.specs.Laws.{Laws}
-use Rattle.olr_app.specs.Matching.{AreLayers, AreMatchings, ArePages, IsOfInputs, IsPrinted}
-use Rattle.olr_app.specs.Matching.{IsStartHere, OnLayers, OnStart}
-use Rattle.olr_app.specs.Request.{bytes_of}
-use Rattle.olr_app.specs.Stages.{AndThen}
-use Rattle.olr_app.specs.declared.accepting.Accepted.{Accepted}
-use Rattle.olr_app.specs.declared.fault.Fault.{Fault}
-use Rattle.olr_app.specs.declared.request.Format.{Format}
-use Rattle.olr_app.specs.declared.request.MatchRequest.{MatchRequest}
-use Rattle.olr_app.specs.declared.request.Pages.TheVariants.{One}
-use Rattle.olr_app.specs.declared.request.Request.TheVariants.{Match}
 use Rattle.olr_app.proofs.HeadlineChain.{next_of_run}
 use Rattle.olr_app.proofs.HeadlineRests.{next_within}
 use Rattle.olr_app.proofs.HeadlineRuns.{run_prints, same_reference}

@@ -7,24 +7,13 @@ use Rattle.std.proofs.lemmas.Option.{same_Some}
 use Rattle.serde_json.specs.Data.{Data, Items, array}
 use Rattle.serde_json.specs.Find.{get}
 use Rattle.serde_json.specs.Read.{read}
-use Rattle.serde_json.specs.View.{items_of}
-use Rattle.olr_binary.specs.declared.reference.Reference.{Reference}
-use Rattle.olr_keys.specs.Cursor.{cursor_text}
-use Rattle.olr_keys.specs.Key.{KeyValue}
-use Rattle.olr_keys.specs.Page.{PageValue}
-use Rattle.olr_keys.specs.declared.mark.Mark.{Mark}
-use Rattle.olr_map.specs.RoadMap.{RoadMap}
-use Rattle.olr_matching.specs.declared.matched.Matched.{Matched}
+use Rattle.olr_app.proofs.Common.{items_of, Reference, cursor_text, KeyValue, PageValue, Mark, RoadMap, Matched, entries_rows, next_after, IsPageIn, Format, Json, Text}
 use Rattle.olr_report.specs.Entries.{AreEntriesOf, Entry}
 use Rattle.olr_report.specs.Json.{entry_object, next_value}
 use Rattle.olr_report.specs.JsonLaws.{JsonReadsAsPage}
-use Rattle.olr_report.specs.Text.{entries_rows, next_after}
 use Rattle.olr_report.specs.TextRows.{end_row, entry_rows}
 use Rattle.olr_app.specs.HeadlineOutputs.{AreRows, IsLastRow, IsObject, Part, Shows, last_row_of}
 use Rattle.olr_app.specs.HeadlineOutputs.{next_of, parts_of}
-use Rattle.olr_app.specs.Matching.{IsPageIn}
-use Rattle.olr_app.specs.declared.request.Format.{Format}
-use Rattle.olr_app.specs.declared.request.Format.TheVariants.{Json, Text}
 use Rattle.olr_app.proofs.HeadlineTexts.{one_last_row}
 use Rattle.olr_app.proofs.HeadlineTexts.{IsInRangeIfAny, end_is_row, entries_are_rows}
 

@@ -5,13 +5,9 @@ use Rattle.std.specs.Prelude.{Contains, if◌then◌else◌}
 use Rattle.std.proofs.lemmas.Bool.{cases_lt}
 use Rattle.std.proofs.lemmas.List.{take-append-drop, take_all}
 use Rattle.std.proofs.lemmas.List.Elements.{All-contains, Contains-append_right}
-use Rattle.olr_keys.specs.Answers.{AreAnswers}
-use Rattle.olr_keys.specs.Key.{KeyValue, IsInRange}
+use Rattle.olr_app.proofs.Common.{AreAnswers, KeyValue, IsInRange, IsKey, PageValue, IsPageAfter, IsRestAfter, last_of, Penalties, next_after}
 use Rattle.olr_keys.specs.Laws.{KeysAreInRange, OnePage}
-use Rattle.olr_keys.specs.Matching.{IsKey}
-use Rattle.olr_keys.specs.Page.{PageValue, IsPageAfter, IsRestAfter, last_of}
-use Rattle.olr_keys.specs.Table.{IsTable, Penalties}
-use Rattle.olr_report.specs.Text.{next_after}
+use Rattle.olr_keys.specs.Table.{IsTable}
 
 -- ---- one rest
 

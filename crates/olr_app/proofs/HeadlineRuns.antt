@@ -4,28 +4,10 @@ use Rattle.std.proofs.Common.{sym, ap, ◌∙◌, subst, arith}
 use Rattle.std.specs.List.{AllZip, concat}
 use Rattle.std.specs.Prelude.{Contains}
 use Rattle.std.proofs.lemmas.List.{append-nil}
-use Rattle.olr_binary.specs.Outcome.{IsOutcome}
-use Rattle.olr_binary.specs.declared.reference.Reference.{Reference}
-use Rattle.olr_matching.specs.Fingerprint.{IsFingerprint}
-use Rattle.olr_keys.specs.Answers.{AreAnswers}
-use Rattle.olr_keys.specs.Key.{KeyValue}
-use Rattle.olr_keys.specs.Page.{IsPageAfter, PageValue}
-use Rattle.olr_keys.specs.declared.cursor.CursorRead.{CursorRead}
-use Rattle.olr_keys.specs.declared.mark.Mark.{Mark}
-use Rattle.olr_map.specs.RoadMap.{RoadMap}
-use Rattle.olr_matching.specs.Layers.{AreLayersOn, LayersValue}
-use Rattle.olr_app.specs.Accepting.{IsStart}
-use Rattle.olr_app.specs.Answer.{IsOutput}
+use Rattle.olr_app.proofs.Common.{IsOutcome, Reference, IsFingerprint, AreAnswers, KeyValue, IsPageAfter, PageValue, CursorRead, Mark, RoadMap, LayersValue, IsStart, IsOutput, Laws, OneOutcome, AreMatchings, ArePagesAsked, IsTextOfPage, key_of, bytes_of, Accepted, Format, MatchRequest, One, Match}
+use Rattle.olr_matching.specs.Layers.{AreLayersOn}
 use Rattle.olr_app.specs.Headline.{AreSame, Inputs, IsRunAt, Matchings, Names, Run, files_of}
 use Rattle.olr_app.specs.Headline.{request_of}
-use Rattle.olr_app.specs.Laws.{Laws, OneOutcome}
-use Rattle.olr_app.specs.Matching.{AreMatchings, ArePagesAsked, IsTextOfPage, key_of}
-use Rattle.olr_app.specs.Request.{bytes_of}
-use Rattle.olr_app.specs.declared.accepting.Accepted.{Accepted}
-use Rattle.olr_app.specs.declared.request.Format.{Format}
-use Rattle.olr_app.specs.declared.request.MatchRequest.{MatchRequest}
-use Rattle.olr_app.specs.declared.request.Pages.TheVariants.{One}
-use Rattle.olr_app.specs.declared.request.Request.TheVariants.{Match}
 use Rattle.olr_app.proofs.Single.{same_ok}
 
 -- ---- the inputs determine the matchings

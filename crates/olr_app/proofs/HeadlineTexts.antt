@@ -17,13 +17,11 @@ use Rattle.std.specs.Fmt.{digit_glyph}
 use Rattle.std.specs.Global.{Vec}
 use Rattle.std.specs.List.{list_all}
 use Rattle.std.specs.Prelude.{◌≢◌, All, codes, decimal, eqb, not, true}
-use Rattle.olr_map.specs.RoadMap.{RoadMap}
+use Rattle.olr_app.proofs.Common.{RoadMap, cursor_text, IsInRange, KeyValue, Mark, entries_rows}
 use Rattle.olr_map.specs.declared.place.Place.{Place}
-use Rattle.olr_keys.specs.Cursor.{hexadecimal, key_text, ranks_text, cursor_text}
-use Rattle.olr_keys.specs.Key.{IsInRange, IsRank, KeyValue}
-use Rattle.olr_keys.specs.declared.mark.Mark.{Mark}
+use Rattle.olr_keys.specs.Cursor.{hexadecimal, key_text, ranks_text}
+use Rattle.olr_keys.specs.Key.{IsRank}
 use Rattle.olr_report.specs.Entries.{Entry}
-use Rattle.olr_report.specs.Text.{entries_rows}
 use Rattle.olr_report.specs.TextRows.{end_row, entry_rows, leg_rows, location_rows, part_row}
 use Rattle.olr_report.specs.TextRows.{pieces_row, place_row, point_rows}
 use Rattle.olr_report.specs.declared.locating.Located.{Located}

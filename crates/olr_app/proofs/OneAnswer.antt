@@ -8,51 +8,24 @@ use Rattle.std.specs.Prelude.{Contains, IfSome}
 use Rattle.serde_json.specs.Data.{Data}
 use Rattle.serde_json.specs.Written.{compact_text}
 use Rattle.olr_binary.specs.JsonValues.{IsJsonLine}
-use Rattle.olr_binary.specs.declared.reference.Reference.{Reference}
+use Rattle.olr_app.proofs.Common.{Reference, IsSoundMap, RoadMap, AreLists, Candidate, Tolerances, AreAnswers, KeyValue, IsKey, IsPageAfter, PageValue, Penalties, CursorRead, Mark, LayersValue, IsMatchedBy, Matched, IsPageText, IsStart, Accepts, IsAnswer, IsAnswerOf, IsAnswerOn, IsMapOfFiles, fault_of_map, fault_of, Laws, OneOutcome, AreLayers, AreMatchings, ArePages, ArePagesAsked, IsOfInputs, IsPageIn, IsPrinted, IsStartHere, IsTextOfPage, OnLayers, OnStart, key_of, text_of, Accepted, TooManyCandidates, Format, Json, Text, MatchRequest, Pages, One, Request, Candidates, Match, Places, Show}
 use Rattle.olr_map.specs.Files.{known}
-use Rattle.olr_map.specs.RoadMap.{IsSoundMap, RoadMap}
-use Rattle.olr_candidates.specs.Points.{AreLists}
-use Rattle.olr_candidates.specs.declared.candidate.Candidate.{Candidate}
-use Rattle.olr_candidates.specs.declared.tolerances.Tolerances.{Tolerances}
-use Rattle.olr_keys.specs.Answers.{AreAnswers}
-use Rattle.olr_keys.specs.Key.{KeyValue}
-use Rattle.olr_keys.specs.Matching.{IsKey}
-use Rattle.olr_keys.specs.Page.{IsPageAfter, PageValue}
-use Rattle.olr_keys.specs.Table.{Penalties}
-use Rattle.olr_keys.specs.declared.cursor.CursorRead.{CursorRead}
-use Rattle.olr_keys.specs.declared.mark.Mark.{Mark}
-use Rattle.olr_matching.specs.Layers.{LayersValue}
-use Rattle.olr_matching.specs.Matched.{IsMatchedBy, IsSameMatched}
-use Rattle.olr_matching.specs.declared.matched.Matched.{Matched}
+use Rattle.olr_matching.specs.Matched.{IsSameMatched}
 use Rattle.olr_places.specs.Looking.{IsLooked, Looked}
 use Rattle.olr_places.specs.declared.limits.PlaceLimits.{PlaceLimits}
 use Rattle.olr_report.specs.Json.{IsPageJson}
-use Rattle.olr_report.specs.Text.{IsPageText}
 use Rattle.olr_why.specs.Json.{why_object}
 use Rattle.olr_why.specs.Text.{why_text}
 use Rattle.olr_why.specs.declared.why.Why.{Why as Reasons}
-use Rattle.olr_app.specs.Accepting.{IsStart, Accepts}
-use Rattle.olr_app.specs.Answer.{IsAnswer, IsAnswerOf, IsAnswerOn, IsMapOfFiles, IsReferenceIn}
-use Rattle.olr_app.specs.Fault.{fault_of_map, fault_of}
+use Rattle.olr_app.specs.Answer.{IsReferenceIn}
 use Rattle.olr_app.specs.Headline.{RefusedByName}
-use Rattle.olr_app.specs.Laws.{Laws, OneOutcome}
 use Rattle.olr_app.specs.Listing.{IsListed, IsListingIn}
-use Rattle.olr_app.specs.Matching.{AreLayers, AreMatchings, ArePages, ArePagesAsked, IsOfInputs}
-use Rattle.olr_app.specs.Matching.{IsPageIn, IsPrinted, IsStartHere, IsTextOfPage, OnLayers}
-use Rattle.olr_app.specs.Matching.{OnStart, key_of}
 use Rattle.olr_app.specs.Places.{ArePlaces, ArePlacesOn, IsPlacesIn}
 use Rattle.olr_app.specs.Stages.{OrTooMany}
 use Rattle.olr_app.specs.Why.{AreReasons, IsWhyIn}
-use Rattle.olr_app.specs.Request.{cursor_in, text_of}
-use Rattle.olr_app.specs.declared.accepting.Accepted.{Accepted}
-use Rattle.olr_app.specs.declared.fault.Fault.TheVariants.{TooManyCandidates}
-use Rattle.olr_app.specs.declared.request.Format.{Format}
-use Rattle.olr_app.specs.declared.request.Format.TheVariants.{Json, Text}
-use Rattle.olr_app.specs.declared.request.MatchRequest.{MatchRequest}
-use Rattle.olr_app.specs.declared.request.Pages.{Pages}
-use Rattle.olr_app.specs.declared.request.Pages.TheVariants.{All, One}
-use Rattle.olr_app.specs.declared.request.Request.{Request}
-use Rattle.olr_app.specs.declared.request.Request.TheVariants.{Candidates, Match, Places, Show, Why}
+use Rattle.olr_app.specs.Request.{cursor_in}
+use Rattle.olr_app.specs.declared.request.Pages.TheVariants.{All}
+use Rattle.olr_app.specs.declared.request.Request.TheVariants.{Why}
 use Rattle.olr_app.proofs.Accepts.{accepted_once}
 use Rattle.olr_app.proofs.Single.{IsSingle, first_then, no_fault_once, no_ok_and_err, same_err}
 

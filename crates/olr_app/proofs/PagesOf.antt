@@ -9,29 +9,13 @@ use Rattle.std.proofs.lemmas.List.Elements.{All-contains, All-map}
 use Rattle.std.proofs.lemmas.List.Folds.{concat-append}
 use Rattle.std.specs.List.{AllZip, concat}
 use Rattle.std.specs.Prelude.{Result, slice_index_or}
-use Rattle.olr_map.specs.RoadMap.{RoadMap}
-use Rattle.olr_keys.specs.Answers.{AreAnswers}
-use Rattle.olr_keys.specs.Finder.{IsPosition}
+use Rattle.olr_app.proofs.Common.{RoadMap, AreAnswers, IsPosition, KeyValue, IsKey, PageValue, IsPageAfter, IsRestAfter, Penalties, CursorRead, Mark, Page, LayersValue, key_of, ArePages, ArePagesAsked, values_of, AreTextsOfPages, IsTextOfPage, AndThen, IsStageFault, Fault, Format, MatchRequest, Pages, One}
 use Rattle.olr_keys.specs.Headline.{joined}
-use Rattle.olr_keys.specs.Key.{KeyValue}
-use Rattle.olr_keys.specs.Matching.{IsKey}
-use Rattle.olr_keys.specs.Page.{PageValue, IsPageAfter, IsRestAfter, page_of}
-use Rattle.olr_keys.specs.Table.{Penalties}
-use Rattle.olr_keys.specs.declared.cursor.CursorRead.{CursorRead}
-use Rattle.olr_keys.specs.declared.mark.Mark.{Mark}
-use Rattle.olr_keys.specs.declared.pages.Page.{Page}
+use Rattle.olr_keys.specs.Page.{page_of}
 use Rattle.olr_keys.specs.declared.pages.PageFault.{PageFault}
 use Rattle.olr_keys.specs.declared.pages.PageFault.TheVariants.{CursorNotHere, NoMemory}
-use Rattle.olr_matching.specs.Layers.{LayersValue}
 use Rattle.olr_app.specs.Fault.{fault_of_page}
-use Rattle.olr_app.specs.Matching.{key_of, ArePages, ArePagesAsked, values_of, AreTextsOfPages}
-use Rattle.olr_app.specs.Matching.{IsTextOfPage}
-use Rattle.olr_app.specs.Stages.{AndThen, IsStageFault}
-use Rattle.olr_app.specs.declared.fault.Fault.{Fault}
-use Rattle.olr_app.specs.declared.request.Format.{Format}
-use Rattle.olr_app.specs.declared.request.MatchRequest.{MatchRequest}
-use Rattle.olr_app.specs.declared.request.Pages.{Pages}
-use Rattle.olr_app.specs.declared.request.Pages.TheVariants.{All as AllPages, One}
+use Rattle.olr_app.specs.declared.request.Pages.TheVariants.{All as AllPages}
 use Rattle.olr_app.specs.declared.fault.Fault.TheVariants as fault
 
 -- what a relation to some keys gives holds of all that is related to them

@@ -1,8 +1,8 @@
 -- Stages that have one result at most, and two of them one after the other.
 use Rattle.std.proofs.Common.{◌≡◌, Ok, Err, ap, refl, sym, ◌∙◌, subst, inl, inr}
 use Rattle.std.specs.Prelude.{IsErrAnd, Result}
-use Rattle.olr_app.specs.declared.fault.Fault.{Fault}
-use Rattle.olr_app.specs.Stages.{AndThen, NoFault}
+use Rattle.olr_app.proofs.Common.{Fault, AndThen}
+use Rattle.olr_app.specs.Stages.{NoFault}
 
 -- a stage has one result at most
 abbrev pub IsSingle : {A : Type 0} → (Result A Fault → Type 0) → Type 0

@@ -1,12 +1,7 @@
 -- What the texts of a request itself are, before any file is read: a reference and a cursor.
 use Rattle.std.specs.Prelude.{◌≡◌, ℕ, ◌⊎◌, List, Option, None, Some, Result, Ok, Err}
-use Rattle.olr_binary.specs.Outcome.{IsOutcome}
-use Rattle.olr_binary.specs.declared.reference.Reference.{Reference}
-use Rattle.olr_binary.specs.declared.refusal.Refused.{Refused}
+use Rattle.olr_app.specs.Common.{IsOutcome, Reference, Refused, KeyValue, CursorRead, Mark}
 use Rattle.olr_keys.specs.Cursor.{IsCursorOf}
-use Rattle.olr_keys.specs.Key.{KeyValue}
-use Rattle.olr_keys.specs.declared.cursor.CursorRead.{CursorRead}
-use Rattle.olr_keys.specs.declared.mark.Mark.{Mark}
 use Rattle.olr_app.specs.Fault.{fault_of}
 use Rattle.olr_app.specs.Request.{cursor_of, text_of}
 use Rattle.olr_app.specs.declared.accepting.Accepted.{Accepted}

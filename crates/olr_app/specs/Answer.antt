@@ -1,13 +1,10 @@
 -- The answer of a request: what is written for it, or the fault that comes in place of that.
 use Rattle.std.specs.Prelude.{◌≡◌, ℕ, List, Option, Result, Ok, Err}
 use Rattle.std.specs.Io.KnownBytes.{Appends}
-use Rattle.olr_metric.specs.declared.failure.Failed.{Failed}
+use Rattle.olr_app.specs.Common.{Failed, Reference, RoadMap, MapFault}
 use Rattle.olr_binary.specs.Json.{IsReferenceJson}
 use Rattle.olr_binary.specs.Show.{reference_text}
-use Rattle.olr_binary.specs.declared.reference.Reference.{Reference}
 use Rattle.olr_map.specs.Files.{IsFaultLeft, IsMapLeft, IsOfText, Texts}
-use Rattle.olr_map.specs.RoadMap.{RoadMap}
-use Rattle.olr_map.specs.declared.fault.MapFault.{MapFault}
 use Rattle.olr_map.specs.declared.fault.MapFault.TheVariants as map
 use Rattle.olr_app.specs.Accepting.{Accepts, IsAccepted}
 use Rattle.olr_app.specs.Fault.{fault_of_map}

@@ -1,13 +1,8 @@
 -- The answer to one of many references on a map: the first page of its matchings, as JSON whose
 -- cursors have no mark. (A mark names the whole map, and so takes time in proportion to it.)
 use Rattle.std.specs.Prelude.{ℕ, List, None, Result}
-use Rattle.olr_binary.specs.declared.reference.Reference.{Reference}
-use Rattle.olr_candidates.specs.declared.tolerances.Tolerances.{Tolerances}
-use Rattle.olr_keys.specs.Answers.{AreAnswers}
-use Rattle.olr_keys.specs.Key.{KeyValue}
+use Rattle.olr_app.specs.Common.{Reference, Tolerances, AreAnswers, KeyValue, RoadMap, LayersValue}
 use Rattle.olr_keys.specs.Page.{PageValue, IsPageAfter}
-use Rattle.olr_map.specs.RoadMap.{RoadMap}
-use Rattle.olr_matching.specs.Layers.{LayersValue}
 use Rattle.olr_app.specs.Matching.{AreLayers, IsTextOfPage}
 use Rattle.olr_app.specs.Stages.{AndThen, NoFault}
 use Rattle.olr_app.specs.declared.fault.Fault.{Fault}

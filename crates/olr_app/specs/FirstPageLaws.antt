@@ -2,11 +2,8 @@
 -- alone prints as JSON, but for the mark in the cursor at its end.
 use Rattle.std.specs.Prelude.{◌≡◌, ℕ, List, None, Some, Result, Ok, Err}
 use Rattle.std.specs.Borrow.{Bor}
-use Rattle.olr_binary.specs.declared.reference.Reference.{Reference}
-use Rattle.olr_candidates.specs.declared.tolerances.Tolerances.{Tolerances}
-use Rattle.olr_keys.specs.declared.mark.Mark.{Mark}
-use Rattle.olr_map.specs.RoadMap.{IsSoundMap, RoadMap}
-use Rattle.olr_places.specs.declared.limits.PlaceLimits.{PlaceLimits}
+use Rattle.olr_app.specs.Common.{Reference, Tolerances, Mark, RoadMap, PlaceLimits}
+use Rattle.olr_map.specs.RoadMap.{IsSoundMap}
 use Rattle.olr_report.specs.JsonLaws.{IsSamePage}
 use Rattle.olr_app.specs.FirstPage.{IsFirstPage}
 use Rattle.olr_app.specs.Listing.{IsListed}
@@ -66,13 +63,15 @@ OneListing = (format : Format) (tolerances : Tolerances) (reference : Reference)
 
 -- and with its places
 abbrev pub OnePlaces : Type 0
-OnePlaces = (format : Format) (tolerances : Tolerances) (limits : PlaceLimits) (reference : Reference) (road : RoadMap)
+OnePlaces = (format : Format) (tolerances : Tolerances) (limits : PlaceLimits)
+    (reference : Reference) (road : RoadMap)
     (one other : Result (List ℕ) Fault) → IsSoundMap road
     → ArePlaces format tolerances limits reference road one
     → ArePlaces format tolerances limits reference road other → one ≡ other
 
 -- and with its reasons
 abbrev pub OneReasons : Type 0
-OneReasons = (format : Format) (tolerances : Tolerances) (nearest : ℕ) (reference : Reference) (road : RoadMap)
+OneReasons = (format : Format) (tolerances : Tolerances) (nearest : ℕ) (reference : Reference)
+    (road : RoadMap)
     (one other : Result (List ℕ) Fault) → AreReasons format tolerances nearest reference road one
     → AreReasons format tolerances nearest reference road other → one ≡ other

@@ -7,21 +7,10 @@ use Rattle.std.specs.Prelude.{◌≡◌, ℕ, ◌≤◌, List, [], ◌∷◌, �
 use Rattle.std.specs.Prelude.{Contains, IfSome, Result, Ok, Err}
 use Rattle.std.specs.Borrow.{Bor}
 use Rattle.std.specs.List.{AllZip}
-use Rattle.olr_binary.specs.Outcome.{IsOutcome}
-use Rattle.olr_binary.specs.declared.refusal.Refused.{Refused}
-use Rattle.olr_candidates.specs.declared.tolerances.Tolerances.{Tolerances}
-use Rattle.olr_matching.specs.Fingerprint.{IsFingerprint}
-use Rattle.olr_keys.specs.Answers.{AreAnswers}
+use Rattle.olr_app.specs.Common.{IsOutcome, Refused, Tolerances, IsFingerprint, AreAnswers, KeyValue, CursorRead, Mark, RoadMap, AreLayersOn, LayersValue, IsMatchedBy, Matched}
 use Rattle.olr_keys.specs.Cursor.{IsCursorOf, cursor_text}
-use Rattle.olr_keys.specs.Key.{KeyValue}
 use Rattle.olr_keys.specs.Page.{IsRestAfter}
-use Rattle.olr_keys.specs.declared.cursor.CursorRead.{CursorRead}
-use Rattle.olr_keys.specs.declared.mark.Mark.{Mark}
 use Rattle.olr_map.specs.Files.{IsMapOf, Texts, known}
-use Rattle.olr_map.specs.RoadMap.{RoadMap}
-use Rattle.olr_matching.specs.Layers.{AreLayersOn, LayersValue}
-use Rattle.olr_matching.specs.Matched.{IsMatchedBy}
-use Rattle.olr_matching.specs.declared.matched.Matched.{Matched}
 use Rattle.olr_report.specs.Entries.{AreEntriesOf, Entry}
 use Rattle.olr_app.specs.Answer.{IsAnswer, IsOutput}
 use Rattle.olr_app.specs.Fault.{fault_of}

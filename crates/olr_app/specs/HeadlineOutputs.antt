@@ -7,7 +7,7 @@ use Rattle.serde_json.specs.Data.{Data, array, null, string}
 use Rattle.serde_json.specs.Find.{get}
 use Rattle.serde_json.specs.Read.{read}
 use Rattle.serde_json.specs.View.{items_of}
-use Rattle.olr_map.specs.RoadMap.{RoadMap}
+use Rattle.olr_app.specs.Common.{RoadMap}
 use Rattle.olr_report.specs.Entries.{Entry}
 use Rattle.olr_report.specs.Json.{entry_object}
 use Rattle.olr_report.specs.Text.{entries_rows}

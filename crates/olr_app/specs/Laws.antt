@@ -1,15 +1,11 @@
 -- The laws of the crates below that the laws of this crate rest on.
 use Rattle.std.specs.Prelude.{◌≡◌, ℕ, List, Result}
-use Rattle.olr_binary.specs.Outcome.{IsOutcome}
-use Rattle.olr_binary.specs.declared.reference.Reference.{Reference}
-use Rattle.olr_binary.specs.declared.refusal.Refused.{Refused}
+use Rattle.olr_app.specs.Common.{IsOutcome, Reference, Refused, RoadMap, MapFault}
 use Rattle.olr_candidates.specs.Laws.{NoListsAndTooMany, OneFirstTooMany, OneLists}
 use Rattle.olr_matching.specs.FingerprintLaws.{FingerprintIsMark}
 use Rattle.olr_keys.specs.CursorLaws.{OneCursor}
 use Rattle.olr_keys.specs.Laws.{KeysAreInRange, NoPageBehindOthers, OneChain, OneList, OnePage}
 use Rattle.olr_map.specs.Files.{IsFaultOf, IsMapOf}
-use Rattle.olr_map.specs.RoadMap.{RoadMap}
-use Rattle.olr_map.specs.declared.fault.MapFault.{MapFault}
 use Rattle.olr_matching.specs.LayersLaws.{OneLayers}
 use Rattle.olr_matching.specs.Matched.{OneMatched}
 use Rattle.olr_places.specs.VerdictLaws.{OneLooking}

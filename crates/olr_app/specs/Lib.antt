@@ -1,3 +1,4 @@
+pub mod Common
 pub mod Out
 pub mod Fault
 pub mod Request

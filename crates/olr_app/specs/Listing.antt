@@ -4,12 +4,10 @@ use Rattle.std.specs.Prelude.{◌≡◌, ℕ, ◌+◌, List, [], ◌∷◌, ◌+
 use Rattle.std.specs.Prelude.{All, Result}
 use Rattle.arrayvec.specs.ArrayVec.{ArrayVec}
 use Rattle.serde_json.specs.Data.{Data, member, no_members, object}
-use Rattle.olr_binary.specs.JsonValues.{array_of, IsJsonLine}
-use Rattle.olr_binary.specs.declared.reference.Reference.{Reference}
+use Rattle.olr_app.specs.Common.{IsJsonLine, Reference, Tolerances, RoadMap}
+use Rattle.olr_binary.specs.JsonValues.{array_of}
 use Rattle.olr_candidates.specs.Points.{AreLists}
 use Rattle.olr_candidates.specs.declared.candidate.Candidate.{Candidate}
-use Rattle.olr_candidates.specs.declared.tolerances.Tolerances.{Tolerances}
-use Rattle.olr_map.specs.RoadMap.{RoadMap}
 use Rattle.olr_map.specs.Rows.{RoadLine, line_ids}
 use Rattle.olr_report.specs.Entries.{HasLine}
 use Rattle.olr_report.specs.Json.{candidate_object}

@@ -3,21 +3,11 @@
 use Rattle.std.specs.Prelude.{◌≡◌, ℕ, true, List, [], ◌∷◌, map, Option, None, Some, IfSome}
 use Rattle.std.specs.Prelude.{Contains, option_map, Result, Ok, Err}
 use Rattle.std.specs.List.{AllZip, concat}
-use Rattle.olr_binary.specs.declared.reference.Reference.{Reference}
-use Rattle.olr_candidates.specs.declared.tolerances.Tolerances.{Tolerances}
-use Rattle.olr_matching.specs.Fingerprint.{IsFingerprint}
-use Rattle.olr_keys.specs.Answers.{AreAnswers}
+use Rattle.olr_app.specs.Common.{Reference, Tolerances, IsFingerprint, AreAnswers, KeyValue, CursorRead, Mark, RoadMap, LayersValue, AreLayersOn, IsMatchedBy, Matched}
 use Rattle.olr_keys.specs.Headline.{AreAllPages}
-use Rattle.olr_keys.specs.Key.{KeyValue}
 use Rattle.olr_keys.specs.Matching.{IsKey}
 use Rattle.olr_keys.specs.Page.{PageValue, IsPageAfter, page_of}
-use Rattle.olr_keys.specs.declared.cursor.CursorRead.{CursorRead}
-use Rattle.olr_keys.specs.declared.mark.Mark.{Mark}
 use Rattle.olr_keys.specs.declared.pages.Page.{Page}
-use Rattle.olr_map.specs.RoadMap.{RoadMap}
-use Rattle.olr_matching.specs.Layers.{LayersValue, AreLayersOn}
-use Rattle.olr_matching.specs.Matched.{IsMatchedBy}
-use Rattle.olr_matching.specs.declared.matched.Matched.{Matched}
 use Rattle.olr_report.specs.Json.{IsPageJson}
 use Rattle.olr_report.specs.Text.{IsPageText}
 use Rattle.olr_app.specs.Stages.{AndThen, NoFault, OrTooMany}

@@ -1,17 +1,10 @@
 -- The places of a reference on a map, and whether its match is unique, by the texts alone: as text
 -- or as JSON.
 use Rattle.std.specs.Prelude.{◌≡◌, ℕ, List, Result}
-use Rattle.olr_binary.specs.JsonValues.{IsJsonLine}
-use Rattle.olr_binary.specs.declared.reference.Reference.{Reference}
-use Rattle.olr_candidates.specs.declared.tolerances.Tolerances.{Tolerances}
-use Rattle.olr_keys.specs.Answers.{AreAnswers}
-use Rattle.olr_keys.specs.Key.{KeyValue}
-use Rattle.olr_map.specs.RoadMap.{RoadMap}
-use Rattle.olr_matching.specs.Layers.{LayersValue}
+use Rattle.olr_app.specs.Common.{IsJsonLine, Reference, Tolerances, AreAnswers, KeyValue, RoadMap, LayersValue, PlaceLimits}
 use Rattle.olr_places.specs.Json.{places_object}
 use Rattle.olr_places.specs.Looking.{IsLooked, Looked}
 use Rattle.olr_places.specs.Text.{places_text}
-use Rattle.olr_places.specs.declared.limits.PlaceLimits.{PlaceLimits}
 use Rattle.olr_app.specs.Matching.{AreLayers}
 use Rattle.olr_app.specs.Stages.{AndThen, NoFault}
 use Rattle.olr_app.specs.declared.fault.Fault.{Fault}

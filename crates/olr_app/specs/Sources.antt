@@ -1,9 +1,7 @@
 -- What becomes of the source of a file of a map, for a request.
 use Rattle.std.specs.Prelude.{◌≡◌, ℕ, ◌⊎◌, ⊤, List, Option, Result, Ok, Err}
-use Rattle.olr_binary.specs.declared.refusal.Refused.{Refused}
-use Rattle.olr_records.specs.declared.file.File.{File}
+use Rattle.olr_app.specs.Common.{Refused, File, MapFault}
 use Rattle.olr_map.specs.Files.{IsEffect, IsReadWhole}
-use Rattle.olr_map.specs.declared.fault.MapFault.{MapFault}
 use Rattle.olr_app.specs.Fault.{fault_of, fault_of_map}
 use Rattle.olr_app.specs.declared.fault.Fault.{Fault}
 use Rattle.olr_app.specs.declared.fault.Fault.TheVariants.{BadCursor, CursorNotHere, CursorOfOther}

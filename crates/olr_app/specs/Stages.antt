@@ -1,9 +1,7 @@
 -- The stages of an answer, each of which finds something or ends the answer with a fault.
 use Rattle.std.specs.Prelude.{◌≡◌, ℕ, ◌+◌, ◌⊎◌, ⊤, Result, Ok, Err}
-use Rattle.olr_binary.specs.declared.reference.Reference.{Reference}
+use Rattle.olr_app.specs.Common.{Reference, Tolerances, RoadMap}
 use Rattle.olr_candidates.specs.Points.{IsFirstTooMany}
-use Rattle.olr_candidates.specs.declared.tolerances.Tolerances.{Tolerances}
-use Rattle.olr_map.specs.RoadMap.{RoadMap}
 use Rattle.olr_app.specs.declared.fault.Fault.{Fault}
 use Rattle.olr_app.specs.declared.fault.Fault.TheVariants.{NoMemory, TooManyCandidates}
 

@@ -1,10 +1,7 @@
 -- Why a reference has no matching on a map, or that it has one, by the texts alone: as text or as
 -- JSON.
 use Rattle.std.specs.Prelude.{◌≡◌, ℕ, List, Result}
-use Rattle.olr_binary.specs.JsonValues.{IsJsonLine}
-use Rattle.olr_binary.specs.declared.reference.Reference.{Reference}
-use Rattle.olr_candidates.specs.declared.tolerances.Tolerances.{Tolerances}
-use Rattle.olr_map.specs.RoadMap.{RoadMap}
+use Rattle.olr_app.specs.Common.{IsJsonLine, Reference, Tolerances, RoadMap}
 use Rattle.olr_why.specs.Json.{why_object}
 use Rattle.olr_why.specs.Reasons.{IsWhy}
 use Rattle.olr_why.specs.Text.{why_text}

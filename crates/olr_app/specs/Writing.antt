@@ -2,7 +2,7 @@
 use Rattle.std.specs.Prelude.{◌≡◌, ℕ, ◌<◌, ◌⊎◌, List, [], ◌++◌, drop, length, Option, Result}
 use Rattle.std.specs.Prelude.{Ok, Err}
 use Rattle.std.specs.Io.KnownBytes.{Appends}
-use Rattle.olr_metric.specs.declared.failure.Failed.{Failed}
+use Rattle.olr_app.specs.Common.{Failed}
 use Rattle.olr_metric.specs.Counting.{one_more}
 
 -- The calls that hand bytes over, each of which takes some of them: a call is handed all that those

@@ -40,8 +40,8 @@ fn printed_reference(
     }
 }
 
-/// The whole output of a request that is accepted, on a map. That of [`Request::Show`] is the same on
-/// each map.
+/// The whole output of a request that is accepted, on a map. That of [`Request::Show`] is the same
+/// on each map.
 fn output_on_map(
     alloc: Global,
     request: &Request<'_>,

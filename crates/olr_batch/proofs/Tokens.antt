@@ -9,10 +9,19 @@ regrouped : (a b c d e : List ℕ) → ((((a ++ b) ++ c) ++ d) ++ e) ≡ (a ++ (
 regrouped a b c d e = simp append_assoc
 
 pub line_is : (answer : Data) (fault key : Option (List ℕ)) (count : ℕ)
-    → (((codes "{\"answer\":" ++ compact_text answer) ++ codes ",") ++ print (tokens_behind fault key count)) ++ codes "\n"
+    → (((codes "{\"answer\":" ++ compact_text answer) ++ codes ",")
+    ++ print (tokens_behind fault key count)) ++ codes "\n"
     ≡ line_text answer fault key count
 unfolding escape_byte print_from
-line_is answer None None count = regrouped (codes "{\"answer\":") (compact_text answer) (codes ",") (print (tokens_behind None None count)) (codes "\n")
-line_is answer None (Some key) count = regrouped (codes "{\"answer\":") (compact_text answer) (codes ",") (print (tokens_behind None (Some key) count)) (codes "\n")
-line_is answer (Some fault) None count = regrouped (codes "{\"answer\":") (compact_text answer) (codes ",") (print (tokens_behind (Some fault) None count)) (codes "\n")
-line_is answer (Some fault) (Some key) count = regrouped (codes "{\"answer\":") (compact_text answer) (codes ",") (print (tokens_behind (Some fault) (Some key) count)) (codes "\n")
+line_is answer None None count =
+    regrouped (codes "{\"answer\":") (compact_text answer) (codes ",")
+    (print (tokens_behind None None count)) (codes "\n")
+line_is answer None (Some key) count =
+    regrouped (codes "{\"answer\":") (compact_text answer) (codes ",")
+    (print (tokens_behind None (Some key) count)) (codes "\n")
+line_is answer (Some fault) None count =
+    regrouped (codes "{\"answer\":") (compact_text answer) (codes ",")
+    (print (tokens_behind (Some fault) None count)) (codes "\n")
+line_is answer (Some fault) (Some key) count =
+    regrouped (codes "{\"answer\":") (compact_text answer) (codes ",")
+    (print (tokens_behind (Some fault) (Some key) count)) (codes "\n")

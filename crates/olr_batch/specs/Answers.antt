@@ -16,8 +16,8 @@ use Rattle.olr_batch.specs.declared.asked.BatchRequest.{BatchRequest}
 use Rattle.olr_batch.specs.declared.asked.What.{What}
 use Rattle.olr_batch.specs.declared.asked.What.TheVariants.{Candidates, Match, Places, Why}
 
--- the JSON that answers a reference: its candidates, the first page of its matchings, its places, or
--- its reasons
+-- the JSON that answers a reference: its candidates, the first page of its matchings, its places,
+-- or its reasons
 abbrev pub IsAnswerTo :
     What → Tolerances → RoadMap → Reference → Result (List ℕ) Fault → Type 0
 IsAnswerTo Candidates tolerances road reference answer =
@@ -35,8 +35,8 @@ abbrev pub IsAnswer : BatchRequest → RoadMap → List ℕ → Result (List ℕ
 IsAnswer asked road text =
     AndThen (IsReferenceOf text) (IsAnswerTo asked.what asked.tolerances road)
 
--- The fault that stands in place of an answer to a text: the one that answers the text; or memory was
--- refused, which befalls the text of a reference alone.
+-- The fault that stands in place of an answer to a text: the one that answers the text; or memory
+-- was refused, which befalls the text of a reference alone.
 abbrev pub IsFaultFor : BatchRequest → RoadMap → List ℕ → Fault → Type 0
 IsFaultFor asked road text fault = IsAnswer asked road text (Err fault)
     ⊎ ((fault ≡ NoMemory) × (reference : Reference) × IsReferenceOf text (Ok reference))

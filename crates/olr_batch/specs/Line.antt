@@ -25,7 +25,8 @@ record_object answer fault key record_number = object (
 
 -- the line of a record
 abbrev pub line_text : Data → Option (List ℕ) → Option (List ℕ) → ℕ → List ℕ
-line_text answer fault key record_number = compact_text (record_object answer fault key record_number) ++ codes "\n"
+line_text answer fault key record_number =
+    compact_text (record_object answer fault key record_number) ++ codes "\n"
 
 -- ---- the members behind the answer, as the tokens that are written
 

@@ -18,7 +18,8 @@ use Rattle.olr_batch.specs.Records.{AreWrittenFor, IsWrittenFor}
 use Rattle.olr_batch.specs.Steps.{HasPassedOn}
 use Rattle.olr_batch.specs.declared.asked.BatchRequest.{BatchRequest}
 
--- these are the first lines of an input, if its bytes are known, and the lines of the other bytes are left
+-- these are the first lines of an input, if its bytes are known, and the lines of the other bytes
+-- are left
 abbrev pub IsLeft : List (List ℕ) → Option (List ℕ) → Option (List ℕ) → Type 0
 IsLeft done None new = Unit {0}
 IsLeft done (Some old) None = ⊥
@@ -37,11 +38,12 @@ module _ (asked : BatchRequest) (road : RoadMap) where
     pub took : Appends old new (concat outputs)
 
 module _ {O : Type 0} (taken : O → Option (List ℕ)) (failed : O → ℕ)
-    (flush_gives : O → Result (Unit {0}) Failed → O → Type 0) (asked : BatchRequest) (road : RoadMap)
+    (flush_gives : O → Result (Unit {0}) Failed → O → Type 0) (asked : BatchRequest)
+    (road : RoadMap)
   where
-    -- What is written for the records of an input, whose bytes are these if they are known, has been
-    -- written, one after the other, and nothing else; no call on the sink failed, and the last one passed
-    -- on what it had taken.
+    -- What is written for the records of an input, whose bytes are these if they are known, has
+    -- been written, one after the other, and nothing else; no call on the sink failed, and the last
+    -- one passed on what it had taken.
     pub record AreAnswered (input : Option (List ℕ)) (old new : O) : Type 0 where
       pub outputs : List (List ℕ)
       pub written : IfSome input (λ text. AreWrittenFor asked road 1 (lines_of text) outputs)
@@ -62,34 +64,42 @@ module _ {O : Type 0} (taken : O → Option (List ℕ)) (failed : O → ℕ)
       pub none_failed : failed new ≡ failed old
 
     -- this is the beginning of what is written for the first record that is left, or nothing
-    abbrev pub IsNextOutput : {input : Option (List ℕ)} {old new : O} → AreBegun input old new → List ℕ → Type 0
+    abbrev pub IsNextOutput : {input : Option (List ℕ)} {old new : O} → AreBegun input old new
+        → List ℕ → Type 0
     IsNextOutput {input} {old} {new} begun output = (output ≡ [])
-        ⊎ ((line : List ℕ) × (rest : List (List ℕ)) × (said : Message) × IfSome input (λ _. begun.left ≡ line ∷ rest)
+        ⊎ ((line : List ℕ) × (rest : List (List ℕ)) × (said : Message)
+        × IfSome input (λ _. begun.left ≡ line ∷ rest)
         × IsMessageOfLine line said × IsWrittenFor asked road (length begun.done + 1) said output)
 
 -- ---- where it stops
 
-module _ {S O : Type 0} (left : S → Option (List ℕ)) (in_failed : S → ℕ) (taken : O → Option (List ℕ))
+module _ {S O : Type 0} (left : S → Option (List ℕ)) (in_failed : S → ℕ) (taken : O
+    → Option (List ℕ))
     (failed : O → ℕ) (put_gives : O → List ℕ → Result ℕ Failed → O → Type 0)
-    (flush_gives : O → Result (Unit {0}) Failed → O → Type 0) (asked : BatchRequest) (road : RoadMap)
+    (flush_gives : O → Result (Unit {0}) Failed → O → Type 0) (asked : BatchRequest)
+    (road : RoadMap)
     (old_in new_in : S) (old new : O) where
-  -- The input was cut off, at the first of the lines that are left: these bytes of them were read. One call of
-  -- the input failed and was counted, and no byte that was read is LF: the line is the one that it failed in. Or no
-  -- call failed, and the line, or the number of lines, is beyond all that can be counted.
+  -- The input was cut off, at the first of the lines that are left: these bytes of them were read.
+  -- One call of the input failed and was counted, and no byte that was read is LF: the line is the
+  -- one that it failed in. Or no call failed, and the line, or the number of lines, is beyond all
+  -- that can be counted.
   pub record IsInputCut (done left_lines : List (List ℕ)) : Type 0 where
     pub read : List ℕ
-    pub left_is : IfSome (left old_in) (λ _. IfSome (left new_in) (λ rest. left_lines ≡ lines_of (read ++ rest)))
+    pub left_is : IfSome (left old_in)
+        (λ _. IfSome (left new_in) (λ rest. left_lines ≡ lines_of (read ++ rest)))
     pub cause : (HasNoLf read × (in_failed new_in ≡ one_more (in_failed old_in)))
         ⊎ ((in_failed new_in ≡ in_failed old_in)
         × ((HasNoLf read × (2 ^ 64 - 1 ≤ length read)) ⊎ (2 ^ 64 - 2 ≤ length done)))
 
   -- Why the run stopped before its end, what is written for the first records having been written.
-  -- Memory was refused, of which nothing is stated here; or the input was cut off, and what was written
-  -- had been passed on; or the sink stopped after a front of what is written for the next record.
+  -- Memory was refused, of which nothing is stated here; or the input was cut off, and what was
+  -- written had been passed on; or the sink stopped after a front of what is written for the next
+  -- record.
   abbrev pub IsStopped : Fault → Type 0
   IsStopped NoMemory = AreBegun taken failed flush_gives asked road (left old_in) old new
       × (in_failed new_in ≡ in_failed old_in)
-  IsStopped InputNotRead = (begun : AreBegun taken failed flush_gives asked road (left old_in) old new)
+  IsStopped InputNotRead =
+      (begun : AreBegun taken failed flush_gives asked road (left old_in) old new)
       × IsInputCut begun.done begun.left × HasPassedOn flush_gives new
   IsStopped WriteFailed = (at : O) × (output : List ℕ)
       × (begun : AreBegun taken failed flush_gives asked road (left old_in) old at)
@@ -101,7 +111,8 @@ module _ {S O : Type 0} (left : S → Option (List ℕ)) (in_failed : S → ℕ)
 -- ---- the whole run
 
 -- The run ended with a fault of the map, and then the input and the sink weren't touched.
-pub record IsMapFault {S O : Type 0} (texts : Texts) (old_in new_in : S) (old new : O) (fault : Fault) : Type 0 where
+pub record IsMapFault {S O : Type 0} (texts : Texts) (old_in new_in : S) (old new : O)
+    (fault : Fault) : Type 0 where
   pub why : MapFault
   pub is : fault ≡ fault_of_map why
   pub of_files : IsFaultLeft texts why

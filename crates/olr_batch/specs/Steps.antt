@@ -16,8 +16,8 @@ module _ {O : Type 0} (flush_gives : O → Result (Unit {0}) Failed → O → Ty
   abbrev pub HasPassedOn : O → Type 0
   HasPassedOn sink = (before : O) × flush_gives before (Ok tt) sink
 
-  -- The input may be asked for more, by these bytes at hand: the line of the next record is among them as a
-  -- whole, and then it isn't asked; or what the sink took is passed on.
+  -- The input may be asked for more, by these bytes at hand: the line of the next record is among
+  -- them as a whole, and then it isn't asked; or what the sink took is passed on.
   abbrev pub MayAsk : List ℕ → O → Type 0
   MayAsk at_hand sink = Contains at_hand 10 ⊎ HasPassedOn sink
 
@@ -28,14 +28,14 @@ module _ {O : Type 0} (taken : O → Option (List ℕ)) (failed : O → ℕ)
     pub kept : Appends (taken old) (taken new) []
     pub none_failed : failed new ≡ failed old
 
-  -- Where a whole record is at hand, no call was made on the sink; else one that passed on what it had
-  -- taken.
+  -- Where a whole record is at hand, no call was made on the sink; else one that passed on what it
+  -- had taken.
   abbrev pub IsPassedOn : Bool → O → O → Type 0
   IsPassedOn true old new = new ≡ old
   IsPassedOn false old new = IsSame old new × flush_gives old (Ok tt) new
 
-  -- There is no further record, by what was left of the input and what is left, and what the sink had taken
-  -- was passed on.
+  -- There is no further record, by what was left of the input and what is left, and what the sink
+  -- had taken was passed on.
   pub record IsLast (left_old left_new : Option (List ℕ)) (old new : O) : Type 0 where
     pub over : IsOver left_old left_new
     pub same : IsSame old new
@@ -65,8 +65,9 @@ module _ {O : Type 0} (taken : O → Option (List ℕ)) (failed : O → ℕ)
     (flush_gives : O → Result (Unit {0}) Failed → O → Type 0) (asked : BatchRequest)
     (road : RoadMap) (number : ℕ) (left_old left_new : Option (List ℕ)) (at_hand : List ℕ)
     (old_failed new_failed : ℕ) (old new : O) where
-  -- Why the next record wasn't answered, or not wholly written: memory was refused; or the input was cut
-  -- off, what the sink took having been passed on, and no byte is at hand; or the sink stopped, in what is written for this record or before it.
+  -- Why the next record wasn't answered, or not wholly written: memory was refused; or the input
+  -- was cut off, what the sink took having been passed on, and no byte is at hand; or the sink
+  -- stopped, in what is written for this record or before it.
   abbrev pub IsStepStopped : Fault → Type 0
   IsStepStopped NoMemory = IsSame taken failed flush_gives old new × (new_failed ≡ old_failed)
   IsStepStopped InputNotRead = IsSame taken failed flush_gives old new × HasPassedOn flush_gives new

@@ -49,8 +49,9 @@ fn answer_to(alloc: Global, on: &AskedOnMap<'_>, reference: &Reference) -> Resul
 ///
 /// # Errors
 ///
-/// The refusal of the text, whatever memory does; else, but for reasons, [`Fault::TooManyCandidates`]
-/// with the first point that has more than 64; [`Fault::NoMemory`] where the allocator refused memory.
+/// The refusal of the text, whatever memory does; else, but for reasons,
+/// [`Fault::TooManyCandidates`] with the first point that has more than 64; [`Fault::NoMemory`]
+/// where the allocator refused memory.
 pub(crate) fn answer_of(alloc: Global, on: &AskedOnMap<'_>, text: &str) -> Result<String, Fault>
     ensures answer { IfOk result (λ answer.
         IsAnswer on.now.asked.now on.now.map.now text.now (Ok (string_bytes answer))) }

@@ -46,9 +46,9 @@ fn pass_on_unless<O: Sink>(is_at_hand: bool, out: &mut O) -> Result<(), Fault>
     Ok(())
 }
 
-/// Moves on to the next record, and answers whether there was one. Where its line isn't at hand as a
-/// whole, it asks the input for more; the last call on the sink has passed on what that took then, so
-/// whoever gives the input can have seen the lines of all records before.
+/// Moves on to the next record, and answers whether there was one. Where its line isn't at hand as
+/// a whole, it asks the input for more; the last call on the sink has passed on what that took
+/// then, so whoever gives the input can have seen the lines of all records before.
 ///
 /// # Errors
 ///

@@ -132,8 +132,8 @@ fn write_text(
 ///
 /// # Errors
 ///
-/// [`NoMemory`] where the allocator refused memory for the line of a fault, for which there is room in
-/// a `line` of [`ROOM`](crate::answering) bytes.
+/// [`NoMemory`] where the allocator refused memory for the line of a fault, for which there is room
+/// in a `line` of [`ROOM`](crate::answering) bytes.
 pub(crate) fn write_record(
     alloc: Global,
     on: &AskedOnMap<'_>,

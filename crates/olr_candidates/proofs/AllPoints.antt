@@ -4,12 +4,7 @@ use Rattle.olr_candidates.proofs.LineCandidates.{line_at}
 use Rattle.std.proofs.Common.{◌≡◌, ℕ, ◌+◌, ◌<◌, ◌≤◌, List, [], ◌∷◌, ◌++◌, length, get_or, inl, inr, ap, ◌∙◌, arith}
 use Rattle.std.proofs.lemmas.List.{length-append, map_push, same_lists}
 use Rattle.std.proofs.lemmas.Option.{slice_get-get_or, slice_get_within}
-use Rattle.arrayvec.specs.ArrayVec.{ArrayVec}
-use Rattle.olr_binary.specs.declared.reference.Reference.{Reference}
-use Rattle.olr_binary.specs.Reference.{points_of}
-use Rattle.olr_map.specs.Rows.{RoadLine}
-use Rattle.olr_candidates.specs.declared.candidate.Candidate.{Candidate}
-use Rattle.olr_candidates.specs.declared.tolerances.Tolerances.{Tolerances}
+use Rattle.olr_candidates.proofs.Common.{ArrayVec, Reference, points_of, RoadLine, Candidate, Tolerances}
 use Rattle.olr_candidates.specs.Laws.{OneListOfPoint, NoListOfPointAndTooMany}
 use Rattle.olr_candidates.specs.Points.{AreCandidatesOf, AreFirstLists, AreLists, HasTooMany, IsListOf, IsFirstTooMany, lists_of}
 

@@ -1,3 +1,4 @@
+pub mod Common
 mod Projections
 mod Polylines
 mod LineCandidates

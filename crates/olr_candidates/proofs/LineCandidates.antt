@@ -2,24 +2,11 @@
 use Rattle.std.proofs.Common.{◌≡◌, ℕ, zero, suc, ◌<◌, Bool, List, [], ◌∷◌, length, All, Some, Result, Ok, Err, subst, sym, refl, arith}
 use Rattle.std.specs.Prelude.{MatchResult, slice_get, option_map}
 use Rattle.std.proofs.lemmas.Option.{get_or_from_slice_get, slice_get_within}
-use Rattle.olr_metric.specs.declared.spot.Spot.{Spot}
-use Rattle.olr_metric.specs.Coordinates.{Coordinates, coordinates_of}
-use Rattle.olr_metric.specs.Plane.{spot_of}
-use Rattle.olr_binary.specs.declared.point.Point.{Point}
-use Rattle.olr_map.specs.Rows.{RoadLine}
-use Rattle.olr_map.specs.RoadMap.{head_of, IsSoundLine}
-use Rattle.olr_map.specs.declared.line.Line.{Line}
-use Rattle.olr_candidates.specs.declared.candidate.Candidate.{Candidate}
-use Rattle.olr_candidates.specs.declared.projection.Projection.{Projection}
-use Rattle.olr_candidates.specs.declared.rejection.Rejection.{Rejection}
+use Rattle.olr_candidates.proofs.Common.{Spot, Coordinates, coordinates_of, spot_of, Point, RoadLine, head_of, IsSoundLine, Line, Candidate, Projection, Rejection, Tolerances, IsCandidateAt, Query, Finds, Rejects, polyline_of, IsProjection}
 use Rattle.olr_candidates.specs.declared.rejection.Rejection.TheVariants.{Radius, Bearing, Class, Position}
-use Rattle.olr_candidates.specs.declared.tolerances.Tolerances.{Tolerances}
 use Rattle.olr_candidates.specs.Candidate.{MeetsConditions, IsCandidate, IsOnLine, Rates}
-use Rattle.olr_candidates.specs.Candidates.{IsCandidateAt, IsRejectionAt}
-use Rattle.olr_candidates.specs.declared.query.Query.{Query}
-use Rattle.olr_candidates.specs.Query.{Finds, Rejects}
+use Rattle.olr_candidates.specs.Candidates.{IsRejectionAt}
 use Rattle.olr_candidates.specs.Rejection.{IsFirstFailed}
-use Rattle.olr_candidates.specs.Projection.{polyline_of, IsProjection}
 
 abbrev pub OneProjection : Type 0
 OneProjection = (polyline : List Spot) (length : ℕ) (is_last : Bool) (p : Spot) (a b : Projection)

@@ -5,22 +5,9 @@ use Rattle.std.specs.Int.{abs_diff}
 use Rattle.std.proofs.lemmas.Bool.{cond_both}
 use Rattle.std.proofs.lemmas.Nat.{div_below, mul-le}
 use Rattle.std.proofs.lemmas.Option.{slice_get_within}
-use Rattle.olr_metric.specs.declared.polyline.Near.{Near}
-use Rattle.olr_metric.specs.declared.spot.Spot.{Spot}
-use Rattle.olr_metric.specs.Coordinates.{Coordinates, coordinates_of}
+use Rattle.olr_candidates.proofs.Common.{Near, Spot, Coordinates, coordinates_of, spot_of, arc, IsNearest, Point, RoadLine, Line, IsSoundLine, Candidate, Projection, Tolerances, IsOneOf, polyline_of}
 use Rattle.olr_metric.specs.Difference.{difference}
-use Rattle.olr_metric.specs.Plane.{spot_of}
-use Rattle.olr_metric.specs.Polyline.{arc, IsNearest}
-use Rattle.olr_binary.specs.declared.point.Point.{Point}
-use Rattle.olr_map.specs.Rows.{RoadLine}
-use Rattle.olr_map.specs.declared.line.Line.{Line}
-use Rattle.olr_map.specs.RoadMap.{IsSoundLine}
-use Rattle.olr_candidates.specs.declared.candidate.Candidate.{Candidate}
-use Rattle.olr_candidates.specs.declared.projection.Projection.{Projection}
-use Rattle.olr_candidates.specs.declared.tolerances.Tolerances.{Tolerances}
 use Rattle.olr_candidates.specs.Candidate.{MeetsConditions, IsOnLine, penalty_of}
-use Rattle.olr_candidates.specs.Candidates.{IsOneOf}
-use Rattle.olr_candidates.specs.Projection.{polyline_of}
 use Rattle.olr_candidates.specs.Form.{form_penalty, is_like}
 use Rattle.olr_candidates.proofs.LineCandidates.{sound_at}
 

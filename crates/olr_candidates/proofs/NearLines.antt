@@ -3,19 +3,9 @@
 use Rattle.std.proofs.Common.{◌≡◌, ℕ, Bool, true, false, List, length, Option, Some, None, refl}
 use Rattle.std.specs.Prelude.{◌+◌, ◌==◌}
 use Rattle.std.proofs.lemmas.Bool.{MatchBool-at_false}
-use Rattle.olr_metric.specs.Coordinates.{Coordinates, coordinates_of}
-use Rattle.olr_binary.specs.declared.point.Point.{Point}
-use Rattle.olr_binary.specs.Reference.{points_of}
-use Rattle.olr_map.specs.Rows.{RoadLine}
-use Rattle.olr_map.specs.RoadMap.{head_of}
-use Rattle.olr_map.specs.declared.line.Line.{Line}
-use Rattle.olr_candidates.specs.declared.candidate.Candidate.{Candidate}
+use Rattle.olr_candidates.proofs.Common.{Coordinates, coordinates_of, Point, points_of, RoadLine, head_of, Line, Candidate, NearLine, Projection, Tolerances, IsCandidateAt}
 use Rattle.olr_candidates.specs.declared.near.FailedConditions.{FailedConditions}
-use Rattle.olr_candidates.specs.declared.near.NearLine.{NearLine}
-use Rattle.olr_candidates.specs.declared.projection.Projection.{Projection}
-use Rattle.olr_candidates.specs.declared.tolerances.Tolerances.{Tolerances}
 use Rattle.olr_candidates.specs.Candidate.{IsWithinRadius, IsAlikeInBearing, IsAlikeInClass, IsOnLine, IsCandidate, MeetsConditions, Rates, penalty_of}
-use Rattle.olr_candidates.specs.Candidates.{IsCandidateAt}
 use Rattle.olr_candidates.specs.Laws.{CandidatesFailNone, IsAsCandidate, NearAreCandidates, OneNearLine}
 use Rattle.olr_candidates.specs.Near.{AreFailed, Describes, FailsExactly, HasPenalty, IsNearLine, IsNearLineAt, none_failed}
 use Rattle.olr_candidates.proofs.LineCandidates.{OneProjection}

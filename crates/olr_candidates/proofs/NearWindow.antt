@@ -2,12 +2,8 @@
 -- radius.
 use Rattle.std.proofs.Common.{ℕ, List, get_or, All, arith}
 use Rattle.std.proofs.lemmas.Option.{slice_get_within}
-use Rattle.olr_metric.specs.Coordinates.{coordinates_of, IsInRange}
-use Rattle.olr_map.specs.Rows.{RoadLine}
-use Rattle.olr_map.specs.RoadMap.{IsSoundLine}
-use Rattle.olr_candidates.specs.declared.query.Query.{Query}
+use Rattle.olr_candidates.proofs.Common.{coordinates_of, IsInRange, RoadLine, IsSoundLine, Query, IsNear}
 use Rattle.olr_candidates.specs.Nearest.{CoverRadius}
-use Rattle.olr_candidates.specs.Query.{IsNear}
 use Rattle.olr_candidates.proofs.LineCandidates.{sound_at}
 use Rattle.olr_candidates.proofs.WindowAround.{FootBetween, NoShorter, meets_window}
 

@@ -9,17 +9,11 @@ use Rattle.std.proofs.lemmas.List.Edits.{length-insert}
 use Rattle.std.proofs.lemmas.List.Elements.{All-append, All-cons, All-drop, All-nil, All-take, All-weaker}
 use Rattle.std.proofs.lemmas.List.Sorted.{Contains-permutation, IsPermutation-insert}
 use Rattle.std.proofs.lemmas.Option.{get_or_from_slice_get, slice_get_within}
-use Rattle.olr_metric.specs.Coordinates.{Coordinates}
-use Rattle.olr_binary.specs.declared.point.Point.{Point}
-use Rattle.olr_map.specs.Rows.{RoadLine}
-use Rattle.olr_candidates.specs.declared.near.NearLine.{NearLine}
-use Rattle.olr_candidates.specs.declared.query.Query.{Query}
-use Rattle.olr_candidates.specs.declared.tolerances.Tolerances.{Tolerances}
+use Rattle.olr_candidates.proofs.Common.{Coordinates, Point, RoadLine, NearLine, Query, Tolerances, here, further, no_longer}
 use Rattle.olr_candidates.specs.Laws.{NearIsOfLines, NearestAreInOrderOfIds, NearestAreNear, OneListOfNearest}
 use Rattle.olr_candidates.specs.Near.{AreNearest, IsNearer, IsOneNear}
 use Rattle.olr_candidates.specs.Nearest.{AnswersNearest, AreNearestAmong, AreNearestWithin, FindsNear, IsAmong, IsBehindLast, Keeps}
 use Rattle.olr_candidates.proofs.ByNumbers.{not_before, one_way, through}
-use Rattle.olr_metric.proofs.Contained.{here, further, no_longer}
 use Rattle.olr_candidates.proofs.InOrder.{inserted}
 use Rattle.olr_candidates.proofs.LineCandidates.{OneProjection}
 use Rattle.olr_candidates.proofs.NearLines.{one_near}

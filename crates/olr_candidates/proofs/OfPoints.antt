@@ -2,19 +2,12 @@
 use Rattle.std.proofs.Common.{◌≡◌, ℕ, ◌+◌, List, Option, Some, None, Result, Ok, Err}
 use Rattle.std.specs.Prelude.{MatchOption, MatchResult}
 use Rattle.std.specs.Option.{ok_or}
-use Rattle.arrayvec.specs.ArrayVec.{ArrayVec}
-use Rattle.olr_binary.specs.declared.reference.Reference.{Reference}
-use Rattle.olr_map.specs.Rows.{RoadLine}
-use Rattle.olr_candidates.specs.declared.candidate.Candidate.{Candidate}
-use Rattle.olr_candidates.specs.declared.near.NearLine.{NearLine}
+use Rattle.olr_candidates.proofs.Common.{ArrayVec, Reference, RoadLine, Candidate, NearLine, Query, Rejection, Tolerances, Answers, Finds, FindsTooMany, Rejects}
 use Rattle.olr_candidates.specs.declared.point.TooManyCandidates.{TooManyCandidates}
-use Rattle.olr_candidates.specs.declared.query.Query.{Query}
-use Rattle.olr_candidates.specs.declared.rejection.Rejection.{Rejection}
-use Rattle.olr_candidates.specs.declared.tolerances.Tolerances.{Tolerances}
 use Rattle.olr_candidates.specs.Near.{AreNearestOf, IsNearLineOf}
 use Rattle.olr_candidates.specs.Nearest.{AnswersNearest, FindsNear}
 use Rattle.olr_candidates.specs.Points.{AreCandidatesOf, HasTooMany, IsCandidateOf, IsRejectionOf}
-use Rattle.olr_candidates.specs.Query.{Answers, Finds, FindsTooMany, IsQueryOf, Rejects}
+use Rattle.olr_candidates.specs.Query.{IsQueryOf}
 
 module _ (tolerances : Tolerances) (reference : Reference) (lines : List RoadLine) (index : ℕ)
     (query : Query) (is : IsQueryOf tolerances reference index query) where

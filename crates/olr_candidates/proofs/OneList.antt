@@ -3,14 +3,9 @@ use Rattle.std.proofs.Common.{◌≡◌, ℕ, ◌≤◌, Bool, List, length, get
 use Rattle.std.specs.Prelude.{slice_get, filter, Contains, Decides}
 use Rattle.std.proofs.lemmas.Bool.Decides.{Decides-or, Decides-and, Decides-ltb, Decides-eqb}
 use Rattle.std.proofs.lemmas.List.Elements.{All-contains}
-use Rattle.olr_metric.specs.Coordinates.{Coordinates}
-use Rattle.olr_binary.specs.declared.point.Point.{Point}
-use Rattle.olr_map.specs.Rows.{RoadLine}
-use Rattle.olr_candidates.specs.declared.candidate.Candidate.{Candidate}
-use Rattle.olr_candidates.specs.declared.tolerances.Tolerances.{Tolerances}
-use Rattle.olr_candidates.specs.Candidates.{IsBefore, IsOneOf, AreCandidates, AreTooMany, is_before}
+use Rattle.olr_candidates.proofs.Common.{Coordinates, Point, RoadLine, Candidate, Tolerances, IsBefore, IsOneOf, AreCandidates, no_longer}
+use Rattle.olr_candidates.specs.Candidates.{AreTooMany, is_before}
 use Rattle.olr_candidates.proofs.ByNumbers as numbers
-use Rattle.olr_metric.proofs.Contained.{no_longer}
 use Rattle.olr_metric.proofs.Rising.{same_list, place_counts}
 
 -- no two candidates come before each other

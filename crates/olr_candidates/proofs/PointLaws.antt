@@ -7,10 +7,8 @@ use Rattle.std.proofs.lemmas.List.{length-map}
 use Rattle.std.proofs.lemmas.List.Kept.{AllPairs-from_increasing}
 use Rattle.std.proofs.lemmas.Option.{none-some, same_Some, slice_get_within}
 use borrow.Author.Tests.{eqb-true}
-use Rattle.olr_metric.specs.Coordinates.{coordinates_of}
-use Rattle.olr_binary.specs.Reference.{points_of}
-use Rattle.olr_map.specs.Rows.{RoadLine, line_ids}
-use Rattle.olr_candidates.specs.Candidates.{AreCandidates}
+use Rattle.olr_candidates.proofs.Common.{coordinates_of, points_of, RoadLine, AreCandidates}
+use Rattle.olr_map.specs.Rows.{line_ids}
 use Rattle.olr_candidates.specs.Laws.{OneList, NoListAndTooMany, OneListOfPoint, NoListOfPointAndTooMany, HoldsOfEach, IsOfLines, LiesOnLine, LiesUpToEnd, ArePlaces, AreDepartures, AreInOrderOfIds, RejectedAreNone}
 use Rattle.olr_candidates.proofs.LineCandidates.{OneProjection, line_at, rejected}
 

@@ -3,13 +3,10 @@ use Rattle.std.proofs.Common.{◌≡◌, ℕ, zero, suc, ◌≤◌, List, [], �
 use Rattle.std.specs.Prelude.{slice_get}
 use Rattle.std.proofs.lemmas.List.{length-map}
 use Rattle.std.proofs.lemmas.Option.{same_Some, none-some}
-use Rattle.olr_metric.specs.declared.spot.Spot.{Spot}
+use Rattle.olr_candidates.proofs.Common.{Spot, Coordinates, coordinates_of, spot_of, IsInPlane}
 use Rattle.olr_metric.specs.declared.degrees.Degrees.{Degrees}
-use Rattle.olr_metric.specs.Coordinates.{Coordinates, coordinates_of}
-use Rattle.olr_metric.specs.Plane.{spot_of}
 use Rattle.olr_metric.specs.Polyline.{IsPolyline}
 use Rattle.olr_metric.specs.Range.{IsLatitude}
-use Rattle.olr_metric.specs.Spot.{IsInPlane}
 use Rattle.olr_map.specs.Rows.{HasEqualNeighbours}
 
 abbrev pub OnePlace : Type 0

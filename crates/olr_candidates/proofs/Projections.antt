@@ -1,12 +1,10 @@
 -- A spot has one projection onto a polyline at most.
 use Rattle.std.proofs.Common.{◌≡◌, ℕ, Bool, List, Option, Some, None, refl}
 use Rattle.std.specs.Prelude.{MatchOption}
-use Rattle.olr_metric.specs.declared.spot.Spot.{Spot}
-use Rattle.olr_metric.specs.declared.polyline.Near.{Near}
-use Rattle.olr_metric.specs.Polyline.{arc, IsAlong, IsNearest}
+use Rattle.olr_candidates.proofs.Common.{Spot, Near, arc, IsNearest, Projection, IsProjection}
+use Rattle.olr_metric.specs.Polyline.{IsAlong}
 use Rattle.olr_metric.specs.Sector.{Direction, zero_direction, IsSector}
-use Rattle.olr_candidates.specs.declared.projection.Projection.{Projection}
-use Rattle.olr_candidates.specs.Projection.{bearing_arc, HasBearing, IsProjection}
+use Rattle.olr_candidates.specs.Projection.{bearing_arc, HasBearing}
 
 -- the plane's laws
 abbrev pub OneNearest : Type 0

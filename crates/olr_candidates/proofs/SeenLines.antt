@@ -4,8 +4,7 @@ use Rattle.std.proofs.Math.Seq.{get_or-append_seam}
 use Rattle.std.specs.Prelude.{◌⊎◌, AllPairs, Contains}
 use Rattle.std.proofs.lemmas.List.Elements.{All-contains, Contains-append_left, Contains-append_right, Contains-push, Contains-push_cases}
 use Rattle.std.proofs.lemmas.Option.{slice_get_within}
-use Rattle.olr_map.specs.declared.Extent.{Extent}
-use Rattle.olr_map.specs.Rows.{RoadLine}
+use Rattle.olr_candidates.proofs.Common.{Extent, RoadLine}
 use Rattle.olr_map.specs.RoadMap.{IsWindowOf, RankMeetsWindow}
 
 pub one_seen : (seen : List ℕ) (rank : ℕ) {other : ℕ} → Contains (seen ++ rank ∷ []) other

@@ -5,20 +5,13 @@ use Rattle.std.proofs.lemmas.Int.{ints, by_lt_z}
 use Rattle.std.proofs.lemmas.Nat.{mul-le}
 use Rattle.std.proofs.lemmas.List.Elements.{All-contains}
 use Rattle.std.proofs.lemmas.Option.{slice_get_within, get_or_from_slice_get}
-use Rattle.olr_metric.specs.declared.spot.Spot.{Spot}
-use Rattle.olr_metric.specs.declared.polyline.Near.{Near}
-use Rattle.olr_metric.specs.Coordinates.{Coordinates, coordinates_of, IsInRange}
+use Rattle.olr_candidates.proofs.Common.{Spot, Near, Coordinates, coordinates_of, IsInRange, spot_of, IsNearest, Extent, RoadLine, Query, polyline_of, x_of}
 use Rattle.olr_metric.specs.Floor.{floor}
-use Rattle.olr_metric.specs.Plane.{scale_of, spot_of}
-use Rattle.olr_metric.specs.Polyline.{IsNearest}
+use Rattle.olr_metric.specs.Plane.{scale_of}
 use Rattle.olr_metric.specs.Segment.{foot, IsBetween}
 use Rattle.olr_metric.specs.Spot.{distance}
-use Rattle.olr_map.specs.declared.Extent.{Extent}
-use Rattle.olr_map.specs.Rows.{RoadLine}
 use Rattle.olr_map.specs.RoadMap.{MeetsWindow}
-use Rattle.olr_candidates.specs.declared.query.Query.{Query}
-use Rattle.olr_candidates.specs.Projection.{polyline_of}
-use Rattle.olr_candidates.specs.Query.{x_of, CoversRadius}
+use Rattle.olr_candidates.specs.Query.{CoversRadius}
 use Rattle.olr_candidates.proofs.Polylines.{place_at}
 
 -- the plane's laws, of one coordinate of spots

@@ -2,13 +2,7 @@
 -- decoder; the numbers are this project's choice).
 use Rattle.std.specs.Prelude.{◌≡◌, ℕ, ◌+◌, ◌*◌, ◌/◌, ◌<◌, ◌≤◌, Bool, true, false}
 use Rattle.std.specs.Int.{abs_diff}
-use Rattle.olr_metric.specs.Coordinates.{Coordinates, coordinates_of}
-use Rattle.olr_metric.specs.Difference.{difference}
-use Rattle.olr_metric.specs.Plane.{spot_of}
-use Rattle.olr_binary.specs.declared.point.Point.{Point}
-use Rattle.olr_map.specs.Rows.{RoadLine}
-use Rattle.olr_map.specs.declared.line.Line.{Line}
-use Rattle.olr_map.specs.RoadMap.{head_of}
+use Rattle.olr_candidates.specs.Common.{Coordinates, coordinates_of, difference, spot_of, Point, RoadLine, Line, head_of}
 use Rattle.olr_candidates.specs.declared.candidate.Candidate.{Candidate}
 use Rattle.olr_candidates.specs.declared.projection.Projection.{Projection}
 use Rattle.olr_candidates.specs.declared.tolerances.Tolerances.{Tolerances}

@@ -1,13 +1,9 @@
 -- Laws on the candidates of a point and of all points of a reference. Each is the contract of a
 -- public function that does nothing at run time; its body only names the laws on which it rests.
 use Rattle.std.specs.Prelude.{◌≡◌, ℕ, ◌+◌, ◌<◌, ◌≤◌, ◌⊎◌, Bool, List, Some, length, slice_get, filter, All, AllPairs, Decides}
-use Rattle.olr_metric.specs.Coordinates.{Coordinates}
-use Rattle.olr_binary.specs.declared.point.Point.{Point}
-use Rattle.olr_binary.specs.declared.reference.Reference.{Reference}
-use Rattle.olr_binary.specs.Reference.{points_of}
+use Rattle.olr_candidates.specs.Common.{Coordinates, Point, Reference, points_of, RoadLine}
 use Rattle.olr_map.specs.Place.{IsPlace, IsDeparture}
 use Rattle.olr_map.specs.RoadMap.{RoadMap, IsSoundMap}
-use Rattle.olr_map.specs.Rows.{RoadLine}
 use Rattle.olr_candidates.specs.declared.candidate.Candidate.{Candidate}
 use Rattle.olr_candidates.specs.declared.near.NearLine.{NearLine}
 use Rattle.olr_candidates.specs.declared.rejection.Rejection.{Rejection}

@@ -1,3 +1,4 @@
+pub mod Common
 pub mod Tolerances
 pub mod Form
 pub mod Projection

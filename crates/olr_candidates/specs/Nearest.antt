@@ -1,7 +1,6 @@
 -- What the search for the lines nearest to a query's point finds on its way.
 use Rattle.std.specs.Prelude.{◌≡◌, ◌≢◌, ℕ, ◌-◌, ◌*◌, ◌<◌, ◌≤◌, ◌⊎◌, min, List, length, slice_get, slice_index_or, Some, take, insert, All, AllPairs, Contains}
-use Rattle.olr_metric.specs.Coordinates.{coordinates_of}
-use Rattle.olr_map.specs.Rows.{RoadLine}
+use Rattle.olr_candidates.specs.Common.{coordinates_of, RoadLine}
 use Rattle.olr_candidates.specs.declared.near.NearLine.{NearLine}
 use Rattle.olr_candidates.specs.declared.query.Query.{Query}
 use Rattle.olr_candidates.specs.Near.{AreNearest, IsNearer, IsNearLineAt}

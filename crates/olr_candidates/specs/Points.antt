@@ -2,11 +2,7 @@
 -- origin of the plane.
 use Rattle.std.specs.Prelude.{◌≡◌, ⊤, map, ℕ, ◌+◌, ◌<◌, ◌≤◌, ◌==◌, List, length, Some, slice_get}
 use Rattle.arrayvec.specs.ArrayVec.{ArrayVec}
-use Rattle.olr_metric.specs.Coordinates.{coordinates_of}
-use Rattle.olr_binary.specs.declared.point.Point.{Point}
-use Rattle.olr_binary.specs.declared.reference.Reference.{Reference}
-use Rattle.olr_binary.specs.Reference.{points_of}
-use Rattle.olr_map.specs.Rows.{RoadLine}
+use Rattle.olr_candidates.specs.Common.{coordinates_of, Point, Reference, points_of, RoadLine}
 use Rattle.olr_candidates.specs.declared.candidate.Candidate.{Candidate}
 use Rattle.olr_candidates.specs.declared.fault.LayersFault.{LayersFault}
 use Rattle.olr_candidates.specs.declared.fault.LayersFault.TheVariants.{TooManyCandidates, NoMemory}

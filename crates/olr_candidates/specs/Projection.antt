@@ -3,11 +3,9 @@
 use Rattle.std.specs.Prelude.{◌≡◌, ℕ, ◌+◌, ◌-◌, ◌*◌, ◌/◌, Bool, cond, min, List, map, Option, MatchOption}
 use Rattle.olr_metric.specs.declared.polyline.Near.{Near}
 use Rattle.olr_metric.specs.declared.spot.Spot.{Spot}
-use Rattle.olr_metric.specs.Coordinates.{Coordinates}
-use Rattle.olr_metric.specs.Plane.{spot_of}
+use Rattle.olr_candidates.specs.Common.{Coordinates, spot_of, RoadLine}
 use Rattle.olr_metric.specs.Polyline.{arc, IsAlong, IsNearest}
 use Rattle.olr_metric.specs.Sector.{direction, zero_direction, IsSector}
-use Rattle.olr_map.specs.Rows.{RoadLine}
 use Rattle.olr_candidates.specs.declared.projection.Projection.{Projection}
 
 -- the polyline of a line, in the plane that has its origin at a place

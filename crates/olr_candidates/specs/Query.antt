@@ -1,12 +1,8 @@
 -- What is asked of a map: the candidates of one point of a reference.
 use Rattle.std.specs.Prelude.{◌≡◌, ℕ, ◌+◌, ◌*◌, ◌==◌, List, length, Some, slice_get, All, AllPairs, Contains, ℤ, pos, ◌+ℤ◌, ◌-ℤ◌, ◌≤ℤ◌}
-use Rattle.olr_metric.specs.Coordinates.{Coordinates, coordinates_of, IsInRange}
-use Rattle.olr_metric.specs.Plane.{spot_of}
+use Rattle.olr_candidates.specs.Common.{Coordinates, coordinates_of, spot_of, Point, Reference, points_of, RoadLine}
+use Rattle.olr_metric.specs.Coordinates.{IsInRange}
 use Rattle.olr_map.specs.declared.Extent.{Extent}
-use Rattle.olr_binary.specs.declared.point.Point.{Point}
-use Rattle.olr_binary.specs.declared.reference.Reference.{Reference}
-use Rattle.olr_binary.specs.Reference.{points_of}
-use Rattle.olr_map.specs.Rows.{RoadLine}
 use Rattle.olr_map.specs.RoadMap.{IsWindowOf}
 use Rattle.olr_candidates.specs.declared.candidate.Candidate.{Candidate}
 use Rattle.olr_candidates.specs.declared.projection.Projection.{Projection}

@@ -1,13 +1,7 @@
 -- Why a line is no candidate of a point: the first of the four conditions that it fails.
 use Rattle.std.specs.Prelude.{◌≡◌, ◌*◌, ◌<◌, Bool}
 use Rattle.std.specs.Int.{abs_diff}
-use Rattle.olr_metric.specs.Coordinates.{Coordinates, coordinates_of}
-use Rattle.olr_metric.specs.Difference.{difference}
-use Rattle.olr_metric.specs.Plane.{spot_of}
-use Rattle.olr_binary.specs.declared.point.Point.{Point}
-use Rattle.olr_map.specs.Rows.{RoadLine}
-use Rattle.olr_map.specs.declared.line.Line.{Line}
-use Rattle.olr_map.specs.RoadMap.{head_of}
+use Rattle.olr_candidates.specs.Common.{Coordinates, coordinates_of, difference, spot_of, Point, RoadLine, Line, head_of}
 use Rattle.olr_candidates.specs.declared.projection.Projection.{Projection}
 use Rattle.olr_candidates.specs.declared.rejection.Rejection.{Rejection}
 use Rattle.olr_candidates.specs.declared.rejection.Rejection.TheVariants.{Radius, Bearing, Class, Position}

@@ -108,8 +108,8 @@ fn window_around(query: &Query, radius: u32) -> Extent
     }
 }
 
-/// The lines that meet the window of [`window_around`]. A line whose points all lie to one side of it is further away
-/// than the radius: the contract of `search_near` rests on this.
+/// The lines that meet the window of [`window_around`]. A line whose points all lie to one side of
+/// it is further away than the radius: the contract of `search_near` rests on this.
 pub(crate) fn near_lines<'a>(map: &'a Map, query: &Query, radius: u32) -> Window<'a>
     requires { radius ≤ 1000000 }
     ensures near { IsNear query.now map.now.lines radius result }

@@ -194,9 +194,11 @@ pub record AsksWhy (given : Given) (files : Files) (asked : Asked) : Type 0 wher
   pub is : IsWhyRequest given why_request
   pub asks : asked ≡ One (Why why_request) (Some files)
 
--- why it and `batch why` are refused: the first tolerance that is out of its range; else the number of lines
+-- why it and `batch why` are refused: the first tolerance that is out of its range; else the number
+-- of lines
 abbrev pub IsRefusedWhy : Given → Fault → Type 0
 IsRefusedWhy given (BadTolerance name) = IsFirstOutOfRange (value_of given) name
 IsRefusedWhy given BadNearest =
-    ((tolerances : Tolerances) × AreTolerances given tolerances) × (IsNearest (nearest_of given) → ⊥)
+    ((tolerances : Tolerances) × AreTolerances given tolerances)
+    × (IsNearest (nearest_of given) → ⊥)
 IsRefusedWhy given other = ⊥

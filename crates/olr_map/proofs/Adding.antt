@@ -4,17 +4,10 @@ use Rattle.std.specs.Prelude.{slice_range, All, IsPermutation}
 use Rattle.std.proofs.lemmas.List.{length-map, length-append, length-drop, map-append, take-append-le, drop-append-le}
 use Rattle.std.proofs.lemmas.List.Sorted.{length_permutation, All-permutation}
 use Rattle.std.proofs.lemmas.List.Elements.{All-head, All-tail, All-weaker, All-push}
-use Rattle.olr_metric.specs.declared.degrees.Degrees.{Degrees}
-use Rattle.olr_metric.specs.Coordinates.{Coordinates, coordinates_of}
-use Rattle.olr_map.specs.declared.fault.MapFault.{MapFault}
-use Rattle.olr_map.specs.declared.line.Entry.{Entry}
-use Rattle.olr_map.specs.declared.line.LineSet.{LineSet}
-use Rattle.olr_map.specs.declared.rows.LineRow.{LineRow}
-use Rattle.olr_map.specs.Rows.{Node, RoadLine, IsLine}
+use Rattle.olr_map.proofs.Common.{Degrees, Coordinates, coordinates_of, MapFault, Entry, LineSet, LineRow, Node, RoadLine, IsLine, line_in, lines_of, SpellsLine, IsLateFault, lines_table, AddsRow}
 use Rattle.olr_map.proofs.LineFaults.{stops_late}
-use Rattle.olr_map.specs.Reading.{line_in, lines_of, IsWithin, AreSound, SpellsLine, IsLateFault}
-use Rattle.olr_map.specs.RoadMap.{lines_table}
-use Rattle.olr_map.specs.Settling.{AddsRow, StopsAt}
+use Rattle.olr_map.specs.Reading.{IsWithin, AreSound}
+use Rattle.olr_map.specs.Settling.{StopsAt}
 
 -- a part of a list is that part of any longer one
 range_kept : (points more : List Degrees) (start end : ℕ) → start < end → end ≤ length points

@@ -1,16 +1,9 @@
 -- The checks on a record of the file of bans: what a record passes whose fields were read, and that
 -- one that spells a ban passes all.
 use Rattle.std.proofs.Common.{◌≡◌, ℕ, ◌+◌, ◌<◌, List, length, inl, inr, refl}
-use Rattle.olr_metric.specs.Checks.{AllPass}
-use Rattle.olr_map.specs.declared.ban.Ban.{Ban}
-use Rattle.olr_map.specs.declared.table.Stop.{Stop}
-use Rattle.olr_index.specs.Repeats.{AllDiffer}
-use Rattle.olr_map.specs.Rows.{RoadLine, line_ids, NamesLines}
+use Rattle.olr_map.proofs.Common.{AllPass, Ban, Stop, AllDiffer, RoadLine, line_ids, NamesLines, bans_table, IsSettled, StopsAfter, fields_of, SpellsIds, wrong_row, unknown, apart}
 use Rattle.olr_map.specs.Faults.{NamesUnknownLine}
-use Rattle.olr_map.specs.RoadMap.{bans_table}
-use Rattle.olr_map.specs.Settling.{IsSettled, StopsAfter}
-use Rattle.olr_map.specs.Table.{fields_of}
-use Rattle.olr_map.specs.Reading.{SpellsIds, StopsBan, wrong_row, unknown, apart}
+use Rattle.olr_map.specs.Reading.{StopsBan}
 use Rattle.olr_map.proofs.Checked.{stops_at_error, stops_later, stops_unread}
 use Rattle.olr_map.proofs.OneBan.{named_known, named_once, ban_once}
 use Rattle.olr_map.proofs.OneTable.{IsLawful}

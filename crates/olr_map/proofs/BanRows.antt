@@ -3,11 +3,8 @@ use Rattle.std.proofs.Common.{rules, ◌≡◌, ℕ, ◌<◌, List, length, get_
 use Rattle.std.specs.Prelude.{MatchOption, slice_get, Contains}
 use Rattle.std.proofs.lemmas.List.{length-map, get_or-map}
 use Rattle.std.proofs.lemmas.Option.{slice_get_within, slice_get-get_or}
-use Rattle.olr_map.specs.declared.line.Entry.{Entry}
-use Rattle.olr_map.specs.declared.line.LineSet.{LineSet}
-use Rattle.olr_map.specs.Rows.{RoadLine, line_ids, NamesLines, IsAdjacent}
-use Rattle.olr_map.specs.RoadMap.{ban_of}
-use Rattle.olr_map.specs.Reading.{line_in, lines_of, SpellsIds, IsRankOf}
+use Rattle.olr_map.proofs.Common.{Entry, LineSet, RoadLine, line_ids, NamesLines, IsAdjacent, ban_of, line_in, lines_of, SpellsIds}
+use Rattle.olr_map.specs.Reading.{IsRankOf}
 
 -- the rank of an id, where the ids are known by another list
 pub rank_of : (lines : List RoadLine) (ids : List ℕ) (id : ℕ) (found : Option ℕ)

@@ -4,9 +4,7 @@ use Rattle.std.specs.Prelude.{MatchBool, MatchOption, is_some, slice_get, Contai
 use Rattle.std.proofs.lemmas.List.{length-map, get_or-map}
 use Rattle.std.proofs.lemmas.List.Elements.{All-get_or, Contains-get_or}
 use Rattle.std.proofs.lemmas.Option.{get_or_from_slice_get, slice_get_within}
-use Rattle.olr_map.specs.declared.ban.Ban.{Ban}
-use Rattle.olr_map.specs.Rows.{RoadLine, ban_key, ban_keys, IsAdjacent}
-use Rattle.olr_map.specs.RoadMap.{AreSoundBans}
+use Rattle.olr_map.proofs.Common.{Ban, RoadLine, ban_key, ban_keys, IsAdjacent, AreSoundBans}
 
 -- two bans of one key are one
 key_once : (a b : Ban) → a.to < 4294967296 → b.to < 4294967296 → ban_key a ≡ ban_key b → a ≡ b

@@ -5,10 +5,8 @@ use Rattle.std.proofs.lemmas.List.{length-map, get_or-map}
 use Rattle.std.proofs.lemmas.List.Elements.{All-contains}
 use Rattle.std.proofs.lemmas.Option.{slice_get_within}
 use Rattle.olr_index.specs.Pairs.{first_of, AreOfFirst}
-use Rattle.olr_map.specs.declared.ban.Ban.{Ban}
+use Rattle.olr_map.proofs.Common.{Ban, RoadLine, ban_key, IsAdjacent, AreSoundBans}
 use Rattle.olr_map.specs.BansFrom.{AreBansFrom}
-use Rattle.olr_map.specs.Rows.{RoadLine, ban_key, IsAdjacent}
-use Rattle.olr_map.specs.RoadMap.{AreSoundBans}
 
 first_of_pair : (from to : ℕ) → to < 4294967296 → (from * 4294967296 + to) / 4294967296 ≡ from
 first_of_pair from to small = omega arith

@@ -9,13 +9,7 @@ use Rattle.std.proofs.lemmas.List.{length-append, length-map, take_at}
 use Rattle.std.proofs.lemmas.List.Elements.{All-drop, All-take, All-map, All-weaker}
 use Rattle.std.proofs.lemmas.Fmt.{decimal_injective, signed_decimal_injective}
 use Rattle.std.proofs.lemmas.Option.{slice_get_within}
-use Rattle.olr_metric.specs.Coordinates.{Coordinates, IsInRange}
-use Rattle.olr_index.specs.Repeats.{AllDiffer}
-use Rattle.olr_index.proofs.Permuted.{rising_differ}
-use Rattle.olr_map.specs.declared.ban.Ban.{Ban}
-use Rattle.olr_map.specs.Rows.{Node, node_ids, RoadLine, line_ids, IsAdjacent}
-use Rattle.olr_map.specs.RoadMap.{IsSoundNode, AreSoundNodes, IsSoundLine, JoinsNodes, AreSoundLines}
-use Rattle.olr_map.specs.Canonical.{place_text, shape_text, between_ends, node_fields, line_fields, ban_fields}
+use Rattle.olr_map.proofs.Common.{Coordinates, IsInRange, AllDiffer, rising_differ, Ban, Node, node_ids, RoadLine, line_ids, IsAdjacent, IsSoundNode, AreSoundNodes, IsSoundLine, JoinsNodes, AreSoundLines, place_text, shape_text, between_ends, node_fields, line_fields, ban_fields}
 use Rattle.olr_map.proofs.OneRow.{rank_once}
 use Rattle.olr_map.proofs.CanonicalTexts.{Lacks, AllLack, joined_once, map_once, joined_lacks, each_lacks, decimal_lacks, signed_lacks}
 

@@ -6,10 +6,8 @@ use Rattle.std.specs.List.{concat}
 use Rattle.std.proofs.lemmas.List.{append-nil, append_cancel_left, length-map}
 use Rattle.std.proofs.lemmas.List.Elements.{All-cons, All-append, All-map, All-weaker}
 use Rattle.std.proofs.lemmas.Fmt.{decimal_injective}
-use Rattle.olr_map.specs.declared.ban.Ban.{Ban}
-use Rattle.olr_map.specs.Rows.{Node, RoadLine, IsAdjacent}
-use Rattle.olr_map.specs.RoadMap.{RoadMap, IsSoundNode, AreSoundNodes, AreSoundLines, IsSoundMap}
-use Rattle.olr_map.specs.Canonical.{joined, node_fields, line_fields, ban_fields, heading, part, nodes_part, lines_part, bans_part, canonical_fields, row_text, canonical_text}
+use Rattle.olr_map.proofs.Common.{Ban, Node, RoadLine, IsAdjacent, RoadMap, IsSoundNode, AreSoundNodes, AreSoundLines, IsSoundMap, joined, node_fields, line_fields, ban_fields, part, row_text}
+use Rattle.olr_map.specs.Canonical.{heading, nodes_part, lines_part, bans_part, canonical_fields, canonical_text}
 use Rattle.olr_map.proofs.CanonicalTexts.{Lacks, AllLack, ended, ended_once, joined_once, map_once, joined_lacks, each_lacks, decimal_lacks}
 use Rattle.olr_map.proofs.CanonicalFields.{IsCut, IsOn, node_lacks, node_by_fields, line_lacks, line_by_fields, ban_lacks, ban_by_fields}
 

@@ -10,7 +10,7 @@ use Rattle.std.proofs.lemmas.List.{length-append}
 use Rattle.std.proofs.lemmas.List.Elements.{All-head, All-tail}
 use Rattle.std.proofs.lemmas.Str.Parse.{digit_from_value}
 use Rattle.std.proofs.lemmas.Fmt.{decimal_is_IsNumeral}
-use Rattle.olr_map.specs.Canonical.{joined}
+use Rattle.olr_map.proofs.Common.{joined}
 
 -- a byte doesn't occur in a text
 abbrev pub Lacks : ℕ → List ℕ → Type 0

@@ -2,16 +2,14 @@
 use Rattle.std.proofs.Common.{◌≡◌, ℕ, suc, ◌+◌, ◌<◌, List, [], ◌∷◌, ◌++◌, length, Some, None, inl, inr, refl, ap, ◌∙◌, arith}
 use Rattle.std.specs.Prelude.{Contains}
 use Rattle.std.proofs.lemmas.List.{length-append, length-map, get_or_append_left, get_or_at, get_or_default}
-use Rattle.olr_metric.specs.Checks.{AllPass, EachFault, Refuses}
+use Rattle.olr_map.proofs.Common.{AllPass, Refuses, File, AllDiffer, MapFault, Table, keys_of, fields_of, others_of, checks_of, IsFaultOfTable, StopsAfter, IsSettled, Reports}
+use Rattle.olr_metric.specs.Checks.{EachFault}
 use Rattle.olr_metric.proofs.Checks.{each_of_both, refuses_behind, refuses_among, reported}
-use Rattle.olr_records.specs.declared.file.File.{File}
-use Rattle.olr_index.specs.Repeats.{AllDiffer}
-use Rattle.olr_map.specs.declared.fault.MapFault.{MapFault}
 use Rattle.olr_map.specs.declared.fault.MapFault.TheVariants as fault
 use Rattle.olr_map.specs.declared.rows.RowError.{RowError}
-use Rattle.olr_map.specs.Table.{Table, keys_of, column_checks, fields_of, others_of, checks_of, IsFaultOfTable}
-use Rattle.olr_map.specs.Settling.{IsOfFile, StopsAfter, IsSettled}
-use Rattle.olr_map.specs.Reading.{Reports, fault_of}
+use Rattle.olr_map.specs.Table.{column_checks}
+use Rattle.olr_map.specs.Settling.{IsOfFile}
+use Rattle.olr_map.specs.Reading.{fault_of}
 use Rattle.olr_map.specs.Files.{IsOfText}
 
 pub keys_length : {Row : Type 0} (table : Table Row) (rows : List Row)

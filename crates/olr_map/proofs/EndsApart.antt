@@ -5,8 +5,7 @@ use Rattle.std.specs.Int.{abs_diff}
 use Rattle.std.proofs.lemmas.Bool.{cases_eq}
 use Rattle.std.proofs.lemmas.List.Sums.{sum_by-set}
 use Rattle.std.proofs.lemmas.Option.{slice_get_within}
-use Rattle.olr_map.specs.RoadMap.{RoadMap}
-use Rattle.olr_map.specs.Rows.{RoadLine}
+use Rattle.olr_map.proofs.Common.{RoadMap, RoadLine}
 use Rattle.olr_map.specs.Goals.{Joins}
 
 same_line : (lines : List RoadLine) (one other : ℕ) (line found : RoadLine) → other ≡ one

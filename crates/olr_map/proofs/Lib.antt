@@ -1,3 +1,4 @@
+pub mod Common
 pub mod Columns
 pub mod Zips
 pub mod Gathering

@@ -1,16 +1,7 @@
 -- The checks on a record of the file of lines: what a record passes whose row was read, and that
 -- one that spells a line passes all.
 use Rattle.std.proofs.Common.{ℕ, ◌+◌, ◌<◌, List, ◌≡◌, length, Some, refl, inl, inr, arith}
-use Rattle.olr_metric.specs.Checks.{AllPass}
-use Rattle.olr_metric.specs.Coordinates.{Coordinates}
-use Rattle.olr_map.specs.declared.fault.MapFault.{MapFault}
-use Rattle.olr_map.specs.declared.rows.LineRow.{LineRow}
-use Rattle.olr_index.specs.Repeats.{AllDiffer}
-use Rattle.olr_map.specs.Rows.{Node, node_ids, RoadLine, IsLine}
-use Rattle.olr_map.specs.RoadMap.{lines_table}
-use Rattle.olr_map.specs.Settling.{IsSettled, StopsAfter}
-use Rattle.olr_map.specs.Table.{fields_of}
-use Rattle.olr_map.specs.Reading.{SpellsLine, IsLateFault}
+use Rattle.olr_map.proofs.Common.{AllPass, Coordinates, MapFault, LineRow, AllDiffer, Node, node_ids, RoadLine, IsLine, lines_table, IsSettled, StopsAfter, fields_of, SpellsLine, IsLateFault}
 use Rattle.olr_map.proofs.Checked.{stops_later}
 use Rattle.olr_map.proofs.LineRows.{number_once, known}
 use Rattle.olr_map.proofs.OneRow.{line_once, points_once}

@@ -6,10 +6,8 @@ use Rattle.std.proofs.Math.Seq.{take-length, drop-append_seam}
 use Rattle.std.proofs.lemmas.Option.{get_or_from_slice_get, slice_get_within}
 use Rattle.std.proofs.lemmas.List.Elements.{Contains-get_or}
 use Rattle.std.specs.Str.Parse.{digits_value}
-use Rattle.olr_metric.specs.declared.degrees.Degrees.{Degrees}
-use Rattle.olr_metric.specs.Coordinates.{Coordinates, coordinates_of}
+use Rattle.olr_map.proofs.Common.{Degrees, Coordinates, coordinates_of, SpellsAt, Node, node_ids, IsNodeAt}
 use Rattle.olr_records.specs.Fields.{IsNumberWithin}
-use Rattle.olr_map.specs.Rows.{SpellsAt, Node, node_ids, IsNodeAt}
 use Rattle.olr_map.specs.Faults.{IsUnknown}
 
 -- a field spells one number

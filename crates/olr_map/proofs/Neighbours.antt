@@ -2,8 +2,7 @@
 use Rattle.std.proofs.Common.{◌≡◌, ℕ, zero, suc, ◌+◌, ◌-◌, ◌<◌, ◌≤◌, List, [], ◌∷◌, ◌++◌, map, length, get_or, refl, sym, ap, ◌∙◌, inl, inr, arith}
 use Rattle.std.proofs.Math.Nat.{eq-or-lt_of_le}
 use Rattle.std.proofs.lemmas.List.{length-map, get_or-map}
-use Rattle.olr_metric.specs.declared.degrees.Degrees.{Degrees}
-use Rattle.olr_metric.specs.Coordinates.{Coordinates, coordinates_of}
+use Rattle.olr_map.proofs.Common.{Degrees, Coordinates, coordinates_of}
 use Rattle.olr_map.specs.Rows.{HasEqualNeighbours}
 
 pub equal_at : (xs : List Coordinates) (k : ℕ) (d : Coordinates) → suc k < length xs

@@ -2,9 +2,8 @@
 use Rattle.std.proofs.Common.{◌≡◌, ℕ, List, sym, ◌∙◌}
 use Rattle.std.proofs.lemmas.List.Elements.{Contains-get_or}
 use Rattle.std.proofs.lemmas.Option.{get_or_from_slice_get, slice_get_within}
-use Rattle.olr_map.specs.declared.ban.Ban.{Ban}
-use Rattle.olr_index.specs.Repeats.{AllDiffer}
-use Rattle.olr_map.specs.Rows.{RoadLine, line_ids, IsLineNamed, NamesLines, IsBan}
+use Rattle.olr_map.proofs.Common.{Ban, AllDiffer, RoadLine, line_ids, NamesLines}
+use Rattle.olr_map.specs.Rows.{IsLineNamed, IsBan}
 use Rattle.olr_map.specs.Faults.{IsUnknownLine}
 use Rattle.olr_map.proofs.LineRows.{number_once}
 use Rattle.olr_map.proofs.OneRow.{rank_once}

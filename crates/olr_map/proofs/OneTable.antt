@@ -6,13 +6,8 @@ use Rattle.std.specs.List.{AllZip}
 use Rattle.std.specs.List.Sorted.{IsPermutation}
 use Rattle.std.proofs.lemmas.List.{length-append, map-append}
 use Rattle.std.proofs.lemmas.List.Sorted.{IsPermutation-sym, IsPermutation-trans}
-use Rattle.olr_metric.specs.Checks.{AllPass, Refuses}
+use Rattle.olr_map.proofs.Common.{AllPass, Refuses, MapFault, AllDiffer, rising_differ, IsSettled, Table, keys_of, fields_of, others_of, checks_of, AreRows, IsTableOf, RefusesRecord, IsFaultOfTable}
 use Rattle.olr_metric.proofs.Checks.{fault_once as first_once, none_refuses, each_of_both}
-use Rattle.olr_map.specs.declared.fault.MapFault.{MapFault}
-use Rattle.olr_index.specs.Repeats.{AllDiffer}
-use Rattle.olr_index.proofs.Permuted.{rising_differ}
-use Rattle.olr_map.specs.Settling.{IsSettled}
-use Rattle.olr_map.specs.Table.{Table, keys_of, fields_of, others_of, checks_of, AreRows, IsTableOf, RefusesRecord, IsFaultOfTable}
 use Rattle.olr_map.proofs.Checked.{keys_length, new_id}
 use Rattle.olr_map.proofs.Rising.{same_rising}
 use Rattle.olr_map.proofs.Splits.{two_splits, one, before, behind, zip_split, zip_once}

@@ -1,7 +1,6 @@
 -- Three texts have a map or a fault.
 use Rattle.std.proofs.Common.{ℕ, List, refl}
-use Rattle.olr_map.specs.RoadMap.{RoadMap, nodes_table, lines_table, bans_table}
-use Rattle.olr_map.specs.Table.{IsFaultOfTable}
+use Rattle.olr_map.proofs.Common.{RoadMap, nodes_table, lines_table, bans_table, IsFaultOfTable}
 use Rattle.olr_map.specs.Files.{known, HasOutcome, AreLinesAccepted}
 use Rattle.olr_map.proofs.Checked.{of_file}
 use Rattle.olr_map.proofs.NodeFaults.{nodes_settled}

@@ -8,19 +8,12 @@ use Rattle.std.proofs.lemmas.List.{get_or-map, length-map}
 use Rattle.std.proofs.lemmas.List.Elements.{All-contains}
 use Rattle.std.proofs.lemmas.List.Sums.{sum-map}
 use Rattle.std.proofs.lemmas.Option.{slice_get_within, get_or_from_slice_get}
-use Rattle.olr_metric.specs.declared.degrees.Degrees.{Degrees}
-use Rattle.olr_map.specs.declared.axes.Position.{Position}
+use Rattle.olr_map.proofs.Common.{Degrees, Position, Ban, Entry, line_in, RoadMap, RoadLine, road_of}
 use Rattle.olr_map.specs.declared.axes.Deficits.{Deficits}
-use Rattle.olr_map.specs.declared.ban.Ban.{Ban}
 use Rattle.olr_map.specs.declared.goals.Span.{Span}
-use Rattle.olr_map.specs.declared.line.Entry.{Entry}
 use Rattle.olr_map.specs.declared.node.Node.{Node as NodeByRank}
 use Rattle.olr_map.specs.Axes.{AreDeficits, StartsBetween, north_of, east_of, deficit_of, outside, least_of}
 use Rattle.olr_map.specs.Goals.{Joins, AreGoalsOn}
-use Rattle.olr_map.specs.Reading.{line_in}
-use Rattle.olr_map.specs.RoadMap.{RoadMap}
-use Rattle.olr_map.specs.Rows.{RoadLine}
-use Rattle.olr_map.specs.Whole.{road_of}
 use Rattle.olr_map.proofs.EndsApart.{climb}
 use Rattle.olr_map.proofs.Sets.{entry_at}
 

@@ -3,11 +3,7 @@
 use Rattle.std.proofs.Common.{◌≡◌, ℕ, zero, suc, ◌<◌, ◌≤◌, List, [], ◌∷◌, ◌++◌, length, Some, refl, ap, ◌∙◌, inl, inr, arith}
 use Rattle.std.specs.Prelude.{slice_get, slice_index_or, Contains}
 use Rattle.std.proofs.lemmas.Option.{slice_get-get_or}
-use Rattle.olr_records.specs.Fields.{IsLength}
-use Rattle.olr_metric.specs.Coordinates.{Coordinates}
-use Rattle.olr_map.specs.declared.ban.Ban.{Ban}
-use Rattle.olr_map.specs.Rows.{SpellsAt, Node, node_ids, IsNodeAt, RoadLine, line_ids, ArePoints, NamesLines}
-use Rattle.olr_map.specs.RoadMap.{nodes_table, lines_table, bans_table}
+use Rattle.olr_map.proofs.Common.{IsLength, Coordinates, Ban, SpellsAt, Node, node_ids, IsNodeAt, RoadLine, line_ids, ArePoints, NamesLines, nodes_table, lines_table, bans_table}
 use Rattle.olr_map.proofs.TableOutcome.{IsDecided}
 
 pub nodes_decided : IsDecided nodes_table

@@ -4,14 +4,10 @@ use Rattle.std.proofs.Common.{rules, ◌≡◌, ℕ, List, Option, Some, None, r
 use Rattle.std.specs.Prelude.{◌⊎◌, IfSome}
 use Rattle.olr_metric.specs.Counting.{one_more}
 use Rattle.olr_records.specs.declared.file.File.TheVariants.{Lines, Bans}
-use Rattle.olr_map.specs.declared.fault.MapFault.{MapFault}
+use Rattle.olr_map.proofs.Common.{MapFault, Node, RoadLine, Reports, Table, IsFaultOfTable, IsSettled, RoadMap, lines_table, bans_table, IsNodeSet, IsLinesFault, IsLineSet, IsBansFault, IsBanSet, AreSoundBans}
 use Rattle.olr_map.specs.declared.fault.MapFault.TheVariants as fault
-use Rattle.olr_map.specs.Rows.{Node, RoadLine}
-use Rattle.olr_map.specs.Reading.{IsReadFault, Reports, HasText}
-use Rattle.olr_map.specs.Table.{Table, IsFaultOfTable}
-use Rattle.olr_map.specs.Settling.{IsSettled}
+use Rattle.olr_map.specs.Reading.{IsReadFault, HasText}
 use Rattle.olr_map.specs.Ending.{FaultOfFile, not_read, of_text}
-use Rattle.olr_map.specs.RoadMap.{RoadMap, lines_table, bans_table, IsNodeSet, IsLinesFault, IsLineSet, IsBansFault, IsBanSet, AreSoundBans}
 use Rattle.olr_map.specs.Files.{Texts, file_of, IsFaultWithin, AreAccepted, AreLinesAccepted, IsMapLeft, IsFaultLeft, texts_of}
 use Rattle.olr_map.proofs.Checked.{of_file}
 use Rattle.olr_map.proofs.LineFaults.{lines_settled}

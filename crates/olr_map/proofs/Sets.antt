@@ -4,14 +4,10 @@ use Rattle.std.specs.Prelude.{All, slice_get, unwrap_or}
 use Rattle.std.proofs.lemmas.List.Elements.{All-head, All-tail}
 use Rattle.std.proofs.lemmas.List.Sorted.{IsPermutation-map}
 use Rattle.std.proofs.lemmas.Simd.{map-map}
-use Rattle.olr_metric.specs.declared.degrees.Degrees.{Degrees}
-use Rattle.olr_map.specs.declared.line.Entry.{Entry}
+use Rattle.olr_map.proofs.Common.{Degrees, Entry, Node, node_ids, RoadLine, line_ids, IsSoundLine, node_of, Sorts, starts_of, ends_of, nodes_of, line_in, lines_in, entry_id}
 use Rattle.olr_map.specs.declared.node.Node.{Node as NodeByRank}
-use Rattle.olr_map.specs.Rows.{Node, node_ids, RoadLine, line_ids}
-use Rattle.olr_map.specs.RoadMap.{IsSoundLine, origins_of, destinations_of, node_of}
-use Rattle.olr_index.specs.Repeats.{Sorts}
-use Rattle.olr_map.specs.Whole.{starts_of, ends_of}
-use Rattle.olr_map.specs.Reading.{nodes_of, node_key, line_in, lines_in, entry_id}
+use Rattle.olr_map.specs.RoadMap.{origins_of, destinations_of}
+use Rattle.olr_map.specs.Reading.{node_key}
 
 pub ids_of_rows : (rows : List NodeByRank)
     → node_ids (nodes_of rows) ≡ map (λ (row : NodeByRank). row.id) rows

@@ -5,16 +5,12 @@ use Rattle.std.specs.List.{take-map}
 use Rattle.std.proofs.Math.Seq.{take-append_seam}
 use Rattle.std.proofs.lemmas.Bool.{cases_lt}
 use Rattle.std.proofs.lemmas.List.{length-append, get_or-map, get_or_append_left, get_or_push, length-take-le, append-nil, take-append-le}
-use Rattle.olr_metric.specs.Checks.{Refuses}
+use Rattle.olr_map.proofs.Common.{Refuses, AllDiffer, Sorts, Stop, MapFault, Table, keys_of, checks_of, IsTableOf, RefusesRecord, IsFaultOfTable, IsSettled, Settles, repeat, stopped, Reports}
 use Rattle.olr_records.specs.Records.{records_of}
-use Rattle.olr_index.specs.Repeats.{AllDiffer, IsFirstRepeat, Sorts}
+use Rattle.olr_index.specs.Repeats.{IsFirstRepeat}
 use Rattle.olr_index.proofs.Permuted.{sorts_differ}
-use Rattle.olr_map.specs.declared.table.Stop.{Stop}
-use Rattle.olr_map.specs.declared.fault.MapFault.{MapFault}
 use Rattle.olr_map.specs.declared.fault.MapFault.TheVariants as fault
-use Rattle.olr_map.specs.Table.{Table, keys_of, checks_of, IsTableOf, RefusesRecord, IsFaultOfTable}
-use Rattle.olr_map.specs.Settling.{IsSettled, SpellRows, IsAmong, StopsIn, with_last, keys_read, Settles, no_memory, repeat, stopped}
-use Rattle.olr_map.specs.Reading.{Reports}
+use Rattle.olr_map.specs.Settling.{SpellRows, IsAmong, StopsIn, with_last, keys_read, no_memory}
 use Rattle.olr_map.proofs.Checked.{keys_length, refuses_repeat, reports, refused_of_text}
 use Rattle.olr_map.proofs.Cases.{when_some}
 use Rattle.olr_map.proofs.Zips.{zip_take, zip_at}

@@ -5,7 +5,7 @@ use Rattle.std.specs.List.Sorted.{IsPermutation}
 use Rattle.std.proofs.lemmas.Bool.{cases_lt}
 use Rattle.std.proofs.lemmas.List.Kept.{AllPairs-from_increasing}
 use Rattle.std.proofs.lemmas.List.Sorted.{IsPermutation-refl, IsPermutation-sym, IsPermutation-trans, IsPermutation-cons, IsPermutation-middle, IsPermutation-map, Contains-permutation}
-use Rattle.olr_index.specs.Repeats.{AllDiffer, Sorts}
+use Rattle.olr_map.proofs.Common.{AllDiffer, Sorts}
 use Rattle.olr_map.proofs.Rising.{Rise, rest_rises}
 
 -- a number is less than each of a list

@@ -6,11 +6,7 @@ use Rattle.std.proofs.lemmas.List.{length-append}
 use Rattle.std.proofs.lemmas.List.Elements.{All-nil, All-cons, All-get_or, All-append}
 use Rattle.std.proofs.lemmas.List.Sorted.{All-permutation, length_permutation}
 use Rattle.std.proofs.lemmas.Option.{slice_get_within, get_or_from_slice_get}
-use Rattle.olr_metric.specs.Coordinates.{Coordinates, IsInRange}
-use Rattle.olr_map.specs.declared.ban.Ban.{Ban}
-use Rattle.olr_records.specs.Shape.{IsItem, AreItems, IsShape}
-use Rattle.olr_map.specs.Rows.{Node, IsNode, RoadLine, IsLine, IsEnd, IsAdjacent, SpellsAt}
-use Rattle.olr_map.specs.RoadMap.{RoadMap, IsNodeSet, IsLineSet, IsBanSet, IsSoundNode, AreSoundNodes, IsSoundLine, JoinsNodes, AreSoundLines, AreSoundBans, IsSoundMap}
+use Rattle.olr_map.proofs.Common.{Coordinates, IsInRange, Ban, IsItem, AreItems, IsShape, Node, IsNode, RoadLine, IsLine, IsEnd, IsAdjacent, SpellsAt, RoadMap, IsNodeSet, IsLineSet, IsBanSet, IsSoundNode, AreSoundNodes, IsSoundLine, JoinsNodes, AreSoundLines, AreSoundBans, IsSoundMap}
 
 -- what holds of each two that belong together gives what holds of each second one
 each_second : {A B : Type 0} (R : A → B → Type 0) (P : B → Type 0) → ((x : A) (y : B) → R x y → P y)

@@ -5,13 +5,8 @@ use Rattle.std.specs.List.{concat}
 use Rattle.std.proofs.lemmas.List.{length-map, map_push, take_more}
 use Rattle.std.proofs.lemmas.List.Elements.{All-nil, All-append, All-weaker}
 use Rattle.std.proofs.lemmas.Option.{slice_get-map, slice_get-get_or, slice_get_within}
-use Rattle.olr_index.specs.ByNode.{IsGrouping}
-use Rattle.olr_metric.specs.declared.degrees.Degrees.{Degrees}
-use Rattle.olr_map.specs.declared.line.Entry.{Entry}
-use Rattle.olr_map.specs.declared.step.Step.{Step}
-use Rattle.olr_map.specs.Reading.{line_in, lines_in}
-use Rattle.olr_map.specs.Steps.{IsStepOf, line_ranks, step_of}
-use Rattle.olr_map.specs.Whole.{starts_of}
+use Rattle.olr_map.proofs.Common.{IsGrouping, Degrees, Entry, Step, line_in, lines_in, IsStepOf, line_ranks, starts_of}
+use Rattle.olr_map.specs.Steps.{step_of}
 
 -- ---- while they are gathered
 

@@ -3,13 +3,10 @@ use Rattle.std.proofs.Common.{◌≡◌, ℕ, ◌+◌, ◌<◌, List, [], ◌∷
 use Rattle.std.specs.Prelude.{Contains}
 use Rattle.std.proofs.lemmas.Bool.{cases_lt}
 use Rattle.std.proofs.lemmas.List.{append-nil, length-append, map-append, get_or_append_left, get_or_push, get_or_default}
-use Rattle.olr_metric.specs.Checks.{Passes, AllPass}
+use Rattle.olr_map.proofs.Common.{AllPass, AllDiffer, MapFault, IsSettled, Table, keys_of, fields_of, others_of, checks_of, AreRows, IsTableOf, RefusesRecord, IsFaultOfTable}
+use Rattle.olr_metric.specs.Checks.{Passes}
 use Rattle.olr_metric.proofs.Checks.{decided as passes_or_fails, each_in_front, each_behind}
-use Rattle.olr_index.specs.Repeats.{AllDiffer}
-use Rattle.olr_map.specs.declared.fault.MapFault.{MapFault}
 use Rattle.olr_map.specs.declared.fault.MapFault.TheVariants.{Header}
-use Rattle.olr_map.specs.Settling.{IsSettled}
-use Rattle.olr_map.specs.Table.{Table, keys_of, fields_of, others_of, checks_of, AreRows, IsTableOf, RefusesRecord, IsFaultOfTable}
 use Rattle.olr_map.proofs.Checked.{keys_length}
 use Rattle.olr_map.proofs.Sorting.{sorted_rows}
 use Rattle.olr_map.proofs.Zips.{zip_push}

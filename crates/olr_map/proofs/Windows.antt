@@ -5,17 +5,12 @@ use Rattle.std.specs.List.{AllZip}
 use Rattle.std.proofs.lemmas.Int.{ints}
 use Rattle.std.proofs.lemmas.List.{take_more, map-append}
 use Rattle.std.proofs.lemmas.List.Elements.{All-weaker, All-contains}
-use Rattle.olr_metric.specs.declared.degrees.Degrees.{Degrees}
-use Rattle.olr_metric.specs.Coordinates.{Coordinates, coordinates_of, IsInRange}
+use Rattle.olr_map.proofs.Common.{Degrees, Coordinates, coordinates_of, IsInRange, Extent, Entry, RoadLine, RoadMap, IsSoundMap, IsSoundLine, line_in, lines_in, HasExtent}
 use Rattle.olr_index.specs.Window.{IsSpan, Meets, MeetsAt, IsWindow}
 use Rattle.olr_index.specs.ByExtent.{extents_of, AreInOrder, placed_from}
-use Rattle.olr_index.specs.declared.window.Extent.{Extent}
 use Rattle.olr_index.specs.declared.window.PlacedLine.{PlacedLine}
 use Rattle.olr_index.proofs.ByRank.{placed_from-push, with_extent}
-use Rattle.olr_map.specs.declared.line.Entry.{Entry}
-use Rattle.olr_map.specs.Rows.{RoadLine}
-use Rattle.olr_map.specs.RoadMap.{RoadMap, IsSoundMap, IsSoundLine, MeetsBand, MeetsWindow, RankMeetsBand, RankMeetsWindow, IsBandOf, IsWindowOf}
-use Rattle.olr_map.specs.Reading.{line_in, lines_in, HasExtent}
+use Rattle.olr_map.specs.RoadMap.{MeetsBand, MeetsWindow, RankMeetsBand, RankMeetsWindow, IsBandOf, IsWindowOf}
 use Rattle.olr_map.proofs.Cases.{when_some}
 use Rattle.olr_map.proofs.Sets.{entry_at}
 use Rattle.olr_map.proofs.Zips.{zip_push}

@@ -1,5 +1,6 @@
--- Positions of nodes on two axes, in decimetres northwards and eastwards; by how much lines are shorter than their ends
--- are apart there; and how far nodes are outside spans of the axes. Any positions do.
+-- Positions of nodes on two axes, in decimetres northwards and eastwards; by how much lines are
+-- shorter than their ends are apart there; and how far nodes are outside spans of the axes. Any
+-- positions do.
 use Rattle.std.specs.Prelude.{◌≡◌, ℕ, ◌-◌, ◌^◌, ◌≤◌, max, List, map, unwrap_or, Some, slice_get}
 use Rattle.std.specs.Int.{abs_diff}
 use Rattle.std.specs.List.{sum_by}
@@ -21,10 +22,12 @@ east_of positions node = (position_of positions node).east
 
 -- by how much a line is shorter than its ends are apart on an axis
 abbrev pub deficit_of : (ℕ → ℕ) → Entry → ℕ
-deficit_of position entry = abs_diff (position entry.line.from) (position entry.line.to) - entry.line.length
+deficit_of position entry = abs_diff (position entry.line.from) (position entry.line.to) -
+    entry.line.length
 
 -- On each axis the sum of the deficits of all lines, which is at most 2^50 decimetres.
-pub record AreDeficits (entries : List Entry) (positions : List Position) (deficits : Deficits) : Type 0 where
+pub record AreDeficits (entries : List Entry) (positions : List Position)
+    (deficits : Deficits) : Type 0 where
   pub north : deficits.north ≡ sum_by (deficit_of (north_of positions)) entries
   pub east : deficits.east ≡ sum_by (deficit_of (east_of positions)) entries
   pub north_at_most : deficits.north ≤ 2 ^ 50
@@ -40,7 +43,8 @@ pub record IsBetween (low high position : Position) : Type 0 where
 -- between these two a line starts, if there is one of this rank
 abbrev pub StartsBetween : List Entry → List Position → Position → Position → ℕ → Type 0
 StartsBetween entries positions low high rank =
-    (entry : Entry) → slice_get entries rank ≡ Some entry → IsBetween low high (position_of positions entry.line.from)
+    (entry : Entry) → slice_get entries rank ≡ Some entry
+    → IsBetween low high (position_of positions entry.line.from)
 
 -- how far a position on an axis is outside a span
 abbrev pub outside : Span → ℕ → ℕ
@@ -49,4 +53,5 @@ outside span position = max (span.low - position) (position - span.high)
 -- of each node by how much it is outside the spans, on the axis on which that is more
 abbrev pub least_of : List Position → Span → Span → List ℕ
 least_of positions north east =
-    map (λ (position : Position). max (outside north position.north) (outside east position.east)) positions
+    map (λ (position : Position). max (outside north position.north) (outside east position.east))
+    positions

@@ -1,5 +1,6 @@
--- The canonical text of a map. It has three parts: the nodes, the lines and the bans. A part is a heading, with the number of its rows,
--- and behind it the rows. All files of one map have the same text, whatever the order of their records and their leading zeros.
+-- The canonical text of a map. It has three parts: the nodes, the lines and the bans. A part is a
+-- heading, with the number of its rows, and behind it the rows. All files of one map have the same
+-- text, whatever the order of their records and their leading zeros.
 use Rattle.std.specs.Prelude.{ℕ, ◌-◌, List, [], ◌∷◌, ◌++◌, length, map, slice_index, slice_range, codes, decimal}
 use Rattle.std.specs.Fmt.{signed_decimal}
 use Rattle.std.specs.List.{concat, join_by}
@@ -28,16 +29,20 @@ between_ends points = slice_range points 1 (length points - 1)
 
 -- the fields of a node
 abbrev pub node_fields : Node → List (List ℕ)
-node_fields node = decimal node.id ∷ signed_decimal node.place.lon ∷ signed_decimal node.place.lat ∷ []
+node_fields node = decimal node.id ∷ signed_decimal node.place.lon ∷ signed_decimal node.place.lat
+    ∷ []
 
 -- the fields of a line: its nodes are named by their ids, and its shape is without its ends
 abbrev pub line_fields : List Node → RoadLine → List (List ℕ)
-line_fields nodes line = decimal line.id ∷ decimal (slice_index (node_ids nodes) line.from) ∷ decimal (slice_index (node_ids nodes) line.to)
-    ∷ decimal line.class ∷ decimal line.form ∷ decimal line.length ∷ shape_text (between_ends line.points) ∷ []
+line_fields nodes line = decimal line.id ∷ decimal (slice_index (node_ids nodes) line.from)
+    ∷ decimal (slice_index (node_ids nodes) line.to)
+    ∷ decimal line.class ∷ decimal line.form ∷ decimal line.length
+    ∷ shape_text (between_ends line.points) ∷ []
 
 -- the fields of a ban: its lines are named by their ids
 abbrev pub ban_fields : List RoadLine → Ban → List (List ℕ)
-ban_fields lines ban = decimal (slice_index (line_ids lines) ban.from) ∷ decimal (slice_index (line_ids lines) ban.to) ∷ []
+ban_fields lines ban = decimal (slice_index (line_ids lines) ban.from)
+    ∷ decimal (slice_index (line_ids lines) ban.to) ∷ []
 
 -- ---- the text
 

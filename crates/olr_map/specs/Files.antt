@@ -10,7 +10,8 @@ use Rattle.olr_map.specs.RoadMap.{RoadMap, IsNodesFault, IsNodeSet, IsLinesFault
 
 -- ---- the texts
 
--- The texts of a map's files: for each file the bytes that its source has left, where the source makes them known.
+-- The texts of a map's files: for each file the bytes that its source has left, where the source
+-- makes them known.
 pub record Texts : Type 0 where
   pub nodes : Option (List ℕ)
   pub lines : Option (List ℕ)
@@ -18,16 +19,19 @@ pub record Texts : Type 0 where
 
 -- the texts, file by file
 abbrev pub texts_of : Option (List ℕ) → Option (List ℕ) → Option (List ℕ) → Texts
-texts_of nodes_left lines_left bans_left = record { nodes = nodes_left; lines = lines_left; bans = bans_left }
+texts_of nodes_left lines_left bans_left =
+    record { nodes = nodes_left; lines = lines_left; bans = bans_left }
 
 -- texts of which each is known
 abbrev pub known : List ℕ → List ℕ → List ℕ → Texts
-known nodes_text lines_text bans_text = texts_of (Some nodes_text) (Some lines_text) (Some bans_text)
+known nodes_text lines_text bans_text =
+    texts_of (Some nodes_text) (Some lines_text) (Some bans_text)
 
 -- ---- the map
 
--- The map of the texts. It is sound whatever is known of them; its nodes are those of the text of nodes, if that is known,
--- its lines are those of the text of lines, and its bans are those of the text of bans, if that is known.
+-- The map of the texts. It is sound whatever is known of them; its nodes are those of the text of
+-- nodes, if that is known, its lines are those of the text of lines, and its bans are those of the
+-- text of bans, if that is known.
 pub record IsMapLeft (texts : Texts) (road : RoadMap) : Type 0 where
   pub sound : IsSoundMap road
   pub nodes : IfSome texts.nodes (λ text. IsNodeSet text road.nodes)
@@ -36,7 +40,8 @@ pub record IsMapLeft (texts : Texts) (road : RoadMap) : Type 0 where
 
 -- the map of three texts
 abbrev pub IsMapOf : List ℕ → List ℕ → List ℕ → RoadMap → Type 0
-IsMapOf nodes_text lines_text bans_text road = IsMapLeft (known nodes_text lines_text bans_text) road
+IsMapOf nodes_text lines_text bans_text road =
+    IsMapLeft (known nodes_text lines_text bans_text) road
 
 -- ---- the fault
 
@@ -61,7 +66,8 @@ IsOfText (fault.ReadFailed file) = ⊥
 IsOfText fault.NoMemory = ⊥
 IsOfText other = ⊤
 
--- A fault that lies in a text is the one that the text has, if it is known. A source that failed gave no whole text.
+-- A fault that lies in a text is the one that the text has, if it is known. A source that failed
+-- gave no whole text.
 abbrev pub IsFaultWithin : (List ℕ → MapFault → Type 0) → Option (List ℕ) → MapFault → Type 0
 IsFaultWithin IsFault text (fault.ReadFailed file) = ⊤
 IsFaultWithin IsFault text fault.NoMemory = ⊤
@@ -73,7 +79,8 @@ pub record AreAccepted (nodes_text : Option (List ℕ)) (nodes : List Node) : Ty
   pub text : IfSome nodes_text (λ text. IsNodeSet text nodes)
 
 -- The lines of the text of lines are accepted, too: these, by rising id, on these nodes.
-pub record AreLinesAccepted (nodes_text lines_text : Option (List ℕ)) (nodes : List Node) (lines : List RoadLine) : Type 0 where
+pub record AreLinesAccepted (nodes_text lines_text : Option (List ℕ)) (nodes : List Node)
+    (lines : List RoadLine) : Type 0 where
   pub nodes_accepted : AreAccepted nodes_text nodes
   pub sound : AreSoundLines nodes lines
   pub text : IfSome lines_text (λ text. IsLineSet nodes text lines)
@@ -98,18 +105,20 @@ IsFaultIn (Some Nodes) texts why = IsFaultWithin IsNodesFault texts.nodes why
 IsFaultIn (Some Lines) texts why = IsFaultOfLines texts why
 IsFaultIn (Some Bans) texts why = IsFaultOfBans texts why
 
--- The fault for which there is no map of the texts, or for which the reading of the files ended. Nothing is said here of
--- a want of memory, which is of no text.
+-- The fault for which there is no map of the texts, or for which the reading of the files ended.
+-- Nothing is said here of a want of memory, which is of no text.
 abbrev pub IsFaultLeft : Texts → MapFault → Type 0
 IsFaultLeft texts why = IsFaultIn (file_of why) texts why
 
 -- the fault of three texts
 abbrev pub IsFaultOf : List ℕ → List ℕ → List ℕ → MapFault → Type 0
-IsFaultOf nodes_text lines_text bans_text why = IsOfText why × IsFaultLeft (known nodes_text lines_text bans_text) why
+IsFaultOf nodes_text lines_text bans_text why = IsOfText why
+    × IsFaultLeft (known nodes_text lines_text bans_text) why
 
 -- Three texts have a map or a fault: it can't be that they have neither.
 abbrev pub HasOutcome : List ℕ → List ℕ → List ℕ → Type 0
-HasOutcome nodes_text lines_text bans_text = ((road : RoadMap) → IsMapOf nodes_text lines_text bans_text road → ⊥)
+HasOutcome nodes_text lines_text bans_text =
+    ((road : RoadMap) → IsMapOf nodes_text lines_text bans_text road → ⊥)
     → ((why : MapFault) → IsFaultOf nodes_text lines_text bans_text why → ⊥) → ⊥
 
 -- ---- what becomes of the source of a file
@@ -120,14 +129,15 @@ module _ {S : Type 0} (left : S → Option (List ℕ)) (failed : S → ℕ) (old
     pub none_failed : failed new ≡ failed old
     pub over : IfSome (left old) (λ _. left new ≡ Some [])
 
-  -- A fault ended the reading at the source: a call of it failed, the only one that did; or it was read to its end.
+  -- A fault ended the reading at the source: a call of it failed, the only one that did; or it was
+  -- read to its end.
   abbrev pub HasEnded : MapFault → Type 0
   HasEnded (fault.ReadFailed file) = failed new ≡ one_more (failed old)
   HasEnded other = IsReadWhole
 
-  -- What became of the source of the first file, where a fault of the second one ended the reading. All files before that
-  -- of the fault were read to their ends, and no call was made of the sources of those behind it. Memory may have been
-  -- refused at any file, and then no call failed.
+  -- What became of the source of the first file, where a fault of the second one ended the reading.
+  -- All files before that of the fault were read to their ends, and no call was made of the sources
+  -- of those behind it. Memory may have been refused at any file, and then no call failed.
   abbrev pub IsEffectAt : File → Option File → MapFault → Type 0
   IsEffectAt Nodes (Some Nodes) why = HasEnded why
   IsEffectAt Nodes (Some later) why = IsReadWhole
@@ -149,7 +159,10 @@ module _ {S : Type 0} (left : S → Option (List ℕ)) (failed : S → ℕ) (old
 
 -- ---- the order of the files
 
--- Of two files of which one follows the other, the second is left alone until the first one is read, whatever the result: the
--- source of the second is as it was, or that of the first was read to its end. For a want of memory, which is of no file, nothing else says so.
-abbrev pub IsReadInOrder : {S1 S2 : Type 0} → (S1 → Option (List ℕ)) → (S1 → ℕ) → S1 → S1 → S2 → S2 → Type 0
-IsReadInOrder left failed first_old first_new second_old second_new = second_new ≡ second_old ⊎ IsReadWhole left failed first_old first_new
+-- Of two files of which one follows the other, the second is left alone until the first one is
+-- read, whatever the result: the source of the second is as it was, or that of the first was read
+-- to its end. For a want of memory, which is of no file, nothing else says so.
+abbrev pub IsReadInOrder : {S1 S2 : Type 0} → (S1 → Option (List ℕ)) → (S1 → ℕ) → S1 → S1 → S2 → S2
+    → Type 0
+IsReadInOrder left failed first_old first_new second_old second_new = second_new ≡ second_old
+    ⊎ IsReadWhole left failed first_old first_new

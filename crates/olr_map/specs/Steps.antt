@@ -3,7 +3,8 @@ use Rattle.std.specs.Prelude.{◌≡◌, ℕ, List, Some, map, option_map, slice
 use Rattle.olr_map.specs.declared.step.Step.{Step}
 use Rattle.olr_map.specs.Rows.{RoadLine}
 
--- the step of a line: its rank, that of the node at which it ends, its length in decimetres and its class
+-- the step of a line: its rank, that of the node at which it ends, its length in decimetres and its
+-- class
 abbrev pub step_of : ℕ → RoadLine → Step
 step_of rank line = record { line = rank; to = line.to; length = line.length; class = line.class }
 

@@ -1,5 +1,6 @@
--- What a map keeps, beside its nodes, lines and bans: the lines by the node at which they start, with their steps, the lines by the node at which they
--- end, the lines by extent, and the positions of nodes on axes.
+-- What a map keeps, beside its nodes, lines and bans: the lines by the node at which they start,
+-- with their steps, the lines by the node at which they end, the lines by extent, and the positions
+-- of nodes on axes.
 use Rattle.std.specs.Prelude.{◌≡◌, ℕ, ◌≤◌, List, map, length, All}
 use Rattle.std.specs.List.{AllZip, concat}
 use Rattle.olr_metric.specs.declared.degrees.Degrees.{Degrees}
@@ -26,12 +27,16 @@ ends_of entries = map (λ (entry : Entry). entry.line.to) entries
 
 -- the map of these nodes, entries and bans
 abbrev pub road_of : List NodeByRank → List Entry → List Degrees → List Ban → RoadMap
-road_of nodes entries points bans = record { nodes = nodes_of nodes; lines = lines_in points entries; bans = bans }
+road_of nodes entries points bans =
+    record { nodes = nodes_of nodes; lines = lines_in points entries; bans = bans }
 
--- The map of the nodes, the entries and the bans is sound; each entry's points are among those kept; the three tables are of these
--- lines; the steps are those of the lines by the node at which they start, in the same order; and the deficits are those of the lines.
-pub record IsWhole (nodes : List NodeByRank) (entries : List Entry) (points : List Degrees) (bans : List Ban)
-    (by_start : List (List ℕ)) (steps : List Step) (by_end : List (List ℕ)) (extents : List Extent) (axes : Axes) : Type 0 where
+-- The map of the nodes, the entries and the bans is sound; each entry's points are among those
+-- kept; the three tables are of these lines; the steps are those of the lines by the node at which
+-- they start, in the same order; and the deficits are those of the lines.
+pub record IsWhole (nodes : List NodeByRank) (entries : List Entry) (points : List Degrees)
+    (bans : List Ban)
+    (by_start : List (List ℕ)) (steps : List Step) (by_end : List (List ℕ)) (extents : List Extent)
+    (axes : Axes) : Type 0 where
   pub sound : IsSoundMap (road_of nodes entries points bans)
   pub nodes_at_most : length nodes ≤ most_nodes
   pub lines_at_most : length entries ≤ most_lines

@@ -1,6 +1,6 @@
 //! The positions of nodes on two axes. Lines that lead from one node to another are together at
-//! least as long as the two are apart on an axis, less the sum of what single lines are shorter than
-//! their ends are apart.
+//! least as long as the two are apart on an axis, less the sum of what single lines are shorter
+//! than their ends are apart.
 //!
 //! Positions are in decimetres, and scaled down, so that hardly a line is shorter than its ends are
 //! apart. By how much lines are shorter nevertheless is summed for the positions as they are then,

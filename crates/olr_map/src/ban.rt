@@ -4,8 +4,8 @@ ghost use Rattle.olr_map.specs.Rows.{ban_key};
 
 use olr_index::Keyed;
 
-/// A ban on a turn: a vehicle that reaches the end of one line may not go on to the other, which may be the
-/// same line again.
+/// A ban on a turn: a vehicle that reaches the end of one line may not go on to the other, which
+/// may be the same line again.
 #[derive(Clone, Copy, Debug, PartialEq, Eq, Drop)]
 pub struct Ban {
     /// The rank of the line at whose end the turn begins.

@@ -50,7 +50,8 @@ fn read_network<S1: Source, S2: Source>(
     })
 }
 
-/// Reads a map without bans, for callers that have no file of them: all of the nodes, and then all of the lines.
+/// Reads a map without bans, for callers that have no file of them: all of the nodes, and then all
+/// of the lines.
 ///
 /// Both files are CSV: fields between commas, in double quotes or not; records ended by CR, LF or
 /// both; empty lines passed over; nothing trimmed. `nodes` has the header `id,lon,lat`, `lines` the
@@ -61,8 +62,9 @@ fn read_network<S1: Source, S2: Source>(
 /// The fault of the first header or record that is faulty, all of `nodes` before `lines`; of one
 /// record the first of [`MapFault::TooMany`], [`MapFault::Shape`], [`MapFault::Field`],
 /// [`MapFault::Duplicate`], [`MapFault::UnknownNode`], [`MapFault::ZeroLength`] and
-/// [`MapFault::Degenerate`]. In place of it or of the map there may be [`MapFault::ReadFailed`], where
-/// a call of that source failed, and [`MapFault::NoMemory`], where the allocator refused memory.
+/// [`MapFault::Degenerate`]. In place of it or of the map there may be [`MapFault::ReadFailed`],
+/// where a call of that source failed, and [`MapFault::NoMemory`], where the allocator refused
+/// memory.
 pub fn read_map<S1: Source, S2: Source>(
     alloc: Global,
     nodes: &mut S1,
@@ -89,15 +91,16 @@ pub fn read_map<S1: Source, S2: Source>(
 
 /// Reads a map: all of the nodes, then all of the lines, and then all of the bans.
 ///
-/// The nodes and the lines are those of [`read_map`]. `bans` is a file of the same format, with the header
-/// `from,to`: each record has the ids of two lines, and a vehicle that reaches the end of the first may not
-/// go on to the second. A file with its header alone makes a map without bans.
+/// The nodes and the lines are those of [`read_map`]. `bans` is a file of the same format, with the
+/// header `from,to`: each record has the ids of two lines, and a vehicle that reaches the end of
+/// the first may not go on to the second. A file with its header alone makes a map without bans.
 ///
 /// # Errors
 ///
-/// The faults of [`read_map`], and after all of these the fault of the first header or record of `bans`
-/// that is faulty: of one record the first of [`MapFault::TooMany`], [`MapFault::Shape`],
-/// [`MapFault::Field`], [`MapFault::Duplicate`], [`MapFault::UnknownLine`] and [`MapFault::NotAdjacent`].
+/// The faults of [`read_map`], and after all of these the fault of the first header or record of
+/// `bans` that is faulty: of one record the first of [`MapFault::TooMany`], [`MapFault::Shape`],
+/// [`MapFault::Field`], [`MapFault::Duplicate`], [`MapFault::UnknownLine`] and
+/// [`MapFault::NotAdjacent`].
 pub fn read_map_with_bans<S1: Source, S2: Source, S3: Source>(
     alloc: Global,
     nodes: &mut S1,

@@ -1,12 +1,13 @@
 //! Road maps, read from CSV files.
 //!
-//! A map comes from three files: nodes, lines, and bans on turns. [`read_map_with_bans`] reads them, or
-//! reports the first fault in them, and [`read_map`] reads a map without bans; a [`Map`] gives its lines
-//! by rank, by the node at which they start, by the node at which they end and by place, and says
-//! which turns are banned. Data goes through these modules in order:
+//! A map comes from three files: nodes, lines, and bans on turns. [`read_map_with_bans`] reads
+//! them, or reports the first fault in them, and [`read_map`] reads a map without bans; a [`Map`]
+//! gives its lines by rank, by the node at which they start, by the node at which they end and by
+//! place, and says which turns are banned. Data goes through these modules in order:
 //!
 //! - [`rows`]: the row of a single record, whose fields `olr_records` reads.
-//! - [`table`]: the reader of a file: its header, its rows, its first fault, and the order of its rows.
+//! - [`table`]: the reader of a file: its header, its rows, its first fault, and the order of its
+//!   rows.
 //!   [`nodes`], [`lines`] and [`bans`] are the files; [`reading`]: the fault of a source that isn't
 //!   read to its end.
 //! - [`node_index`]: the rank of a node's id, found by `olr_index`.

@@ -15,12 +15,14 @@ line_text line = line ++ codes "\n"
 -- the tolerances in decimal, a space between each two neighbours
 abbrev pub tolerances_line : Tolerances → List ℕ
 tolerances_line tolerances = join_with_byte 32 (map decimal
-    (tolerances.radius ∷ tolerances.bearing ∷ tolerances.class ∷ tolerances.lowest ∷ tolerances.percent ∷ tolerances.slack ∷ []))
+    (tolerances.radius ∷ tolerances.bearing ∷ tolerances.class ∷ tolerances.lowest
+    ∷ tolerances.percent ∷ tolerances.slack ∷ []))
 
 -- the lines before those of the map: the version of this text, the reference's text without the
 -- blanks at its two ends, and the tolerances
 abbrev pub request_text : List ℕ → Tolerances → List ℕ
-request_text text tolerances = line_text (codes "olr 2") ++ line_text (trimmed text) ++ line_text (tolerances_line tolerances)
+request_text text tolerances = line_text (codes "olr 2") ++ line_text (trimmed text)
+    ++ line_text (tolerances_line tolerances)
 
 -- the whole text: these lines, and the map's canonical text, each of whose rows is a line
 unfoldable pub fingerprinted_text : List ℕ → Tolerances → RoadMap → List ℕ

@@ -28,19 +28,24 @@ pub record SameTolerances (a b : Tolerances) : Type 0 where
 
 -- Equal texts name the same reference, but for blanks at the ends of its text, the same tolerances
 -- and the same map.
-pub record SameInputs (text other : List ℕ) (a b : Tolerances) (road another : RoadMap) : Type 0 where
-  pub reference : trimmed text ≡ trimmed other
-  pub tolerances : SameTolerances a b
-  pub map : road ≡ another
+pub record SameInputs (text other : List ℕ) (a b : Tolerances) (road another : RoadMap) : Type 0
+  where
+    pub reference : trimmed text ≡ trimmed other
+    pub tolerances : SameTolerances a b
+    pub map : road ≡ another
 
 abbrev pub OneRequestByText : Type 0
-OneRequestByText = (text other : List ℕ) (a b : Tolerances) (road another : RoadMap) → IsRequest text a road → IsRequest other b another
-    → fingerprinted_text text a road ≡ fingerprinted_text other b another → SameInputs text other a b road another
+OneRequestByText = (text other : List ℕ) (a b : Tolerances) (road another : RoadMap)
+    → IsRequest text a road → IsRequest other b another
+    → fingerprinted_text text a road ≡ fingerprinted_text other b another
+    → SameInputs text other a b road another
 
 -- The text of every reference is one line, the blanks at its ends aside.
 abbrev pub ReferenceIsOneLine : Type 0
-ReferenceIsOneLine = (text : List ℕ) (reference : Reference) → IsTextOf text reference → IsOneLine (trimmed text)
+ReferenceIsOneLine = (text : List ℕ) (reference : Reference) → IsTextOf text reference
+    → IsOneLine (trimmed text)
 
 -- A fingerprint has the form of a mark: 32 bytes.
 abbrev pub FingerprintIsMark : Type 0
-FingerprintIsMark = (text : List ℕ) (tolerances : Tolerances) (road : RoadMap) (mark : Mark) → IsFingerprint text tolerances road mark → IsMark mark
+FingerprintIsMark = (text : List ℕ) (tolerances : Tolerances) (road : RoadMap) (mark : Mark)
+    → IsFingerprint text tolerances road mark → IsMark mark

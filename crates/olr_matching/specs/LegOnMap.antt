@@ -10,8 +10,10 @@ pub record EndsAreOnMap (leg : LegOnMap) : Type 0 where
   pub departures : All (λ (first : Candidate). IsDeparture leg.map.now first.place) leg.firsts.now
   pub places : All (λ (second : Candidate). IsPlace leg.map.now second.place) leg.seconds.now
 
--- this is the leg from a point of a reference, counted from 0, to the next one, between these candidates of its points
-pub record IsLegFrom (road : RoadMap) (tolerances : Tolerances) (reference : Reference) (candidates : List (List Candidate)) (layer : ℕ)
+-- this is the leg from a point of a reference, counted from 0, to the next one, between these
+-- candidates of its points
+pub record IsLegFrom (road : RoadMap) (tolerances : Tolerances) (reference : Reference)
+    (candidates : List (List Candidate)) (layer : ℕ)
     (leg : LegOnMap) : Type 0 where
   pub ends : EndsAreOnMap leg
   pub map_is : leg.map.now ≡ road

@@ -28,8 +28,8 @@ pub record RoutesValue : Type 0 where
   pub road : RoadMap
   pub layers : LayersValue
 
--- The layers are those of their reference on this map. Each search that is kept was made on it, and each route is
--- that of its pair, so any may be dropped.
+-- The layers are those of their reference on this map. Each search that is kept was made on it, and
+-- each route is that of its pair, so any may be dropped.
 pub record AreRoutesOn (road : RoadMap) (layers : LayersValue) (kept : List Lengths)
     (route_at : ℕ → Option (Vec Piece)) : Type 0 where
   pub sound : AreLayersOn road layers

@@ -14,8 +14,9 @@ places_of candidates = map (λ (candidate : Candidate). candidate.place) candida
 abbrev pub AreSearchesOn : RoadMap → List Lengths → Type 0
 AreSearchesOn road searches = All (AreLengthsOn road) searches
 
--- A search tells the lengths of a leg from a place: it was made on the leg's map, under the leg's class limit and up to the greatest length that the leg admits;
--- it serves the place, and tells the length to each of the second candidates.
+-- A search tells the lengths of a leg from a place: it was made on the leg's map, under the leg's
+-- class limit and up to the greatest length that the leg admits; it serves the place, and tells the
+-- length to each of the second candidates.
 pub record IsSearchFor (leg : LegOnMap) (from : Place) (reach : Lengths) : Type 0 where
   pub held : AreLengthsOn leg.map.now reach
   pub class : reach.class ≡ class_limit leg.tolerances leg.next
@@ -26,4 +27,5 @@ pub record IsSearchFor (leg : LegOnMap) (from : Place) (reach : Lengths) : Type 
 
 -- one of the searches that are kept, by its index, tells the lengths of a leg from a place
 abbrev pub IsFound : LegOnMap → Place → List Lengths → ℕ → Type 0
-IsFound leg from searches index = (index < length searches) × HoldsAt (IsSearchFor leg from) searches index
+IsFound leg from searches index = (index < length searches)
+    × HoldsAt (IsSearchFor leg from) searches index

@@ -58,8 +58,8 @@ fn places_of(alloc: Global, candidates: &[Candidate]) -> Result<Vec<Place>, NoMe
 
 /// The least lengths in decimetres, up to a limit, from a place to candidates under a class limit,
 /// as [`lengths_to`] finds them: the search goes towards them, first up to `near`. The place has to
-/// be before the end of its line ([`is_before_end`](olr_route::is_before_end)), the candidates on the
-/// map ([`is_on_map`](olr_route::is_on_map)).
+/// be before the end of its line ([`is_before_end`](olr_route::is_before_end)), the candidates on
+/// the map ([`is_on_map`](olr_route::is_on_map)).
 ///
 /// # Errors
 ///

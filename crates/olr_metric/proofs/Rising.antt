@@ -1,5 +1,5 @@
--- Lists in an order in which no two elements come before each other: the members decide the list, and a place is the number
--- of the elements before it.
+-- Lists in an order in which no two elements come before each other: the members decide the list,
+-- and a place is the number of the elements before it.
 use Rattle.std.proofs.lemmas.List.Elements.{All-contains_itself}
 use Rattle.std.proofs.Common.{◌≡◌, ℕ, zero, suc, Bool, false, List, [], ◌∷◌, length, get_or, All, Some, inl, inr, refl, sym, ap, arith, ◌≢◌}
 use Rattle.std.specs.Prelude.{◌⊎◌, slice_get, filter, AllPairs, Contains, Decides}
@@ -18,7 +18,8 @@ module _ {X : Type 0} (R : X → X → Type 0) (one_way : (a b : X) → R a b �
   not_itself : (x z : X) → x ≡ z → R x z → ⊥
   not_itself x z same before = let back = rw same at before in one_way z z back back
 
-  -- The first members of all that are such, in their order: each that is such is one of them or comes after each of them.
+  -- The first members of all that are such, in their order: each that is such is one of them or
+  -- comes after each of them.
   pub record AreFirst (Such : X → Type 0) (xs : List X) : Type 0 where
     pub only : All Such xs
     pub rise : AllPairs R xs

@@ -1,5 +1,5 @@
--- Polylines: spots that are joined by straight segments. Lengths and arcs are in centimetres; an arc is a length along the
--- polyline from its start.
+-- Polylines: spots that are joined by straight segments. Lengths and arcs are in centimetres; an
+-- arc is a length along the polyline from its start.
 use Rattle.std.specs.Prelude.{◌≡◌, ◌≢◌, ℕ, suc, ◌+◌, ◌-◌, ◌<◌, ◌≤◌, min, List, [], ◌∷◌, Some, All, length, slice_get, take}
 use Rattle.olr_metric.specs.declared.spot.Spot.{Spot}
 use Rattle.olr_metric.specs.declared.polyline.Near.{Near}
@@ -28,15 +28,18 @@ arc (a ∷ b ∷ rest) = distance a b + arc (b ∷ rest)
 abbrev pub arc_at : List Spot → ℕ → ℕ
 arc_at spots i = arc (take (suc i) spots)
 
--- segment i, from a to b, is nearest to p, and the first where several are equally near; p's distance to a segment is that
--- to its foot there
+-- segment i, from a to b, is nearest to p, and the first where several are equally near; p's
+-- distance to a segment is that to its foot there
 pub record IsNearestSegment (spots : List Spot) (p : Spot) (i : ℕ) (a b : Spot) : Type 0 where
   pub segment : IsSegment spots i a b
-  pub least : (j : ℕ) (c d : Spot) → IsSegment spots j c d → distance p (foot p a b) ≤ distance p (foot p c d)
-  pub first : (j : ℕ) (c d : Spot) → j < i → IsSegment spots j c d → distance p (foot p a b) < distance p (foot p c d)
+  pub least : (j : ℕ) (c d : Spot) → IsSegment spots j c d
+      → distance p (foot p a b) ≤ distance p (foot p c d)
+  pub first : (j : ℕ) (c d : Spot) → j < i → IsSegment spots j c d
+      → distance p (foot p a b) < distance p (foot p c d)
 
--- Where a polyline is nearest to p: at the foot of p on that segment. Its arc is that of the segment's start and the distance
--- from there to the foot; the latter, which is of rounded coordinates, counts for no more than the whole segment.
+-- Where a polyline is nearest to p: at the foot of p on that segment. Its arc is that of the
+-- segment's start and the distance from there to the foot; the latter, which is of rounded
+-- coordinates, counts for no more than the whole segment.
 pub record IsNearest (spots : List Spot) (p : Spot) (near : Near) : Type 0 where
   pub i : ℕ
   pub a : Spot

@@ -1,5 +1,5 @@
--- The ranges of coordinates, in microdegrees: every longitude, and latitudes of at most 80 degrees. The map
--- format and the references that this project reads keep to them.
+-- The ranges of coordinates, in microdegrees: every longitude, and latitudes of at most 80 degrees.
+-- The map format and the references that this project reads keep to them.
 use Rattle.std.specs.Prelude.{ℤ, pos, neg_ℤ, ◌≤ℤ◌}
 
 -- at most 180 degrees east or west

@@ -19,8 +19,9 @@ spot_between a b s e = record { x = between a.x b.x s e; y = between a.y b.y s e
 abbrev pub dot_product : Spot → Spot → Spot → ℤ
 dot_product a p b = (p.x -ℤ a.x) *ℤ (b.x -ℤ a.x) +ℤ (p.y -ℤ a.y) *ℤ (b.y -ℤ a.y)
 
--- The foot of p on the segment from a to b: where the perpendicular from p meets it, each coordinate rounded down, or the
--- nearer end where the perpendicular meets the line beyond that end.
+-- The foot of p on the segment from a to b: where the perpendicular from p meets it, each
+-- coordinate rounded down, or the nearer end where the perpendicular meets the line beyond that
+-- end.
 abbrev pub foot : Spot → Spot → Spot → Spot
 foot p a b =
     cond (int_le (dot_product a p b) (pos 0)) a

@@ -74,8 +74,8 @@ fn sector_towards(east: i64, north: i64) -> Option<u8>
 }
 
 /// The sector of the direction from one spot to another, clockwise from north. Sector n is from
-/// about 11.25 n degrees (included) to 11.25 (n + 1) degrees (excluded); the exact bounds are rays of
-/// whole numbers. `None` where the spots are equal.
+/// about 11.25 n degrees (included) to 11.25 (n + 1) degrees (excluded); the exact bounds are rays
+/// of whole numbers. `None` where the spots are equal.
 pub fn sector(from: Spot, to: Spot) -> Option<u8>
     requires from { IsInPlane from }
     requires to { IsInPlane to }

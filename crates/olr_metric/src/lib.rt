@@ -1,11 +1,12 @@
-//! Measuring, for all other crates: coordinates on the earth, their spots in a plane, and lengths and
-//! directions there. Also the two errors that any crate may meet.
+//! Measuring, for all other crates: coordinates on the earth, their spots in a plane, and lengths
+//! and directions there. Also the two errors that any crate may meet.
 //!
 //! - [`degrees`]: longitude and latitude in microdegrees.
 //! - [`plane`]: the plane of a reference, which maps coordinates to a [`spot`] in centimetres.
 //! - [`root`]: the square root, rounded down.
 //! - [`segment`]: the foot of a spot on a straight segment.
-//! - [`polyline`]: the shape of a road: its length, its spot at an arc, where it is nearest to a spot.
+//! - [`polyline`]: the shape of a road: its length, its spot at an arc, where it is nearest to a
+//!   spot.
 //! - [`bearing`]: the sector of a direction, one of 32, and the difference of two sectors.
 //! - [`laws`] and [`bearing_laws`]: laws of lengths, and of directions and sectors.
 //! - [`failure`]: refused memory, and a device that failed.

@@ -84,9 +84,9 @@ fn may_be_nearer(spots: &[Spot], p: Spot, segment: usize, least: u64) -> bool
 
 /// The segment nearest to a spot: the first where several are equally near.
 ///
-/// Distances are rounded down, so one is less than a whole number exactly where its square is less than
-/// that number's square. No root is taken where the segment isn't nearer, and no foot where its ends
-/// tell already.
+/// Distances are rounded down, so one is less than a whole number exactly where its square is less
+/// than that number's square. No root is taken where the segment isn't nearer, and no foot where
+/// its ends tell already.
 fn nearest_segment(spots: &[Spot], p: Spot) -> NearestSegment
     requires in_plane { All IsInPlane spots.now }
     requires p { IsInPlane p }

@@ -8,8 +8,8 @@ use std::num::{nearest_u64_to_f64, saturating_f64_to_u64};
 /// The greatest number that is guessed to be a root.
 const GREATEST_GUESS: u64 = (1 << 32) - 1;
 
-/// A number that is the square root, rounded down, for nearly every square. Nothing rests on it but how
-/// long `root_of` takes.
+/// A number that is the square root, rounded down, for nearly every square. Nothing rests on it but
+/// how long `root_of` takes.
 fn guess_of(square: u64) -> u64
     ensures { result < 2 ^ 32 }
 {

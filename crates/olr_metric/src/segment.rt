@@ -140,7 +140,8 @@ pub fn foot(p: Spot, a: Spot, b: Spot) -> Spot
     spot_between(a, b, part as u128, whole as u128)
 }
 
-/// How far a coordinate lies outside those of the ends of a segment, in centimetres; 0 between them.
+/// How far a coordinate lies outside those of the ends of a segment, in centimetres; 0 between
+/// them.
 fn outside(p: i64, a: i64, b: i64) -> u64
     requires p { nat_abs p ≤ 2 ^ 33 }
     requires a { nat_abs a ≤ 2 ^ 33 }
@@ -158,8 +159,8 @@ fn outside(p: i64, a: i64, b: i64) -> u64
     0
 }
 
-/// A number that is at most the square of the distance of `p` from its foot on the segment from `a` to
-/// `b`: that of its distance from the rectangle of which the segment is a diagonal.
+/// A number that is at most the square of the distance of `p` from its foot on the segment from `a`
+/// to `b`: that of its distance from the rectangle of which the segment is a diagonal.
 pub(crate) fn square_outside(p: Spot, a: Spot, b: Spot) -> u128
     requires p { IsInPlane p }
     requires a { IsInPlane a }

@@ -5,13 +5,11 @@ use Rattle.std.proofs.lemmas.Bool.{cases_Bool, cases_eq, or_cases, or_left, or_r
 use Rattle.std.proofs.lemmas.Bool.Decides.{Decides-and, Decides-like, Decides-eqb}
 use Rattle.std.proofs.lemmas.List.Elements.{All-contains, All-weaker, All-nil, All-cons, All-head, Contains-append_left, Contains-append_right, Contains-append_cases}
 use Rattle.olr_route.specs.Walk.{piece_length}
-use Rattle.olr_route.specs.declared.piece.Piece.{Piece}
+use Rattle.olr_places.proofs.Common.{Piece, stretch, Step, steps_in, steps_of, covers, has_step, longest_run, missing_of}
 use Rattle.olr_map.specs.declared.place.Place.{Place}
-use Rattle.olr_report.proofs.StepLists.{stretch}
-use Rattle.olr_report.specs.Steps.{Step, steps_in, steps_of}
 use Rattle.olr_places.specs.Closeness.{IsNear, is_near, line, point}
 use Rattle.olr_places.specs.Laws.{CloseAtZero, CloseStaysClose, IsReflexive, IsSymmetric, MissingIsComputed, TestsCloseness}
-use Rattle.olr_places.specs.Missing.{IsMissingRun, MissesAtMost, covers, has_step, longest_run, missing_of}
+use Rattle.olr_places.specs.Missing.{IsMissingRun, MissesAtMost}
 use Rattle.olr_places.proofs.Covering.{all_stretch, has_parts, has_from, step_at}
 use Rattle.olr_places.proofs.Runs.{longest_is, none_is_longer}
 

@@ -7,10 +7,7 @@ use Rattle.std.proofs.lemmas.Bool.Decides.{nat_tests}
 use Rattle.std.proofs.lemmas.List.{get_or-drop, get_or-take, length-drop, length-take-le}
 use Rattle.std.proofs.lemmas.List.Elements.{All-nil, All-cons, All-from_get_or, All-get_or}
 use Rattle.std.proofs.lemmas.List.Folds.{list_any_none, list_any_at}
-use Rattle.olr_route.specs.declared.piece.Piece.{Piece}
-use Rattle.olr_report.proofs.StepLists.{stretch}
-use Rattle.olr_report.specs.Steps.{Step}
-use Rattle.olr_places.specs.Missing.{AreCovered, covers, has_step}
+use Rattle.olr_places.proofs.Common.{Piece, stretch, Step, AreCovered, covers, has_step}
 
 -- ---- one piece
 

@@ -1,8 +1,6 @@
 -- Gaps, with one matching more behind.
 use Rattle.std.proofs.Common.{◌≡◌, ◌-◌, ◌≤◌, List, [], ◌∷◌, ◌++◌, length, refl, arith}
-use Rattle.olr_keys.specs.Key.{KeyValue}
-use Rattle.olr_places.specs.Looking.{gap_of}
-use Rattle.olr_places.specs.Shown.{Shown}
+use Rattle.olr_places.proofs.Common.{KeyValue, gap_of, Shown}
 
 -- the gap of a matching is the same with one more behind the others
 pub gap_stays : (before : List Shown) (one : Shown) (key : KeyValue) → 1 ≤ length before

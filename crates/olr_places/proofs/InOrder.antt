@@ -2,8 +2,7 @@
 use Rattle.std.proofs.Common.{zero, suc, ◌≤◌, List, [], ◌∷◌, ◌++◌, get_or, All, inl, inr, arith}
 use Rattle.std.specs.Prelude.{AllPairs}
 use Rattle.std.proofs.lemmas.List.Elements.{All-cons, All-head, All-nil, All-tail}
-use Rattle.olr_keys.specs.Key.{IsBefore, KeyValue}
-use Rattle.olr_places.specs.Shown.{Shown, keys_of}
+use Rattle.olr_places.proofs.Common.{IsBefore, KeyValue, Shown, keys_of}
 
 -- matchings by rising totals
 abbrev pub Rise : List Shown → Type 0

@@ -1,14 +1,9 @@
 -- The objects of places have no float, and arrays and objects nest in them seven deep at most.
 use Rattle.std.proofs.Common.{List, ◌≡◌, ℕ, Option, Some, None, refl, arith}
 use Rattle.olr_binary.specs.JsonValues.{whole_or_null}
-use Rattle.olr_map.specs.RoadMap.{RoadMap}
+use Rattle.olr_places.proofs.Common.{RoadMap, Located, Piece, entry_of, object_of, opener_object, Opener, Places}
 use Rattle.olr_report.specs.Json.{entry_object, matching_object}
-use Rattle.olr_report.specs.declared.locating.Located.{Located}
-use Rattle.olr_route.specs.declared.piece.Piece.{Piece}
-use Rattle.olr_places.specs.Places.{entry_of, object_of, opener_object}
 use Rattle.olr_places.specs.Text.{next_after}
-use Rattle.olr_places.specs.declared.opener.Opener.{Opener}
-use Rattle.olr_places.specs.declared.places.Places.{Places}
 use Rattle.olr_binary.proofs.PlainValues.{IsPlain, all_plain}
 use Rattle.olr_report.proofs.JsonShape.{entry_plain, next_plain}
 

@@ -1,3 +1,4 @@
+pub mod Common
 mod Runs
 mod Covering
 mod CloseLaws

@@ -3,19 +3,10 @@ use Rattle.std.proofs.Common.{◌≡◌, ◌≢◌, ℕ, zero, suc, ◌+◌, ◌
 use Rattle.std.proofs.lemmas.Bool.{cases_Bool, lt-leb}
 use Rattle.std.proofs.lemmas.List.{append-nil, length-map, map-append}
 use Rattle.std.proofs.lemmas.List.Elements.{All-cons, All-head, All-push, All-tail, filter-append}
-use Rattle.olr_keys.specs.Key.{KeyValue}
-use Rattle.olr_keys.specs.Page.{last_of}
-use Rattle.olr_map.specs.RoadMap.{RoadMap}
-use Rattle.olr_places.specs.Looking.{Looked, belongs, gap_of, is_within, listed_of, looking, looking_on, members_of, openers_of, place_of}
-use Rattle.olr_places.specs.Places.{AreCounted, ArePlacesOf, IsCounted, shown_by}
-use Rattle.olr_places.specs.Shown.{Shown, keys_of}
+use Rattle.olr_places.proofs.Common.{KeyValue, last_of, RoadMap, Looked, belongs, gap_of, is_within, listed_of, looking, looking_on, openers_of, place_of, AreCounted, ArePlacesOf, shown_by, Shown, keys_of, margin_of, Ending, Beyond, Cut, PlaceLimits, Looking, Opener}
+use Rattle.olr_places.specs.Looking.{members_of}
+use Rattle.olr_places.specs.Places.{IsCounted}
 use Rattle.olr_places.specs.Steps.{HasEnded, Stands, gap_behind, gap_in, margin_in, one_more_at, places_in}
-use Rattle.olr_places.specs.Verdict.{margin_of}
-use Rattle.olr_places.specs.declared.ending.Ending.{Ending}
-use Rattle.olr_places.specs.declared.ending.Ending.TheVariants.{Beyond, Cut}
-use Rattle.olr_places.specs.declared.limits.PlaceLimits.{PlaceLimits}
-use Rattle.olr_places.specs.declared.looking.Looking.{Looking}
-use Rattle.olr_places.specs.declared.opener.Opener.{Opener}
 use Rattle.olr_places.proofs.Gaps.{gap_of_next, gap_stays}
 use Rattle.olr_places.proofs.Members.{agree, at_most, count_of, none_here, none_past, one_here, with_one}
 use Rattle.olr_places.proofs.Opening.{all_placed, close_itself, first_behind, first_opens, first_stays, openers_more, openers_same}

@@ -7,16 +7,9 @@ use Rattle.std.proofs.lemmas.List.Elements.{All-take, Contains-push, filter-appe
 use Rattle.std.proofs.Math.Seq.{take-append_seam}
 use Rattle.std.proofs.lemmas.List.Sums.{count_by-le-length, length-filter}
 use Rattle.serde_json.specs.Data.{null}
-use Rattle.olr_keys.specs.Key.{KeyValue}
-use Rattle.olr_map.specs.RoadMap.{RoadMap}
-use Rattle.olr_matching.specs.Layers.{LayersValue}
+use Rattle.olr_places.proofs.Common.{KeyValue, RoadMap, LayersValue, IsLooked, Looked, belongs, gap_of, is_within, listed_of, looking, looking_on, openers_of, IsShownAt, Shown, keys_of, Ending, Beyond, Cut, NoMore, PlaceLimits}
 use Rattle.olr_places.specs.Closeness.{line}
-use Rattle.olr_places.specs.Looking.{IsLooked, Looked, belongs, gap_of, is_within, listed_of, looking, looking_on, openers_of}
-use Rattle.olr_places.specs.Shown.{IsShownAt, Shown, keys_of}
 use Rattle.olr_places.specs.VerdictLaws.{IsAtMost, LooksAtMost}
-use Rattle.olr_places.specs.declared.ending.Ending.{Ending}
-use Rattle.olr_places.specs.declared.ending.Ending.TheVariants.{Beyond, Cut, NoMore}
-use Rattle.olr_places.specs.declared.limits.PlaceLimits.{PlaceLimits}
 use Rattle.olr_places.proofs.Gaps.{gap_of_next}
 use Rattle.olr_places.proofs.Opening.{openers_more, openers_same}
 

@@ -3,7 +3,7 @@ use Rattle.std.proofs.Common.{◌≡◌, ◌≢◌, ℕ, ◌+◌, ◌<◌, ◌�
 use Rattle.std.proofs.lemmas.Bool.{cases_eq, eq-eqb, ne_eqb}
 use Rattle.std.proofs.lemmas.List.Elements.{All-head, All-tail, filter-append}
 use Rattle.std.proofs.lemmas.List.Sums.{count_by-le-length, length-filter}
-use Rattle.olr_places.specs.Shown.{Shown}
+use Rattle.olr_places.proofs.Common.{Shown}
 
 -- how many of these have a number
 abbrev pub count_of : (Shown → ℕ) → List Shown → ℕ → ℕ

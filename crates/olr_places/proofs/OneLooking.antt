@@ -7,23 +7,18 @@ use Rattle.std.proofs.lemmas.List.Elements.{All-head, All-tail}
 use Rattle.std.proofs.lemmas.Option.{same_Some}
 use Rattle.olr_binary.specs.declared.reference.Reference.{Reference}
 use Rattle.olr_binary.specs.declared.reference.Reference.TheVariants.{Line, PointAlong}
-use Rattle.olr_keys.specs.Key.{KeyValue}
-use Rattle.olr_map.specs.RoadMap.{IsSoundMap, RoadMap}
-use Rattle.olr_matching.specs.Layers.{LayersValue}
-use Rattle.olr_matching.specs.Matched.{OneMatched}
+use Rattle.olr_places.proofs.Common.{KeyValue, RoadMap, LayersValue, OneMatched, Piece, Step, Located, looking, IsShownAt, Shown, keys_of}
+use Rattle.olr_map.specs.RoadMap.{IsSoundMap}
 use Rattle.olr_matching.specs.declared.matched.Leg.{Leg}
 use Rattle.olr_matching.specs.declared.matched.Matched.{Matched}
-use Rattle.olr_route.specs.declared.piece.Piece.{Piece}
 use Rattle.olr_report.specs.Joined.{IsRouteOver}
 use Rattle.olr_report.specs.Json.{matching_object, part_value, pieces_array}
 use Rattle.olr_report.specs.Location.{IsLocation, IsPartBetween}
-use Rattle.olr_report.specs.Steps.{Step, steps_of_legs}
+use Rattle.olr_report.specs.Steps.{steps_of_legs}
 use Rattle.olr_report.specs.TextRows.{part_row, pieces_row}
-use Rattle.olr_report.specs.declared.locating.Located.{Located}
 use Rattle.olr_report.specs.declared.locating.Located.TheVariants.{Line as LocatedLine, Point as LocatedPoint}
 use Rattle.olr_places.specs.Closeness.{ground_of, line, pieces_of}
-use Rattle.olr_places.specs.Looking.{looking}
-use Rattle.olr_places.specs.Shown.{IsShownAt, Shown, extent_rows, keys_of}
+use Rattle.olr_places.specs.Shown.{extent_rows}
 use Rattle.olr_places.specs.VerdictLaws.{OneLooking}
 use Rattle.olr_places.proofs.Looks.{any_of, keys_of_any}
 

@@ -5,9 +5,7 @@ use Rattle.std.proofs.lemmas.Bool.{cases_Bool, false≢true, ne_eqb}
 use Rattle.std.proofs.lemmas.List.{append-nil}
 use Rattle.std.proofs.lemmas.List.Elements.{All-nil, All-cons, All-weaker}
 use Rattle.std.proofs.lemmas.List.Folds.{list_any-append, position_or_len_push}
-use Rattle.olr_places.specs.Looking.{belongs, is_close_to, openers_of, openers_on, place_of}
-use Rattle.olr_places.specs.Shown.{Shown}
-use Rattle.olr_places.specs.declared.limits.PlaceLimits.{PlaceLimits}
+use Rattle.olr_places.proofs.Common.{belongs, is_close_to, openers_of, openers_on, place_of, Shown, PlaceLimits}
 use Rattle.olr_places.proofs.CloseLaws.{reflexive, tests}
 
 -- whether one passes, by the place of the first one

@@ -1,17 +1,11 @@
 -- What is shown of places, by what is kept of the matchings that were looked at.
 use Rattle.std.proofs.Common.{◌≡◌, ℕ, ◌+◌, List, [], ◌∷◌, ◌++◌, length, map, None, refl, sym, ap, ◌∙◌}
 use Rattle.std.proofs.lemmas.List.{length-map}
-use Rattle.olr_map.specs.RoadMap.{RoadMap}
+use Rattle.olr_places.proofs.Common.{RoadMap, Looked, listed_of, AreCounted, ArePlacesOf, object_of, opener_object, openers_rows, shown_by, Shown, verdict_of, PlaceLimits, Opener, Places}
 use Rattle.olr_report.specs.TextRows.{end_row}
 use Rattle.olr_places.specs.Json.{place_objects, places_object}
-use Rattle.olr_places.specs.Looking.{Looked, listed_of}
-use Rattle.olr_places.specs.Places.{AreCounted, ArePlacesOf, object_of, opener_object, openers_rows, shown_by, verdict_in}
-use Rattle.olr_places.specs.Shown.{Shown}
+use Rattle.olr_places.specs.Places.{verdict_in}
 use Rattle.olr_places.specs.Text.{all_place_rows, next_after, next_of, places_text, summary_rows}
-use Rattle.olr_places.specs.Verdict.{verdict_of}
-use Rattle.olr_places.specs.declared.limits.PlaceLimits.{PlaceLimits}
-use Rattle.olr_places.specs.declared.opener.Opener.{Opener}
-use Rattle.olr_places.specs.declared.places.Places.{Places}
 
 module _ (road : RoadMap) (limits : PlaceLimits) (matchings : List Shown) where
   rows_same : (start : ℕ) (openers : List Opener) → AreCounted limits matchings start openers

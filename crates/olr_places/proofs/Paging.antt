@@ -4,19 +4,8 @@ use Rattle.std.specs.Prelude.{AllPairs}
 use Rattle.std.proofs.lemmas.Bool.{cases_lt, eq-eqb}
 use Rattle.std.proofs.lemmas.List.{append-nil, drop_all, drop_more, length-append, length-drop, length-map, length-take, map-append, take-append-drop, take_all, take_more}
 use Rattle.std.proofs.lemmas.List.Elements.{All-push}
-use Rattle.olr_keys.specs.Key.{KeyValue, IsBefore}
-use Rattle.olr_keys.specs.Page.{IsPageAfter, IsRestAfter, PageValue, last_of}
-use Rattle.olr_map.specs.RoadMap.{RoadMap}
-use Rattle.olr_matching.specs.Layers.{LayersValue}
-use Rattle.olr_places.specs.Looking.{looking_on}
-use Rattle.olr_places.specs.Places.{IsOpenerAt, entry_of, shown_by}
-use Rattle.olr_places.specs.Shown.{IsShownAt, Shown, keys_of}
+use Rattle.olr_places.proofs.Common.{KeyValue, IsBefore, IsPageAfter, IsRestAfter, PageValue, last_of, RoadMap, LayersValue, looking_on, IsOpenerAt, entry_of, shown_by, IsShownAt, Shown, keys_of, Ending, Cut, NoMore, PlaceLimits, Looking, Opener}
 use Rattle.olr_places.specs.Steps.{AreFound, AreLookedAt, LooksAt, LooksAtAll, Stands, gap_in, places_in}
-use Rattle.olr_places.specs.declared.ending.Ending.{Ending}
-use Rattle.olr_places.specs.declared.ending.Ending.TheVariants.{Cut, NoMore}
-use Rattle.olr_places.specs.declared.limits.PlaceLimits.{PlaceLimits}
-use Rattle.olr_places.specs.declared.looking.Looking.{Looking}
-use Rattle.olr_places.specs.declared.opener.Opener.{Opener}
 use Rattle.olr_places.proofs.LookSteps.{ends_here}
 use Rattle.olr_places.proofs.Rests.{after_keys, one_rest}
 

@@ -4,9 +4,8 @@ use Rattle.std.specs.List.{AllZip}
 use Rattle.std.specs.Prelude.{AllPairs, Contains}
 use Rattle.std.proofs.Math.Seq.{drop-append_seam}
 use Rattle.std.proofs.lemmas.List.Elements.{All-drop, All-tail, All-take, Contains-append_right}
-use Rattle.olr_keys.specs.Key.{KeyValue, IsBefore}
+use Rattle.olr_places.proofs.Common.{KeyValue, IsBefore, IsPageAfter, IsRestAfter, PageValue, last_of}
 use Rattle.olr_keys.specs.Order.{asymmetric}
-use Rattle.olr_keys.specs.Page.{IsPageAfter, IsRestAfter, PageValue, last_of}
 use Rattle.olr_keys.specs.Rise.{after_first, here, rest_rises}
 
 -- ---- one rest

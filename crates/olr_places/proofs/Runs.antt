@@ -4,10 +4,8 @@ use Rattle.std.proofs.Common.{◌≡◌, ℕ, zero, suc, ◌+◌, ◌-◌, ◌<�
 use Rattle.std.proofs.lemmas.Bool.{cases_Bool, cases_lt, le-leb, lt-leb}
 use Rattle.std.proofs.lemmas.List.{length_push}
 use Rattle.std.proofs.lemmas.List.Elements.{All-nil, All-head, All-push, All-tail}
-use Rattle.olr_report.proofs.StepLists.{length-stretch, stretch, stretch-add}
-use Rattle.olr_report.specs.Steps.{Step}
-use Rattle.olr_route.specs.declared.piece.Piece.{Piece}
-use Rattle.olr_places.specs.Missing.{covers, longest_run, missing_of}
+use Rattle.olr_places.proofs.Common.{stretch, Step, Piece, covers, longest_run, missing_of}
+use Rattle.olr_report.proofs.StepLists.{length-stretch, stretch-add}
 
 module _ (covered : Step → Bool) where
   abbrev Missing : Step → Type 0

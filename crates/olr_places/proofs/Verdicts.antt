@@ -7,18 +7,10 @@ use Rattle.std.proofs.lemmas.List.{get_or-map, length-map, map-append}
 use Rattle.std.proofs.lemmas.List.Elements.{All-cons, All-contains, All-contains_itself, All-filter, All-head, All-nil, All-push, All-tail, All-weaker, Contains-append_cases, Contains-append_left, Contains-append_right, filter_passes}
 use Rattle.std.proofs.lemmas.List.Quantifiers.{all_pairs_push}
 use Rattle.std.proofs.lemmas.Option.{same_Some}
-use Rattle.olr_keys.specs.Key.{IsBefore, KeyValue}
-use Rattle.olr_map.specs.RoadMap.{RoadMap}
-use Rattle.olr_matching.specs.Layers.{LayersValue}
-use Rattle.olr_matching.specs.Matched.{OneMatched}
-use Rattle.olr_places.specs.Looking.{IsLooked, Looked, belongs, is_close_to, is_within, listed_of, looking, openers_of, openers_on}
-use Rattle.olr_places.specs.Shown.{IsShownAt, Shown, keys_of}
-use Rattle.olr_places.specs.Verdict.{margin_of, verdict_by, verdict_of, verdict_of_one}
+use Rattle.olr_places.proofs.Common.{IsBefore, KeyValue, RoadMap, LayersValue, OneMatched, IsLooked, Looked, belongs, is_close_to, is_within, listed_of, looking, openers_of, openers_on, IsShownAt, Shown, keys_of, margin_of, verdict_of, Ending, Beyond, Cut, NoMore, PlaceLimits}
+use Rattle.olr_places.specs.Verdict.{verdict_by, verdict_of_one}
 use Rattle.olr_places.specs.VerdictLaws.{AmbiguousIsElsewhere, AreClose, IsElsewhere, IsFirstOf, IsMargin, IsOneOf, MarginIsOfNearest, NoneWithoutMatching, OpenersAreApart, UniqueIsClose, WereLookedAt}
-use Rattle.olr_places.specs.declared.ending.Ending.{Ending}
-use Rattle.olr_places.specs.declared.ending.Ending.TheVariants.{Beyond, Cut, NoMore}
 use Rattle.olr_places.specs.declared.ending.Verdict.TheVariants as verdict
-use Rattle.olr_places.specs.declared.limits.PlaceLimits.{PlaceLimits}
 use Rattle.olr_places.proofs.CloseLaws.{tests}
 use Rattle.olr_places.proofs.InOrder.{NotBelow, Rise, left_not_below, rise_of}
 use Rattle.olr_places.proofs.Looks.{EndsFor, all_looked, all_of, each, first_looked_at, keys_are, seen}

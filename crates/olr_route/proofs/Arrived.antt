@@ -3,19 +3,10 @@ use Rattle.std.proofs.Common.{◌≡◌, ◌≢◌, ℕ, ◌+◌, ◌^◌, ◌<�
 use Rattle.std.specs.Prelude.{All, Contains, IsSome, nat_eq, option_map, slice_get, unwrap_or}
 use Rattle.std.specs.HashMap.{get}
 use Rattle.std.proofs.lemmas.Bool.{cases_eq}
-use Rattle.olr_map.specs.RoadMap.{RoadMap, origins_of}
-use Rattle.olr_map.specs.Steps.{IsStepOf, line_ranks}
-use Rattle.olr_route.specs.Groups.{items_in}
-use Rattle.olr_route.specs.Nodes.{EndsAt, StartsAt}
-use Rattle.olr_route.specs.declared.arrival.Arrival.{Arrival}
-use Rattle.olr_route.specs.declared.search.Search.{Search}
-use Rattle.olr_route.specs.declared.starts.Starts.{Starts}
-use Rattle.olr_route.specs.declared.state.State.{State}
-use Rattle.olr_route.specs.Dijkstra.{AreAheadReached, AreNodes, AreVisited, banned_at, HasArrived, IsArrived, IsDone, IsDoneAt, own_reached, still_banned, steps_at, WaitsIn}
+use Rattle.olr_route.proofs.Common.{RoadMap, origins_of, IsStepOf, line_ranks, items_in, EndsAt, StartsAt, Arrival, Search, Starts, State, AreNodes, AreVisited, banned_at, HasArrived, IsArrived, IsDone, own_reached, WaitsIn, node_length, table_in, IsAllowed, length_at}
+use Rattle.olr_route.specs.Dijkstra.{AreAheadReached, IsDoneAt, still_banned, steps_at}
 use Rattle.olr_route.specs.NodeLengths.{length_of}
-use Rattle.olr_route.specs.Starts.{node_length, start_length, table_in}
-use Rattle.olr_route.specs.Turn.{IsAllowed}
-use Rattle.olr_route.specs.Walk.{length_at}
+use Rattle.olr_route.specs.Starts.{start_length}
 use Rattle.olr_route.proofs.Relaxing.{total_at, worth}
 use Rattle.olr_route.proofs.Lines.{starts_there, turn_there}
 

@@ -4,16 +4,8 @@ use Rattle.std.specs.Prelude.{Contains, IsSome, unwrap_or}
 use Rattle.std.proofs.lemmas.List.{get_or-map, length-map}
 use Rattle.std.proofs.lemmas.List.Elements.{All-map}
 use Rattle.std.proofs.lemmas.Option.{slice_get-get_or, slice_get_within}
-use Rattle.olr_map.specs.Place.{IsDeparture, IsPlace}
-use Rattle.olr_map.specs.RoadMap.{RoadMap, IsSoundMap}
-use Rattle.olr_map.specs.declared.place.Place.{Place}
-use Rattle.olr_route.specs.declared.arrival.Arrival.{Arrival}
-use Rattle.olr_route.specs.declared.search.Search.{Search}
-use Rattle.olr_route.specs.Dijkstra.{AreAllReached, AreReachedFirst, HasEnded, IsArrived}
-use Rattle.olr_route.specs.Reach.{AreLengthsOn, Lengths, length_to_start}
-use Rattle.olr_route.specs.Steps.{IsAskedFor}
-use Rattle.olr_route.specs.Least.{IsLeastLength, IsLengthWithin}
-use Rattle.olr_route.specs.Walk.{start_of}
+use Rattle.olr_route.proofs.Common.{IsDeparture, IsPlace, RoadMap, IsSoundMap, Place, Arrival, Search, AreAllReached, AreReachedFirst, HasEnded, IsArrived, AreLengthsOn, Lengths, IsAskedFor, IsLeastLength, IsLengthWithin, start_of}
+use Rattle.olr_route.specs.Reach.{length_to_start}
 use Rattle.olr_route.proofs.Walks.{found, walks_known}
 
 -- what was reached still is

@@ -2,13 +2,7 @@
 use Rattle.std.proofs.Common.{◌≡◌, ℕ, zero, suc, ◌+◌, ◌<◌, List, [], ◌∷◌, Option, Some, subst, refl, arith}
 use Rattle.std.specs.Prelude.{option_map, slice_get, slice_index}
 use Rattle.olr_map.specs.Goals.{AreGoalsOn, GoalLines, Joins}
-use Rattle.olr_map.specs.RoadMap.{RoadMap}
-use Rattle.olr_map.specs.Rows.{RoadLine}
-use Rattle.olr_route.specs.declared.search.Search.{Search}
-use Rattle.olr_route.specs.Dijkstra.{MayGoOn}
-use Rattle.olr_route.specs.Nodes.{EndsAt}
-use Rattle.olr_route.specs.Steps.{IsAskedFor}
-use Rattle.olr_route.specs.Walk.{walk_length, start_of, LeadTo}
+use Rattle.olr_route.proofs.Common.{RoadMap, RoadLine, Search, MayGoOn, EndsAt, IsAskedFor, walk_length, start_of, LeadTo}
 use Rattle.olr_route.proofs.Lines.{length_here, meets_there}
 use Rattle.olr_route.proofs.Walks.{behind_first, rest_last, rest_more}
 

@@ -1,19 +1,14 @@
 -- What holds of all walks, and of the pieces of a route.
 use Rattle.std.proofs.Common.{◌≡◌, ℕ, ◌<◌, ◌≤◌, List, [], ◌∷◌, ◌++◌, length, ap, sym, ◌∙◌, refl, arith, Some, subst}
 use Rattle.std.proofs.lemmas.Option.{slice_get_within}
-use Rattle.olr_map.specs.Place.{IsPlace, IsDeparture}
-use Rattle.olr_map.specs.RoadMap.{IsSoundMap, RoadMap}
-use Rattle.olr_map.specs.declared.place.Place.{Place}
-use Rattle.olr_route.specs.declared.piece.Piece.{Piece}
-use Rattle.olr_route.specs.Walk.{length_at, AreTurns, last_line, walk_length, IsWalk, pieces_from, start_of}
-use Rattle.olr_route.specs.Least.{IsLeastLength}
+use Rattle.olr_route.proofs.Common.{IsPlace, IsDeparture, IsSoundMap, RoadMap, Place, Piece, length_at, walk_length, IsWalk, start_of, IsLeastLength, RoadLine}
+use Rattle.olr_route.specs.Walk.{AreTurns, last_line, pieces_from}
 use Rattle.olr_route.specs.Route.{id_at, ids_of, IsRoute, IsUpTo, IsRouteWithin, IsPieceOn, AreJoined, AreRoutePieces}
 use Rattle.olr_route.proofs.Lines.{length_here, long_before_turn}
 use Rattle.olr_route.proofs.TightPaths.{ids_rise}
 use Rattle.olr_route.proofs.Walks.{long_walk, rest_last, rest_more}
 use Rattle.std.specs.Prelude.{slice_get, All}
 use Rattle.std.proofs.lemmas.List.Elements.{All-nil, All-cons}
-use Rattle.olr_map.specs.Rows.{RoadLine}
 
 -- ---- lengths
 

@@ -1,3 +1,4 @@
+pub mod Common
 mod Lines
 mod Walks
 mod SharedRoutes

@@ -3,16 +3,11 @@ use Rattle.std.proofs.Common.{◌≡◌, ℕ, zero, suc, ◌+◌, ◌<◌, List,
 use Rattle.std.specs.Prelude.{slice_get, option_map, unwrap_or, Contains, nat_eq, Decides, MatchBool}
 use Rattle.std.proofs.lemmas.Grind.{common_steps}
 use Rattle.std.proofs.lemmas.Option.{same_Some, get_or_from_slice_get, slice_get_within, slice_get-map}
-use Rattle.olr_map.specs.Place.{IsPlace}
-use Rattle.olr_map.specs.Rows.{RoadLine}
-use Rattle.olr_map.specs.RoadMap.{head_of, RoadMap, IsSoundMap, IsSoundLine, origins_of, ban_of}
+use Rattle.olr_route.proofs.Common.{IsPlace, RoadLine, RoadMap, IsSoundMap, origins_of, IsStepOver, IsTurn, IsAllowed, IsOpen, length_at, start_of, IsLinesOf, EndsAt, StartsAt}
+use Rattle.olr_map.specs.RoadMap.{head_of, IsSoundLine, ban_of}
 use Rattle.olr_map.specs.declared.line.Line.{Line}
-use Rattle.olr_route.specs.Dijkstra.{IsStepOver}
-use Rattle.olr_route.specs.Turn.{IsTurn, IsAllowed, IsNoneTo, IsOpen}
-use Rattle.olr_route.specs.Walk.{length_at, start_of}
+use Rattle.olr_route.specs.Turn.{IsNoneTo}
 use Rattle.std.proofs.lemmas.List.Elements.{All-contains, Contains-get_or}
-use Rattle.olr_index.specs.ByNode.{IsLinesOf}
-use Rattle.olr_route.specs.Nodes.{EndsAt, StartsAt}
 use Rattle.std.specs.List.Sorted.{IsBinarySearchResult, IsSearchInRange, IsStrictlyIncreasing}
 use Rattle.std.specs.Ordering.{nat_cmp}
 use Rattle.std.specs.Result.{is_err}

@@ -3,12 +3,8 @@ use Rattle.std.proofs.Common.{◌≡◌, ◌≢◌, ℕ, zero, suc, ◌+◌, ◌
 use Rattle.std.specs.Prelude.{unwrap_or, ◌||◌}
 use Rattle.std.proofs.lemmas.Bool.{cases_lt}
 use Rattle.std.proofs.lemmas.Option.{slice_get_within}
-use Rattle.olr_route.specs.declared.search.Search.{Search}
-use Rattle.olr_route.specs.declared.starts.Starts.{Starts}
-use Rattle.olr_route.specs.BellmanFord.{AreSound, IsLowered, IsOffered, Reaches}
-use Rattle.olr_route.specs.Starts.{table_in}
-use Rattle.olr_route.specs.Steps.{IsKnownWithin, IsRelaxed, rest_of_line, total}
-use Rattle.olr_route.specs.Walk.{length_at, start_of}
+use Rattle.olr_route.proofs.Common.{Search, Starts, AreSound, IsLowered, IsOffered, Reaches, table_in, IsKnownWithin, IsRelaxed, rest_of_line, length_at, start_of}
+use Rattle.olr_route.specs.Steps.{total}
 use Rattle.olr_route.proofs.Walks.{useful_within, within_more}
 
 pub same_length : (a b : ℕ) (known : Option ℕ) → known ≡ Some a → known ≡ Some b → a ≡ b

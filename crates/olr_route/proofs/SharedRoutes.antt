@@ -3,21 +3,10 @@
 use Rattle.std.proofs.Common.{◌≡◌, ℕ, ◌-◌, ◌<◌, ◌≤◌, List, [], ◌∷◌, Option, Some, None, inl, inr, subst, ap, sym, ◌∙◌, refl, arith, ◌+◌}
 use Rattle.std.specs.Prelude.{MatchOption}
 use Rattle.std.proofs.lemmas.List.Elements.{All-cons, All-nil}
-use Rattle.olr_map.specs.Place.{IsPlace, IsDeparture}
-use Rattle.olr_map.specs.RoadMap.{RoadMap, IsSoundMap}
-use Rattle.olr_map.specs.Rows.{RoadLine}
-use Rattle.olr_map.specs.declared.place.Place.{Place}
-use Rattle.olr_route.specs.declared.groups.Groups.{Groups}
-use Rattle.olr_route.specs.declared.piece.Piece.{Piece}
-use Rattle.olr_route.specs.declared.search.Search.{Search}
-use Rattle.olr_route.specs.Least.{IsLeastLength, IsLengthWithin}
-use Rattle.olr_route.specs.Reach.{HasWalksTo}
+use Rattle.olr_route.proofs.Common.{IsPlace, IsDeparture, RoadMap, IsSoundMap, RoadLine, Place, Groups, Piece, Search, IsLeastLength, IsLengthWithin, HasWalksTo, rest_of_line, IsOpen, IsTurn, length_at, walk_length, pieces_of, IsDrivable, IsWalk, start_of, LeadTo}
 use Rattle.olr_route.specs.Route.{IsRouteWithin, IsRoute}
 use Rattle.olr_route.specs.Sharing.{LeadOnAlike, Serves}
 use Rattle.olr_route.specs.Shortest.{AreOnShortestPaths, FollowsFirstTight}
-use Rattle.olr_route.specs.Steps.{rest_of_line}
-use Rattle.olr_route.specs.Turn.{IsOpen, IsTurn}
-use Rattle.olr_route.specs.Walk.{length_at, walk_length, pieces_of, IsDrivable, IsWalk, start_of, LeadTo}
 use Rattle.olr_route.proofs.Lines.{length_here, long_before_turn, one_line}
 use Rattle.olr_route.proofs.TightPaths.{first_route}
 use Rattle.olr_route.proofs.Walks.{as_walk, behind_first, departure_length, first_open, last_piece, lead_more, rest_last, rest_more}

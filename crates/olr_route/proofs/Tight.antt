@@ -4,15 +4,8 @@ use Rattle.std.specs.Prelude.{Contains, MatchBool}
 use Rattle.std.specs.List.{AllWithin, HoldsAt}
 use Rattle.std.proofs.lemmas.List.Elements.{Contains-get_or}
 use Rattle.std.proofs.lemmas.Option.{same_Some}
-use Rattle.olr_map.specs.RoadMap.{RoadMap}
-use Rattle.olr_map.specs.declared.place.Place.{Place}
-use Rattle.olr_route.specs.declared.groups.Groups.{Groups}
-use Rattle.olr_route.specs.declared.search.Search.{Search}
-use Rattle.olr_route.specs.Groups.{group_of}
+use Rattle.olr_route.proofs.Common.{RoadMap, Place, Groups, Search, group_of, rest_of_line, IsAllowed, IsOpen, EndsAt}
 use Rattle.olr_route.specs.Shortest.{AreGroups, AreTightAhead, HasUpTo, IsFirstTight, IsTightIn}
-use Rattle.olr_route.specs.Steps.{rest_of_line}
-use Rattle.olr_route.specs.Turn.{IsAllowed, IsOpen}
-use Rattle.olr_route.specs.Nodes.{EndsAt}
 use Rattle.olr_route.proofs.Lines.{starts_there, turn_there}
 
 -- ---- one group

@@ -1,24 +1,15 @@
 -- Walks of least length to the start of a line are just the tight paths to it. Taking the first
 -- tight turn again and again gives the first of them by the ids of its lines, and its pieces.
 use Rattle.std.proofs.Common.{◌≡◌, ℕ, zero, suc, ◌+◌, ◌<◌, ◌≤◌, List, [], ◌∷◌, Option, Some, None, subst, ap, sym, ◌∙◌, refl, arith, ◌++◌, length, get_or, inl, inr}
-use Rattle.olr_map.specs.Place.{IsDeparture}
-use Rattle.olr_map.specs.RoadMap.{RoadMap, IsSoundMap}
-use Rattle.olr_map.specs.declared.place.Place.{Place}
-use Rattle.olr_route.specs.declared.piece.Piece.{Piece}
-use Rattle.olr_route.specs.Walk.{length_at, pieces_of, walk_length, IsWalk, start_of, LeadTo}
-use Rattle.olr_route.specs.Least.{IsLeastLength, IsLengthWithin}
+use Rattle.olr_route.proofs.Common.{IsDeparture, RoadMap, IsSoundMap, Place, Piece, length_at, pieces_of, walk_length, IsWalk, start_of, LeadTo, IsLeastLength, IsLengthWithin, HasWalksTo, ReachesStart, rest_of_line, RoadLine, Groups, Search}
 use Rattle.olr_route.specs.Shortest.{IsTightPath, AreFirstTight, AreGroups, FollowsFirstTight, IsFirstTight, AreOnShortestPaths, IsTightIn}
-use Rattle.olr_route.specs.Reach.{HasWalksTo}
-use Rattle.olr_route.specs.Steps.{ReachesStart, rest_of_line}
 use Rattle.olr_route.proofs.Lines.{long_before_turn, long_at}
 use Rattle.olr_route.proofs.Walks.{as_walk, at_once, behind_first, first_open, lead_more, long_walk, rest_last, rest_more}
 pub use Rattle.olr_route.proofs.Walks.{departure_length}
 use Rattle.olr_route.proofs.Relaxing.{same_length}
 use Rattle.std.specs.Prelude.{unwrap_or}
 use Rattle.std.proofs.lemmas.List.{append_assoc, length-map}
-use Rattle.olr_map.specs.Rows.{RoadLine, line_ids}
-use Rattle.olr_route.specs.declared.groups.Groups.{Groups}
-use Rattle.olr_route.specs.declared.search.Search.{Search}
+use Rattle.olr_map.specs.Rows.{line_ids}
 use Rattle.std.proofs.lemmas.Bool.{cases_lt}
 use Rattle.std.proofs.lemmas.Map.Keys.{below_from_sorted, sorted_from_strictly_increasing}
 use Rattle.std.proofs.lemmas.Option.{slice_get-map, unwrap_or-slice_get, slice_get_within}

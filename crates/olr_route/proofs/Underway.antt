@@ -4,14 +4,8 @@ use Rattle.std.proofs.Common.{◌≡◌, ℕ, zero, suc, ◌+◌, ◌<◌, ◌�
 use Rattle.std.specs.Prelude.{Contains, IsPermutation, IsSome}
 use Rattle.std.proofs.lemmas.List.Elements.{All-contains}
 use Rattle.std.proofs.lemmas.List.Sorted.{Contains-permutation, IsPermutation-sym}
-use Rattle.olr_map.specs.RoadMap.{RoadMap}
-use Rattle.olr_map.specs.declared.place.Place.{Place}
-use Rattle.olr_route.specs.declared.arrival.Arrival.{Arrival}
-use Rattle.olr_route.specs.declared.search.Search.{Search}
-use Rattle.olr_route.specs.Dijkstra.{AreAllReached, Awaits, HasEnded, IsArrivalOver, IsArrived, IsPushed, MayGoOn, asked_of}
-use Rattle.olr_route.specs.Turn.{IsTurn, IsOpen}
-use Rattle.olr_route.specs.Steps.{AreWithin, ReachesStart, IsKnownWithin, IsUseful, rest_of_line}
-use Rattle.olr_route.specs.Walk.{length_at}
+use Rattle.olr_route.proofs.Common.{RoadMap, Place, Arrival, Search, AreAllReached, HasEnded, IsArrivalOver, IsArrived, IsPushed, MayGoOn, IsTurn, IsOpen, AreWithin, ReachesStart, IsKnownWithin, IsUseful, rest_of_line, length_at}
+use Rattle.olr_route.specs.Dijkstra.{Awaits, asked_of}
 use Rattle.olr_route.proofs.Walks.{useful_more, useful_within}
 
 known_within : (known : Option ℕ) (bound : ℕ) → IsSome known

@@ -2,20 +2,13 @@
 -- their steps.
 use Rattle.std.proofs.Common.{◌≡◌, ℕ, ◌+◌, ◌<◌, ◌≤◌, List, [], ◌∷◌, length, get_or, Option, Some, None, ap, subst, ◌∙◌, sym, refl, arith, Bool, false, ◌⊎◌, ◌++◌, inl, inr, length-append}
 use Rattle.std.specs.Prelude.{Contains, IsPermutation, nat_eq, slice_get}
-use Rattle.olr_map.specs.RoadMap.{RoadMap}
-use Rattle.olr_map.specs.Steps.{IsStepOf, line_ranks, step_of}
-use Rattle.olr_map.specs.declared.step.Step.{Step}
-use Rattle.olr_route.specs.declared.search.Search.{Search}
-use Rattle.olr_route.specs.Turn.{IsAllowed}
-use Rattle.olr_route.specs.Dijkstra.{IsArrivalOver, IsStepOver, AreVisited, IsDone, IsPushed, WaitsIn, own_reached}
-use Rattle.olr_route.specs.Walk.{length_at}
+use Rattle.olr_route.proofs.Common.{RoadMap, IsStepOf, line_ranks, Step, Search, IsAllowed, IsArrivalOver, IsStepOver, AreVisited, IsDone, IsPushed, WaitsIn, own_reached, length_at, Arrival, State}
+use Rattle.olr_map.specs.Steps.{step_of}
 use Rattle.olr_route.proofs.Lines.{key_differs, of_value}
 use Rattle.std.specs.HashMap.{get}
 use Rattle.std.proofs.lemmas.List.{get_or-map, length-map, map_push}
 use Rattle.std.proofs.lemmas.List.Elements.{Contains-append_left, Contains-append_right, Contains-push, Contains-push_cases}
 use Rattle.std.proofs.lemmas.List.Sorted.{Contains-permutation, IsPermutation-sym, length_permutation}
-use Rattle.olr_route.specs.declared.arrival.Arrival.{Arrival}
-use Rattle.olr_route.specs.declared.state.State.{State}
 use Rattle.olr_route.proofs.Underway.{in_front}
 
 -- ---- steps

@@ -3,16 +3,10 @@
 use Rattle.std.proofs.Common.{◌≡◌, ℕ, zero, suc, ◌+◌, ◌-◌, ◌<◌, List, [], ◌∷◌, subst, sym, ◌∙◌, refl, ap, arith, ◌≤◌, Option, Some, None}
 use Rattle.std.proofs.lemmas.List.Elements.{All-cons, All-nil}
 use Rattle.std.proofs.lemmas.List.Sums.{sum_by-cons}
-use Rattle.olr_map.specs.RoadMap.{RoadMap, IsSoundMap}
-use Rattle.olr_map.specs.declared.place.Place.{Place}
-use Rattle.olr_route.specs.declared.piece.Piece.{Piece}
-use Rattle.olr_route.specs.Turn.{IsOpen, IsTurn}
-use Rattle.olr_route.specs.Walk.{length_at, pieces_of, piece_length, walk_length, IsDrivable, IsWalk, start_of, LeadTo}
-use Rattle.olr_route.specs.Steps.{ReachesStart, rest_of_line, IsAskedFor, IsKnownWithin, IsSearch, IsRelaxed, IsUseful}
+use Rattle.olr_route.proofs.Common.{RoadMap, IsSoundMap, Place, Piece, IsOpen, IsTurn, length_at, pieces_of, walk_length, IsDrivable, IsWalk, start_of, LeadTo, ReachesStart, rest_of_line, IsAskedFor, IsKnownWithin, IsRelaxed, IsUseful, IsDeparture, IsLengthWithin, HasWalksTo}
+use Rattle.olr_route.specs.Walk.{piece_length}
+use Rattle.olr_route.specs.Steps.{IsSearch}
 use Rattle.olr_route.proofs.Lines.{long_before_turn, length_here}
-use Rattle.olr_map.specs.Place.{IsDeparture}
-use Rattle.olr_route.specs.Least.{IsLengthWithin}
-use Rattle.olr_route.specs.Reach.{HasWalksTo}
 
 pub departure_length : (road : RoadMap) (place : Place) → IsDeparture road place
     → place.at < length_at road place.line

@@ -1,9 +1,9 @@
 //! Arrivals at the ends of lines, by rising length in decimetres.
 //!
-//! So the first arrival at a node is the nearest one of those that the search doesn't leave out, and
-//! its length is the least one of these to each line
-//! that starts there and to which the turn isn't banned. To another line it is the length of the
-//! first arrival from which the turn isn't banned. What is reached stays as it is.
+//! So the first arrival at a node is the nearest one of those that the search doesn't leave out,
+//! and its length is the least one of these to each line that starts there and to which the turn
+//! isn't banned. To another line it is the length of the first arrival from which the turn isn't
+//! banned. What is reached stays as it is.
 
 ghost use Rattle.std.specs.Prelude.{◌≡◌, ◌≢◌, ◌<◌, [], ℕ, All, Contains, IfOk, IsTrue, None, Some};
 ghost use Rattle.std.specs.Prelude.{false, nat_eq};

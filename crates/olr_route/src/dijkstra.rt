@@ -1,6 +1,6 @@
 //! The least lengths from a place, by Dijkstra's search: the line whose end is nearest goes on
-//! first. A search for the lengths to some lines leaves out arrivals where a bound shows that none of
-//! them can be reached within what is left of the limit. Lengths and limits are in decimetres.
+//! first. A search for the lengths to some lines leaves out arrivals where a bound shows that none
+//! of them can be reached within what is left of the limit. Lengths and limits are in decimetres.
 
 ghost use Rattle.std.specs.Prelude.{◌≡◌, ◌<◌, ◌≤◌, ℕ, [], All, IfOk, None, Some, length, map};
 ghost use Rattle.std.specs.Prelude.{unwrap_or};
@@ -74,9 +74,9 @@ fn targets_of<'a>(search: &Search<'a>) -> &'a [u32]
     }
 }
 
-/// The lines whose start is reached from a place within the limit, each with the length of a walk to
-/// it. Of a search for all lines these are the least lengths; of one for some lines, which ends once
-/// it has reached them, those to them and along the shortest walks there.
+/// The lines whose start is reached from a place within the limit, each with the length of a walk
+/// to it. Of a search for all lines these are the least lengths; of one for some lines, which ends
+/// once it has reached them, those to them and along the shortest walks there.
 ///
 /// Its time and memory are in proportion to the lines that start at the nodes it reaches and the
 /// bans on turns from the lines that it reaches, times a logarithm, and beyond that to the nodes of
@@ -186,9 +186,9 @@ fn lines_of(alloc: Global, places: &[Place]) -> Result<Vec<u32>, NoMemory>
 /// The least lengths from a place to some others, as [`lengths_from`] finds them: the search goes
 /// towards them and ends once it has reached the start of the line of each target, so it tells the
 /// lengths to them ([`Reach::tells`]) and to no other places. Targets have to be on the map
-/// ([`is_on_map`](crate::is_on_map)). `near` changes only the time: where it narrows the search, that
-/// goes up to `near` first, and up to the limit if a target isn't reached, so the first part was in
-/// vain then.
+/// ([`is_on_map`](crate::is_on_map)). `near` changes only the time: where it narrows the search,
+/// that goes up to `near` first, and up to the limit if a target isn't reached, so the first part
+/// was in vain then.
 ///
 /// # Errors
 ///

@@ -3,8 +3,8 @@
 //! A walk goes from one place to another over lines that follow one another, each let through by a
 //! class limit. [`lengths_from`] finds the least lengths of walks from a place, in decimetres; the
 //! [`Reach`] that it returns answers the least length to any place of the map. [`lengths_to`] goes
-//! towards some places and answers for these. [`route`] answers the one walk of least length that is
-//! chosen, piece by piece. Data passes through these modules in order:
+//! towards some places and answers for these. [`route`] answers the one walk of least length that
+//! is chosen, piece by piece. Data passes through these modules in order:
 //!
 //! - [`endpoints`]: tests on the two places that a route joins.
 //! - [`turn`]: whether a line may follow another one.

@@ -44,7 +44,8 @@ pub(crate) fn length_at_end(search: &Search, place: Place, so_far: u64) -> Optio
 
 /// The arrival at the end of the line of a step, which begins after the length `so_far`. None where
 /// the class limit doesn't let the line through, where the length exceeds the limit, and where the
-/// search's goals show that no line that it is asked for can be reached from there within the limit.
+/// search's goals show that no line that it is asked for can be reached from there within the
+/// limit.
 pub(crate) fn arrival_over(search: &Search, step: Step, so_far: u64) -> Option<Arrival>
     requires { HasGoalsOnMap search.now }
     ensures { MatchOption result

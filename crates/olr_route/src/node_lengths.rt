@@ -19,8 +19,9 @@ const ROOM: usize = 1024;
 /// A length above 0, in decimetres, for each of some nodes of a map. Contracts see them by
 /// `length_of`.
 ///
-/// 16 nodes of neighbouring ranks are a block. Their lengths are on one page, which is made once one
-/// of them has a length. So a length is found by two reads, and a block without one takes 2 bytes.
+/// 16 nodes of neighbouring ranks are a block. Their lengths are on one page, which is made once
+/// one of them has a length. So a length is found by two reads, and a block without one takes 2
+/// bytes.
 #[derive(Drop)]
 pub(crate) struct NodeLengths {
     /// Of each block, the number of its page: 0 where it has none of its own.

@@ -393,8 +393,8 @@ fn tells_lengths_to_targets(rt: HostRuntime) -> Result<(), Fail> {
     Ok(())
 }
 
-/// A street of 60 nodes, which are a kilometre apart, with lines both ways: the line of rank k goes from
-/// the node of rank k to the next one.
+/// A street of 60 nodes, which are a kilometre apart, with lines both ways: the line of rank k goes
+/// from the node of rank k to the next one.
 fn long_street(alloc: Global) -> Result<Map, Fail> {
     let mut nodes = format!(in alloc; "id,lon,lat\n")?;
     let mut lines = format!(in alloc; "id,from,to,class,form,length,shape\n")?;

@@ -5,8 +5,8 @@ ghost use Rattle.std.specs.Prelude.{Some};
 use itoa::{Buffer, Integer};
 use std::fmt::{self, Display, Formatter, Write};
 
-/// A whole number in a text: `write!(text, "leg {}", Decimal(number))` adds its decimal digits, without
-/// leading zeros and behind a minus sign where it is below zero. `itoa` makes the digits.
+/// A whole number in a text: `write!(text, "leg {}", Decimal(number))` adds its decimal digits,
+/// without leading zeros and behind a minus sign where it is below zero. `itoa` makes the digits.
 #[derive(Clone, Copy)]
 pub struct Decimal<N>(pub N);
 

@@ -120,10 +120,12 @@ module _ (road : RoadMap) (tolerances : Tolerances) (next : Next) (firsts second
         elim (cases_lt count first) [
           | inl last ↦
               let same : count + 1 ≡ first = omega (arith, last, at_most) in
-              any_right (λ (pair : PairLength). (pair.first ≡ first) × (pair.second ≡ second)) pairs row
+              any_right (λ (pair : PairLength). (pair.first ≡ first) × (pair.second ≡ second)) pairs
+              row
               (rw same at (row_each second second_at_least second_at_most))
           | inr earlier ↦
-              any_left (λ (pair : PairLength). (pair.first ≡ first) × (pair.second ≡ second)) pairs row
+              any_left (λ (pair : PairLength). (pair.first ≡ first) × (pair.second ≡ second)) pairs
+              row
               (so_far.each first second at_least earlier second_at_least second_at_most)
         ];
     rise = all_pairs_append IsBeforePair pairs row so_far.rise row_rise (λ i j d before within.

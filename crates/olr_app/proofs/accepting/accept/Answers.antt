@@ -1,7 +1,5 @@
 use Rattle.std.proofs.Common.{sym, ◌∙◌, subst, inl, inr, refl, Ok, Err}
-use Rattle.olr_binary.specs.Outcome.{IsOutcome}
-use Rattle.olr_app.specs.Accepting.{Accepts, IsStart}
-use Rattle.olr_app.specs.Fault.{fault_of}
+use Rattle.olr_app.proofs.Common.{IsOutcome, Accepts, IsStart, fault_of}
 use Rattle.olr_app.proofs.Accepts.{accepted_once}
 use Rattle.olr_app.proofs.Single.{exit}
 use Rattle.olr_app.proofs.accepting.accept.Goals as goal

@@ -1,17 +1,19 @@
 use Rattle.std.proofs.Common.{string_bytes, subst}
-use Rattle.olr_candidates.specs.Points.{lists_of}
+use Rattle.olr_app.proofs.Common.{lists_of}
 use Rattle.olr_app.specs.Listing.{IsListingIn}
 use Rattle.olr_app.proofs.PointsOnMap.{lists_on_map}
 use Rattle.olr_app.proofs.listing.listing_of.Goals as goal
 
 pub printed_lists-requires : goal.printed_lists-requires
 printed_lists-requires c =
-    rw c.deref.ensures.value (lists_on_map c.args.tolerances.now c.args.reference.now c.args.map.now c.in_ok-lists.lists.items c.in_ok-lists.ensures.lists)
+    rw c.deref.ensures.value (lists_on_map c.args.tolerances.now c.args.reference.now c.args.map.now
+    c.in_ok-lists.lists.items c.in_ok-lists.ensures.lists)
 
 pub returns-clause-text : goal.returns-clause-text
 returns-clause-text c = record {
   lists = lists_of c.in_ok-lists.lists.items;
   candidates = c.in_ok-lists.ensures.lists;
-  text_is = subst (λ lists. IsListingIn c.args.format c.args.map.now (lists_of lists) (string_bytes c.in_ok-text.text))
+  text_is = subst (λ lists. IsListingIn c.args.format c.args.map.now (lists_of lists)
+      (string_bytes c.in_ok-text.text))
       c.deref.ensures.value c.in_ok-text.ensures;
 }

@@ -1,9 +1,10 @@
 use Rattle.std.proofs.Common.{◌≡◌, ◌++◌, ◌+◌, drop, string_bytes}
-use Rattle.olr_candidates.specs.Points.{lists_of}
+use Rattle.olr_app.proofs.Common.{lists_of}
 use Rattle.olr_app.specs.Listing.{point_listings}
 use Rattle.olr_app.proofs.listing.text_of_lists.Given as goal
 
 -- the text so far, with that of the points left, is the whole text
 abbrev pub invariant-loop-index : goal.invariant-loop-index
-invariant-loop-index l = string_bytes l.text ++ point_listings l.fn.map.lines (l.index + 1) (lists_of (drop l.index l.lists))
+invariant-loop-index l = string_bytes l.text
+    ++ point_listings l.fn.map.lines (l.index + 1) (lists_of (drop l.index l.lists))
     ≡ point_listings l.fn.map.lines 1 (lists_of l.lists)

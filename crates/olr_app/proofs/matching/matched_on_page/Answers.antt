@@ -1,7 +1,6 @@
 use Rattle.std.proofs.Common.{ap, ◌∙◌, length, sym}
 use Rattle.std.proofs.lemmas.Slice.Zip.{AllZip-long}
-use Rattle.olr_keys.specs.Matching.{IsKey}
-use Rattle.olr_matching.specs.Matched.{IsMatchedBy}
+use Rattle.olr_app.proofs.Common.{IsKey, IsMatchedBy}
 use Rattle.olr_report.specs.Entries.{CanBeShown}
 use Rattle.olr_app.proofs.PagesOf.{all_related}
 use Rattle.olr_app.proofs.matching.matched_on_page.Goals as goal
@@ -22,4 +21,5 @@ returns-clause-shown c =
     c.requires.keys zip
     (λ key one is_key is. rw (sym c.requires.reference)
     (c.sound_parts_can_be_shown.ensures road layers.reference one
-    (c.matchings_are_sound.ensures road layers key one c.sound.ensures c.requires.layers is_key is)))
+    (c.matchings_are_sound.ensures road layers key one c.sound.ensures c.requires.layers is_key
+    is)))

@@ -1,10 +1,6 @@
 use Rattle.std.proofs.Common.{◌≡◌, All, Contains, true, sym, subst, string_bytes}
-use Rattle.olr_matching.specs.Fingerprint.{IsFingerprint}
-use Rattle.olr_keys.specs.Matching.{IsKey}
-use Rattle.olr_keys.specs.Page.{PageValue}
-use Rattle.olr_keys.specs.declared.pages.Page.{Page}
-use Rattle.olr_app.specs.Matching.{AreLayers, ArePages, AreTextsOfPages, IsPagesText, IsPrinted}
-use Rattle.olr_app.specs.Matching.{IsStartHere, OnLayers, OnStart, values_of}
+use Rattle.olr_app.proofs.Common.{IsFingerprint, IsKey, PageValue, Page, AreLayers, ArePages, AreTextsOfPages, IsPrinted, IsStartHere, OnLayers, OnStart, values_of}
+use Rattle.olr_app.specs.Matching.{IsPagesText}
 use Rattle.olr_app.proofs.PagesOf.{keys_of_pages}
 use Rattle.olr_app.proofs.PagesOf.{fault_after, fault_here}
 use Rattle.olr_app.proofs.Single.{exit}

@@ -1,9 +1,6 @@
 use Rattle.std.proofs.Common.{List, Err, ap, refl, subst, sym}
-use Rattle.olr_keys.specs.Answers.{AreAnswers}
+use Rattle.olr_app.proofs.Common.{AreAnswers, IsPosition, KeyValue, ArePages}
 use Rattle.olr_keys.specs.AnswersOf.{answers_of}
-use Rattle.olr_keys.specs.Finder.{IsPosition}
-use Rattle.olr_keys.specs.Key.{KeyValue}
-use Rattle.olr_app.specs.Matching.{ArePages}
 use Rattle.olr_app.proofs.PagesOf.{not_here, page_fault}
 use Rattle.olr_app.proofs.Single.{exit}
 use Rattle.olr_app.proofs.matching.pages_asked.Goals as goal

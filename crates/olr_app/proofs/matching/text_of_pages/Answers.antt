@@ -8,7 +8,8 @@ loop-page-preserved c =
     let shown = one_more _ _ _ _ c.args.pages.now c.loop-page.page-index _
     (string_bytes c.loop-page.output) _ c.loop-page-test.true c.page-item.is before.2
     c.in_ok-text.ensures.text in
-    let bytes = c.in_ok-push_str.ensures.bytes ∙ ap (λ more. string_bytes c.loop-page.output ++ more) c.deref.ensures in (
+    let bytes = c.in_ok-push_str.ensures.bytes
+    ∙ ap (λ more. string_bytes c.loop-page.output ++ more) c.deref.ensures in (
       ap (λ routes. routes.road) c.text_of_page.ensures.same ∙ before.0,
       ap (λ routes. routes.layers) c.text_of_page.ensures.same ∙ before.1,
       (shown.0, shown.1, bytes ∙ shown.2),
@@ -16,5 +17,6 @@ loop-page-preserved c =
 
 pub returns : goal.returns
 returns c =
-    all_pages_shown _ _ _ _ c.args.pages.now c.loop-page.page-index (string_bytes c.loop-page.output)
+    all_pages_shown _ _ _ _ c.args.pages.now c.loop-page.page-index
+    (string_bytes c.loop-page.output)
     c.loop-page-test.false c.loop-page.invariant.2

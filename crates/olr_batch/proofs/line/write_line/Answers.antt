@@ -13,4 +13,5 @@ returns c answer is =
       c.clear.ensures.items,
       is,
     )
-    (line_is answer (bytes_of c.args.line.now.fault) (bytes_of c.args.line.now.key) c.args.line.now.record)
+    (line_is answer (bytes_of c.args.line.now.fault) (bytes_of c.args.line.now.key)
+    c.args.line.now.record)

@@ -1,10 +1,5 @@
 use Rattle.std.proofs.Common.{◌≡◌, ap, arith}
-use Rattle.olr_metric.specs.Coordinates.{coordinates_of}
-use Rattle.olr_metric.specs.Plane.{spot_of}
-use Rattle.olr_metric.specs.Polyline.{IsNearest}
-use Rattle.olr_metric.specs.declared.polyline.Near.{Near}
-use Rattle.olr_map.specs.RoadMap.{head_of}
-use Rattle.olr_candidates.specs.Projection.{polyline_of}
+use Rattle.olr_candidates.proofs.Common.{coordinates_of, spot_of, IsNearest, Near, head_of, polyline_of}
 use Rattle.olr_candidates.proofs.LineCandidates.{line_at, head_at}
 use Rattle.olr_candidates.proofs.line_projection.projection_within.Goals as goal
 

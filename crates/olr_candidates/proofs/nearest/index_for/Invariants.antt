@@ -1,5 +1,5 @@
 use Rattle.std.proofs.Common.{ℕ, ◌<◌, ◌≤◌, length, get_or}
-use Rattle.olr_candidates.specs.declared.near.NearLine.{NearLine}
+use Rattle.olr_candidates.proofs.Common.{NearLine}
 use Rattle.olr_candidates.specs.Near.{IsNearer}
 use Rattle.olr_candidates.proofs.nearest.index_for.Given as goal
 

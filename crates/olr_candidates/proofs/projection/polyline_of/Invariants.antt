@@ -1,7 +1,5 @@
 use Rattle.std.proofs.Common.{◌≡◌, length, map, take, All}
-use Rattle.olr_metric.specs.Coordinates.{coordinates_of}
-use Rattle.olr_metric.specs.Plane.{spot_of}
-use Rattle.olr_metric.specs.Spot.{IsInPlane}
+use Rattle.olr_candidates.proofs.Common.{coordinates_of, spot_of, IsInPlane}
 use Rattle.olr_candidates.proofs.projection.polyline_of.Given as goal
 
 -- the spots of the points so far

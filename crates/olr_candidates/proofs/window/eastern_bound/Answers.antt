@@ -1,7 +1,6 @@
 use Rattle.std.proofs.Common.{◌≡◌, ◌*◌, pos, ◌+ℤ◌, ◌<ℤ◌, w32, to_z, of_z, arith}
 use Rattle.std.proofs.lemmas.Int.{ints}
-use Rattle.olr_metric.specs.Coordinates.{Coordinates, coordinates_of}
-use Rattle.olr_candidates.specs.Query.{x_of}
+use Rattle.olr_candidates.proofs.Common.{Coordinates, coordinates_of, x_of}
 use Rattle.olr_candidates.proofs.WindowAround.{not_east}
 use Rattle.olr_candidates.proofs.window.eastern_bound.Goals as goal
 

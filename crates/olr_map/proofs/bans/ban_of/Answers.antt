@@ -1,7 +1,5 @@
 use Rattle.std.proofs.Common.{inl, inr, refl, sym, ap, ◌∙◌, arith}
-use Rattle.olr_map.specs.Reading.{wrong_row, unknown, apart}
-use Rattle.olr_map.specs.declared.line.Entry.{Entry}
-use Rattle.olr_map.specs.RoadMap.{ban_of}
+use Rattle.olr_map.proofs.Common.{wrong_row, unknown, apart, Entry, ban_of}
 use Rattle.olr_map.proofs.BanRows.{rank_inside, names, meets, never_meets}
 use Rattle.olr_map.proofs.Cases.{when_none}
 use Rattle.olr_map.proofs.bans.ban_of.Goals as goal

@@ -1,12 +1,12 @@
 use Rattle.std.proofs.Common.{◌≡◌, ℕ, List, ◌++◌, map, take}
 use Rattle.std.specs.Prelude.{codes, string_bytes}
 use Rattle.std.specs.List.{flat_map}
-use Rattle.olr_metric.specs.Coordinates.{coordinates_of}
-use Rattle.olr_map.specs.Canonical.{place_text}
+use Rattle.olr_map.proofs.Common.{coordinates_of, place_text}
 use Rattle.olr_map.proofs.canonical_row.push_shape.Given as goal
 
 -- the places so far are added behind the first one, each with a semicolon in front of it
 abbrev pub invariant-loop-place : goal.invariant-loop-place
 invariant-loop-place l =
     string_bytes l.text
-    ≡ string_bytes l.initial.text ++ flat_map (λ (text : List ℕ). codes ";" ++ text) (map place_text (map coordinates_of (take l.place-index l.others)))
+    ≡ string_bytes l.initial.text ++ flat_map (λ (text : List ℕ). codes ";" ++ text)
+    (map place_text (map coordinates_of (take l.place-index l.others)))

@@ -1,7 +1,5 @@
 use Rattle.std.proofs.Common.{List, subst, sym}
-use Rattle.olr_map.specs.declared.ban.Ban.{Ban}
-use Rattle.olr_map.specs.RoadMap.{AreSoundBans}
-use Rattle.olr_map.specs.Reading.{lines_of}
+use Rattle.olr_map.proofs.Common.{Ban, AreSoundBans, lines_of}
 use Rattle.olr_map.proofs.Soundness.{no_bans_are_sound}
 use Rattle.olr_map.proofs.Reported.{map_reported}
 use Rattle.olr_map.proofs.files.read_map.Goals as goal

@@ -1,7 +1,7 @@
 use Rattle.std.proofs.Common.{arith}
 use Rattle.std.proofs.lemmas.List.{length-map}
 use Rattle.std.proofs.lemmas.Result.{err_from_is_err_and}
-use Rattle.olr_map.specs.Reading.{nodes_of, lines_of, line_in}
+use Rattle.olr_map.proofs.Common.{nodes_of, lines_of, line_in}
 use Rattle.olr_map.proofs.Soundness.{bans_are_sound}
 use Rattle.olr_map.proofs.Reported.{map_reported, known_left, bans_fault}
 use Rattle.olr_map.proofs.files.read_map_with_bans.Goals as goal

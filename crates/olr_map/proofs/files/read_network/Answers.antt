@@ -1,8 +1,7 @@
 use Rattle.std.proofs.Common.{List, arith, subst, sym, ◌∙◌}
 use Rattle.std.proofs.lemmas.Result.{err_from_is_err_and}
 use Rattle.olr_map.specs.declared.node.Node.{Node as NodeByRank}
-use Rattle.olr_map.specs.RoadMap.{IsNodeSet, IsLineSet, node_of}
-use Rattle.olr_map.specs.Reading.{nodes_of, lines_of}
+use Rattle.olr_map.proofs.Common.{IsNodeSet, IsLineSet, node_of, nodes_of, lines_of}
 use Rattle.std.proofs.lemmas.List.{length-map}
 use Rattle.olr_map.proofs.Soundness.{nodes_are_sound}
 use Rattle.olr_map.proofs.Reported.{lines_fault, not_of_bans, lines_accepted}

@@ -2,8 +2,7 @@ use Rattle.std.proofs.Common.{rules, ◌≡◌, ℕ, min, max, List, get_or, sym
 use Rattle.std.proofs.lemmas.List.{take_all}
 use Rattle.std.proofs.lemmas.List.Elements.{All-more, All-same, All-weaker}
 use Rattle.std.proofs.lemmas.Option.{get_or_from_slice_get}
-use Rattle.olr_map.specs.declared.axes.Position.{Position}
-use Rattle.olr_map.specs.declared.line.Entry.{Entry}
+use Rattle.olr_map.proofs.Common.{Position, Entry}
 use Rattle.olr_map.specs.Axes.{IsBetween, StartsBetween, position_of}
 use Rattle.olr_map.proofs.goals.bounds_of.Goals as goal
 

@@ -1,7 +1,5 @@
 use Rattle.std.proofs.Common.{rules, ◌≡◌, List, map, length, refl, ap}
-use Rattle.olr_metric.specs.declared.degrees.Degrees.{Degrees}
-use Rattle.olr_metric.specs.Coordinates.{coordinates_of}
-use Rattle.olr_map.specs.Reading.{nodes_of}
+use Rattle.olr_map.proofs.Common.{Degrees, coordinates_of, nodes_of}
 use Rattle.olr_map.proofs.Adding.{late, adds}
 use Rattle.olr_map.proofs.Cases.{when_ok, when_err}
 use Rattle.olr_map.proofs.lines.add_line.Goals as goal

@@ -1,11 +1,7 @@
 use Rattle.std.proofs.Common.{rules, ◌≡◌, ℕ, List, map, length, inl, inr, refl, ap, ◌∙◌, subst}
-use Rattle.olr_metric.specs.declared.degrees.Degrees.{Degrees}
-use Rattle.olr_metric.specs.Coordinates.{Coordinates, coordinates_of}
-use Rattle.olr_records.specs.Fields.{IsLength}
-use Rattle.olr_map.specs.Rows.{SpellsAt, Node}
+use Rattle.olr_map.proofs.Common.{Degrees, Coordinates, coordinates_of, IsLength, SpellsAt, Node, SpellsLine, LineRow}
 use Rattle.olr_map.specs.Faults.{HasUnknownEnd}
-use Rattle.olr_map.specs.Reading.{SpellsLine, AreEnds}
-use Rattle.olr_map.specs.declared.rows.LineRow.{LineRow}
+use Rattle.olr_map.specs.Reading.{AreEnds}
 use Rattle.olr_map.specs.declared.lines.Ends.{Ends}
 use Rattle.olr_map.proofs.Cases.{when_some}
 use Rattle.olr_map.proofs.LineRows.{number_once, known, coordinates_joined, behind}

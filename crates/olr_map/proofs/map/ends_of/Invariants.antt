@@ -1,5 +1,5 @@
 use Rattle.std.proofs.Common.{◌≡◌, take}
-use Rattle.olr_map.specs.Whole.{ends_of}
+use Rattle.olr_map.proofs.Common.{ends_of}
 use Rattle.olr_map.proofs.map.ends_of.Given as goal
 
 abbrev pub invariant-loop-entry : goal.invariant-loop-entry

@@ -1,15 +1,8 @@
 use Rattle.std.proofs.Common.{rules, ◌≡◌, ℕ, ◌<◌, List, length, get_or, sym, refl, ◌∙◌}
 use Rattle.std.specs.List.{All, AllZip}
 use Rattle.std.proofs.lemmas.List.{length-map}
-use Rattle.olr_index.specs.ByNode.{IsGrouping}
-use Rattle.olr_index.specs.declared.window.Extent.{Extent}
-use Rattle.olr_metric.specs.declared.degrees.Degrees.{Degrees}
-use Rattle.olr_map.specs.declared.line.Entry.{Entry}
-use Rattle.olr_map.specs.Whole.{road_of, starts_of, ends_of}
-use Rattle.olr_map.specs.declared.ban.Ban.{Ban}
+use Rattle.olr_map.proofs.Common.{IsGrouping, Extent, Degrees, Entry, road_of, starts_of, ends_of, Ban, IsSoundLine, IsSoundMap, node_of, lines_in, HasExtent}
 use Rattle.olr_map.specs.declared.node.Node.{Node as NodeByRank}
-use Rattle.olr_map.specs.RoadMap.{IsSoundLine, IsSoundMap, node_of}
-use Rattle.olr_map.specs.Reading.{lines_in, HasExtent}
 use Rattle.olr_map.proofs.Sets.{starts_known, ends_known}
 use Rattle.olr_map.proofs.Steps.{lines_known}
 use Rattle.olr_map.proofs.map.map_of.Goals as goal

@@ -1,7 +1,7 @@
 use Rattle.std.proofs.Common.{◌≡◌, take}
 use Rattle.std.specs.List.{AllZip}
 use Rattle.olr_index.specs.ByExtent.{extents_of, AreInOrder}
-use Rattle.olr_map.specs.Reading.{HasExtent}
+use Rattle.olr_map.proofs.Common.{HasExtent}
 use Rattle.olr_map.proofs.placed.placed_lines.Given as goal
 
 -- the lines of the entries so far

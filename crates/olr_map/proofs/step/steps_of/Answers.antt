@@ -2,8 +2,7 @@ use Rattle.std.proofs.Common.{refl, arith}
 use Rattle.std.specs.Prelude.{◌<◌, length}
 use Rattle.std.proofs.lemmas.List.{take_all}
 use Rattle.std.proofs.lemmas.List.Elements.{All-get_or, All-push, All-same}
-use Rattle.olr_map.specs.Reading.{lines_in}
-use Rattle.olr_map.specs.Steps.{IsStepOf}
+use Rattle.olr_map.proofs.Common.{lines_in, IsStepOf}
 use Rattle.olr_map.proofs.Steps.{is_step, line_ranks_of_more}
 use Rattle.olr_map.proofs.step.steps_of.Goals as goal
 

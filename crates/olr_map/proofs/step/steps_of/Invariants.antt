@@ -1,8 +1,6 @@
 use Rattle.std.proofs.Common.{◌≡◌, List, take}
 use Rattle.std.specs.Prelude.{All}
-use Rattle.olr_metric.specs.declared.degrees.Degrees.{Degrees}
-use Rattle.olr_map.specs.Reading.{lines_in}
-use Rattle.olr_map.specs.Steps.{IsStepOf, line_ranks}
+use Rattle.olr_map.proofs.Common.{Degrees, lines_in, IsStepOf, line_ranks}
 use Rattle.olr_map.proofs.step.steps_of.Given as goal
 
 -- the steps of the lines so far

@@ -1,5 +1,5 @@
 use Rattle.std.proofs.Common.{refl, ◌∙◌}
-use Rattle.olr_map.specs.Settling.{repeat, stopped}
+use Rattle.olr_map.proofs.Common.{repeat, stopped}
 use Rattle.olr_map.proofs.Cases.{when_some, when_none}
 use Rattle.olr_map.proofs.table.first_fault.Goals as goal
 

@@ -6,12 +6,14 @@ use Rattle.olr_map.proofs.table.has_names.Goals as goal
 pub returns-then-not-has : goal.returns-then-not-has
 returns-then-not-has c =
     other_field _ _ _ _
-    (name_at _ _ _ c.loop-place-test.true ∙ ap (λ (l : List ℕ). Some l) (sym c.as_bytes.ensures.value)) c.if-not-has.ensures
+    (name_at _ _ _ c.loop-place-test.true
+    ∙ ap (λ (l : List ℕ). Some l) (sym c.as_bytes.ensures.value)) c.if-not-has.ensures
 
 pub loop-place-preserved : goal.loop-place-preserved
 loop-place-preserved c =
     one_more_field _ _ _ c.loop-place.invariant
-    (c.if-not-has.ensures ∙ ap (λ (l : List ℕ). Some l) c.as_bytes.ensures.value ∙ sym (name_at _ _ _ c.loop-place-test.true))
+    (c.if-not-has.ensures ∙ ap (λ (l : List ℕ). Some l) c.as_bytes.ensures.value
+    ∙ sym (name_at _ _ _ c.loop-place-test.true))
 
 pub returns : goal.returns
 returns c =

@@ -1,6 +1,6 @@
 use Rattle.std.proofs.Common.{[], ◌∷◌, List, length, ap, subst, ◌∙◌, arith}
 use Rattle.std.proofs.lemmas.List.{length-append}
-use Rattle.olr_map.specs.Settling.{AddsRow}
+use Rattle.olr_map.proofs.Common.{AddsRow}
 use Rattle.olr_map.proofs.Cases.{when_true, when_none}
 use Rattle.olr_map.proofs.Gathering.{collects_more}
 use Rattle.olr_map.proofs.table.read_rows.Goals as goal

@@ -7,7 +7,8 @@ invariant-loop-table g l = record {
   size : length (g.T.TableFile.rows l.table) ≡ l.count;
   at_most : l.count ≤ l.limit;
   same : g.T.TableFile.before l.table ≡ g.T.TableFile.before l.fn.table;
-  collects : Collects (g.T.TableFile.table_of (g.T.TableFile.before l.fn.table)) l.fn.records l.records (g.T.TableFile.rows l.table);
+  collects : Collects (g.T.TableFile.table_of (g.T.TableFile.before l.fn.table)) l.fn.records
+      l.records (g.T.TableFile.rows l.table);
   sound : g.T.TableFile.IsSound l.table;
 }
 

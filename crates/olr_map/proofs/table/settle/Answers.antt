@@ -1,4 +1,4 @@
-use Rattle.olr_map.specs.Settling.{repeat}
+use Rattle.olr_map.proofs.Common.{repeat}
 use Rattle.olr_map.proofs.Cases.{when_some}
 use Rattle.olr_map.proofs.table.settle.Goals as goal
 

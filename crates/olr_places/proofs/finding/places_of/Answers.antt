@@ -2,13 +2,9 @@ use Rattle.std.proofs.Common.{List, length, ap, sym, subst, ◌∙◌, arith}
 use Rattle.std.specs.List.{AllZip}
 use Rattle.std.proofs.lemmas.List.{length-map}
 use Rattle.std.proofs.lemmas.List.Elements.{All-weaker}
-use Rattle.olr_keys.specs.AnswersOf.{answers_of}
-use Rattle.olr_keys.specs.Key.{KeyValue}
+use Rattle.olr_places.proofs.Common.{answers_of, KeyValue, IsMatchedBy, ArePlacesOf, IsOpenerAt, shown_by, Shown}
 use Rattle.olr_keys.specs.Matching.{IsKey}
-use Rattle.olr_matching.specs.Matched.{IsMatchedBy}
 use Rattle.olr_matching.specs.Routes.{RoutesValue}
-use Rattle.olr_places.specs.Places.{ArePlacesOf, IsOpenerAt, shown_by}
-use Rattle.olr_places.specs.Shown.{Shown}
 use Rattle.olr_places.proofs.Paging.{at_start, enough, goes_on, looked_more, no_more, page_ended}
 use Rattle.olr_places.proofs.Rests.{all_on_page}
 use Rattle.olr_places.proofs.finding.places_of.Goals as goal

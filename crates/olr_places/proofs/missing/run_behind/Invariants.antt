@@ -1,7 +1,5 @@
 use Rattle.std.proofs.Common.{◌≡◌, ◌-◌, ◌≤◌, ◌++◌, List, nat_le}
-use Rattle.olr_report.proofs.StepLists.{stretch}
-use Rattle.olr_report.specs.Steps.{Step, steps_in}
-use Rattle.olr_places.specs.Missing.{covers, longest_run}
+use Rattle.olr_places.proofs.Common.{stretch, Step, steps_in, covers, longest_run}
 use Rattle.olr_places.proofs.missing.run_behind.Given as goal
 
 abbrev pub invariant-loop-at : goal.invariant-loop-at

@@ -1,8 +1,6 @@
 use Rattle.std.proofs.Common.{◌≡◌, Bool, false, arith, sym, ap, ◌∙◌}
 use Rattle.std.proofs.lemmas.List.Elements.{All-more}
-use Rattle.olr_places.specs.Looking.{is_close_to}
-use Rattle.olr_places.specs.Places.{shown_by}
-use Rattle.olr_places.specs.declared.opener.Opener.{Opener}
+use Rattle.olr_places.proofs.Common.{is_close_to, shown_by, Opener}
 use Rattle.olr_places.proofs.FirstPlace.{first_at, none_at}
 use Rattle.olr_places.proofs.opener.place_of.Goals as goal
 

@@ -1,8 +1,5 @@
 use Rattle.std.proofs.Common.{◌≡◌, take, false, All}
-use Rattle.olr_map.specs.RoadMap.{RoadMap}
-use Rattle.olr_places.specs.Looking.{is_close_to}
-use Rattle.olr_places.specs.Places.{shown_by}
-use Rattle.olr_places.specs.declared.opener.Opener.{Opener}
+use Rattle.olr_places.proofs.Common.{RoadMap, is_close_to, shown_by, Opener}
 use Rattle.olr_places.proofs.opener.place_of.Given as goal
 
 abbrev pub invariant-loop-index : goal.invariant-loop-index

@@ -1,4 +1,5 @@
-use Rattle.olr_route.specs.BellmanFord.{AreSound, IsOffered, sum_of}
+use Rattle.olr_route.proofs.Common.{AreSound, IsOffered}
+use Rattle.olr_route.specs.BellmanFord.{sum_of}
 use Rattle.olr_route.proofs.bellman_ford.lengths_by_rounds.Given as goal
 
 abbrev pub invariant-loop-starts : goal.invariant-loop-starts

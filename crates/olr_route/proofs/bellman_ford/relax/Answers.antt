@@ -1,10 +1,7 @@
 use Rattle.std.proofs.Common.{ℕ, get_or, subst, sym, arith}
 use Rattle.std.proofs.lemmas.List.Elements.{Contains-get_or}
 use Rattle.std.proofs.lemmas.Option.{slice_get_within}
-use Rattle.olr_route.specs.BellmanFord.{Reaches}
-use Rattle.olr_route.specs.Starts.{table_in}
-use Rattle.olr_route.specs.Steps.{IsKnownWithin}
-use Rattle.olr_route.specs.Turn.{IsAllowed}
+use Rattle.olr_route.proofs.Common.{Reaches, table_in, IsKnownWithin, IsAllowed}
 use Rattle.olr_route.proofs.Lines.{passed_over, all_ahead, turn_ahead}
 use Rattle.olr_route.proofs.Relaxing.{lowered_more}
 use Rattle.olr_route.proofs.bellman_ford.relax.Goals as goal

@@ -1,8 +1,5 @@
 use Rattle.std.proofs.Common.{ℕ, ◌<◌, get_or}
-use Rattle.olr_route.specs.BellmanFord.{IsLowered}
-use Rattle.olr_route.specs.Starts.{table_in}
-use Rattle.olr_route.specs.Steps.{IsKnownWithin}
-use Rattle.olr_route.specs.Turn.{IsAllowed}
+use Rattle.olr_route.proofs.Common.{IsLowered, table_in, IsKnownWithin, IsAllowed}
 use Rattle.olr_route.proofs.bellman_ford.relax.Given as goal
 
 -- the length was offered to the lines so far

@@ -1,8 +1,7 @@
 use Rattle.std.proofs.Common.{◌≡◌, ℕ, suc, Some, None, subst, sym, ◌∙◌, arith}
-use Rattle.olr_route.specs.BellmanFord.{IsOffered}
+use Rattle.olr_route.proofs.Common.{IsOffered, start_of}
 use Rattle.olr_route.proofs.Relaxing.{lowered_more, offered_more, same_length}
 use Rattle.olr_route.proofs.bellman_ford.relax_lines.Goals as goal
-use Rattle.olr_route.specs.Walk.{start_of}
 
 pub loop-line-preserved-in_default : goal.loop-line-preserved-in_default
 loop-line-preserved-in_default c = record {

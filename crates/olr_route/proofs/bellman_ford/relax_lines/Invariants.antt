@@ -1,9 +1,6 @@
 use Rattle.std.proofs.Common.{ℕ, ◌<◌}
-use Rattle.olr_route.specs.BellmanFord.{IsLowered, IsOffered}
-use Rattle.olr_route.specs.Starts.{table_in}
-use Rattle.olr_route.specs.Steps.{IsKnownWithin}
+use Rattle.olr_route.proofs.Common.{IsLowered, IsOffered, table_in, IsKnownWithin, start_of}
 use Rattle.olr_route.proofs.bellman_ford.relax_lines.Given as goal
-use Rattle.olr_route.specs.Walk.{start_of}
 
 -- the lines so far were relaxed
 abbrev pub invariant-loop-line : goal.invariant-loop-line

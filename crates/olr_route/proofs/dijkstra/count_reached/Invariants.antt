@@ -1,6 +1,5 @@
 use Rattle.std.proofs.Common.{◌≤◌, length}
-use Rattle.olr_route.specs.Dijkstra.{AreReachedFirst}
-use Rattle.olr_route.specs.Starts.{table_in}
+use Rattle.olr_route.proofs.Common.{AreReachedFirst, table_in}
 use Rattle.olr_route.proofs.dijkstra.count_reached.Given as goal
 
 -- those so far

@@ -1,7 +1,7 @@
 use Rattle.std.proofs.Common.{◌∙◌, subst, sym}
-use Rattle.olr_map.specs.declared.place.Place.{Place}
+use Rattle.olr_route.proofs.Common.{Place, AreLengthsOn, Lengths}
 use Rattle.std.specs.Prelude.{All}
-use Rattle.olr_route.specs.Reach.{AreLengthsOn, Lengths, Tells}
+use Rattle.olr_route.specs.Reach.{Tells}
 use Rattle.olr_route.proofs.Ending.{all_told, held_by, lines_inside}
 use Rattle.olr_route.proofs.dijkstra.lengths_to.Goals as goal
 

@@ -8,8 +8,10 @@ abbrev pub invariant-loop-number : goal.invariant-loop-number
 invariant-loop-number g l = record {
   map : l.self.on.now.map.now ≡ l.initial.self.on.now.map.now;
   asked : l.self.on.now.asked.now ≡ l.initial.self.on.now.asked.now;
-  so_far : IsWrittenTo l.initial.self.on.now.asked.now l.initial.self.on.now.map.now l.number (g.S.Source.left l.initial.input)
-      (left_of l.self.messages (g.S.Source.left l.input)) (g.O.Sink.taken l.initial.out) (g.O.Sink.taken l.out);
+  so_far : IsWrittenTo l.initial.self.on.now.asked.now l.initial.self.on.now.map.now l.number
+      (g.S.Source.left l.initial.input)
+      (left_of l.self.messages (g.S.Source.left l.input)) (g.O.Sink.taken l.initial.out)
+      (g.O.Sink.taken l.out);
   none_failed : g.O.Sink.failed l.out ≡ g.O.Sink.failed l.initial.out;
   no_input_failed : g.S.Source.failed l.input ≡ g.S.Source.failed l.initial.input;
 }

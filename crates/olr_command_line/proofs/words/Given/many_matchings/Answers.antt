@@ -5,7 +5,8 @@ use Rattle.olr_command_line.proofs.words.Given.many_matchings.Goals as goal
 
 pub returns-in_err-size-clause-refused : goal.returns-in_err-size-clause-refused
 returns-in_err-size-clause-refused c =
-    let p = err_from_is_err_and c.from_residual-in_err-size.result c.from_residual-in_err-size.ensures.1 in
+    let p = err_from_is_err_and c.from_residual-in_err-size.result
+    c.from_residual-in_err-size.ensures.1 in
     rw (p.1, p.2, c.in_err-size.ensures.refused.0) (
       (c.in_ok-tolerances.tolerances, c.in_ok-tolerances.ensures.accepted),
       refl,

@@ -4,7 +4,8 @@ use Rattle.olr_command_line.proofs.words.Given.reasons.Goals as goal
 
 pub returns-in_err-nearest-clause-refused : goal.returns-in_err-nearest-clause-refused
 returns-in_err-nearest-clause-refused c =
-    let p = err_from_is_err_and c.from_residual-in_err-nearest.result c.from_residual-in_err-nearest.ensures.1 in
+    let p = err_from_is_err_and c.from_residual-in_err-nearest.result
+    c.from_residual-in_err-nearest.ensures.1 in
     rw (p.1, p.2, c.in_err-nearest.ensures.refused.0) (
       (c.in_ok-tolerances.tolerances, c.in_ok-tolerances.ensures.accepted),
       c.in_err-nearest.ensures.refused.1,

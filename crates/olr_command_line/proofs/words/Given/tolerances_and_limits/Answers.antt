@@ -14,6 +14,7 @@ by_number given tolerances other are is = absurd is
 
 pub returns-in_err-limits-clause-refused : goal.returns-in_err-limits-clause-refused
 returns-in_err-limits-clause-refused c =
-    let p = err_from_is_err_and c.from_residual-in_err-limits.result c.from_residual-in_err-limits.ensures.1 in
+    let p = err_from_is_err_and c.from_residual-in_err-limits.result
+    c.from_residual-in_err-limits.ensures.1 in
     rw (p.1, p.2) (by_number c.args.self.now c.in_ok-tolerances.field-0 _
     c.in_ok-tolerances.ensures.accepted c.in_err-limits.ensures.refused)

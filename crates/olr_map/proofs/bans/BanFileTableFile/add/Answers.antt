@@ -1,6 +1,5 @@
 use Rattle.std.proofs.Common.{rules, ◌≡◌, length, refl, arith}
-use Rattle.olr_index.proofs.Permuted.{rising_differ}
-use Rattle.olr_map.specs.Reading.{lines_of}
+use Rattle.olr_map.proofs.Common.{rising_differ, lines_of}
 use Rattle.olr_map.proofs.BanFaults.{stops_at}
 use Rattle.olr_map.proofs.bans.BanFileTableFile.add.Goals as goal
 

@@ -1,5 +1,5 @@
 use Rattle.std.proofs.Common.{List, subst, sym}
-use Rattle.olr_map.specs.declared.axes.Position.{Position}
+use Rattle.olr_map.proofs.Common.{Position}
 use Rattle.olr_map.specs.Axes.{AreDeficits}
 use Rattle.olr_map.proofs.Outside.{goals_on}
 use Rattle.olr_map.proofs.goals.Goals.new.Goals as goal
@@ -7,7 +7,8 @@ use Rattle.olr_map.proofs.goals.Goals.new.Goals as goal
 pub returns-clause-goals : goal.returns-clause-goals
 returns-clause-goals c nodes points bans =
     let deficits = c.args.axes.now.deficits in
-    let are = subst (λ (positions : List Position). AreDeficits c.args.entries.now positions deficits) (sym c.deref-positions.ensures.value) c.requires.deficits in
+    let are = subst (λ (positions : List Position). AreDeficits c.args.entries.now positions
+    deficits) (sym c.deref-positions.ensures.value) c.requires.deficits in
     let north = c.new-north.ensures in
     let east = c.new-east.ensures in
     goals_on nodes _ _ bans _ _ _ _ _ _ _

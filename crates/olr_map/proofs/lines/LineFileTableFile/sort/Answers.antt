@@ -11,6 +11,7 @@ returns c =
     option_cases _ _ c.in_ok-repeat.repeat c.in_ok-repeat.ensures
     (λ sorts. (
       sorted_lines lines.points.items lines.entries.items entries.items sorts,
-      sorted_are_sound lines (record { entries = entries; points = lines.points }) refl sorts.same c.requires.sound,
+      sorted_are_sound lines (record { entries = entries; points = lines.points }) refl sorts.same
+          c.requires.sound,
     ))
     (λ place first. rw (ids_of_entries lines.points.items lines.entries.items) first)

@@ -6,4 +6,5 @@ use Rattle.olr_map.proofs.map.Map.band.Goals as goal
 pub returns : goal.returns
 returns c =
     band_of _ _ _ _ c.window.ensures.sound
-    (rw (to_z-of_z w32 c.args.low c.ranges.low, to_z-of_z w32 c.args.high c.ranges.high) at c.window.ensures.window)
+    (rw (to_z-of_z w32 c.args.low c.ranges.low, to_z-of_z w32 c.args.high c.ranges.high) at
+    c.window.ensures.window)

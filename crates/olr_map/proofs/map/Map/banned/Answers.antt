@@ -1,7 +1,6 @@
 use Rattle.std.proofs.Common.{◌≡◌, ℕ, Some, subst, arith}
 use Rattle.std.specs.Prelude.{MatchOption, slice_get, Contains}
-use Rattle.olr_map.specs.Rows.{ban_keys}
-use Rattle.olr_map.specs.RoadMap.{ban_of}
+use Rattle.olr_map.proofs.Common.{ban_keys, ban_of}
 use Rattle.olr_map.proofs.Banned.{is_there, answered}
 use Rattle.olr_map.proofs.map.Map.banned.Goals as goal
 

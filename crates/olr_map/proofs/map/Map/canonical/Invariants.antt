@@ -1,7 +1,7 @@
 use Rattle.std.proofs.Common.{◌≡◌, take}
 use Rattle.std.specs.Prelude.{string_bytes}
 use Rattle.std.specs.List.{concat}
-use Rattle.olr_map.specs.Canonical.{canonical_rows}
+use Rattle.olr_map.proofs.Common.{canonical_rows}
 use Rattle.olr_map.proofs.map.Map.canonical.Given as goal
 
 -- the text is that of the rows so far

@@ -1,8 +1,6 @@
 use Rattle.std.proofs.Common.{List, length, ap, arith}
 use Rattle.std.proofs.lemmas.List.{length-map}
-use Rattle.olr_map.specs.Reading.{line_in}
-use Rattle.olr_map.specs.RoadMap.{RoadMap}
-use Rattle.olr_map.specs.declared.line.Entry.{Entry}
+use Rattle.olr_map.proofs.Common.{line_in, RoadMap, Entry}
 use Rattle.olr_map.proofs.map.Map.goals.Goals as goal
 
 pub new-requires : goal.new-requires
@@ -22,4 +20,5 @@ new-requires c =
 pub returns-clause-goals : goal.returns-clause-goals
 returns-clause-goals c =
     let inside = c.self.inside in
-    rw (← c.self.view_is) (rw (← c.deref.ensures.value) (c.new.ensures.goals inside.nodes.items inside.points.items inside.bans))
+    rw (← c.self.view_is) (rw (← c.deref.ensures.value)
+    (c.new.ensures.goals inside.nodes.items inside.points.items inside.bans))

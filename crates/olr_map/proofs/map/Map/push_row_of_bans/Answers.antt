@@ -1,8 +1,7 @@
 use Rattle.std.proofs.Common.{◌-◌, get_or, arith}
 use Rattle.std.specs.Prelude.{codes, string_bytes}
 use Rattle.std.proofs.lemmas.Option.{slice_get-get_or}
-use Rattle.olr_map.specs.RoadMap.{ban_of}
-use Rattle.olr_map.specs.Canonical.{ban_fields}
+use Rattle.olr_map.proofs.Common.{ban_of, ban_fields}
 use Rattle.olr_map.proofs.CanonicalRows.{row_added}
 use Rattle.olr_map.proofs.map.Map.push_row_of_bans.Goals as goal
 
@@ -11,6 +10,7 @@ returns-in_ok-push_ban c =
     let road = c.args.self.now in
     let place = c.args.number - 1 in
     let old = string_bytes c.args.text.now in
-    row_added (ban_fields road.lines) (codes "bans") road.bans c.args.number (get_or road.bans place (ban_of 0 0)) old (λ none. omega arith)
+    row_added (ban_fields road.lines) (codes "bans") road.bans c.args.number
+    (get_or road.bans place (ban_of 0 0)) old (λ none. omega arith)
     (slice_get-get_or road.bans place (ban_of 0 0) (omega arith))
     (cc (c.in_ok-push_ban.ensures, c.bans-bans.ensures.bans))

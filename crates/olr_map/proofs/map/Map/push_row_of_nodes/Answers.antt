@@ -1,7 +1,6 @@
 use Rattle.std.proofs.Common.{arith}
 use Rattle.std.specs.Prelude.{codes, string_bytes}
-use Rattle.olr_map.specs.RoadMap.{node_of}
-use Rattle.olr_map.specs.Canonical.{node_fields}
+use Rattle.olr_map.proofs.Common.{node_of, node_fields}
 use Rattle.olr_map.proofs.CanonicalRows.{row_added}
 use Rattle.olr_map.proofs.map.Map.push_row_of_nodes.Goals as goal
 

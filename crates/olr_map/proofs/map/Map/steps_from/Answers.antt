@@ -2,8 +2,7 @@ use Rattle.std.proofs.Common.{rules, ◌≡◌, ◌-◌, ◌≤◌, ℕ, List, d
 use Rattle.std.specs.Prelude.{slice_range}
 use Rattle.std.specs.List.{concat}
 use Rattle.std.proofs.lemmas.List.{drop-map, length-map, take-map}
-use Rattle.olr_map.specs.Steps.{line_ranks}
-use Rattle.olr_map.specs.declared.step.Step.{Step}
+use Rattle.olr_map.proofs.Common.{line_ranks, Step}
 use Rattle.olr_map.proofs.Sets.{starts_of_entries}
 use Rattle.olr_map.proofs.map.Map.steps_from.Goals as goal
 

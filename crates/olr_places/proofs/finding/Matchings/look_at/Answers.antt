@@ -3,7 +3,7 @@ use Rattle.std.proofs.lemmas.List.{length_push}
 use Rattle.std.proofs.lemmas.Iterator.Adapters.{YieldsList-from_vec}
 use Rattle.std.proofs.lemmas.Iterator.Consumers.{YieldsList-end, YieldsList-turn}
 use Rattle.std.proofs.lemmas.Slice.Zip.{AllZip-long}
-use Rattle.olr_matching.specs.Matched.{IsMatchedBy}
+use Rattle.olr_places.proofs.Common.{IsMatchedBy}
 use Rattle.olr_places.proofs.Paging.{all_looked, ends_within, next_looked, none_looked}
 use Rattle.olr_places.proofs.Rests.{matched_at}
 use Rattle.olr_places.proofs.finding.Matchings.look_at.Goals as goal

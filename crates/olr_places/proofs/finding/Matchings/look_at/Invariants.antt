@@ -1,5 +1,5 @@
 use Rattle.std.proofs.Common.{◌≡◌, ◌+◌, length, All}
-use Rattle.olr_places.specs.Places.{IsOpenerAt}
+use Rattle.olr_places.proofs.Common.{IsOpenerAt}
 use Rattle.olr_places.proofs.Paging.{HaveLooked}
 use Rattle.olr_places.proofs.finding.Matchings.look_at.Given as goal
 

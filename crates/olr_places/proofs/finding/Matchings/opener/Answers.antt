@@ -1,6 +1,6 @@
 use Rattle.std.proofs.Common.{rules, sym, subst}
 use Rattle.olr_report.specs.Entries.{HasLocation}
-use Rattle.olr_report.specs.declared.locating.Located.{Located}
+use Rattle.olr_places.proofs.Common.{Located}
 use Rattle.olr_places.proofs.finding.Matchings.opener.Goals as goal
 
 pub returns-clause-entry : goal.returns-clause-entry

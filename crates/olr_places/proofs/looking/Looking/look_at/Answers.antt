@@ -2,14 +2,8 @@ use Rattle.std.proofs.Common.{◌≡◌, ◌<◌, ◌≤◌, List, ◌∷◌, []
 use Rattle.std.proofs.lemmas.Bool.{eq-eqb, le-leb, le-ltb, lt-ltb, ne_eqb}
 use Rattle.std.proofs.lemmas.List.{length-map}
 use Rattle.std.proofs.lemmas.List.Elements.{All-push}
-use Rattle.olr_map.specs.RoadMap.{RoadMap}
-use Rattle.olr_places.specs.Looking.{gap_of}
-use Rattle.olr_places.specs.Places.{IsOpenerAt, shown_by}
-use Rattle.olr_places.specs.Shown.{Shown}
+use Rattle.olr_places.proofs.Common.{RoadMap, gap_of, IsOpenerAt, shown_by, Shown, PlaceLimits, Looking, Opener}
 use Rattle.olr_places.specs.Steps.{Stands, gap_behind, with_gap}
-use Rattle.olr_places.specs.declared.limits.PlaceLimits.{PlaceLimits}
-use Rattle.olr_places.specs.declared.looking.Looking.{Looking}
-use Rattle.olr_places.specs.declared.opener.Opener.{Opener}
 use Rattle.olr_places.proofs.LookSteps.{beyond_ends, full_ends, gap_at_first, more_kept, stands_with_member, stands_with_opener}
 use Rattle.olr_places.proofs.looking.Looking.look_at.Goals as goal
 

@@ -1,6 +1,5 @@
 use Rattle.std.proofs.Common.{None, subst, sym, ap, ◌∙◌, arith, ◌+◌, ◌-◌}
-use Rattle.olr_route.specs.Least.{IsLeastLength}
-use Rattle.olr_route.specs.declared.search.Search.{Search}
+use Rattle.olr_route.proofs.Common.{IsLeastLength, Search}
 use Rattle.olr_route.proofs.SharedRoutes.{along, least_within, none_through, least_moved, none_moved}
 use Rattle.olr_route.proofs.reach.Reach.length_from.Goals as goal
 

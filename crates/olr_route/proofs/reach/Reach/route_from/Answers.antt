@@ -1,6 +1,6 @@
 use Rattle.std.proofs.Common.{None, ap, sym, ◌∙◌}
 use Rattle.std.proofs.lemmas.Option.{slice_get_within}
-use Rattle.olr_route.specs.declared.search.Search.{Search}
+use Rattle.olr_route.proofs.Common.{Search}
 use Rattle.olr_route.proofs.SharedRoutes.{last_drivable, route_ahead, route_followed}
 use Rattle.olr_route.proofs.reach.Reach.route_from.Goals as goal
 

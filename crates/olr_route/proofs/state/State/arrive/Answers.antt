@@ -4,13 +4,8 @@ use Rattle.std.specs.Option.{option_copied_mut}
 use Rattle.std.specs.Prelude.{All, Contains, IsSome, nat_eq, option_map, slice_get}
 use Rattle.std.proofs.lemmas.List.{length-map}
 use Rattle.std.proofs.lemmas.List.Elements.{All-contains}
-use Rattle.olr_map.specs.RoadMap.{origins_of}
-use Rattle.olr_map.specs.Steps.{IsStepOf, line_ranks}
-use Rattle.olr_map.specs.declared.step.Step.{Step}
-use Rattle.olr_route.specs.Dijkstra.{HasArrived, IsDone, banned_at}
-use Rattle.olr_route.specs.Groups.{items_in}
+use Rattle.olr_route.proofs.Common.{origins_of, IsStepOf, line_ranks, Step, HasArrived, IsDone, banned_at, items_in, node_length}
 use Rattle.olr_route.specs.NodeLengths.{length_of}
-use Rattle.olr_route.specs.Starts.{node_length}
 use Rattle.olr_route.proofs.Arrived.{arrived_done, by_parts, done_ahead, has_arrived, left_of}
 use Rattle.olr_route.proofs.Lines.{end_inside, key_differs}
 use Rattle.olr_route.proofs.Relaxing.{worth}

@@ -1,8 +1,7 @@
 use Rattle.std.proofs.Common.{◌≡◌, take}
 use Rattle.std.specs.HashMap.{get}
 use Rattle.std.specs.Prelude.{All, nat_eq}
-use Rattle.olr_map.specs.Steps.{IsStepOf, line_ranks}
-use Rattle.olr_route.specs.Dijkstra.{AreVisited, IsDone}
+use Rattle.olr_route.proofs.Common.{IsStepOf, line_ranks, AreVisited, IsDone}
 use Rattle.olr_route.proofs.state.State.try_turns.Given as goal
 
 -- the turns to the lines of the steps so far were tried
