@@ -37,6 +37,13 @@ impl Model for Layers {
 }
 
 impl Layers {
+    /// The reference whose layers these are.
+    pub fn reference(&self) -> &Reference
+        ensures { result.now ≡ self.now.reference }
+    {
+        &self.reference
+    }
+
     /// The penalties of all candidates and legs.
     pub fn table(&self) -> &Table
         ensures { result.now ≡ self.now.penalties }

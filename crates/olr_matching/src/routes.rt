@@ -84,6 +84,21 @@ impl<'a> Routes<'a> {
         }
     }
 
+    /// The map on which the routes lie.
+    pub fn map(&self) -> &'a Map
+        ensures { result.now ≡ self.now.road }
+    {
+        self.map
+    }
+
+    /// The layers whose candidates the routes join, which are those of the map.
+    pub fn layers(&self) -> &'a Layers
+        ensures layers { result.now ≡ self.now.layers }
+        ensures on_map { AreLayersOn self.now.road self.now.layers }
+    {
+        self.layers
+    }
+
     /// The parts of the matchings that have these keys, in order: what [`Layers::resolve`] answers
     /// for each. The keys have to be answers of the layers' table.
     ///
