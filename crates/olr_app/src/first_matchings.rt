@@ -1,12 +1,10 @@
 //! The first page of the matchings of a reference, for one of many references on a map.
 
-ghost use Rattle.std.specs.Prelude.{◌≡◌, IfErr, IfOk, List, None, Ok, string_bytes};
+ghost use Rattle.std.specs.Prelude.{IfErr, IfOk, List, None, Ok, string_bytes};
 ghost use Rattle.olr_binary.specs.Reference.{IsReference};
 ghost use Rattle.olr_keys.specs.Answers.{AreAnswers};
 ghost use Rattle.olr_keys.specs.Key.{KeyValue};
 ghost use Rattle.olr_keys.specs.Page.{IsPageAfter, page_of};
-ghost use Rattle.olr_matching.specs.Layers.{AreLayersOn};
-ghost use Rattle.olr_matching.specs.Searches.{AreSearchesOn};
 ghost use Rattle.olr_app.specs.FirstPage.{IsFirstPage, IsFirstPageOf};
 ghost use Rattle.olr_app.specs.Stages.{IsStageFault};
 
@@ -16,7 +14,7 @@ use crate::request::Format;
 use olr_binary::Reference;
 use olr_candidates::Tolerances;
 use olr_map::Map;
-use olr_matching::{Layers, Page, PageSize, Routes, Searches, TotalsFinder, page};
+use olr_matching::{Layers, Page, PageSize, Routes, TotalsFinder, page};
 use olr_metric::NoMemory;
 use std::alloc::Global;
 
@@ -33,35 +31,14 @@ fn first_keys(alloc: Global, layers: &Layers, size: PageSize) -> Result<Page, No
     Ok(first)
 }
 
-/// The JSON of the first page of the matchings of layers, and a line feed, by the searches that the
-/// layers were built with.
-fn first_page_of(
-    alloc: Global,
-    map: &Map,
-    layers: &Layers,
-    searches: Searches,
-    reference: &Reference,
-    size: PageSize,
-) -> Result<String, NoMemory>
-    requires layers { AreLayersOn map.now layers.now }
-    requires searches { AreSearchesOn map.now searches }
-    requires reference { layers.now.reference ≡ reference.now }
-    requires is_reference { IsReference reference.now }
+/// The JSON of the first page of the matchings of a reference on a map, and a line feed, by their
+/// routes.
+fn first_page_of(alloc: Global, routes: &mut Routes<'_>, size: PageSize) -> Result<String, NoMemory>
     ensures { IfOk result (λ output.
-        IsFirstPageOf size map.now layers.now (Ok (string_bytes output))) }
+        IsFirstPageOf size routes.old.road routes.old.layers (Ok (string_bytes output))) }
 {
-    let first = first_keys(alloc, layers, size)?;
-    let mut routes = Routes::with_searches(alloc, map, layers, searches);
-    text_of_page(
-        alloc,
-        map,
-        layers,
-        reference,
-        &mut routes,
-        &first,
-        None,
-        Format::Json,
-    )
+    let first = first_keys(alloc, routes.layers(), size)?;
+    text_of_page(alloc, routes, &first, None, Format::Json)
 }
 
 /// The JSON of the first page of the matchings of a reference on a map, and a line feed. Its
@@ -85,6 +62,7 @@ pub fn first_page(
         (IsFirstPage tolerances.now size reference.now map.now)) }
 {
     let (layers, searches) = layers_of(alloc, map, reference, tolerances)?;
-    let output = first_page_of(alloc, map, &layers, searches, reference, size)?;
+    let mut routes = Routes::with_searches(alloc, map, &layers, searches);
+    let output = first_page_of(alloc, &mut routes, size)?;
     Ok(output)
 }

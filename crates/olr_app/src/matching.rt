@@ -8,7 +8,6 @@ ghost use Rattle.olr_binary.specs.Reference.{IsReference};
 ghost use Rattle.olr_matching.specs.Fingerprint.{IsFingerprint};
 ghost use Rattle.olr_keys.specs.Matching.{IsKey};
 ghost use Rattle.olr_keys.specs.Page.{PageValue, page_of};
-ghost use Rattle.olr_matching.specs.Layers.{AreLayersOn};
 ghost use Rattle.olr_matching.specs.Matched.{IsMatchedBy};
 ghost use Rattle.olr_matching.specs.Searches.{AreSearchesOn};
 ghost use Rattle.olr_report.specs.Entries.{CanBeShown};
@@ -192,28 +191,23 @@ fn printed_page(
 /// [`NoMemory`] where the allocator refused memory.
 fn matched_on_page(
     alloc: Global,
-    map: &Map,
-    layers: &Layers,
-    reference: &Reference,
     routes: &mut Routes<'_>,
     page: &Page,
 ) -> Result<Vec<Matched>, NoMemory>
-    requires layers { AreLayersOn map.now layers.now }
-    requires reference { layers.now.reference ≡ reference.now }
-    requires map { routes.old.road ≡ map.now }
-    requires routes { routes.old.layers ≡ layers.now }
-    requires keys { All (IsKey layers.now.penalties) page.now.keys.items }
+    requires { All (IsKey routes.old.layers.penalties) page.now.keys.items }
     ensures each { IfOk result (λ matched.
-        AllZip (IsMatchedBy map.now layers.now) page.now.keys.items matched.items) }
+        AllZip (IsMatchedBy routes.old.road routes.old.layers) page.now.keys.items
+        matched.items) }
     ensures one_each { IfOk result (λ matched.
         length matched.items ≡ length page.now.keys.items) }
     ensures shown { IfOk result (λ matched.
-        All (CanBeShown map.now reference.now) matched.items) }
+        All (CanBeShown routes.old.road routes.old.layers.reference) matched.items) }
     ensures same { routes.new ≡ routes.old }
 {
     matchings_are_sound();
     sound_parts_can_be_shown();
-    sound(map);
+    sound(routes.map());
+    let _layers = routes.layers();
     let matched = routes.matched(alloc, &page.keys)?;
     Ok(matched)
 }
@@ -225,25 +219,20 @@ fn matched_on_page(
 /// [`NoMemory`] where the allocator refused memory.
 pub(crate) fn text_of_page(
     alloc: Global,
-    map: &Map,
-    layers: &Layers,
-    reference: &Reference,
     routes: &mut Routes<'_>,
     page: &Page,
     mark: Option<&Mark>,
     format: Format,
 ) -> Result<String, NoMemory>
-    requires layers { AreLayersOn map.now layers.now }
-    requires reference { layers.now.reference ≡ reference.now }
-    requires map { routes.old.road ≡ map.now }
-    requires routes { routes.old.layers ≡ layers.now }
-    requires keys { All (IsKey layers.now.penalties) page.now.keys.items }
+    requires { All (IsKey routes.old.layers.penalties) page.now.keys.items }
     ensures text { let mark = option_map (λ mark. mark.now) mark.entry in IfOk result (λ text.
-        IsTextOfPage format map.now layers.now mark (page_of page.now) (string_bytes text)) }
+        IsTextOfPage format routes.old.road routes.old.layers mark (page_of page.now)
+        (string_bytes text)) }
     ensures same { routes.new ≡ routes.old }
 {
-    let matched = matched_on_page(alloc, map, layers, reference, routes, page)?;
-    let text = printed_page(alloc, map, reference, page, &matched, mark, format)?;
+    let matched = matched_on_page(alloc, routes, page)?;
+    let reference = routes.layers().reference();
+    let text = printed_page(alloc, routes.map(), reference, page, &matched, mark, format)?;
     Ok(text)
 }
 
@@ -254,34 +243,18 @@ pub(crate) fn text_of_page(
 /// [`NoMemory`] where the allocator refused memory.
 fn text_of_pages(
     alloc: Global,
-    map: &Map,
-    layers: &Layers,
-    searches: Searches,
-    reference: &Reference,
+    routes: &mut Routes<'_>,
     pages: &[Page],
     mark: &Mark,
     format: Format,
 ) -> Result<String, NoMemory>
-    requires layers { AreLayersOn map.now layers.now }
-    requires searches { AreSearchesOn map.now searches }
-    requires reference { layers.now.reference ≡ reference.now }
-    requires keys { All (λ page. All (IsKey layers.now.penalties) page.keys.items) pages.now }
-    ensures { IfOk result (λ output. AreTextsOfPages format map.now layers.now mark.now
-        (values_of pages.now) (string_bytes output)) }
+    requires { All (λ page. All (IsKey routes.old.layers.penalties) page.keys.items) pages.now }
+    ensures { IfOk result (λ output. AreTextsOfPages format routes.old.road routes.old.layers
+        mark.now (values_of pages.now) (string_bytes output)) }
 {
-    let mut routes = Routes::with_searches(alloc, map, layers, searches);
     let mut output = String::new(alloc);
     for page in pages {
-        let text = text_of_page(
-            alloc,
-            map,
-            layers,
-            reference,
-            &mut routes,
-            page,
-            Some(mark),
-            format,
-        )?;
+        let text = text_of_page(alloc, routes, page, Some(mark), format)?;
         output.push_str(&text)?;
     }
     Ok(output)
@@ -311,15 +284,7 @@ pub(crate) fn matchings_of(
     let (layers, searches) = layers_of(alloc, map, reference, &asked.tolerances)?;
     let pages = pages_asked(alloc, &layers, asked, start)?;
     let mark = mark_of(alloc, map, asked, known, &pages)?;
-    let output = text_of_pages(
-        alloc,
-        map,
-        &layers,
-        searches,
-        reference,
-        &pages,
-        &mark,
-        asked.format,
-    )?;
+    let mut routes = Routes::with_searches(alloc, map, &layers, searches);
+    let output = text_of_pages(alloc, &mut routes, &pages, &mark, asked.format)?;
     Ok(output)
 }

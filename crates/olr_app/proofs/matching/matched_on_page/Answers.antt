@@ -1,4 +1,4 @@
-use Rattle.std.proofs.Common.{ap, ◌∙◌, length, sym}
+use Rattle.std.proofs.Common.{ap, ◌∙◌, length}
 use Rattle.std.proofs.lemmas.Slice.Zip.{AllZip-long}
 use Rattle.olr_app.proofs.Common.{IsKey, IsMatchedBy}
 use Rattle.olr_report.specs.Entries.{CanBeShown}
@@ -12,14 +12,11 @@ returns-clause-one_each c =
 
 pub returns-clause-shown : goal.returns-clause-shown
 returns-clause-shown c =
-    let road = c.args.map.now in
-    let layers = c.args.layers.now in
-    let zip = rw (c.deref.ensures.value, c.requires.routes, c.requires.map) at
-    c.in_ok-matched.ensures.matched in
+    let road = c.args.routes.now.road in
+    let layers = c.args.routes.now.layers in
+    let sound = rw c.map.ensures at c.sound.ensures in
     all_related (IsKey layers.penalties) (IsMatchedBy road layers)
-    (CanBeShown road c.args.reference.now) c.args.page.now.keys.items c.in_ok-matched.matched.items
-    c.requires.keys zip
-    (λ key one is_key is. rw (sym c.requires.reference)
-    (c.sound_parts_can_be_shown.ensures road layers.reference one
-    (c.matchings_are_sound.ensures road layers key one c.sound.ensures c.requires.layers is_key
-    is)))
+    (CanBeShown road layers.reference) c.args.page.now.keys.items c.in_ok-matched.matched.items
+    c.requires (rw c.deref.ensures.value at c.in_ok-matched.ensures.matched)
+    (λ key one is_key is. c.sound_parts_can_be_shown.ensures road layers.reference one
+    (c.matchings_are_sound.ensures road layers key one sound c.layers-layers.ensures.on_map is_key is))

@@ -42,10 +42,9 @@ returns-in_err-pages-clause-fault c =
     (fault_here (ArePages asked layers accepted.start) (IsPrinted asked road layers) why
     c.in_err-pages.ensures.fault)))
 
-pub text_of_pages-requires-clause-keys : goal.text_of_pages-requires-clause-keys
-text_of_pages-requires-clause-keys c =
-    subst (λ list. All (λ (page : Page).
-    All (IsKey c.in_ok-layers.layers.penalties) page.keys.items) list) (sym c.deref-2.ensures.value)
+pub text_of_pages-requires : goal.text_of_pages-requires
+text_of_pages-requires c =
+    rw (c.with_searches-routes.ensures, c.deref-2.ensures.value)
     (keys_of_pages c.args.asked.now c.in_ok-layers.layers c.args.accepted.now.start
     c.in_ok-pages.pages.items c.in_ok-pages.ensures.pages)
 
@@ -64,7 +63,7 @@ returns-clause-text c =
           c.deref.ensures.value c.in_ok-mark.ensures;
       texts = subst (λ list.
           AreTextsOfPages asked.format road layers mark (values_of list) output)
-          c.deref-2.ensures.value c.in_ok-output.ensures;
+          c.deref-2.ensures.value (rw c.with_searches-routes.ensures at c.in_ok-output.ensures);
     } in (
       c.args.accepted.now.start,
       c.in_ok-known.ensures.here,

@@ -6,12 +6,11 @@ pub loop-page-preserved : goal.loop-page-preserved
 loop-page-preserved c =
     let before = c.loop-page.invariant in
     let shown = one_more _ _ _ _ c.args.pages.now c.loop-page.page-index _
-    (string_bytes c.loop-page.output) _ c.loop-page-test.true c.page-item.is before.2
-    c.in_ok-text.ensures.text in
+    (string_bytes c.loop-page.output) _ c.loop-page-test.true c.page-item.is before.1
+    (rw before.0 at c.in_ok-text.ensures.text) in
     let bytes = c.in_ok-push_str.ensures.bytes
     ∙ ap (λ more. string_bytes c.loop-page.output ++ more) c.deref.ensures in (
-      ap (λ routes. routes.road) c.text_of_page.ensures.same ∙ before.0,
-      ap (λ routes. routes.layers) c.text_of_page.ensures.same ∙ before.1,
+      c.text_of_page.ensures.same ∙ before.0,
       (shown.0, shown.1, bytes ∙ shown.2),
     )
 
@@ -19,4 +18,4 @@ pub returns : goal.returns
 returns c =
     all_pages_shown _ _ _ _ c.args.pages.now c.loop-page.page-index
     (string_bytes c.loop-page.output)
-    c.loop-page-test.false c.loop-page.invariant.2
+    c.loop-page-test.false c.loop-page.invariant.1
