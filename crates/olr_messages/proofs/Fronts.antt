@@ -38,12 +38,6 @@ held_front line part held =
     ap (λ (l : List ℕ). line ++ l) (take-min _ _) ∙ sym room
     ∙ ap (λ (k : ℕ). take k (line ++ part)) whole
 
--- the front of a front is that front
-pub front_again : (line : List ℕ) → front_of (front_of line) ≡ front_of line
-front_again line =
-    ap front_of (sym (append-nil (front_of line))) ∙ front_of-front_of _ _
-    ∙ ap front_of (append-nil line)
-
 pub front_short : (line : List ℕ) → length (front_of line) ≤ 65538
 unfolding front_of
 front_short line = omega (arith, length-take 65538 line)

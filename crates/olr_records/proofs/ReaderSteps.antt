@@ -61,11 +61,6 @@ source_known : (reader : Reader (Bor (List ℕ))) → has_failed reader ≡ fals
     × (source_of known reader ≡ Some text)
 source_known reader works = chosen _ _ _ _ works
 
--- after a read, what is left is what is in the buffer and behind it
-source_after : (reader : Reader (Bor (List ℕ))) → reader.bom_checked ≡ true
-    → source_of known reader ≡ pending_of (known reader.rdr) reader
-source_after reader checked = rw checked refl
-
 left_is : (reader : Reader (Bor (List ℕ))) (text : List ℕ) → source_of known reader ≡ Some text
     → records_left reader ≡ records_in (reader_state reader) (Some text)
 unfolding records_left

@@ -56,18 +56,6 @@ negative_fits (suc k) small = record { sfits = omega arith }
 negated : (n : ℕ) → n < 10 ^ 16 → to_z w64 (of_z w64 (pos 0 -ℤ to_z w64 n)) ≡ neg_ℤ (pos n)
 negated n small = rw (plain n small, +ℤ_idl (neg_ℤ (pos n))) (to_z-of_z (negative_fits n small))
 
--- a number without a sign
-pub is_plain : (text : List ℕ) (byte : ℕ) (n : ℕ) (rest : Option (List ℕ))
-    → Begins (λ front. IsNumber front n) byte text rest → n < 10 ^ 16
-    → Begins (λ front. IsSignedNumber front (to_z w64 n)) byte text rest
-is_plain text byte n rest begins small =
-    record {
-      front = begins.front;
-      whole = begins.whole;
-      spelled =
-          inl (n, begins.spelled, plain n small);
-    }
-
 -- and one behind a sign
 pub is_negative : {text : List ℕ} (digits : List ℕ) {byte : ℕ} (n : ℕ) {rest : Option (List ℕ)}
     → text ≡ 45 ∷ digits → Begins (λ front. IsNumber front n) byte digits rest → n < 10 ^ 16
