@@ -13,9 +13,6 @@ use Rattle.olr_metric.proofs.Nearests.{spot_at, start_at, end_at}
 abbrev pub AreBefore : List Spot → ℕ → ℕ → Type 0
 AreBefore spots s n = (j : ℕ) → j < n → arc_at spots (suc j) < s
 
-pub none_before : (spots : List Spot) (s : ℕ) → AreBefore spots s 0
-none_before spots s j lt = absurd (omega arith)
-
 pub one_more_before : (spots : List Spot) (s n : ℕ) → AreBefore spots s n → arc_at spots (n + 1) < s
     → AreBefore spots s (n + 1)
 one_more_before spots s n before next j lt = elim (cases_lt j n) [

@@ -43,8 +43,7 @@ some_turned (suc k) d some =
 pub some_sector : (d : Direction) → d ≢ zero_direction → (s : ℕ) × IsSector d s
 some_sector d there =
     let q = quarter _ _ there in
-    subst (λ e. (s : ℕ) × IsSector e s) (sym q.is)
-    (some_turned q.turn _ (some_in_quarter q.a _ q.up))
+    rw (sym q.is) at (some_turned q.turn _ (some_in_quarter q.a _ q.up))
 
 -- a direction lies in one sector at most
 IsInOne : Direction → Type 0
@@ -66,7 +65,7 @@ one_turned (suc k) d one = λ s t is_s is_t.
 
 one_of_quarter : (d : Direction) → Quarter d → IsInOne d
 unfolding IsInOne
-one_of_quarter d q = subst IsInOne (sym q.is)
+one_of_quarter d q = rw (sym q.is) at
     (one_turned q.turn (ray_to q.a q.b) (λ s t is_s is_t. one_in_quarter q.a _ s t q.up is_s is_t))
 
 -- the zero direction lies in none
@@ -79,7 +78,7 @@ no_sector s is = none_of (ray (s + 1)) is.ends
 pub one_sector : (d : Direction) (s t : ℕ) → IsSector d s → IsSector d t → s ≡ t
 unfolding IsInOne
 one_sector d s t is_s is_t = one_of_quarter d
-    (quarter _ _ (λ same. no_sector s (subst (λ e. IsSector e s) same is_s))) s t is_s is_t
+    (quarter _ _ (λ same. no_sector s (rw same at is_s))) s t is_s is_t
 
 -- The sector of a direction by that of the direction of the first quarter that it is turned back
 -- to. In each it goes so far along the axes.

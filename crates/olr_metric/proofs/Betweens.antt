@@ -23,22 +23,22 @@ floor_of_positive : (m d : ℕ) → pos 0 ≤ℤ floor (pos m) d
 floor_of_positive m d = omega (arith, ints)
 
 floor_of_negative : (m d : ℕ) → 0 < d → floor (neg_ℤ (pos m)) d ≤ℤ pos 0
-floor_of_negative zero d some = let none : 0 / d ≡ 0 = omega arith in rw none (omega (arith, ints))
-floor_of_negative (suc m) d some = omega (arith, ints)
+floor_of_negative zero d some = let none : 0 / d ≡ 0 = omega arith in rw none _
+floor_of_negative (suc m) d some = omega arith
 
 lies : (a b d : ℤ) (part whole : ℕ) → b -ℤ a ≡ d → part ≤ whole → 0 < whole
     → IsBetween a b (a +ℤ floor (d *ℤ pos part) whole)
 lies a b (pos n) part whole is within some =
-    step_up a b (floor (pos n *ℤ pos part) whole) n is (share_near (pos n) part whole within some)
-    (floor_of_positive (n * part) whole)
+    step_up a b _ n is (share_near (pos n) _ _ within some)
+    (floor_of_positive _ _)
 lies a b (negsuc n) part whole is within some =
-    step_down a b (floor (negsuc n *ℤ pos part) whole) n is
-    (share_near (negsuc n) part whole within some) (floor_of_negative (suc n * part) whole some)
+    step_down a b _ n is
+    (share_near (negsuc n) _ _ within some) (floor_of_negative _ _ some)
 
 -- what lies between two numbers is from the one to the other
 pub lies_between : (a b : ℤ) {part whole : ℕ} → part ≤ whole → 0 < whole
     → IsBetween a b (between a b part whole)
-lies_between a b {part} {whole} within some = lies a b (b -ℤ a) part whole refl within some
+lies_between a b {part} {whole} within some = lies a b _ _ _ refl within some
 
 near_up : (a b x : ℤ) (m : ℕ) → nat_abs a ≤ m → nat_abs b ≤ m → (a ≤ℤ x) × (x ≤ℤ b) → nat_abs x ≤ m
 near_up a b x m near_a near_b lies = omega (arith, ints)
@@ -62,7 +62,7 @@ between_is a b d share part whole is_d is_share small_a small_d within some =
     let is = simp (small_is d small_d) at is_share in
     rw (
       small_is a (omega arith),
-      small_is _ (share_at_most d share is small_d within some),
+      small_is _ (share_at_most d _ is small_d within some),
       is,
       is_d,
     ) refl

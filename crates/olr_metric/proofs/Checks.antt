@@ -1,4 +1,4 @@
--- Of checks that are made one after the other, the first one that fails is one, or all pass.
+-- At most one check of a list is the first to fail, and there is one unless all pass.
 use Rattle.std.proofs.Common.{◌≡◌, List, [], ◌∷◌, ◌++◌, inl, inr, refl, sym, ◌∙◌}
 use Rattle.olr_metric.specs.Checks.{Check, needs, forbids, Passes, Fails, Each, AllPass, Refuses, EachFault}
 

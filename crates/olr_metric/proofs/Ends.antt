@@ -30,7 +30,7 @@ negative m e = refl
 
 whole_displacement : (w : ℤ) (e : ℕ) → 0 < e → floor (w *ℤ pos e) e ≡ w
 whole_displacement (pos n) e some =
-    ap pos (subst (λ (k : ℕ). k / e ≡ n) (omega arith) (quotient n e 0 some))
+    ap pos (subst (λ k. k / e ≡ n) (omega arith) (quotient n e 0 some))
 whole_displacement (negsuc n) (suc e) some =
     let below : suc n * suc e ≡ suc (n * suc e + e) = omega arith in
     rw (below, negative _ _) (ap negsuc (quotient n _ e (omega arith)))
@@ -55,7 +55,6 @@ last_segment {spots} {i} {b} polyline segment reaches =
           let next = slice_get-get_or _ _ b more in
           absurd (omega (
             arith,
-            reaches,
             arc_within spots (suc (suc i)),
             arc_segment spots (suc i) b (get_or spots (suc (suc i)) b) segment.end next,
             distance_positive b _ (polyline.apart (suc i) b (get_or spots (suc (suc i)) b)
@@ -71,9 +70,9 @@ starts spots spot polyline is =
     let some = distance_positive _ _ (polyline.apart is.i is.a is.b is.at_arc.segment) in
     let same = same_spot _ _ (no_part _ _ _ some) (no_part _ _ _ some) in
     let zero_part : 0 - arc_at spots is.i ≡ 0 = omega arith in
-    let spot_is = is.spot_of ∙ ap (λ (k : ℕ). spot_between is.a is.b k (distance is.a is.b))
+    let spot_is = is.spot_of ∙ ap (λ k. spot_between is.a is.b k (distance is.a is.b))
     zero_part ∙ same in
-    rw spot_is (subst (λ (k : ℕ). slice_get spots k ≡ Some is.a) none is.at_arc.segment.start)
+    rw spot_is (rw none at is.at_arc.segment.start)
 
 pub ends : (spots : List Spot) (spot : Spot) → IsPolyline spots → IsAlong spots (arc spots) spot
     → slice_get spots (length spots - 1) ≡ Some spot
@@ -84,10 +83,10 @@ ends spots spot polyline is =
     omega (
       arith,
       arc_within spots (suc is.i),
-      arc_segment spots is.i is.a is.b
+      arc_segment spots is.i _ _
           is.at_arc.segment.start is.at_arc.segment.end,
     ) in
     let same = same_spot _ _ (whole_part _ _ _ some) (whole_part _ _ _ some) in
-    let spot_is = is.spot_of ∙ ap (λ (k : ℕ). spot_between is.a is.b k (distance is.a is.b)) rest
+    let spot_is = is.spot_of ∙ ap (λ k. spot_between is.a is.b k (distance is.a is.b)) rest
     ∙ same in
-    rw spot_is (subst (λ (k : ℕ). slice_get spots k ≡ Some is.b) last is.at_arc.segment.end)
+    rw spot_is (rw last at is.at_arc.segment.end)

@@ -15,7 +15,7 @@ floor_near (negsuc a) d m positive near = omega (arith, div_below a d m positive
 pub floor_product_near : (z : ℤ) (n d m : ℕ) → 0 < d → nat_abs z * n ≤ m * d
     → nat_abs (floor (z *ℤ pos n) d) ≤ m
 floor_product_near z n d m positive near =
-    floor_near _ d m positive (rw (unsigned_abs-mul z (pos n)) near)
+    floor_near _ d m positive (rw (unsigned_abs-mul z _) near)
 
 -- a part of a displacement is no longer than the whole
 pub share_near : (d : ℤ) (part whole : ℕ) → part ≤ whole → 0 < whole

@@ -26,9 +26,9 @@ pub foot_read : (spots : List Spot) (p : Spot) (i : ℕ) (spot d : Spot)
     → spot ≡ foot p (get_or spots i d) (get_or spots (i + 1) d) → IsFoot spots p i spot
 foot_read spots p i spot d is a b start end =
     let one : i + 1 ≡ suc i = omega arith in
-    is ∙ ap (λ (k : ℕ). foot p (get_or spots i d) (get_or spots k d)) one
-    ∙ ap (λ (s : Spot). foot p s (get_or spots (suc i) d)) (get_or_from_slice_get _ i a d start)
-    ∙ ap (λ (s : Spot). foot p a s) (get_or_from_slice_get spots (suc i) b d end)
+    is ∙ ap (λ k. foot p (get_or spots i d) (get_or spots k d)) one
+    ∙ ap (λ s. foot p s (get_or spots (suc i) d)) (get_or_from_slice_get _ i a d start)
+    ∙ ap (foot p a) (get_or_from_slice_get spots (suc i) b d end)
 
 -- and a segment is no nearer than a number whose square is at most that of the distance of the foot
 pub no_nearer_read : (spots : List Spot) (p : Spot) (i : ℕ) (d : Spot) (least : ℕ)
@@ -38,14 +38,13 @@ pub no_nearer_read : (spots : List Spot) (p : Spot) (i : ℕ) (d : Spot) (least 
     → least ≤ distance p (foot p a b)
 no_nearer_read spots p i d least low a b start end =
     let at = foot p (get_or spots i d) (get_or spots (i + 1) d) in
-    subst (λ (s : Spot). least ≤ distance p s) (foot_read _ p i _ d refl a b start end)
-    (root_at_least _ _ low)
+    rw (foot_read _ p i _ d refl a b start end) at (root_at_least _ _ low)
 
 -- the distance to that foot is the distance from that segment
 pub gap_of_foot : (spots : List Spot) (p : Spot) (i : ℕ) (spot : Spot) (gap : ℕ)
     → IsFoot spots p i spot → gap ≡ distance p spot → IsGap spots p i gap
 gap_of_foot spots p i spot gap is gap_is a b start end = gap_is
-    ∙ ap (λ (s : Spot). distance p s) (is a b start end)
+    ∙ ap (distance p) (is a b start end)
 
 -- of the first n segments the one of number i is the first that is nearest to p
 pub record IsNearestOf (spots : List Spot) (p : Spot) (n i gap : ℕ) : Type 0 where
@@ -53,16 +52,6 @@ pub record IsNearestOf (spots : List Spot) (p : Spot) (n i gap : ℕ) : Type 0 w
   pub is_gap : IsGap spots p i gap
   pub least : (j : ℕ) (c d : Spot) → j < n → IsSegment spots j c d → gap ≤ distance p (foot p c d)
   pub first : (j : ℕ) (c d : Spot) → j < i → IsSegment spots j c d → gap < distance p (foot p c d)
-
-pub nearest_one : (spots : List Spot) (p : Spot) (gap : ℕ) → IsGap spots p 0 gap
-    → IsNearestOf spots p 1 0 gap
-nearest_one spots p gap is = record {
-  within = omega arith;
-  is_gap = is;
-  least = λ j c d lt segment. let none : j ≡ 0 = omega arith in
-      omega (arith, is c d (rw none at segment.start) (rw none at segment.end));
-  first = λ j c d lt segment. absurd (omega arith);
-}
 
 -- the next one is nearer
 pub nearest_next : {spots : List Spot} {p : Spot} {n i gap next : ℕ} → IsNearestOf spots p n i gap

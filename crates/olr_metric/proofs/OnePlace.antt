@@ -23,7 +23,7 @@ pos_is : {a b : ℕ} → pos a ≡ pos b → a ≡ b
 pos_is same = ap nat_abs same
 
 negsuc_is : {a b : ℕ} → negsuc a ≡ negsuc b → a ≡ b
-negsuc_is {a = a} {b = b} same = let abs : suc a ≡ suc b = ap nat_abs same in omega arith
+negsuc_is {a = a} {b = b} same = let abs = ap nat_abs same in omega arith
 
 -- multiples of f by different numbers are different by f at least
 apart : (a b f : ℕ) → a < b → a * f + f ≤ b * f
@@ -32,8 +32,7 @@ apart a b f less = omega (arith, mul-le (a + 1) f b f (omega arith) (omega arith
 -- numbers that are d apart at least have different quotients by d
 one_part : (m n d : ℕ) → 0 < d → m + d ≤ n → m / d ≡ n / d → ⊥
 one_part m n d some far same =
-    let low : n / d * d + m % d ≡ m =
-    subst (λ (q : ℕ). q * d + m % d ≡ m) same (div-add-mod' m d) in
+    let low = rw same at (div-add-mod' m d) in
     omega (arith, div-add-mod' n d, mod_below m d some, mod_below n d some)
 
 one_multiple : (a b f d : ℕ) → 0 < d → d ≤ f → a * f / d ≡ b * f / d → a ≡ b
@@ -55,7 +54,7 @@ one_multiple_below a b f d some long same = neither_less
 
 negative : (m d : ℕ) → 0 < m → floor (neg_ℤ (pos m)) d ≡ negsuc ((m - 1) / d)
 negative zero d some = absurd (omega arith)
-negative (suc m) d some = ap (λ (k : ℕ). negsuc (k / d)) (omega arith)
+negative (suc m) d some = ap (λ k. negsuc (k / d)) (omega arith)
 
 below : (a f d : ℕ) → 0 < d → d ≤ f → floor (negsuc a *ℤ pos f) d ≡ negsuc ((suc a * f - 1) / d)
 below a f d some long = negative (suc a * f) d (omega (arith, apart 0 (suc a) f (omega arith)))
@@ -77,8 +76,8 @@ pub one_place : (origin a b : Coordinates) → IsLatitude origin.lat
     → spot_of origin a ≡ spot_of origin b → a ≡ b
 one_place origin a b is same =
     let long : 10000000 ≤ 11132 * scale_of origin.lat = omega (arith, scale_at_least _ is) in
-    let lon = same_displacement origin.lon
-    (same_part _ _ _ _ (omega arith) long (ap (λ (s : Spot). s.x) same)) in
+    let lon = same_displacement _
+    (same_part _ _ _ _ (omega arith) long (ap (λ s. s.x) same)) in
     let lat = same_displacement _ (same_part _ _ _ _ (omega arith) (omega arith)
-    (ap (λ (s : Spot). s.y) same)) in
+    (ap (λ s. s.y) same)) in
     λ i. record { lon = lon i; lat = lat i }

@@ -71,9 +71,9 @@ module _ {X : Type 0} (R : X → X → Type 0) (one_way : (a b : X) → R a b �
       → AreFirst Such xs → AreFirst Such ys → xs ≡ ys
   same_beginning [] [] Such many one other = refl
   same_beginning (x ∷ xs) (y ∷ ys) Such many one other =
-      let same : x ≡ y = first_alike _ x y _ _ one other in
+      let same = first_alike _ x y _ _ one other in
       let again : AreFirst Such (x ∷ ys) = rw same other in
-      let rest : xs ≡ ys = same_beginning xs ys (λ z. Such z × R x z) (omega arith)
+      let rest = same_beginning xs ys (λ z. Such z × R x z) (omega arith)
       (behind_it _ x _ one)
       (behind_it _ x _ again) in
       cc
@@ -92,8 +92,8 @@ module _ {X : Type 0} (R : X → X → Type 0) (one_way : (a b : X) → R a b �
       same_beginning xs ys (Contains xs)
       (omega (
         arith,
-        no_longer xs ys (differ xs rise_x) left,
-        no_longer ys xs (differ ys rise_y)
+        no_longer _ _ (differ xs rise_x) left,
+        no_longer _ _ (differ ys rise_y)
             right,
       ))
       (record { only = All-contains_itself xs; rise = rise_x; others = λ z is. inl is })
@@ -111,7 +111,7 @@ module _ {X : Type 0} (R : X → X → Type 0) (one_way : (a b : X) → R a b �
         → length (filter (λ z. test z x) xs) ≡ 0
     none_kept x [] none = refl
     none_kept x (y ∷ xs) none =
-        let fails : test y x ≡ false = false_from_ne_true _
+        let fails = false_from_ne_true _
         (λ is. none 0 y (omega arith) ((decides y x).0 is)) in
         rw fails (none_kept x xs (λ k d inside. none (suc k) d (omega arith)))
 
@@ -121,6 +121,6 @@ module _ {X : Type 0} (R : X → X → Type 0) (one_way : (a b : X) → R a b �
     place_counts [] k x rise at = absurd (none-some x at)
     place_counts (y ∷ xs) zero x rise at = none_kept x (y ∷ xs) (none_before_first y _ x (cc) rise)
     place_counts (y ∷ xs) (suc k) x rise at =
-        let before : R y x = behind_first y _ rise x
+        let before = behind_first y _ rise x
         (k, slice_get_within xs k x at, get_or_from_slice_get _ k x x at) in
         rw ((decides y x).1 before) (ap suc (place_counts xs k x (rest_rises y _ rise) at))

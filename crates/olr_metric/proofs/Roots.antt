@@ -74,7 +74,6 @@ root_at_least n k low = elim (cases_lt (root n) k) [
         arith,
         mul-le (root n + 1) (root n + 1) k k (omega arith) (omega arith),
         (root_is n).next,
-        low,
       ))
   | inr over ↦ over
 ]

@@ -18,7 +18,7 @@ zero_square (suc n) none = absurd (omega arith)
 zero_root : (n : ℕ) → root n ≡ 0 → n ≡ 0
 zero_root n none =
     let next : n < (root n + 1) * (root n + 1) = (root_is n).next in
-    let below : n < (0 + 1) * (0 + 1) = subst (λ (r : ℕ). n < (r + 1) * (r + 1)) none next in
+    let below = rw none at next in
     omega arith
 
 same_number : {x y : ℤ} → nat_abs (x -ℤ y) ≡ 0 → x ≡ y

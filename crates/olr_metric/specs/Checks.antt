@@ -1,5 +1,5 @@
--- Checks that are made one after the other, by their number in a list, each with the fault that it
--- reports. The first one that fails is the one reported.
+-- Checks that are made in the order of a list, each with the fault that it reports. The fault of
+-- the first one that fails is reported.
 use Rattle.std.specs.Prelude.{◌≡◌, ⊤, ◌⊎◌, List, [], ◌∷◌}
 
 -- a check: what it needs, or what it forbids; and its fault

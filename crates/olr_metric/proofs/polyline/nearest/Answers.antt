@@ -8,8 +8,8 @@ returns-clause-nearest c =
     is_nearest
     c.nearest_segment-segment.ensures.within c.nearest_segment-segment.ensures.nearest
     c.nearest_segment-segment.ensures.foot c.nearest_segment-segment.ensures.distance
-    (ap (λ (n : ℕ). n + c.lesser_distance-beyond_start.result) c.arc_to.ensures.arc
-    ∙ ap (λ (n : ℕ). arc_at c.args.spots.now c.nearest_segment-segment.result.segment + n)
+    (ap (λ n. n + c.lesser_distance-beyond_start.result) c.arc_to.ensures.arc
+    ∙ ap (λ n. arc_at c.args.spots.now c.nearest_segment-segment.result.segment + n)
     c.lesser_distance-beyond_start.ensures.lesser)
 
 pub returns-clause-within : goal.returns-clause-within

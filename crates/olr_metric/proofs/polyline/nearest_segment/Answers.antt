@@ -17,10 +17,8 @@ loop-segment-preserved-then-not-may_be_nearer c = record {
 
 pub loop-segment-preserved-then-square-squared : goal.loop-segment-preserved-then-square-squared
 loop-segment-preserved-then-square-squared c =
-    let gap_is : root c.square_distance-square.result ≡ distance c.args.p c.foot_on-found.result =
-    ap (λ (n : ℕ). root n) c.square_distance-square.ensures.square in
-    let gap : IsGap c.args.spots.now c.args.p c.loop-segment.segment
-    (root c.square_distance-square.result) =
+    let gap_is = ap root c.square_distance-square.ensures.square in
+    let gap =
     gap_of_foot c.args.spots.now _ c.loop-segment.segment _ _ c.foot_on-found.ensures.foot gap_is in
     let no_nearer : c.loop-segment.least ≤ root c.square_distance-square.result =
     root_at_least _ _ (omega arith) in
@@ -35,8 +33,7 @@ loop-segment-preserved-then-square-squared c =
 
 pub loop-segment-preserved : goal.loop-segment-preserved
 loop-segment-preserved c =
-    let gap_is : c.root_of-least.result ≡ distance c.args.p c.foot_on-found.result =
-    c.root_of-least.ensures.root ∙ ap (λ (n : ℕ). root n)
+    let gap_is = c.root_of-least.ensures.root ∙ ap root
     c.square_distance-square.ensures.square in
     let nearer : root c.square_distance-square.result < c.loop-segment.least =
     root_less _ _ (omega arith) in

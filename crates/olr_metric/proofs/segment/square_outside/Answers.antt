@@ -9,15 +9,13 @@ near x at_most = small_is x (omega arith)
 
 pub returns : goal.returns
 returns c =
-    let least_x =
-    simp (
+    let least_x = simp (
       near c.args.p.x c.requires.p.x,
       near c.args.a.x c.requires.a.x,
       near c.args.b.x
           c.requires.b.x,
     ) at c.outside.ensures.least in
-    let least_y =
-    simp (
+    let least_y = simp (
       near c.args.p.y c.requires.p.y,
       near c.args.a.y c.requires.a.y,
       near c.args.b.y
