@@ -15,10 +15,6 @@ use Rattle.olr_map.proofs.CanonicalTexts.{Lacks, AllLack, joined_once, map_once,
 
 -- ---- coordinates
 
-small_within : (z : ℤ) → neg_ℤ (pos 180000000) ≤ℤ z → z ≤ℤ pos 180000000 → mag z < 2 ^ 63
-small_within (pos n) low high = omega (arith, ints)
-small_within (negsuc n) low high = omega (arith, ints)
-
 -- coordinates in range are short
 record AreSmall (place : Coordinates) : Type 0 where
   lon : mag place.lon < 2 ^ 63

@@ -4,7 +4,6 @@ pub mod Zips
 pub mod Gathering
 pub mod NodeFaults
 pub mod Headers
-pub mod Cases
 pub mod Neighbours
 pub mod LineRows
 pub mod Adding

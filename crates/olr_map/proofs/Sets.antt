@@ -1,5 +1,5 @@
 -- The rows of a file by rising id.
-use Rattle.std.proofs.Common.{◌≡◌, ℕ, zero, suc, ◌<◌, List, [], ◌∷◌, map, length, get_or, refl, sym, ap, arith, Option, Some}
+use Rattle.std.proofs.Common.{◌≡◌, ℕ, zero, suc, ◌<◌, List, [], ◌∷◌, map, length, get_or, refl, sym, ap, arith, Option, Some, None, MatchOption}
 use Rattle.std.specs.Prelude.{All, slice_get, unwrap_or}
 use Rattle.std.proofs.lemmas.List.Elements.{All-head, All-tail}
 use Rattle.std.proofs.lemmas.List.Sorted.{IsPermutation-map}
@@ -71,3 +71,9 @@ module _ (nodes : ℕ) (points : List Degrees) (entries : List Entry)
 
   pub ends_known : (i : ℕ) → i < length (ends_of entries) → get_or (ends_of entries) i 0 < nodes
   ends_known = nodes_known _ _ _ (λ entry is. is.to) _ sound
+
+-- of a first repeat or of sorted rows, what follows from it
+pub option_cases : {X : Type 0} (A C : Type 0) {B D : X → Type 0} (o : Option X) → MatchOption o A B
+    → (A → C) → ((x : X) → B x → D x) → MatchOption o C D
+option_cases A C None fact none some = none fact
+option_cases A C (Some x) fact none some = some x fact

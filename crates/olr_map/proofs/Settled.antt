@@ -12,7 +12,6 @@ use Rattle.olr_index.proofs.Permuted.{sorts_differ}
 use Rattle.olr_map.specs.declared.fault.MapFault.TheVariants as fault
 use Rattle.olr_map.specs.Settling.{SpellRows, IsAmong, StopsIn, with_last, keys_read, no_memory}
 use Rattle.olr_map.proofs.Checked.{keys_length, refuses_repeat, reports, refused_of_text}
-use Rattle.olr_map.proofs.Cases.{when_some}
 use Rattle.olr_map.proofs.Zips.{zip_take, zip_at}
 
 -- the first record whose key an earlier one has, among those that spell rows
@@ -171,7 +170,7 @@ fault_settled table settled records rows stop keys why same found (repeat at fir
     let here = subst (λ (l : List ℕ). IsFirstRepeat (keys_read l stop) at) same first in
     rw e (repeat_decides _ settled _ _ _ _ found here)
 fault_settled table settled records rows stop keys why same found (stopped its is differ e) =
-    let stops = when_some _ _ _ is found in
+    let stops = rw is at found in
     let apart = subst (λ (l : List ℕ). AllDiffer (with_last l its.key)) same differ in
     rw e (stop_decides _ settled _ _ _ stops apart)
 

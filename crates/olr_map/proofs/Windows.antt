@@ -11,7 +11,6 @@ use Rattle.olr_index.specs.ByExtent.{extents_of, AreInOrder, placed_from}
 use Rattle.olr_index.specs.declared.window.PlacedLine.{PlacedLine}
 use Rattle.olr_index.proofs.ByRank.{placed_from-push, with_extent}
 use Rattle.olr_map.specs.RoadMap.{MeetsBand, MeetsWindow, RankMeetsBand, RankMeetsWindow, IsBandOf, IsWindowOf}
-use Rattle.olr_map.proofs.Cases.{when_some}
 use Rattle.olr_map.proofs.Sets.{entry_at}
 use Rattle.olr_map.proofs.Zips.{zip_push}
 use Rattle.std.proofs.lemmas.Slice.Zip.{AllZip-left, AllZip-right}
@@ -26,12 +25,12 @@ some_and P (Some x) has = (x, refl, has)
 zip_left : {A B : Type 0} (R : A → B → Type 0) (xs : List A) (ys : List B) (at : ℕ) (y : B)
     → AllZip R xs ys → slice_get ys at ≡ Some y
     → (x : A) × (slice_get xs at ≡ Some x) × R x y
-zip_left R xs ys at y all is = some_and _ _ (when_some _ _ y is (AllZip-right R xs ys all at))
+zip_left R xs ys at y all is = some_and _ _ (rw is at (AllZip-right R xs ys all at))
 
 zip_right : {A B : Type 0} (R : A → B → Type 0) (xs : List A) (ys : List B) (at : ℕ) (x : A)
     → AllZip R xs ys → slice_get xs at ≡ Some x
     → (y : B) × (slice_get ys at ≡ Some y) × R x y
-zip_right R xs ys at x all is = some_and _ _ (when_some _ _ x is (AllZip-left R xs ys all at))
+zip_right R xs ys at x all is = some_and _ _ (rw is at (AllZip-left R xs ys all at))
 
 -- ---- points and one of their coordinates
 

@@ -1,5 +1,4 @@
--- What the records of the three files spell. The fields of a record are counted from 0, its columns
--- from 1.
+-- What the records of the three files spell. The fields of a record are counted from 0.
 use Rattle.std.specs.Prelude.{◌≡◌, ℕ, ◌+◌, ◌*◌, ◌<◌, ◌≤◌, ⊤, List, [], ◌∷◌, ◌++◌, length, map, Option, Some, slice_get, codes}
 use Rattle.olr_records.specs.Records.{field_at}
 use Rattle.olr_metric.specs.Coordinates.{Coordinates}

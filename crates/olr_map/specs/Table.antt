@@ -25,7 +25,7 @@ pub record Table (Row : Type 0) : Type 1 where
 
 -- ---- the checks on a record
 
--- each of these columns of record n has a value; the first of them is this column
+-- each of these columns of record n has a value; the first of them has this number
 abbrev pub column_checks : File → ℕ → ℕ → List (Type 0) → List (Check MapFault)
 column_checks file n column [] = []
 column_checks file n column (HasValue ∷ columns) =

@@ -209,13 +209,13 @@ fn with_scales(
     })
 }
 
-/// How far two nodes a leg apart are at least on an axis of this scale and with these deficits, in
-/// decimetres.
+/// How long lines are at least, in decimetres, that lead between two nodes which are [`LEG`] apart
+/// on an axis of this scale and with these deficits.
 fn least_apart(scale: u32, deficits: u64) -> u64 {
     (LEG * u64::from(scale)).saturating_sub(deficits)
 }
 
-/// The scale of each axis on which two nodes a leg apart are the furthest at least.
+/// The scale of each axis for which this length is greatest.
 fn best_scales(
     alloc: Global,
     nodes: &[Node],

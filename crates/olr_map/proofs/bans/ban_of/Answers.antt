@@ -1,7 +1,6 @@
 use Rattle.std.proofs.Common.{inl, inr, refl, sym, ap, ◌∙◌, arith}
 use Rattle.olr_map.proofs.Common.{wrong_row, unknown, apart, Entry, ban_of}
 use Rattle.olr_map.proofs.BanRows.{rank_inside, names, meets, never_meets}
-use Rattle.olr_map.proofs.Cases.{when_none}
 use Rattle.olr_map.proofs.bans.ban_of.Goals as goal
 
 pub returns-in-Err-clause-stop : goal.returns-in-Err-clause-stop
@@ -18,7 +17,7 @@ returns-in_default-2-clause-stop c =
     (inl (
       c.in-Ok.ids.0,
       c.in-Ok.ensures.ids.from,
-      when_none _ _ c.in_default.is-0
+      rw c.in_default.is-0 at
           c.find_line.ensures,
     )) refl
 

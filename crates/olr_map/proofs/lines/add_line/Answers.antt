@@ -1,25 +1,24 @@
 use Rattle.std.proofs.Common.{rules, ◌≡◌, List, map, length, refl, ap}
 use Rattle.olr_map.proofs.Common.{Degrees, coordinates_of, nodes_of}
 use Rattle.olr_map.proofs.Adding.{late, adds}
-use Rattle.olr_map.proofs.Cases.{when_ok, when_err}
 use Rattle.olr_map.proofs.lines.add_line.Goals as goal
 
 pub returns-in_ok-push-in-Ok-2 : goal.returns-in_ok-push-in-Ok-2
 returns-in_ok-push-in-Ok-2 c =
-    let read = when_ok _ _ c.in-Ok.is c.in_ok-line.ensures in
+    let read = rw c.in-Ok.is at c.in_ok-line.ensures in
     let same = ap (λ (l : List Degrees). map coordinates_of l) c.deref.ensures.value in
-    let line = when_ok _ _ c.in-Ok-2.is
+    let line = rw c.in-Ok-2.is at
     (c.in_ok-entry.ensures.line (nodes_of c.args.nodes.now) c.args.row.now (rw same read.0)
     read.1) in
-    let within = when_ok _ _ c.in-Ok-2.is c.in_ok-entry.ensures.within in
+    let within = rw c.in-Ok-2.is at c.in_ok-entry.ensures.within in
     adds _ _ _ _ _ _ c.requires.sound c.in_ok-push-in-Ok-2.ensures.items
     c.in_ok-entry.ensures.grows.1 c.in_ok-entry.ensures.at_most within line
 
 pub returns-in-Err-2 : goal.returns-in-Err-2
 returns-in-Err-2 c =
-    let read = when_ok _ _ c.in-Ok.is c.in_ok-line.ensures in
+    let read = rw c.in-Ok.is at c.in_ok-line.ensures in
     let same = ap (λ (l : List Degrees). map coordinates_of l) c.deref.ensures.value in
-    let fault = when_err _ _ c.in-Err-2.is
+    let fault = rw c.in-Err-2.is at
     (c.in_ok-entry.ensures.line (nodes_of c.args.nodes.now) c.args.row.now (rw same read.0)
     read.1) in
     let size : c.len.result ≡ length c.args.lines.now.entries.items = search rules in

@@ -3,7 +3,6 @@ use Rattle.olr_map.proofs.Common.{Degrees, Coordinates, coordinates_of, IsLength
 use Rattle.olr_map.specs.Faults.{HasUnknownEnd}
 use Rattle.olr_map.specs.Reading.{AreEnds}
 use Rattle.olr_map.specs.declared.lines.Ends.{Ends}
-use Rattle.olr_map.proofs.Cases.{when_some}
 use Rattle.olr_map.proofs.LineRows.{number_once, known, coordinates_joined, behind}
 use Rattle.olr_map.proofs.lines.make_line.Goals as goal
 
@@ -18,7 +17,7 @@ known_ends says ends unknown = elim unknown [
 
 pub returns-then-has_equal_neighbours-clause-line : goal.returns-then-has_equal_neighbours-clause-line
 returns-then-has_equal_neighbours-clause-line c = λ nodes fields says has.
-    let ends = when_some _ _ _ c.in-Some.is has in
+    let ends = rw c.in-Some.is at has in
     let grown = c.deref.ensures.value ∙ c.in_ok-append_points.ensures in
     let at : c.len-start.result ≡ length c.args.points.now.items = search rules in
     let more = behind _ _ _ _ _ grown at refl in
@@ -57,7 +56,7 @@ returns-then-has_equal_neighbours-clause-line c = λ nodes fields says has.
 pub returns-then-row-eq0-clause-line : goal.returns-then-row-eq0-clause-line
 returns-then-row-eq0-clause-line c = λ nodes fields says has.
     inr (
-      known_ends says (when_some _ _ _ c.in-Some.is has),
+      known_ends says (rw c.in-Some.is at has),
       inl (
         subst (λ (n : ℕ). SpellsAt IsLength fields 5 n) c.if-row-eq0.true says.numbers.size,
         refl,

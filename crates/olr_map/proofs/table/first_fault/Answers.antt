@@ -1,15 +1,14 @@
 use Rattle.std.proofs.Common.{refl, ◌∙◌}
 use Rattle.olr_map.proofs.Common.{repeat, stopped}
-use Rattle.olr_map.proofs.Cases.{when_some, when_none}
 use Rattle.olr_map.proofs.table.first_fault.Goals as goal
 
 pub returns : goal.returns
 returns g c = repeat c.in-Some.place
     (rw (← (c.deref.ensures.value ∙ c.in_ok-keys.ensures))
-    (when_some _ _ _ c.in-Some.is c.in_ok-place.ensures))
+    (rw c.in-Some.is at c.in_ok-place.ensures))
     (cc)
 
 pub returns-in_default : goal.returns-in_default
 returns-in_default g c = stopped c.args.stop refl
     (rw (← (c.deref.ensures.value ∙ c.in_ok-keys.ensures))
-    (when_none _ _ c.in_default.is c.in_ok-place.ensures)) refl
+    (rw c.in_default.is at c.in_ok-place.ensures)) refl

@@ -1,7 +1,6 @@
 use Rattle.std.proofs.Common.{[], ◌∷◌, List, length, ap, subst, ◌∙◌, arith}
 use Rattle.std.proofs.lemmas.List.{length-append}
 use Rattle.olr_map.proofs.Common.{AddsRow}
-use Rattle.olr_map.proofs.Cases.{when_true, when_none}
 use Rattle.olr_map.proofs.Gathering.{collects_more}
 use Rattle.olr_map.proofs.table.read_rows.Goals as goal
 
@@ -10,8 +9,8 @@ loop-table-preserved g c =
     let inv = c.loop-table.invariant in
     let old = g.T.TableFile.rows c.loop-table.table in
     let new = g.T.TableFile.rows c.add.new.self in
-    let next = when_true _ _ _ c.if-branch.true c.in_ok-next.ensures.found in
-    let added = when_none _ _ c.in_default.is c.in_ok-stop.ensures.added in
+    let next = rw c.if-branch.true at c.in_ok-next.ensures.found in
+    let added = rw c.in_default.is at c.in_ok-stop.ensures.added in
     let adds = subst (λ (earlier : g.T.TableFile.Earlier). AddsRow (g.T.TableFile.table_of earlier)
     c.next.new.row old new) inv.same added.0 in
     record {

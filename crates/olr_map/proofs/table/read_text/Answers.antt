@@ -1,7 +1,6 @@
 use Rattle.std.proofs.Common.{refl, subst}
 use Rattle.std.proofs.lemmas.Result.{err_from_is_err_and}
 use Rattle.olr_map.proofs.Common.{Settles, keys_of}
-use Rattle.olr_map.proofs.Cases.{when_true, when_none}
 use Rattle.olr_map.proofs.Settled.{text_rows, text_fault}
 use Rattle.olr_map.proofs.table.read_text.Goals as goal
 
@@ -12,7 +11,7 @@ returns-in_err-settle-clause-fault g c =
     let table = g.T.TableFile.table_of (g.T.TableFile.before c.args.table.now) in
     let rows = g.T.TableFile.rows c.read_rows.new.table in
     let why = c.in_err-settle.field-0.0 in
-    let header = when_true _ _ _ c.if-not-branch.false c.in_ok-pass_header.ensures in
+    let header = rw c.if-not-branch.false at c.in_ok-pass_header.ensures in
     let settles =
     subst (λ (earlier : g.T.TableFile.Earlier). Settles
     (keys_of (g.T.TableFile.table_of earlier) rows) c.in_ok-stop.stop
@@ -26,7 +25,7 @@ returns-clause-rows g c =
     let table = g.T.TableFile.table_of (g.T.TableFile.before c.args.table.now) in
     let rows = g.T.TableFile.rows c.read_rows.new.table in
     let sorted = g.T.TableFile.rows c.settle.new.table in
-    let header = when_true _ _ _ c.if-not-branch.false c.in_ok-pass_header.ensures in
-    let say = when_none _ _ c.in_ok-settle.ensures.sorted.0 c.in_ok-stop.ensures.rows in
+    let header = rw c.if-not-branch.false at c.in_ok-pass_header.ensures in
+    let say = rw c.in_ok-settle.ensures.sorted.0 at c.in_ok-stop.ensures.rows in
     text_rows (cc) say
     (rw (← c.in_ok-stop.ensures.same) c.in_ok-settle.ensures.sorted.1)

@@ -1,5 +1,4 @@
 use Rattle.olr_map.proofs.Common.{repeat}
-use Rattle.olr_map.proofs.Cases.{when_some}
 use Rattle.olr_map.proofs.table.settle.Goals as goal
 
 pub returns-in-Some-clause-fault : goal.returns-in-Some-clause-fault
@@ -11,5 +10,5 @@ pub returns-in-Some-2-clause-fault : goal.returns-in-Some-2-clause-fault
 returns-in-Some-2-clause-fault g c =
     let table = g.T.TableFile.table_of (g.T.TableFile.before c.args.table.now) in
     rw c.in_default.is (repeat c.in-Some-2.place
-    (when_some _ _ _ c.in-Some-2.is c.in_ok-place.ensures)
+    (rw c.in-Some-2.is at c.in_ok-place.ensures)
     (cc))

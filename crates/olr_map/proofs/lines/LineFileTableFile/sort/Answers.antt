@@ -1,7 +1,6 @@
 use Rattle.std.proofs.Common.{refl}
 use Rattle.olr_map.proofs.Adding.{sorted_are_sound}
-use Rattle.olr_map.proofs.Cases.{option_cases}
-use Rattle.olr_map.proofs.Sets.{ids_of_entries, sorted_lines}
+use Rattle.olr_map.proofs.Sets.{option_cases, ids_of_entries, sorted_lines}
 use Rattle.olr_map.proofs.lines.LineFileTableFile.sort.Goals as goal
 
 pub returns : goal.returns

@@ -1,5 +1,4 @@
-use Rattle.olr_map.proofs.Cases.{option_cases}
-use Rattle.olr_map.proofs.Sets.{ids_of_rows, sorted_nodes}
+use Rattle.olr_map.proofs.Sets.{option_cases, ids_of_rows, sorted_nodes}
 use Rattle.olr_map.proofs.nodes.NodeFileTableFile.sort.Goals as goal
 
 pub returns : goal.returns
