@@ -3,7 +3,7 @@
 
 ghost use Rattle.std.specs.Prelude.{◌≡◌, ℕ, ◌+◌, ◌/◌, ◌^◌, ◌<◌, ◌≤◌, ◌⊎◌, length, map, slice_get, slice_index, IfOk, IfSome, MatchOption, Some, Contains};
 ghost use Rattle.std.specs.List.Sorted.{IsStrictlyIncreasing};
-ghost use Rattle.olr_index.specs.Buckets.{IsHead, AreHeads, IsIndex};
+ghost use Rattle.olr_index.specs.inner.Buckets.{IsHead, AreHeads, IsIndex};
 
 use crate::keyed::Keyed;
 use olr_metric::NoMemory;

@@ -30,7 +30,7 @@ impl<T: Keyed> Model for KeyIndex<T> {
 
     ghost Value = { List T };
 
-    ghost use Rattle.olr_index.specs.Buckets.{IsIndex};
+    ghost use Rattle.olr_index.specs.inner.Buckets.{IsIndex};
 
     ghost view = { λ index. index.items.items };
 

@@ -1,0 +1,3 @@
+-- What serves the contracts of inner functions and the invariants of types. No rule is here.
+pub mod Buckets
+pub mod Packing
