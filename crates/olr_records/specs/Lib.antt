@@ -1,7 +1,7 @@
 pub mod In
 pub mod Records
-pub mod Amount
 pub mod Fields
 pub mod Front
 pub mod Shape
 pub mod Reading
+pub mod inner

@@ -4,7 +4,7 @@ ghost use Rattle.std.specs.Prelude.{◌≡◌, ◌≤◌, ◌<◌, ◌^◌, ℕ,
 ghost use Rattle.std.specs.Prelude.{slice_index, option_map, IfSome, MatchOption};
 ghost use Rattle.std.specs.Char.{IsNotAsciiDigit};
 ghost use Rattle.std.specs.Str.Parse.{AllDigits, digits_value};
-ghost use Rattle.olr_records.specs.Amount.{IsAmount};
+ghost use Rattle.olr_records.specs.inner.Amount.{IsAmount};
 ghost use Rattle.olr_records.specs.Fields.{IsNumber, IsSignedNumber};
 ghost use Rattle.olr_records.specs.Fields.{SpellsLongitude, SpellsLatitude};
 ghost use Rattle.olr_records.specs.Front.{IsSeparator, behind, Begins};
