@@ -1,10 +1,9 @@
 -- The fields of the rows of a map's canonical text: which bytes they lack, and that they decide the
 -- node, the line or the ban.
-use Rattle.std.proofs.Common.{◌≡◌, ℕ, ℤ, ◌-◌, ◌^◌, ◌<◌, ◌≤◌, List, [], ◌∷◌, ◌++◌, length, Some, refl, sym, ap, ◌∙◌, pos, negsuc, arith, rules}
-use Rattle.std.specs.Prelude.{All, ◌≤ℤ◌, neg_ℤ, unwrap_or, slice_get, slice_index}
+use Rattle.std.proofs.Common.{◌≡◌, ℕ, ◌-◌, ◌^◌, ◌<◌, ◌≤◌, List, [], ◌∷◌, ◌++◌, length, Some, refl, sym, ap, ◌∙◌, arith, rules}
+use Rattle.std.specs.Prelude.{All, unwrap_or, slice_get, slice_index}
 use Rattle.std.specs.Fmt.{decimal, signed_decimal}
 use Rattle.std.specs.Int.Signed.{mag}
-use Rattle.std.proofs.lemmas.Int.{ints}
 use Rattle.std.proofs.lemmas.List.{length-append, length-map, take_at}
 use Rattle.std.proofs.lemmas.List.Elements.{All-drop, All-take, All-map, All-weaker}
 use Rattle.std.proofs.lemmas.Fmt.{decimal_injective, signed_decimal_injective}

@@ -1,7 +1,7 @@
 -- Lists that rise by a number of each element: a place is the number of lesser elements, and the
 -- members decide the list.
-use Rattle.std.proofs.Common.{◌≡◌, ℕ, suc, ◌<◌, ltb, List, ◌∷◌, map, length, get_or, Some, arith}
-use Rattle.std.specs.Prelude.{slice_get, filter, AllPairs, Contains}
+use Rattle.std.proofs.Common.{◌≡◌, ℕ, ◌<◌, ltb, List, map, length, Some, arith}
+use Rattle.std.specs.Prelude.{slice_get, filter, AllPairs}
 use Rattle.std.specs.List.Sorted.{IsStrictlyIncreasing, IsPermutation}
 use Rattle.std.proofs.lemmas.Bool.{lt-ltb, ltb-true}
 use Rattle.std.proofs.lemmas.List.{length-map, get_or-map}
