@@ -6,8 +6,8 @@ use Rattle.std.proofs.lemmas.List.Sorted.{length_permutation, All-permutation}
 use Rattle.std.proofs.lemmas.List.Elements.{All-head, All-tail, All-weaker, All-push}
 use Rattle.olr_map.proofs.Common.{Degrees, Coordinates, coordinates_of, MapFault, Entry, LineSet, LineRow, Node, RoadLine, IsLine, line_in, lines_of, SpellsLine, IsLateFault, lines_table, AddsRow}
 use Rattle.olr_map.proofs.LineFaults.{stops_late}
-use Rattle.olr_map.specs.Reading.{IsWithin, AreSound}
-use Rattle.olr_map.specs.Settling.{StopsAt}
+use Rattle.olr_map.specs.inner.Reading.{IsWithin, AreSound}
+use Rattle.olr_map.specs.inner.Settling.{StopsAt}
 
 -- a part of a list is that part of any longer one
 range_kept : (points more : List Degrees) (start end : ℕ) → start < end → end ≤ length points

@@ -4,7 +4,7 @@ use Rattle.std.specs.Prelude.{MatchOption, slice_get, Contains}
 use Rattle.std.proofs.lemmas.List.{length-map, get_or-map}
 use Rattle.std.proofs.lemmas.Option.{slice_get_within, slice_get-get_or}
 use Rattle.olr_map.proofs.Common.{Entry, LineSet, RoadLine, line_ids, NamesLines, IsAdjacent, ban_of, line_in, lines_of, SpellsIds}
-use Rattle.olr_map.specs.Reading.{IsRankOf}
+use Rattle.olr_map.specs.inner.Reading.{IsRankOf}
 
 -- the rank of an id, where the ids are known by another list
 pub rank_of : (lines : List RoadLine) (ids : List ℕ) (id : ℕ) (found : Option ℕ)

@@ -8,8 +8,8 @@ use Rattle.olr_metric.proofs.Checks.{each_of_both, refuses_behind, refuses_among
 use Rattle.olr_map.specs.declared.fault.MapFault.TheVariants as fault
 use Rattle.olr_map.specs.declared.rows.RowError.{RowError}
 use Rattle.olr_map.specs.Table.{column_checks}
-use Rattle.olr_map.specs.Settling.{IsOfFile}
-use Rattle.olr_map.specs.Reading.{fault_of}
+use Rattle.olr_map.specs.inner.Settling.{IsOfFile}
+use Rattle.olr_map.specs.inner.Reading.{fault_of}
 use Rattle.olr_map.specs.Files.{IsOfText}
 
 pub keys_length : {Row : Type 0} (table : Table Row) (rows : List Row)

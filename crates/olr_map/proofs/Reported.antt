@@ -6,8 +6,8 @@ use Rattle.olr_metric.specs.Counting.{one_more}
 use Rattle.olr_records.specs.declared.file.File.TheVariants.{Lines, Bans}
 use Rattle.olr_map.proofs.Common.{MapFault, Node, RoadLine, Reports, Table, IsFaultOfTable, IsSettled, RoadMap, lines_table, bans_table, IsNodeSet, IsLinesFault, IsLineSet, IsBansFault, IsBanSet, AreSoundBans}
 use Rattle.olr_map.specs.declared.fault.MapFault.TheVariants as fault
-use Rattle.olr_map.specs.Reading.{IsReadFault, HasText}
-use Rattle.olr_map.specs.Ending.{FaultOfFile, not_read, of_text}
+use Rattle.olr_map.specs.inner.Reading.{IsReadFault, HasText}
+use Rattle.olr_map.specs.inner.Ending.{FaultOfFile, not_read, of_text}
 use Rattle.olr_map.specs.Files.{Texts, file_of, IsFaultWithin, AreAccepted, AreLinesAccepted, IsMapLeft, IsFaultLeft, texts_of}
 use Rattle.olr_map.proofs.Checked.{of_file}
 use Rattle.olr_map.proofs.LineFaults.{lines_settled}

@@ -7,7 +7,7 @@ use Rattle.std.proofs.lemmas.Simd.{map-map}
 use Rattle.olr_map.proofs.Common.{Degrees, Entry, Node, node_ids, RoadLine, line_ids, IsSoundLine, node_of, Sorts, starts_of, ends_of, nodes_of, line_in, lines_in, entry_id}
 use Rattle.olr_map.specs.declared.node.Node.{Node as NodeByRank}
 use Rattle.olr_map.specs.RoadMap.{origins_of, destinations_of}
-use Rattle.olr_map.specs.Reading.{node_key}
+use Rattle.olr_map.specs.inner.Reading.{node_key}
 
 pub ids_of_rows : (rows : List NodeByRank)
     → node_ids (nodes_of rows) ≡ map (λ (row : NodeByRank). row.id) rows

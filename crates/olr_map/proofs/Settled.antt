@@ -10,7 +10,7 @@ use Rattle.olr_records.specs.Records.{records_of}
 use Rattle.olr_index.specs.Repeats.{IsFirstRepeat}
 use Rattle.olr_index.proofs.Permuted.{sorts_differ}
 use Rattle.olr_map.specs.declared.fault.MapFault.TheVariants as fault
-use Rattle.olr_map.specs.Settling.{SpellRows, IsAmong, StopsIn, with_last, keys_read, no_memory}
+use Rattle.olr_map.specs.inner.Settling.{SpellRows, IsAmong, StopsIn, with_last, keys_read, no_memory}
 use Rattle.olr_map.proofs.Checked.{keys_length, refuses_repeat, reports, refused_of_text}
 use Rattle.olr_map.proofs.Zips.{zip_take, zip_at}
 

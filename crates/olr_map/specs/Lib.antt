@@ -2,14 +2,11 @@ pub mod Rows
 pub mod Faults
 pub mod Table
 pub mod RoadMap
-pub mod Settling
 pub mod Place
-pub mod Reading
 pub mod Steps
-pub mod Whole
 pub mod Files
-pub mod Ending
 pub mod Canonical
 pub mod BansFrom
 pub mod Goals
 pub mod Axes
+pub mod inner

@@ -1,11 +1,11 @@
 //! The bans of a file.
 
 ghost use Rattle.std.specs.Prelude.{◌≡◌, ◌+◌, ◌<◌, length, IfOk, IfErr, OnOk};
-ghost use Rattle.olr_map.specs.Ending.{FaultOfFile};
+ghost use Rattle.olr_map.specs.inner.Ending.{FaultOfFile};
 ghost use Rattle.olr_map.specs.Files.{IsReadWhole};
 ghost use Rattle.olr_map.specs.Rows.{IsBan};
 ghost use Rattle.olr_map.specs.RoadMap.{IsBansFault, IsBanSet};
-ghost use Rattle.olr_map.specs.Reading.{lines_of, AreNamed, IsRankOf, StopsBan, HasText};
+ghost use Rattle.olr_map.specs.inner.Reading.{lines_of, AreNamed, IsRankOf, StopsBan, HasText};
 
 use crate::ban::Ban;
 use crate::fault::MapFault;
@@ -66,7 +66,7 @@ impl<'a> TableFile for BanFile<'a> {
     ghost use Rattle.olr_map.specs.declared.ban.Ban.{Ban};
     ghost use Rattle.olr_map.specs.Rows.{RoadLine};
     ghost use Rattle.olr_map.specs.RoadMap.{bans_table};
-    ghost use Rattle.olr_map.specs.Reading.{AreNamed};
+    ghost use Rattle.olr_map.specs.inner.Reading.{AreNamed};
 
     ghost Row = { Ban };
 

@@ -2,7 +2,7 @@
 
 ghost use Rattle.std.specs.Prelude.{◌≡◌, ◌≤◌, List, ℕ, Option, Some, None, [], IfOk, IfErr, All, length};
 ghost use Rattle.olr_records.specs.declared.file.File.TheVariants.{Bans};
-ghost use Rattle.olr_map.specs.Reading.{nodes_of, lines_of, IsWithin};
+ghost use Rattle.olr_map.specs.inner.Reading.{nodes_of, lines_of, IsWithin};
 ghost use Rattle.olr_map.specs.Files.{texts_of, file_of, AreLinesAccepted, IsMapLeft, IsFaultLeft, LeavesSource, IsReadInOrder};
 
 use crate::bans::read_bans;

@@ -6,7 +6,7 @@ ghost use Rattle.olr_map.specs.declared.ban.Ban.{Ban};
 ghost use Rattle.olr_map.specs.declared.node.Node.{Node};
 ghost use Rattle.olr_map.specs.Axes.{AreDeficits, StartsBetween, outside};
 ghost use Rattle.olr_map.specs.Goals.{AreGoalsOn};
-ghost use Rattle.olr_map.specs.Whole.{road_of};
+ghost use Rattle.olr_map.specs.inner.Whole.{road_of};
 
 use crate::axes::{Axes, Position, position_of};
 use crate::line::Entry;

@@ -1,6 +1,6 @@
 //! A line of a map.
 
-ghost use Rattle.olr_map.specs.Reading.{entry_id};
+ghost use Rattle.olr_map.specs.inner.Reading.{entry_id};
 
 use olr_index::Keyed;
 use olr_metric::Degrees;

@@ -4,13 +4,13 @@ ghost use Rattle.std.specs.Prelude.{◌≡◌, ℕ, ◌+◌, ◌<◌, ◌≤◌,
 ghost use Rattle.std.specs.Prelude.{map, length};
 ghost use Rattle.std.specs.Prelude.{All, IfOk, IfErr, OnOk, MatchBool, MatchOption, MatchResult};
 ghost use Rattle.olr_metric.specs.Coordinates.{Coordinates, coordinates_of};
-ghost use Rattle.olr_map.specs.Ending.{FaultOfFile};
+ghost use Rattle.olr_map.specs.inner.Ending.{FaultOfFile};
 ghost use Rattle.olr_map.specs.Files.{IsReadWhole};
 ghost use Rattle.olr_map.specs.Rows.{IsLine, HasEqualNeighbours, Node};
 ghost use Rattle.olr_map.specs.RoadMap.{lines_table, IsLinesFault, IsLineSet};
-ghost use Rattle.olr_map.specs.Settling.{AddsRow, StopsAt};
-ghost use Rattle.olr_map.specs.Reading.{nodes_of, line_in, lines_of, IsWithin, AreSound};
-ghost use Rattle.olr_map.specs.Reading.{SpellsLine, HasEnds, IsLineError, IsLateFault, HasText};
+ghost use Rattle.olr_map.specs.inner.Settling.{AddsRow, StopsAt};
+ghost use Rattle.olr_map.specs.inner.Reading.{nodes_of, line_in, lines_of, IsWithin, AreSound};
+ghost use Rattle.olr_map.specs.inner.Reading.{SpellsLine, HasEnds, IsLineError, IsLateFault, HasText};
 
 use crate::fault::MapFault;
 use crate::line::{Entry, Line, LineSet};

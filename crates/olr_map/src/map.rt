@@ -6,10 +6,10 @@ ghost use Rattle.olr_index.specs.ByNode.{IsGrouping, IsLinesOf};
 ghost use Rattle.olr_map.specs.BansFrom.{AreBansFrom};
 ghost use Rattle.olr_map.specs.Goals.{AreGoalsOn};
 ghost use Rattle.olr_map.specs.RoadMap.{RoadMap, IsSoundMap, origins_of, destinations_of, IsBandOf, IsWindowOf, node_of, head_of, ban_of};
-ghost use Rattle.olr_map.specs.Reading.{IsWithin};
+ghost use Rattle.olr_map.specs.inner.Reading.{IsWithin};
 ghost use Rattle.olr_map.specs.Rows.{line_ids};
 ghost use Rattle.olr_map.specs.Steps.{IsStepOf, line_ranks};
-ghost use Rattle.olr_map.specs.Whole.{road_of, starts_of, ends_of};
+ghost use Rattle.olr_map.specs.inner.Whole.{road_of, starts_of, ends_of};
 
 use crate::axes::{Axes, axes_of};
 use crate::ban::Ban;
@@ -55,7 +55,7 @@ impl Model for Map {
 
     ghost Value = { RoadMap };
 
-    ghost use Rattle.olr_map.specs.Whole.{road_of, IsWhole};
+    ghost use Rattle.olr_map.specs.inner.Whole.{road_of, IsWhole};
 
     ghost view = { λ m. road_of m.nodes.items m.entries.items m.points.items m.bans };
 

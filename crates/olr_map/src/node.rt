@@ -1,6 +1,6 @@
 //! A node of a map.
 
-ghost use Rattle.olr_map.specs.Reading.{node_key};
+ghost use Rattle.olr_map.specs.inner.Reading.{node_key};
 
 use olr_index::Keyed;
 use olr_metric::Degrees;

@@ -4,7 +4,7 @@ ghost use Rattle.std.specs.Prelude.{◌≡◌, ◌≤◌, length, IfOk, MatchOpt
 ghost use Rattle.std.specs.List.Sorted.{IsStrictlyIncreasing};
 ghost use Rattle.olr_metric.specs.Coordinates.{coordinates_of};
 ghost use Rattle.olr_map.specs.Rows.{IsNodeAt, node_ids};
-ghost use Rattle.olr_map.specs.Reading.{nodes_of};
+ghost use Rattle.olr_map.specs.inner.Reading.{nodes_of};
 
 use crate::node::Node;
 use olr_index::KeyIndex;

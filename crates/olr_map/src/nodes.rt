@@ -1,9 +1,9 @@
 //! The nodes of a file.
 
 ghost use Rattle.std.specs.Prelude.{◌≡◌, length, ◌≤◌, IfOk, IfErr, OnOk};
-ghost use Rattle.olr_map.specs.Ending.{FaultOfFile};
+ghost use Rattle.olr_map.specs.inner.Ending.{FaultOfFile};
 ghost use Rattle.olr_map.specs.Files.{IsReadWhole};
-ghost use Rattle.olr_map.specs.Reading.{nodes_of, HasText};
+ghost use Rattle.olr_map.specs.inner.Reading.{nodes_of, HasText};
 ghost use Rattle.olr_map.specs.RoadMap.{IsNodesFault, IsNodeSet};
 
 use crate::fault::MapFault;

@@ -3,7 +3,7 @@
 ghost use Rattle.std.specs.Prelude.{◌≤◌, All, IfOk, length};
 ghost use Rattle.std.specs.List.{AllZip};
 ghost use Rattle.olr_index.specs.ByExtent.{extents_of, AreInOrder};
-ghost use Rattle.olr_map.specs.Reading.{HasExtent, IsWithin};
+ghost use Rattle.olr_map.specs.inner.Reading.{HasExtent, IsWithin};
 
 use crate::line::Entry;
 use olr_index::{PlacedLine, extent_of};

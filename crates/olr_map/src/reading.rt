@@ -3,7 +3,7 @@
 ghost use Rattle.std.specs.Prelude.{ℕ};
 ghost use Rattle.olr_records.specs.Reading as of_source;
 ghost use Rattle.olr_map.specs.declared.fault.MapFault.TheVariants.{ReadFailed};
-ghost use Rattle.olr_map.specs.Reading.{IsReadFault};
+ghost use Rattle.olr_map.specs.inner.Reading.{IsReadFault};
 
 use crate::fault::MapFault;
 use olr_records::{File, ReadFault};

@@ -6,8 +6,8 @@ ghost use Rattle.olr_records.specs.Fields.{IsId, IsKind, IsLength, SpellsLongitu
 ghost use Rattle.olr_records.specs.Shape.{IsShape};
 ghost use Rattle.olr_map.specs.Rows.{SpellsAt, HasValue, IsNode};
 ghost use Rattle.olr_map.specs.RoadMap.{node_of};
-ghost use Rattle.olr_map.specs.Reading.{IsNodeError, IsLineError, IsBanError, fault_of};
-ghost use Rattle.olr_map.specs.Reading.{SpellsNumbers, SpellsLine, SpellsIds};
+ghost use Rattle.olr_map.specs.inner.Reading.{IsNodeError, IsLineError, IsBanError, fault_of};
+ghost use Rattle.olr_map.specs.inner.Reading.{SpellsNumbers, SpellsLine, SpellsIds};
 
 use crate::fault::MapFault;
 use crate::node::Node;

@@ -2,7 +2,7 @@
 
 ghost use Rattle.std.specs.Prelude.{◌≡◌, ◌<◌, All, IfOk, List, length};
 ghost use Rattle.olr_metric.specs.declared.degrees.Degrees.{Degrees};
-ghost use Rattle.olr_map.specs.Reading.{lines_in};
+ghost use Rattle.olr_map.specs.inner.Reading.{lines_in};
 ghost use Rattle.olr_map.specs.Steps.{IsStepOf, line_ranks};
 
 use crate::line::Entry;

@@ -4,11 +4,11 @@
 ghost use Rattle.std.specs.Prelude.{◌≡◌, ◌≤◌, ◌<◌, ℕ, List, [], ◌∷◌, Some, None, length, map};
 ghost use Rattle.std.specs.Prelude.{IfOk, IfErr, OnOk, MatchBool, MatchOption};
 ghost use Rattle.olr_index.specs.Repeats.{Sorts, IsFirstRepeat};
-ghost use Rattle.olr_map.specs.Ending.{FaultOfFile};
+ghost use Rattle.olr_map.specs.inner.Ending.{FaultOfFile};
 ghost use Rattle.olr_map.specs.Files.{IsReadWhole};
-ghost use Rattle.olr_map.specs.Reading.{Reports, HasText};
-ghost use Rattle.olr_map.specs.Settling.{AddsRow, StopsAt, SpellRows, StopsIn, Settles};
-ghost use Rattle.olr_map.specs.Settling.{IsSettled, with_last};
+ghost use Rattle.olr_map.specs.inner.Reading.{Reports, HasText};
+ghost use Rattle.olr_map.specs.inner.Settling.{AddsRow, StopsAt, SpellRows, StopsIn, Settles};
+ghost use Rattle.olr_map.specs.inner.Settling.{IsSettled, with_last};
 ghost use Rattle.olr_map.specs.Table.{Table, keys_of, LacksHeader, IsTableOf, IsFaultOfTable};
 
 use crate::fault::MapFault;

@@ -1,7 +1,7 @@
 use Rattle.std.proofs.Common.{rules, ◌≡◌, ℕ, List, map, length, inl, inr, refl, ap, ◌∙◌, subst}
 use Rattle.olr_map.proofs.Common.{Degrees, Coordinates, coordinates_of, IsLength, SpellsAt, Node, SpellsLine, LineRow}
 use Rattle.olr_map.specs.Faults.{HasUnknownEnd}
-use Rattle.olr_map.specs.Reading.{AreEnds}
+use Rattle.olr_map.specs.inner.Reading.{AreEnds}
 use Rattle.olr_map.specs.declared.lines.Ends.{Ends}
 use Rattle.olr_map.proofs.LineRows.{number_once, known, coordinates_joined, behind}
 use Rattle.olr_map.proofs.lines.make_line.Goals as goal

@@ -1,4 +1,4 @@
-use Rattle.olr_map.specs.Ending.{not_read}
+use Rattle.olr_map.specs.inner.Ending.{not_read}
 use Rattle.olr_map.proofs.table.read_table.Goals as goal
 
 pub returns-in-Err-clause-fault : goal.returns-in-Err-clause-fault

@@ -15,7 +15,7 @@ use Rattle.olr_map.specs.declared.axes.Axes.{Axes}
 use Rattle.olr_map.specs.Axes.{AreDeficits}
 use Rattle.olr_map.specs.RoadMap.{RoadMap, IsSoundMap}
 use Rattle.olr_map.specs.Steps.{IsStepOf, line_ranks}
-use Rattle.olr_map.specs.Reading.{nodes_of, lines_in, HasExtent, IsWithin}
+use Rattle.olr_map.specs.inner.Reading.{nodes_of, lines_in, HasExtent, IsWithin}
 
 -- the node at which each entry starts
 abbrev pub starts_of : List Entry → List ℕ

@@ -5,7 +5,7 @@ use Rattle.olr_records.specs.declared.file.File.{File}
 use Rattle.olr_map.specs.declared.fault.MapFault.{MapFault}
 use Rattle.olr_map.specs.declared.fault.MapFault.TheVariants.{ReadFailed}
 use Rattle.olr_map.specs.Files.{IsReadWhole}
-use Rattle.olr_map.specs.Reading.{IsReadFault, Reports, HasText}
+use Rattle.olr_map.specs.inner.Reading.{IsReadFault, Reports, HasText}
 
 -- The source wasn't read to its end; or it was, and the fault is one of its text, or memory was
 -- refused.
