@@ -42,32 +42,23 @@ leg_at : (road : RoadMap) (layers : LayersValue) (ranks : List ℕ) (chosen : Li
     → IsLegAt road layers chosen layer leg
 leg_at road layers ranks chosen legs count candidates they layer leg is =
     let inside : layer < length legs = slice_get_within legs layer leg is in
-    let one = slice_index_or ranks layer 0 in
-    let other = slice_index_or ranks (layer + 1) 0 in
-    let is_one : slice_get ranks layer ≡ Some one =
-    slice_get-get_or ranks layer 0 (omega (arith, inside, count)) in
-    let is_other : slice_get ranks (layer + 1) ≡ Some other = slice_get-get_or ranks (layer + 1) 0
-    (omega (arith, inside, count)) in
-    let found = they layer leg is one other is_one is_other in
+    let is_one = slice_get-get_or ranks layer 0 (omega (arith, inside, count)) in
+    let is_other = slice_get-get_or ranks (layer + 1) 0 (omega (arith, inside, count)) in
+    let found = they layer leg is _ _ is_one is_other in
     let pair = found.pair in
-    let from = slice_index_or chosen layer pair.from in
-    let to = slice_index_or chosen (layer + 1) pair.to in
-    let is_from : slice_get chosen layer ≡ Some from = slice_get-get_or chosen layer pair.from
+    let is_from = slice_get-get_or chosen layer pair.from
     (omega (arith, inside, count, candidates.count)) in
-    let is_to : slice_get chosen (layer + 1) ≡ Some to =
-    slice_get-get_or chosen (layer + 1) pair.to (omega (arith, inside, count, candidates.count)) in
-    let same_from : from ≡ pair.from =
-    same_some _ from pair.from (candidates.each layer one from is_one is_from).1
-    pair.from_is.1 in
-    let same_to : to ≡ pair.to = same_some _ to pair.to
-    (candidates.each (layer + 1) other to is_other is_to).1 pair.to_is.1 in
+    let is_to = slice_get-get_or chosen (layer + 1) pair.to
+    (omega (arith, inside, count, candidates.count)) in
     record {
       next = pair.next;
       from = pair.from;
       to = pair.to;
       leads_on = pair.leads_on;
-      from_is = is_from ∙ ap Some same_from;
-      to_is = is_to ∙ ap Some same_to;
+      from_is = is_from ∙ ap Some (same_some _ _ _ (candidates.each layer _ _ is_one is_from).1
+          pair.from_is.1);
+      to_is = is_to ∙ ap Some (same_some _ _ _ (candidates.each (layer + 1) _ _ is_other is_to).1
+          pair.to_is.1);
       leg_is = found.leg_is;
     }
 

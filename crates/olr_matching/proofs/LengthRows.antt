@@ -1,5 +1,5 @@
 -- Rows of lengths, and the searches that tell them.
-use Rattle.std.proofs.Common.{ℕ, ◌+◌, ◌*◌, ◌<◌, ◌≤◌, List, [], ◌∷◌, ◌++◌, length, get_or, inl, inr, sym, subst, ap, ◌∙◌, arith, All, Option, None, add-mul, mul-le-mul_right, one-mul}
+use Rattle.std.proofs.Common.{ℕ, ◌+◌, ◌*◌, ◌<◌, ◌≤◌, List, [], ◌∷◌, ◌++◌, length, get_or, sym, subst, ap, ◌∙◌, arith, All, Option, None, add-mul, mul-le-mul_right, one-mul}
 use Rattle.std.proofs.lemmas.List.{get_or-append-add, get_or_append_left, get_or_at, get_or-map, length-append, length-map}
 use Rattle.std.proofs.lemmas.Option.{slice_get_within}
 use Rattle.olr_matching.proofs.Common.{Candidate, IsAdmittedLength, Next, Place, Reference, RoadMap, Tolerances}
@@ -7,27 +7,8 @@ use Rattle.olr_matching.specs.LegOnMap.{IsLegFrom}
 use Rattle.olr_matching.specs.Lengths.{AreLengthsBetween, AreLengthsOfLeg, AreLengthsTo}
 use Rattle.olr_matching.specs.Searches.{places_of}
 use Rattle.olr_matching.specs.declared.leg_on_map.LegOnMap.{LegOnMap}
-use Rattle.olr_matching.proofs.Lists.{push_each, same_some}
+use Rattle.olr_matching.proofs.Lists.{push_each}
 use Rattle.olr_matching.proofs.Pairs.{one_next}
-use Rattle.olr_route.specs.Sharing.{LeadOnAlike, Serves}
-
--- a search that serves a place serves each place that a search from there serves
-pub serves_on : (road : RoadMap) (class : ℕ) (a b c : Place) → Serves road class a b
-    → Serves road class b c → Serves road class a c
-serves_on road class a b c (inl same) other = rw (sym same) at other
-serves_on road class a b c (inr alike) (inl same) =
-    subst (λ (p : Place). Serves road class a p) same (inr alike)
-serves_on road class a b c (inr (alike, nearer)) (inr (other, farther)) =
-    let line =
-    same_some _ _ _ alike.another.at other.one.at in
-    let both : LeadOnAlike road class a.line c.line = record {
-      one = alike.one;
-      another = other.another;
-      meets = alike.meets ∙ ap (λ l. l.to) line ∙ other.meets;
-      free = alike.free;
-      other_free = other.other_free;
-    } in
-    inr (both, omega arith)
 
 -- what the list of candidates is read with past its end
 abbrev pub no_candidate : Candidate

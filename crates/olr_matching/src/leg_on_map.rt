@@ -3,17 +3,14 @@
 ghost use Rattle.std.specs.Prelude.{◌≡◌, ◌+◌, ◌<◌, [], length, slice_index_or};
 ghost use Rattle.olr_binary.specs.Reference.{IsReference};
 ghost use Rattle.olr_candidates.specs.Points.{AreLists, lists_of};
-ghost use Rattle.olr_map.specs.Place.{IsDeparture};
 ghost use Rattle.olr_matching.specs.Leg.{class_limit, greatest_admitted};
-ghost use Rattle.olr_matching.specs.LegOnMap.{EndsAreOnMap, IsLegFrom};
-ghost use Rattle.olr_route.specs.Sharing.{Serves};
+ghost use Rattle.olr_matching.specs.LegOnMap.{IsLegFrom};
 
 use crate::leg::{self, next_of};
 use arrayvec::ArrayVec;
 use olr_binary::{Next, Reference};
 use olr_candidates::{Candidate, MAX_CANDIDATES, Tolerances, places};
-use olr_map::{Map, Place};
-use olr_route::shares_search;
+use olr_map::Map;
 
 /// A leg of a reference on a map, between the candidates of its two points.
 #[derive(Clone, Copy)]
@@ -39,29 +36,6 @@ impl LegOnMap<'_> {
         ensures { result ≡ greatest_admitted self.now.tolerances self.now.next }
     {
         leg::greatest_admitted(&self.tolerances, &self.next)
-    }
-
-    /// Where the search begins that serves a first candidate, of this place: of the candidates that
-    /// share a search with it, one that is nearest to the end of its line.
-    ///
-    /// It is the same place for all candidates that share that search.
-    pub(crate) fn start_for(&self, from: Place) -> Place
-        requires ends { EndsAreOnMap self.now }
-        requires from { IsDeparture self.now.map.now from }
-
-        ensures departure { IsDeparture self.now.map.now result }
-        ensures serves { Serves self.now.map.now
-            (class_limit self.now.tolerances self.now.next) result from }
-    {
-        let class = self.class_limit();
-        let mut start = from;
-        for first in self.firsts {
-            if !shares_search(self.map, class, first.place, start) {
-                continue;
-            }
-            start = first.place;
-        }
-        start
     }
 }
 

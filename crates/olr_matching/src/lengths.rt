@@ -64,8 +64,7 @@ fn push_row(
 }
 
 /// The lengths of a leg from each of the first candidates to each of the second ones, row by row.
-/// Candidates that share a search are served by one; there is none where there are no second
-/// candidates.
+/// There is no search where there are no second candidates.
 fn lengths_of_leg(
     alloc: Global,
     leg: &LegOnMap<'_>,
@@ -102,9 +101,10 @@ fn is_shut(lengths: &[Option<u32>]) -> bool
 ///
 /// There is at most one search of the map for each leg and each first candidate of it, until all
 /// second candidates are reached, or as far as the greatest length that the leg admits; it may go
-/// twice, first up to a likely length. Candidates whose lines end at one node share a search, as
-/// long as it is kept, where the leg's class limit lets these lines through and no turn from their
-/// ends is banned. There is none where the second point has no candidates.
+/// twice, first up to a likely length. It serves the candidates behind it whose lines end at the
+/// same node, no nearer to it, as long as it is kept, where the leg's class limit lets these lines
+/// through and no turn from their ends is banned. There is none where the second point has no
+/// candidates.
 pub(crate) fn lengths_of_legs(
     alloc: Global,
     map: &Map,

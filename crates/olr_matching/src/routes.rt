@@ -102,9 +102,8 @@ impl<'a> Routes<'a> {
     /// The parts of the matchings that have these keys, in order: what [`Layers::resolve`] answers
     /// for each. The keys have to be answers of the layers' table.
     ///
-    /// It makes at most one search for each leg and first candidate, and none where it has one.
-    /// First candidates whose lines end at one node share a search as long as it is kept, where the
-    /// leg's class limit lets these lines through and no turn from their ends is banned.
+    /// It makes at most one search for each leg and first candidate, and none where it has one that
+    /// serves the candidate.
     ///
     /// # Errors
     ///

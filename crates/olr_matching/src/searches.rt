@@ -174,8 +174,7 @@ impl Searches {
     }
 
     /// The index of a search that tells the lengths of a leg from a place. Where none is kept, it
-    /// makes one, which serves all first candidates that share it with the place and ends once it
-    /// has reached all second candidates, and keeps it.
+    /// makes one from there, which ends once it has reached all second candidates, and keeps it.
     ///
     /// # Errors
     ///
@@ -196,11 +195,10 @@ impl Searches {
         if let Some(index) = self.find(leg, from) {
             return Ok(index);
         }
-        let start = leg.start_for(from);
         let class = leg.class_limit();
         let limit = leg.greatest_admitted();
         let near = likely_greatest(&leg.next);
-        let reach = lengths_to_candidates(alloc, leg.map, class, start, near, limit, leg.seconds)?;
+        let reach = lengths_to_candidates(alloc, leg.map, class, from, near, limit, leg.seconds)?;
         self.keep(reach)
     }
 }

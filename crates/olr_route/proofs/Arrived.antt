@@ -36,7 +36,7 @@ pub own_length : (road : RoadMap) (nodes : ℕ → Option ℕ) (own : ℕ → Op
     → start_length road nodes own line
     ≡ unwrap_or kept (node_length nodes (slice_get (origins_of road.lines) line))
 own_length road nodes own line kept is =
-    ap (λ (o : Option (Option ℕ)). unwrap_or o
+    ap (λ o. unwrap_or o
     (node_length nodes (slice_get (origins_of road.lines) line))) is
 
 pub by_parts : (road : RoadMap) (starts : Starts) (line : ℕ) (own : Option (Option ℕ))
@@ -150,9 +150,9 @@ module _ (search : Search) (arrival : Arrival)
       each = λ next. elim (changed next) [
         | inl same ↦ inl same
         | inr (among, allowed, is, _) ↦ let at = are.there next among in
-            inr (at.1, turn_there road line node ends next at.0 allowed, is)
+            inr (at.1, turn_there road line node ends _ at.0 allowed, is)
       ];
-      all = λ next turn. elim (reached_here next (starts_there road line node ends next turn)) [
+      all = λ next turn. elim (reached_here next (starts_there road line node ends _ turn)) [
         | inl some ↦ some
         | inr aside ↦ absurd ((visited.aside next aside).1 turn.allowed)
       ];
@@ -160,10 +160,10 @@ module _ (search : Search) (arrival : Arrival)
       added = λ other is. elim (visited.added other is) [
         | inl was ↦ inl was
         | inr (among, allowed, over) ↦ inr
-            (turn_there road line node ends other.line (are.there other.line among).0 allowed, over)
+            (turn_there road line node ends _ (are.there other.line among).0 allowed, over)
       ];
       waits = λ next none some clear on. elim (changed next) [
-        | inl same ↦ absurd (let nothing : now next ≡ None = same ∙ none in cc)
+        | inl same ↦ absurd (let nothing = same ∙ none in cc)
         | inr (_, _, _, waits) ↦ elim (waits clear on)
             [ inl is ↦ inl is | inr is_done ↦ inr (are.done next is_done) ]
       ];
@@ -189,9 +189,9 @@ module _ (search : Search) (arrival : Arrival)
           grind (arith, still next, are.banned_here);
       banned = λ other next aside. elim (cases_eq other node) [
         | inl same ↦
-            let is = visited.aside next (subst (λ (l : List ℕ). Contains l next)
-            (ap (λ (n : ℕ). banned_at new n) same ∙ are.banned_here) aside) in (
-              subst (λ (n : ℕ). StartsAt road n next) (sym same) (are.there next is.0).0,
+            let is = visited.aside next
+            (rw (ap (λ (n : ℕ). banned_at new n) same ∙ are.banned_here) at aside) in (
+              rw (sym same) at (are.there next is.0).0,
               elim (visited.each next is.0) [
                 | inl (_, none) ↦ none
                 | inr (allowed, _, _) ↦ absurd (is.1 allowed)
@@ -199,8 +199,8 @@ module _ (search : Search) (arrival : Arrival)
             )
         | inr differs ↦
             let was = nodes.banned other next
-            (subst (λ (l : List ℕ). Contains l next)
-            (ap (λ o. line_ranks (items_in o)) (are.banned_elsewhere other differs)) aside) in
+            (rw (ap (λ o. line_ranks (items_in o)) (are.banned_elsewhere other differs))
+            at aside) in
             (was.0, own_elsewhere other next differs was.0 ∙ was.1)
       ];
       steps = λ other. let was = nodes.steps other in let kept = are.banned_elsewhere other in
@@ -235,7 +235,7 @@ pub arrived_done : (search : Search) (arrival : Arrival)
 arrived_done search arrival ends state nodes is = record {
   arrived = record {
     each = λ next. inl refl;
-    all = done_ahead search.map.now state nodes arrival.line
+    all = done_ahead _ _ nodes _
         (record { node = arrival.node; ends = ends; done = is });
     kept = λ other was. was;
     added = λ other was. inl was;

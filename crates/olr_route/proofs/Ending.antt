@@ -22,8 +22,7 @@ pub all_reached : (asked : Option (List ℕ)) (table : ℕ → Option ℕ) (line
     → AreReachedFirst table lines count → AreAllReached asked table
 all_reached None table lines count is some all reached = absurd (cc some)
 all_reached (Some asked) table lines count is some all reached =
-    subst (λ (l : List ℕ). AreReachedFirst table l (length l)) is
-    (subst (λ (n : ℕ). AreReachedFirst table lines n) all reached)
+    rw is at (subst (λ (n : ℕ). AreReachedFirst table lines n) all reached)
 
 -- ---- what a search found
 
@@ -56,14 +55,14 @@ module _ (road : RoadMap) (lengths : Lengths) (sound : IsSoundMap road)
   told_up_to : (line : ℕ) → IsAskedFor lengths.asked line → (known : Option ℕ) → table line ≡ known
       → IsLengthWithin road class from (start_of line) has.searched known → IsTold line known
   told_up_to line is None none here = elim has.far [
-    | inl all ↦ let some = reached_asked lengths.asked table all line is in absurd (cc (some, none))
+    | inl all ↦ let some = reached_asked _ _ all _ is in absurd (cc (some, none))
     | inr whole ↦ record {
-      is = λ behind walk. omega (arith, here behind walk, whole);
-      far = λ least _ within. omega (arith, whole, within);
+      is = λ behind walk. omega (arith, here behind walk);
+      far = λ least _ within. omega arith;
     }
   ]
   told_up_to line is (Some len) known (shortest, within) = record {
-    is = (shortest, omega (arith, within, has.at_most));
+    is = (shortest, omega arith);
     far = λ least other _. omega (
       arith,
       within,
@@ -83,7 +82,7 @@ module _ (road : RoadMap) (lengths : Lengths) (sound : IsSoundMap road)
   held_by = record {
     from_map = departure;
     sound = λ line length known. let was = has.knows.sound line length known in
-        (omega (arith, was.0, has.at_most), was.1);
+        (omega arith, was.1);
     each = λ line is. (told line is).is;
     walks = λ target is n line len rest reaches on least shortest long within.
         walks_known road class from lengths.asked has.searched table has.knows has.settled target is
@@ -98,9 +97,9 @@ pub all_told : (lines : List ℕ) (targets : List Place)
     → All (λ (target : Place). Contains lines target.line) targets
 all_told lines targets are = rw are (λ k d inside. (
   k,
-  omega (arith, inside, length-map targets (λ (place : Place). place.line)),
+  omega (arith, length-map targets (λ place. place.line)),
   get_or-map
-      (λ (place : Place). place.line) targets k d _ inside,
+      (λ place. place.line) targets k d _ inside,
 ))
 
 -- the lines are on the map where the places are
@@ -108,6 +107,6 @@ pub lines_inside : (road : RoadMap) (lines : List ℕ) (targets : List Place)
     → lines ≡ map (λ (place : Place). place.line) targets → All (IsPlace road) targets
     → All (λ line. line < length road.lines) lines
 lines_inside road lines targets are on_map =
-    rw are (All-map (λ (line : ℕ). line < length road.lines) (λ (place : Place). place.line) targets
+    rw are (All-map (λ line. line < length road.lines) (λ place. place.line) targets
     (λ k d inside. let on = on_map k d inside in
     slice_get_within road.lines (get_or targets k d).line on.line on.at_rank))

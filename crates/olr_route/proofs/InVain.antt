@@ -26,8 +26,7 @@ module _ (road : RoadMap) (class target : ℕ) where
   }
   joined line row (next ∷ rest) at on =
       let turn = on.turns.0 in
-      let more : AreJoined turn.after.from
-      (walk_length road (start_of next) (start_of target) rest) =
+      let more =
       joined next turn.after rest turn.enters (behind_first on) in
       let meets = meets_there road line row.to (record { here = row; at = at; to = refl }) next
       turn in
@@ -66,4 +65,4 @@ too_far search goals node line at_end is on ends past (next, turn, useful) =
     let least = on useful.target node there.count length there.line asked there.at
     (subst (λ (n : ℕ). Joins search.map.now there.count n there.line.from length) here
     there.joins) in
-    omega (arith, past, least, useful.within)
+    omega arith

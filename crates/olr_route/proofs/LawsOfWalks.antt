@@ -15,7 +15,7 @@ use Rattle.std.proofs.lemmas.List.Elements.{All-nil, All-cons}
 pub least_once : (road : RoadMap) (class : ℕ) (from to : Place) (a b : ℕ)
     → IsLeastLength road class from to a → IsLeastLength road class from to b → a ≡ b
 least_once road class from to a b is other =
-    omega (arith, is.long, other.long, is.least other.behind other.is, other.least is.behind is.is)
+    omega (arith, is.least other.behind other.is, other.least is.behind is.is)
 
 wider_walk : (road : RoadMap) (class wider : ℕ) (from to : Place) (behind : List ℕ) → class ≤ wider
     → IsWalk road class from to behind → IsWalk road wider from to behind
@@ -25,7 +25,7 @@ wider_walk road class wider from to behind more is = record {
     ends = is.on.ends;
     drivable = λ k d inside positive.
         let clear = is.on.drivable k d inside positive in
-        record { line = clear.line; at = clear.at; within = omega (arith, more, clear.within) };
+        record { line = clear.line; at = clear.at; within = omega arith };
   };
   forwards = is.forwards;
 }
@@ -38,7 +38,7 @@ no_longer_with_more road class wider from to a b more is other =
       arith,
       is.long,
       other.least is.behind
-          (wider_walk road class wider from to is.behind more is.is),
+          (wider_walk _ _ _ _ _ _ more is.is),
     )
 
 -- ---- a walk that goes on is longer
@@ -64,7 +64,7 @@ module _ (road : RoadMap) (sound : IsSoundMap road) (to : Place) (end : IsPlace 
         ap
             (λ (l : ℕ). length_at road l) ends,
       ) in
-      let positive : 0 < length_at road place.line =
+      let positive =
       long_before_turn road place.line next sound turn in
       omega (
         arith,
@@ -93,7 +93,7 @@ no_beginning road class from to behind (next ∷ more) sound end is other same =
     absurd (omega (
       arith,
       same,
-      longer road sound to end from behind next more other.on.turns
+      longer road sound to end from behind _ _ other.on.turns
           is.on.ends other.on.ends (λ none. omega (arith, is.forwards none)),
     ))
 
@@ -146,7 +146,7 @@ module _ (road : RoadMap) (to : Place) (end : IsPlace road to) where
       (record {
         line = here;
         at_rank = is;
-        forwards = omega (arith, before, length_here road line here is);
+        forwards = omega (arith, length_here road line here is);
         up_to_end = omega (arith, length_here road line here is);
       }) (all_on next 0 turn.after behind turn.enters (omega arith) turns ends (λ _. omega arith))
 
@@ -164,9 +164,9 @@ are_route_pieces road class from to limit pieces sound start end is =
     let walk = is.is.is in
     subst (λ (l : List Piece). AreRoutePieces road class from to l) (sym is.pieces_are) (record {
       on_map = all_on road to end from.line from.at start.line is.behind start.at_rank
-          (omega (arith, start.before_end)) walk.on.turns walk.on.ends
+          (omega arith) walk.on.turns walk.on.ends
           (λ none. omega (arith, walk.forwards none));
       joined = all_joined road to end from.line from.at is.behind walk.on.turns;
       least = record { behind = is.behind; is = walk; long = refl; least = is.is.least };
-      positive = long_walk road from to is.behind start walk.forwards;
+      positive = long_walk _ _ to _ start walk.forwards;
     })

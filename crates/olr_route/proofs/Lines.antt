@@ -20,9 +20,9 @@ use Rattle.olr_route.specs.Sharing.{HasNoBan}
 
 pub line_at : (lines : List RoadLine) (rank : ℕ) → rank < length lines → (line : RoadLine)
     × (slice_get lines rank ≡ Some line)
-line_at [] rank within = absurd (omega (arith, within))
+line_at [] rank within = absurd (omega arith)
 line_at (line ∷ rest) zero within = (line, refl)
-line_at (line ∷ rest) (suc rank) within = line_at rest rank (omega (arith, within))
+line_at (line ∷ rest) (suc rank) within = line_at rest rank (omega arith)
 
 pub one_line : (lines : List RoadLine) (rank : ℕ) (a b : RoadLine) → slice_get lines rank ≡ Some a
     → slice_get lines rank ≡ Some b → a ≡ b
@@ -33,12 +33,12 @@ sound_line : (road : RoadMap) (rank : ℕ) (line : RoadLine) → IsSoundMap road
     → slice_get road.lines rank ≡ Some line → IsSoundLine (length road.nodes) line
 sound_line road rank line sound at =
     subst (λ (l : RoadLine). IsSoundLine (length road.nodes) l)
-    (get_or_from_slice_get road.lines rank line line at)
+    (get_or_from_slice_get road.lines rank _ line at)
     (sound.lines.each rank line (slice_get_within road.lines rank line at))
 
 pub long_at : (road : RoadMap) (rank : ℕ) (line : RoadLine) → IsSoundMap road
     → slice_get road.lines rank ≡ Some line → 0 < line.length
-long_at road rank line sound at = (sound_line road rank line sound at).long
+long_at road rank line sound at = (sound_line _ _ _ sound at).long
 
 -- its length
 pub length_here : (road : RoadMap) (rank : ℕ) (line : RoadLine)
@@ -52,7 +52,7 @@ pub long_before_turn : (road : RoadMap) (a b : ℕ) → IsSoundMap road → IsTu
 long_before_turn road a b sound turn =
     omega (
       arith,
-      long_at road a turn.before sound turn.leaves,
+      long_at _ a _ sound turn.leaves,
       length_here road a turn.before
           turn.leaves,
     )
@@ -61,7 +61,7 @@ long_before_turn road a b sound turn =
 
 pub start_on_map : (road : RoadMap) (rank : ℕ) → rank < length road.lines
     → IsPlace road (start_of rank)
-start_on_map road rank within = let at = line_at road.lines rank within in
+start_on_map road rank within = let at = line_at _ _ within in
     record { line = at.0; at_rank = at.1; up_to_end = omega arith }
 
 -- ---- lists
@@ -85,7 +85,7 @@ of_value f (Some a) b is = (a, refl, same_Some (f a) b is)
 with_origin : (road : RoadMap) (node line : ℕ) → StartsAt road node line → (here : RoadLine)
     × (slice_get road.lines line ≡ Some here) × (here.from ≡ node)
 with_origin road node line starts =
-    of_value (λ (l : RoadLine). l.from) (slice_get road.lines line) node
+    of_value _ _ _
     (sym (slice_get-map (λ (l : RoadLine). l.from) road.lines line) ∙ starts)
 
 -- the lines that start where a line ends and to which the turn isn't banned are those that may
@@ -144,7 +144,7 @@ module _ (road : RoadMap) (rank : ℕ) (head : Line)
       line = row.0;
       at = row.1;
       within =
-          omega (arith, within, ap (λ (h : Line). h.class) row.2);
+          omega (arith, ap (λ (h : Line). h.class) row.2);
     },
     ap (λ (h : Line). h.to) row.2,
   )
@@ -177,7 +177,7 @@ pub end_inside : (road : RoadMap) (node line : ℕ) → IsSoundMap road → Ends
     → node < length road.nodes
 end_inside road node line sound ends =
     subst (λ (n : ℕ). n < length road.nodes) ends.to
-    (sound_line road line ends.here sound ends.at).to
+    (sound_line _ _ _ sound ends.at).to
 
 -- ---- the keys of a table
 
@@ -206,7 +206,7 @@ module _ (road : RoadMap) (line next : ℕ) (bans : List Ban) (are : AreBansFrom
 pub free_of_bans : (road : RoadMap) (line : ℕ) (bans : List Ban) → AreBansFrom road.bans line bans
     → Decides (nat_eq (length bans) 0) (HasNoBan road line)
 free_of_bans road line [] are = (
-  λ _ next. allowed_turn road line next [] are (λ ban among _. absurd (omega (arith, among.1))),
+  λ _ next. allowed_turn road line next [] are (λ ban among _. absurd (omega arith)),
   λ _. refl,
 )
 free_of_bans road line (ban ∷ rest) are = (
@@ -231,6 +231,6 @@ module _ (bans : List Ban) (rise : IsStrictlyIncreasing (map (λ (ban : Ban). ba
   searched (Err i) inside is = λ ban (k, within, same) to.
       found_by_key (λ (b : Ban). b.to) bans next (Err i) rise inside is (
         k,
-        omega (arith, within, length-map bans (λ (b : Ban). b.to)),
+        omega (arith, length-map bans (λ (b : Ban). b.to)),
         get_or-map (λ (b : Ban). b.to) bans k ban next within ∙ ap (λ (b : Ban). b.to) same ∙ to,
       )

@@ -17,12 +17,12 @@ pub pages_begun : (pages lengths : List ℕ) (count : ℕ) → pages ≡ replica
 pages_begun pages lengths count first are = record {
   whole = omega (arith, sixteen);
   each = λ block. omega (arith, page block, sixteen);
-  apart = λ block other some differs. absurd (omega (arith, page block, some));
+  apart = λ block other some differs. absurd (omega (arith, page block));
   none = λ place inside. ap (λ (l : List ℕ). slice_index l place) are ∙ zeros 16 place;
 }
   where
     page : (block : ℕ) → slice_index pages block ≡ 0
-    page block = ap (λ (l : List ℕ). slice_index l block) first ∙ zeros count block
+    page block = ap (λ (l : List ℕ). slice_index l block) first ∙ zeros count _
 
     sixteen : length lengths ≡ 16
     sixteen = ap (λ (l : List ℕ). length l) are ∙ length-replicate {A = ℕ} 16 0
@@ -32,8 +32,8 @@ pub none_begun : (pages lengths : List ℕ) (count : ℕ) → pages ≡ replicat
     → lengths ≡ replicate 16 0 → (node : ℕ)
     → length_of (record { pages = pages; lengths = lengths }) node ≡ None
 none_begun pages lengths count first are node =
-    let none : slice_index lengths (place_of pages node) ≡ 0 =
-    ap (λ (l : List ℕ). slice_index l (place_of pages node)) are
+    let none =
+    ap (λ l. slice_index l (place_of pages node)) are
     ∙ zeros 16 (place_of pages node) in grind (arith, none)
 
 -- another list with the same pages
@@ -43,8 +43,8 @@ module _ (pages lengths more : List ℕ) (same : (block : ℕ)
   pages_wider are = record {
     whole = are.whole;
     each = λ block. omega (arith, same block, are.each block);
-    apart = λ block other some differs at. are.apart block other (omega (arith, same block, some))
-        differs (omega (arith, same block, same other, at));
+    apart = λ block other some differs at. are.apart block other (omega (arith, same block))
+        differs (omega (arith, same block, same other));
     none = are.none;
   }
 
@@ -53,8 +53,8 @@ pub wider : (pages : List ℕ) (count : ℕ) (more : List ℕ) → length pages 
     → more ≡ take count pages ++ replicate (count - length pages) 0
     → (block : ℕ) → slice_index more block ≡ slice_index pages block
 wider pages count more less is block =
-    ap (λ (l : List ℕ). slice_index l block) (is
-    ∙ ap (λ (l : List ℕ). l ++ replicate (count - length pages) 0) (take_all count pages less))
+    ap (λ l. slice_index l block) (is
+    ∙ ap (λ l. l ++ replicate (count - length pages) 0) (take_all count pages less))
     ∙ elim (cases_lt block (length pages)) [
       | inl inside ↦ get_or_append_left pages (replicate (count - length pages) 0) 0 block inside
       | inr past ↦ get_or-append_right pages (replicate (count - length pages) 0)
@@ -68,15 +68,15 @@ wider pages count more less is block =
 module _ (pages lengths : List ℕ) (are : ArePages pages lengths) (node at_start place : ℕ)
     (at : place ≡ place_of pages node) (some : 0 < slice_index pages (node / 16)) where
   inside : place < length lengths
-  inside = omega (arith, at, are.each (node / 16), are.whole)
+  inside = omega (arith, are.each (node / 16))
 
   pub pages_after : ArePages pages (set lengths place at_start)
   pages_after = record {
-    whole = ap (λ (n : ℕ). n % 16) (length-set lengths place at_start) ∙ are.whole;
+    whole = ap (λ n. n % 16) (length-set lengths place at_start) ∙ are.whole;
     each = λ block. omega (arith, are.each block, length-set lengths place at_start);
     apart = are.apart;
     none = λ other within. get_or-set_other lengths place other at_start 0
-        (λ same. absurd (omega (arith, same, at, within, some))) ∙ are.none other within;
+        (λ same. absurd (omega arith)) ∙ are.none other within;
   }
 
 -- a page more, of a block that had none, changes no length
@@ -87,24 +87,24 @@ module _ (pages lengths : List ℕ) (are : ArePages pages lengths) (block : ℕ)
       → slice_index more (place_of (set pages block page) node)
       ≡ slice_index lengths (place_of pages node)
   same_more page next more is node =
-      ap (λ (l : List ℕ). slice_index l (place_of (set pages block page) node)) is
+      ap (λ l. slice_index l (place_of (set pages block page) node)) is
       ∙ elim (cases_eq (node / 16) block) [
         | inl same ↦
-            let new : slice_index (set pages block page) (node / 16) ≡ page =
-            ap (λ (b : ℕ). slice_index (set pages block page) b) same
+            let new =
+            ap (λ b. slice_index (set pages block page) b) same
             ∙ get_or-set_same pages block page 0 within in
             let end : place_of (set pages block page) node ≡ length lengths + node % 16 =
-            omega (arith, new, next, are.whole) in
-            let was : slice_index pages (node / 16) ≡ 0 = ap (λ (b : ℕ). slice_index pages b) same
+            omega arith in
+            let was = ap (slice_index pages) same
             ∙ none in
-            let old : slice_index lengths (place_of pages node) ≡ 0 =
-            are.none (place_of pages node) (omega (arith, was)) in
-            ap (λ (place : ℕ). slice_index (lengths ++ replicate 16 0) place) end
+            let old =
+            are.none (place_of pages node) (omega arith) in
+            ap (λ place. slice_index (lengths ++ replicate 16 0) place) end
             ∙ get_or-append-add lengths (replicate 16 0) (node % 16) 0 ∙ zeros 16 (node % 16)
             ∙ sym old
         | inr differs ↦
-            ap (λ (page : ℕ). slice_index (lengths ++ replicate 16 0) (page * 16 + node % 16))
+            ap (λ page. slice_index (lengths ++ replicate 16 0) (page * 16 + node % 16))
             (get_or-set_other pages block (node / 16) page 0 differs)
             ∙ get_or_append_left lengths (replicate 16 0) 0 (place_of pages node)
-            (omega (arith, are.each (node / 16), are.whole))
+            (omega (arith, are.each (node / 16)))
       ]

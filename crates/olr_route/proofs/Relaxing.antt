@@ -21,28 +21,28 @@ total_same limit zero old new same = refl
 total_same limit (suc count) old new same =
     omega (
       arith,
-      total_same limit count old new (λ other less. same other (omega (arith, less))),
-      ap (λ (o : Option ℕ). worth limit o) (same count (omega arith)),
+      total_same limit count old new (λ other less. same other (omega arith)),
+      ap (worth limit) (same count (omega arith)),
     )
 
 -- at one line another length is known
 pub total_at : (limit count : ℕ) (old new : ℕ → Option ℕ) (at : ℕ) → at < count
     → ((other : ℕ) → other ≢ at → new other ≡ old other)
     → total limit count new + worth limit (old at) ≡ total limit count old + worth limit (new at)
-total_at limit zero old new at inside same = absurd (omega (arith, inside))
+total_at limit zero old new at inside same = absurd (omega arith)
 total_at limit (suc count) old new at inside same = elim (cases_lt at count) [
   | inl before ↦ omega (
     arith,
     total_at limit count old new at before same,
     ap
-        (λ (o : Option ℕ). worth limit o) (same count (λ is. omega (arith, is, before))),
+        (λ (o : Option ℕ). worth limit o) (same count (λ is. omega arith)),
   )
   | inr last ↦
-      let here : at ≡ count = omega (arith, inside, last) in
+      let here : at ≡ count = omega arith in
       omega (
         arith,
         total_same limit count old new
-            (λ other less. same other (λ is. omega (arith, is, here, less))),
+            (λ other less. same other (λ is. omega arith)),
         ap
             (λ (n : ℕ). worth limit (old n)) here,
         ap (λ (n : ℕ). worth limit (new n)) here,
@@ -55,7 +55,7 @@ IsShorter offered known = (bound : ℕ) → IsKnownWithin known bound → offere
 
 worth_shorter : (limit len : ℕ) (known : Option ℕ) → len ≤ limit → IsShorter len known
     → len < worth limit known
-worth_shorter limit len None within shorter = omega (arith, within)
+worth_shorter limit len None within shorter = omega arith
 worth_shorter limit len (Some old) within shorter = shorter old (omega arith)
 
 module _ (search : Search) (old new : Starts) where
@@ -105,8 +105,8 @@ module _ (search : Search) (old now new : Starts) where
   offered_within line (Some at_start) offered bound is = λ next clear turn within.
       within_more (table_in search.map.now new next)
       (at_start + rest_of_line search.map.now (start_of line))
-      (bound + rest_of_line search.map.now (start_of line)) (omega (arith, is))
-      (offered at_start refl next clear turn (omega (arith, is, within)))
+      (bound + rest_of_line search.map.now (start_of line)) (omega arith)
+      (offered at_start refl next clear turn (omega arith))
 
   -- one more line is relaxed, and those before it stay so
   pub offered_more : (line : ℕ) → ((other bound : ℕ)
@@ -125,12 +125,11 @@ module _ (search : Search) (old now new : Starts) where
       elim (cases_lt other line) [
         | inl less ↦ λ next clear turn within. after next
             (bound + rest_of_line search.map.now (start_of other))
-            (earlier other bound less known next clear turn within)
+            (earlier other bound less known _ clear turn within)
         | inr last ↦
-            let same : line ≡ other = omega (arith, inside, last) in
+            let same : line ≡ other = omega arith in
             offered_within other (table_in search.map.now now other)
-            (subst (λ (n : ℕ). (at_start : ℕ) → table_in search.map.now now n ≡ Some at_start
-            → IsOffered search (start_of n) at_start new) same here)
+            (rw same at here)
             bound (before other bound known)
       ]
 
@@ -143,8 +142,8 @@ module _ (search : Search) (old now new : Starts) where
       → IsRelaxed search.map.now search.class asked search.limit (table_in search.map.now new)
       line
   all_relaxed offered same asked line len next known clear turn useful =
-      within_more (table_in search.map.now new next)
-      (len + rest_of_line search.map.now (start_of line)) (len + length_at search.map.now line)
+      within_more _
+      _ _
       (omega arith)
       (offered line len (slice_get_within search.map.now.lines line clear.line clear.at)
       (subst (λ (o : Option ℕ). IsKnownWithin o len) (sym known ∙ same line) (omega arith)) next

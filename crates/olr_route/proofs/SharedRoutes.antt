@@ -34,7 +34,7 @@ module _ (road : RoadMap) (class : ℕ) (from to : Place) (limit : ℕ) where
   pub least_within : (len : ℕ) → IsLeastLength road class from to len → (result : Option ℕ)
       → MatchOption result (limit < len) (λ found. (found ≡ len) × (found ≤ limit))
       → IsLengthWithin road class from to limit result
-  least_within len least None past = λ behind is. omega (arith, least.least behind is, past)
+  least_within len least None past = λ behind is. omega (arith, least.least behind is)
   least_within len least (Some found) (same, within) =
       (subst (λ (m : ℕ). IsLeastLength road class from to m) (sym same) least, within)
 
@@ -50,7 +50,7 @@ module _ (road : RoadMap) (class : ℕ) (from to : Place) (limit : ℕ) where
         ends = sym same;
         drivable = All-cons (IsDrivable road class)
             (record { line = from.line; from = from.at; to = to.at }) []
-            (λ _. subst (λ (l : ℕ). IsOpen road class l) same (drivable (omega (arith, ahead))))
+            (λ _. subst (λ (l : ℕ). IsOpen road class l) same (drivable (omega arith)))
             (All-nil (IsDrivable road class));
       };
       forwards = λ _. ahead;
@@ -83,7 +83,7 @@ module _ (road : RoadMap) (class : ℕ) (from to : Place) (limit : ℕ) where
     route_ahead len (is_least, within) = record {
       behind = [];
       is = record { is = forwards; least = no_shorter; first = λ other _ _. tt };
-      within = omega (arith, no_shorter is_least.behind is_least.is, is_least.long, within);
+      within = omega (arith, no_shorter is_least.behind is_least.is);
       pieces_are = refl;
     }
 
@@ -98,7 +98,7 @@ other_turn road class line other next alike turn = record {
   leaves = alike.another.at;
   enters = turn.enters;
   meets = sym alike.meets ∙ ap (λ (l : RoadLine). l.to)
-      (one_line road.lines line alike.one.line turn.before alike.one.at turn.leaves) ∙ turn.meets;
+      (one_line road.lines line _ _ alike.one.at turn.leaves) ∙ turn.meets;
   allowed = alike.other_free next;
 }
 
@@ -126,9 +126,9 @@ both_move road class start from (inr (alike, less)) =
           alike.other_free;
       other_free = alike.free;
     } in (
-      λ _. (alike.another, λ next. other_turn road class start.line from.line next alike),
+      λ _. (alike.another, λ next. other_turn _ _ _ _ _ alike),
       λ _.
-          (alike.one, λ next. other_turn road class from.line start.line next other),
+          (alike.one, λ next. other_turn _ _ _ _ _ other),
       less,
     )
 
@@ -140,7 +140,7 @@ module _ (road : RoadMap) (class : ℕ) (sound : IsSoundMap road) (p q : Place)
       × (walk_length road (start_of line) q rest + p.at
       ≡ walk_length road (start_of line) p rest + q.at)
   other_end line [] on =
-      let ends : line ≡ q.line = on.ends ∙ same in (
+      let ends = on.ends ∙ same in (
         record {
           turns = tt;
           ends = ends;
@@ -212,9 +212,9 @@ module _ (search : Search) (from to : Place) (sound : IsSoundMap search.map.now)
   there_of [] is = absurd (not_ahead (sym is.on.ends) (is.forwards refl))
   there_of (next ∷ rest) is =
       let found = moved road class sound to (start_of to.line) refl
-      (λ positive. absurd (omega (arith, positive))) from start
+      (λ positive. absurd (omega arith)) from start
       (both_move road class start from serves).1 other_departure next rest is in
-      record { here = is; there = found.0; lengths = omega (arith, found.1) }
+      record { here = is; there = found.0; lengths = omega arith }
 
   here_of : IsDrivable road class (last_piece to) → (behind : List ℕ)
       → IsWalk road class start (start_of to.line) behind → AreMoved behind
@@ -222,7 +222,7 @@ module _ (search : Search) (from to : Place) (sound : IsSoundMap search.map.now)
   here_of drivable (next ∷ rest) is =
       let found = moved road class sound (start_of to.line) to refl drivable start from
       (both_move road class start from serves).0 departure next rest is in
-      record { here = found.0; there = is; lengths = omega (arith, found.1) }
+      record { here = found.0; there = is; lengths = omega arith }
 
   -- so the least length to the start of its line, from where the search began, tells that to the
   -- place
@@ -230,18 +230,18 @@ module _ (search : Search) (from to : Place) (sound : IsSoundMap search.map.now)
       → IsLeastLength road class start (start_of to.line) len
       → IsLeastLength road class from to
       (len + ((rest_of_line road from - rest_of_line road start) + to.at))
-  least_moved drivable len least = let both : AreMoved least.behind =
+  least_moved drivable len least = let both =
       here_of drivable least.behind least.is in record {
         behind = least.behind;
         is = both.here;
         long = omega (arith, both.lengths, least.long, nearer);
-        least = λ other is. let moved : AreMoved other = there_of other is in
+        least = λ other is. let moved = there_of other is in
             omega (arith, moved.lengths, least.least other moved.there, nearer);
       }
 
   pub none_moved : IsLengthWithin road class start (start_of to.line) limit None
       → IsLengthWithin road class from to limit None
-  none_moved none = λ behind is. let both : AreMoved behind = there_of behind is in
+  none_moved none = λ behind is. let both = there_of behind is in
       omega (arith, none behind both.there, both.lengths, nearer)
 
   -- where a walk is within the limit, the search reached the start of its last line
@@ -249,28 +249,28 @@ module _ (search : Search) (from to : Place) (sound : IsSoundMap search.map.now)
       → (known : Option ℕ) → IsLengthWithin road class start (start_of to.line) limit known
       → (len : ℕ) × (known ≡ Some len)
   known_start len (least, within) None none =
-      absurd (omega (arith, none_moved none least.behind least.is, least.long, within))
+      absurd (omega (arith, none_moved none least.behind least.is))
   known_start least has (Some len) is = (len, refl)
 
   route_moved : (len : ℕ) → IsLengthWithin road class from to limit (Some len) → (behind : List ℕ)
       → IsRoute road class start (start_of to.line) behind
       → IsRouteWithin road class from to limit (pieces_of road from to behind)
   route_moved len (least, within) behind route =
-      let both : AreMoved behind = here_of
+      let both = here_of
       (last_drivable road class from to limit least.behind least.is) behind route.is in
       let longer : (other : List ℕ) → IsWalk road class from to other
       → walk_length road from to behind ≤ walk_length road from to other =
-      λ other is. let moved : AreMoved other = there_of other is in
-      omega (arith, moved.lengths, both.lengths, route.least other moved.there) in
+      λ other is. let moved = there_of other is in
+      omega (arith, route.least other moved.there) in
       record {
         behind = behind;
         is = record {
           is = both.here;
           least = longer;
-          first = λ other is same. let moved : AreMoved other = there_of other is in
-              route.first other moved.there (omega (arith, moved.lengths, both.lengths, same));
+          first = λ other is same. let moved = there_of other is in
+              route.first other moved.there (omega arith);
         };
-        within = omega (arith, longer least.behind least.is, least.long, within);
+        within = omega (arith, longer least.behind least.is);
         pieces_are = refl;
       }
 

@@ -115,8 +115,8 @@ IsLeft road length node lines line len = EndsBefore road length node line len
 -- the line is among those that end at the node
 ends_there : (road : RoadMap) (node line : ℕ) → EndsAt road node line
     → slice_get (destinations_of road.lines) line ≡ Some node
-ends_there road node line ends = slice_get-map (λ (l : RoadLine). l.to) road.lines line
-    ∙ ap (option_map (λ (l : RoadLine). l.to)) ends.at ∙ ap Some ends.to
+ends_there road node line ends = slice_get-map (λ l. l.to) road.lines line
+    ∙ ap (option_map (λ l. l.to)) ends.at ∙ ap Some ends.to
 
 module _ (search : Search) (table : ℕ → Option ℕ) (target : ℕ) where
   abbrev road : RoadMap
@@ -138,7 +138,7 @@ module _ (search : Search) (table : ℕ → Option ℕ) (target : ℕ) where
   pub groups_within : AreWithin table search.limit → (Left : ℕ → ℕ → Type 0) (groups : Groups)
       → AreSpread Left groups → AreGroups search groups
   groups_within within Left groups spread node len line among = let on =
-      spread.only node len line among in (on.0, within line len on.1.0)
+      spread.only node len line among in (on.0, within line _ on.1.0)
 
   whole : (line : ℕ) → rest_of_line road (start_of line) ≡ length_at road line
   whole line = omega arith
@@ -158,13 +158,13 @@ module _ (search : Search) (table : ℕ → Option ℕ) (target : ℕ) where
   none_in Left groups spread line len next tight node ends empty =
       let starts = (spread.only tight.least.0 (len + rest_of_line road (start_of line)) next
       tight.least.1).0 in
-      let here : tight.least.0 ≡ node =
+      let here =
       same_Some tight.least.0 node (sym starts
       ∙ starts_there road line node ends next tight.turn) in
       let none : Contains [] next = subst (λ (l : List ℕ). Contains l next)
       (ap (λ (n : ℕ). group_of groups n (len + rest_of_line road (start_of line))) here
       ∙ ap (λ (w : ℕ). group_of groups node (len + w)) (whole line) ∙ empty) tight.least.1 in
-      omega (arith, none.1)
+      omega arith
 
   -- the lines that are still to be visited may be others
   fewer : (Left Fewer : ℕ → ℕ → Type 0) (groups : Groups) → AreSpread Left groups
@@ -213,7 +213,7 @@ module _ (search : Search) (table : ℕ → Option ℕ) (target : ℕ) where
       spread_added sound (EndsUpTo road longest node) node longest target empty groups starts add
       (reached, ([], (refl, reached)))
       (λ n l x is. absurd (let inside = subst (λ (g : List ℕ). Contains g x) (is_empty n l) is in
-      omega (arith, inside.1))) (λ key has. absurd (none key has))
+      omega arith)) (λ key has. absurd (none key has))
       (λ len some. subst (λ (w : ℕ). IsIn groups target w)
       (same_length longest len (table target) reached some)
       (added_here node longest target empty groups add))
@@ -221,14 +221,14 @@ module _ (search : Search) (table : ℕ → Option ℕ) (target : ℕ) where
       (len + rest_of_line road (start_of line)) tight.least) [
         | inl (n, old) ↦ absurd (let inside =
             subst (λ (g : List ℕ). Contains g next)
-            (is_empty n (len + rest_of_line road (start_of line))) old in omega (arith, inside.1))
+            (is_empty n (len + rest_of_line road (start_of line))) old in omega arith)
         | inr (same_line, same_len) ↦
             let ends = end_of_turn groups line len next tight in
-            let there : tight.turn.before.to ≡ node =
+            let there =
             same_Some tight.turn.before.to node
             (sym (subst (λ (l : ℕ). StartsAt road tight.turn.before.to l) same_line
             (starts_there road line tight.turn.before.to ends next tight.turn)) ∙ starts) in
-            inr (tight.turn.before.to, ends, inr (omega (arith, same_len, whole line), there))
+            inr (tight.turn.before.to, ends, inr (omega (arith, whole line), there))
       ])
 
   -- ---- the lines that end at a group
@@ -268,7 +268,6 @@ module _ (search : Search) (table : ℕ → Option ℕ) (target : ℕ) where
         let earlier : at_start < length =
         omega (
           arith,
-          leads.long,
           long_at road line leads.tight.clear.line sound
               leads.tight.clear.at,
           length_here road line leads.tight.clear.line
@@ -291,18 +290,17 @@ module _ (search : Search) (table : ℕ → Option ℕ) (target : ℕ) where
                 tight.turn.before.to,
                 end_of_turn after other len next tight,
                 inl
-                    (omega (arith, same_len, earlier, whole other)),
+                    (omega (arith, whole other)),
               ))
           | inl old ↦ elim (spread.closed other len next some
               (record { clear = tight.clear; turn = tight.turn; least = old })) [
                 | inl found ↦ inl (added_kept origin at_start line before after add other len found)
                 | inr (inl before_it) ↦ inr (inl before_it)
-                | inr (inr (among, long)) ↦ elim (in_front line other rest among) [
+                | inr (inr (among, long)) ↦ elim (in_front _ _ _ among) [
                   | inr later ↦ inr (inr (later, long))
-                  | inl same ↦ inl (subst (λ (l : ℕ). IsIn after l len) (sym same)
-                      (subst (λ (w : ℕ). IsIn after line w)
-                      (same_length at_start len (table line) leads.start (ap table (sym same)
-                      ∙ some)) (added_here origin at_start line before after add)))
+                  | inl same ↦ inl (subst (λ l. IsIn after l len) (sym same)
+                      (rw (same_length at_start len (table line) leads.start (ap table (sym same)
+                      ∙ some)) at (added_here origin at_start line before after add)))
                 ]
               ]
         ])
@@ -334,12 +332,12 @@ module _ (search : Search) (table : ℕ → Option ℕ) (target : ℕ) where
       → AreSpread (EndsBefore road length node) groups
       → AreOnShortestPaths road search.class table target groups
   spread_all length node groups none spread =
-      record { only = spread.only; each = λ line len on. each line len on.1.0 on.0 on.1.1 }
+      record { only = spread.only; each = λ line len on. each _ _ on.1.0 on.0 on.1.1 }
     where
       each : (line len : ℕ) (rest : List ℕ) → table line ≡ Some len
           → IsTightPath road search.class table target (start_of line) len rest
           → IsIn groups line len
-      each line len [] some (here, known) =
+      each _ len [] some (here, known) =
           subst (λ (p : Place). IsIn groups p.line len) (sym here) (spread.known len known)
       each line len (next ∷ rest) some (tight, on) =
           let found = each next (len + rest_of_line road (start_of line)) rest tight.least on in
@@ -370,7 +368,7 @@ next_line lines i inside = rw (add-one, drop-cons lines i 0)
 pub no_line_left : (lines : List ℕ) (i : ℕ) → i ≤ length lines → length lines ≤ i
     → drop i lines ≡ []
 no_line_left lines i inside over =
-    ap (λ (k : ℕ). drop k lines) (let e : i ≡ length lines = omega (arith, inside, over) in e)
+    ap (λ k. drop k lines) (let e : i ≡ length lines = omega arith in e)
     ∙ drop-length lines
 
 -- ---- the target isn't reached
@@ -378,7 +376,7 @@ no_line_left lines i inside over =
 no_end : (road : RoadMap) (class : ℕ) (table : ℕ → Option ℕ) (target : ℕ) → table target ≡ None
     → (place : Place) (len : ℕ) (rest : List ℕ) → IsTightPath road class table target place len rest
     → ⊥
-no_end road class table target none place len [] (here, known) = let wrong : Some len ≡ None =
+no_end road class table target none place len [] (here, known) = let wrong =
     sym known ∙ none in cc
 no_end road class table target none place len (next ∷ rest) (tight, on) =
     no_end road class table target none (start_of next) (len + rest_of_line road place) rest on
@@ -388,7 +386,7 @@ pub unreached : (road : RoadMap) (class : ℕ) (table : ℕ → Option ℕ) (tar
     → AreOnShortestPaths road class table target groups
 unreached road class table target groups none empty = record {
   only = λ node length line is. absurd (let inside =
-      subst (λ (l : List ℕ). Contains l line) (empty node length) is in omega (arith, inside.1));
+      subst (λ (l : List ℕ). Contains l line) (empty node length) is in omega arith);
   each = λ line len on. absurd (no_end road class table target none (start_of line) len on.1.0
       on.1.1);
 }

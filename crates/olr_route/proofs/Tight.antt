@@ -19,17 +19,16 @@ pub group_ahead : (search : Search) (place : Place) (so_far : ℕ) (groups : Gro
 group_ahead search place so_far groups are node ends clear at_end long = record {
   only = λ next is allowed. record {
     clear = clear;
-    turn = turn_there search.map.now place.line node ends next (are node at_end next is).0 allowed;
-    least = (node, subst (λ (w : ℕ). Contains (group_of groups node w) next) long is);
+    turn = turn_there search.map.now place.line node ends _ (are node at_end next is).0 allowed;
+    least = (node, rw long at is);
   };
   each = λ next tight.
       let starts = (are tight.least.0 (so_far + rest_of_line search.map.now place) next
       tight.least.1).0 in
-      let here : tight.least.0 ≡ node =
+      let here =
       same_Some tight.least.0 node (sym starts
-      ∙ starts_there search.map.now place.line node ends next tight.turn) in
-      subst (λ (n : ℕ). Contains (group_of groups n at_end) next) here
-      (subst (λ (w : ℕ). Contains (group_of groups tight.least.0 w) next) (sym long)
+      ∙ starts_there search.map.now place.line node ends _ tight.turn) in
+      rw here at (subst (λ (w : ℕ). Contains (group_of groups tight.least.0 w) next) (sym long)
       tight.least.1);
 }
 
@@ -40,7 +39,7 @@ pub none_ahead : (search : Search) (place : Place) (so_far : ℕ) (groups : Grou
     → search.limit < so_far + rest_of_line search.map.now place)
     → AreTightAhead search groups place so_far []
 none_ahead search place so_far groups are beyond = record {
-  only = λ next is. absurd (omega (arith, is.1));
+  only = λ next is. absurd (omega arith);
   each = λ next tight. absurd (omega (
     arith,
     beyond tight.clear,
@@ -55,7 +54,7 @@ none_ahead search place so_far groups are beyond = record {
 pub lesser : (found : Option ℕ) (rank other : ℕ) → (HasUpTo found rank → ⊥) → HasUpTo found other
     → rank ≤ other
 lesser None rank other none is = absurd is
-lesser (Some least) rank other none is = omega (arith, is, none)
+lesser (Some least) rank other none is = omega arith
 
 module _ (search : Search) (groups : Groups) (place : Place) (so_far : ℕ) (ahead : List ℕ)
     (are : AreTightAhead search groups place so_far ahead) where

@@ -18,8 +18,8 @@ use Rattle.olr_route.specs.Route.{id_at, ids_of, IsRoute, IsUpTo}
 -- ids rise with ranks
 id_is : (road : RoadMap) (rank : ℕ) → id_at road rank ≡ get_or (line_ids road.lines) rank 0
 id_is road rank =
-    ap (λ (o : Option ℕ). unwrap_or o 0)
-    (sym (slice_get-map (λ (line : RoadLine). line.id) road.lines rank))
+    ap (λ o. unwrap_or o 0)
+    (sym (slice_get-map (λ line. line.id) road.lines rank))
     ∙ unwrap_or-slice_get (line_ids road.lines) rank 0
 
 pub ids_rise : (road : RoadMap) (a b : ℕ) → IsSoundMap road → a < b → b < length road.lines
@@ -29,10 +29,10 @@ ids_rise road a b sound less inside =
       arith,
       id_is road a,
       id_is road b,
-      length-map road.lines (λ (line : RoadLine). line.id),
-      below_from_sorted (line_ids road.lines) a b 0
-          (sorted_from_strictly_increasing (line_ids road.lines) sound.lines.rise) less
-          (omega (arith, inside, length-map road.lines (λ (line : RoadLine). line.id))),
+      length-map road.lines (λ line. line.id),
+      below_from_sorted _ a b 0
+          (sorted_from_strictly_increasing _ sound.lines.rise) less
+          (omega (arith, length-map road.lines (λ (line : RoadLine). line.id))),
     )
 
 -- ---- walks of least length and tight paths
@@ -53,8 +53,7 @@ module _ (search : Search) (target : ℕ) (table : ℕ → Option ℕ) (sound : 
   from = search.from
 
   at_target : IsLeastLength road class from (start_of target) least × (least ≤ search.limit)
-  at_target = subst (λ (o : Option ℕ). IsLengthWithin road class from (start_of target) search.limit
-      o) reached_target told
+  at_target = rw reached_target at told
 
   is_least : IsLeastLength road class from (start_of target) least
   is_least = at_target.0
@@ -70,7 +69,7 @@ module _ (search : Search) (target : ℕ) (table : ℕ → Option ℕ) (sound : 
   lead_behind : (place : Place) (len next : ℕ) (rest : List ℕ) → LeadOn place len (next ∷ rest)
       → LeadOn (start_of next) (len + rest_of_line road place) rest
   lead_behind place len next rest (on, long) =
-      (behind_first on, omega (arith, long, rest_more road place (start_of target) next rest))
+      (behind_first on, omega (arith, rest_more road place (start_of target) next rest))
 
   -- ---- each line of a least walk is reached after the least length
 
@@ -83,10 +82,10 @@ module _ (search : Search) (target : ℕ) (table : ℕ → Option ℕ) (sound : 
       → LeadOn (start_of line) len rest → (table line ≡ Some len) × Path (start_of line) len rest
   tight_from n line len [] reaches on =
       let known = exact n line len [] reaches on in
-      (known, (ap start_of on.0.ends, subst (λ (l : ℕ). table l ≡ Some len) on.0.ends known))
+      (known, (ap start_of on.0.ends, rw on.0.ends at known))
   tight_from n line len (next ∷ rest) reaches on =
       let turn = on.0.turns.0 in
-      let clear = first_open on.0 (long_before_turn road line next sound turn) in
+      let clear = first_open on.0 (long_before_turn _ _ _ sound turn) in
       let later = tight_from (suc n) next (len + rest_of_line road (start_of line)) rest
       (line, len, reaches, clear, turn, omega arith)
       (lead_behind (start_of line) len next rest on) in (
@@ -98,17 +97,17 @@ module _ (search : Search) (target : ℕ) (table : ℕ → Option ℕ) (sound : 
       → walk_length road from (start_of target) behind ≡ least → Path from 0 behind
   walk_tight [] is long = absurd (omega (arith, is.forwards refl))
   walk_tight (next ∷ rest) is long =
-      let clear = first_open is.on (departure_length road from start) in
+      let clear = first_open is.on (departure_length _ _ start) in
       let later = tight_from zero next (0 + rest_of_line road from) rest
       (clear, is.on.turns.0, omega arith)
-      (lead_behind from 0 next rest (is.on, omega (arith, long))) in
+      (lead_behind from 0 next rest (is.on, omega arith)) in
       (record { clear = clear; turn = is.on.turns.0; least = later.0 }, later.1)
 
   -- ---- and the other way round
 
   rest_of : (place : Place) (len : ℕ) (rest : List ℕ) → Path place len rest → LeadOn place len rest
-  rest_of place len [] (here, known) = subst (λ (p : Place). LeadOn p len []) (sym here) (
-    at_once road class target,
+  rest_of place len [] (here, known) = subst (λ p. LeadOn p len []) (sym here) (
+    at_once _ _ _,
     omega (
       arith,
       same_length len least (table target) known reached_target,
@@ -118,9 +117,8 @@ module _ (search : Search) (target : ℕ) (table : ℕ → Option ℕ) (sound : 
   )
   rest_of place len (next ∷ rest) (tight, on) =
       let behind = rest_of (start_of next) (len + rest_of_line road place) rest on in (
-        lead_more place tight.clear tight.turn behind.0,
-        omega
-            (arith, behind.1, rest_more road place (start_of target) next rest),
+        lead_more _ tight.clear tight.turn behind.0,
+        omega (arith, rest_more road place (start_of target) next rest),
       )
 
   tight_walk : (behind : List ℕ) → Path from 0 behind
@@ -133,8 +131,8 @@ module _ (search : Search) (target : ℕ) (table : ℕ → Option ℕ) (sound : 
         is_least.long,
         long_walk road from (start_of target) is_least.behind start is_least.is.forwards,
       ))
-  tight_walk (next ∷ rest) path = let found = rest_of from 0 (next ∷ rest) path in
-      (as_walk found.0, omega (arith, found.1))
+  tight_walk (next ∷ rest) path = let found = rest_of _ 0 (next ∷ rest) path in
+      (as_walk found.0, omega arith)
 
   -- ---- the first of them by the ids of their lines
 
@@ -162,7 +160,6 @@ module _ (search : Search) (target : ℕ) (table : ℕ → Option ℕ) (sound : 
     compare place len next rest further lowest behind [] (here, known) =
         absurd (omega (
           arith,
-          further,
           (rest_of (start_of next) (len + rest_of_line road place) rest
               behind.on).1,
           same_length len least (table target) known reached_target,
@@ -191,7 +188,7 @@ module _ (search : Search) (target : ℕ) (table : ℕ → Option ℕ) (sound : 
         absurd (none next (to_tight place len next rest on))
     first_of place len (next ∷ rest) further ((tight, lowest), later) some on =
         let known = (are.only tight.least.0 (len + rest_of_line road place) next tight.least.1).1 in
-        let behind : IsFirst (start_of next) (len + rest_of_line road place) rest =
+        let behind =
         first_of (start_of next) (len + rest_of_line road place) rest
         (λ other is. omega (arith, long_before_turn road next other sound is.turn)) later
         known.1.0 known.1.1 in
@@ -205,13 +202,13 @@ module _ (search : Search) (target : ℕ) (table : ℕ → Option ℕ) (sound : 
     pub first_route : (behind : List ℕ) → AreFirstTight search groups from 0 behind
         → IsRoute road class from (start_of target) behind
     first_route behind tight =
-        let found : IsFirst from 0 behind =
+        let found =
         first_of from 0 behind (λ next is. omega (arith, departure_length road from start)) tight
         is_least.behind (walk_tight is_least.behind is_least.is is_least.long) in
         let made = tight_walk behind found.on in
         record {
           is = made.0;
-          least = λ other is. omega (arith, made.1, is_least.least other is);
+          least = λ other is. omega (arith, is_least.least other is);
           first = λ other is same. found.first other (walk_tight other is (same ∙ made.1));
         }
 

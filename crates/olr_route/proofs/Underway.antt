@@ -11,12 +11,12 @@ use Rattle.olr_route.proofs.Walks.{useful_more, useful_within}
 known_within : (known : Option ℕ) (bound : ℕ) → IsSome known
     → ((length : ℕ) → known ≡ Some length → length ≤ bound) → IsKnownWithin known bound
 known_within None bound some within = absurd cc
-known_within (Some length) bound some within = within length refl
+known_within (Some length) bound some within = within _ refl
 
 pub in_front : {A : Type 0} → (x y : A) (xs : List A) → Contains (x ∷ xs) y → (y ≡ x)
     ⊎ Contains xs y
 in_front x y xs (zero, inside, same) = inl (sym same)
-in_front x y xs (suc k, inside, same) = inr (k, omega (arith, inside), same)
+in_front x y xs (suc k, inside, same) = inr (k, omega arith, same)
 
 module _ (search : Search) where
   abbrev road : RoadMap
@@ -68,11 +68,11 @@ module _ (search : Search) where
     at_most = omega arith;
     sound = λ line length known. absurd (let nothing = none line in cc);
     arrivals = λ arrival is. elim (left.added arrival is) [
-      | inl before ↦ absurd (omega (arith, before.1))
+      | inl before ↦ absurd (omega arith)
       | inr (same, over) ↦ (
         record {
           over = record { clear = over.clear; ends = over.ends; long = refl; within = over.within };
-          positive = omega (arith, positive, over.long);
+          positive = omega arith;
           reaches = λ next turn. (
             0,
             (
@@ -113,7 +113,7 @@ module _ (search : Search) where
         → Option ℕ) (after : List Arrival)
         (goes : IsArrived search arrival.line arrival.at_end old new items after) where
       later : {other : Arrival} → Contains items other → Contains (arrival ∷ items) other
-      later (k, inside, same) = (suc k, omega (arith, inside), same)
+      later (k, inside, same) = (suc k, omega arith, same)
 
       stays : (next bound : ℕ) → IsKnownWithin (old next) bound → IsKnownWithin (new next) bound
       stays next bound known = grind arith
@@ -131,7 +131,7 @@ module _ (search : Search) where
           → IsKnownWithin (new line) bound
       known_now line bound farther some =
           known_within (new line) bound some
-          (λ length known. omega (arith, farther, (sound_now line length known).0))
+          (λ length known. omega (arith, (sound_now line length known).0))
 
       arrivals_now : (other : Arrival) → Contains after other → IsArrival other
           × (arrival.at_end ≤ other.at_end)
@@ -163,7 +163,7 @@ module _ (search : Search) where
               ),
             );
           },
-          omega (arith, over.long),
+          omega arith,
         )
       ]
 
@@ -183,7 +183,7 @@ module _ (search : Search) where
         | inl waits ↦ elim (which line at_end waits) [
           | inr still ↦ inl still
           | inl (same_line, same_end) ↦ inr
-              (λ next turn. known_now next at_end (omega (arith, same_end))
+              (λ next turn. known_now next at_end (omega arith)
               (goes.all next (subst (λ (l : ℕ). IsTurn road l next) (sym same_line) turn)))
         ]
       ]
@@ -197,7 +197,7 @@ module _ (search : Search) where
         | inl same ↦ waiting_old line at_end (inr (at_start, sym same ∙ known, long)) clear on
         | inr (none, turn, now) ↦
             let same : arrival.at_end ≡ at_start = cc (sym now ∙ known) in
-            let here : at_end ≡ arrival.at_end + length_at road line = omega (arith, same, long) in
+            let here : at_end ≡ arrival.at_end + length_at road line = omega arith in
             elim (goes.waits line none now clear (subst (λ (w : ℕ). MayGoOn search line w)
             here on)) [
               | inl waits ↦ inl (subst (λ (w : ℕ). Awaits after line w) (sym here) waits)

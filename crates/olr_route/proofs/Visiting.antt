@@ -35,7 +35,7 @@ pub line_among : (steps : List Step) (k : ℕ) (d : Step) → k < length steps
     → Contains (line_ranks steps) (get_or steps k d).line
 line_among steps k d inside = (
   k,
-  omega (arith, inside, length-map steps (λ (s : Step). s.line)),
+  omega (arith, length-map steps (λ (s : Step). s.line)),
   get_or-map
       (λ (s : Step). s.line) steps k d _ inside,
 )
@@ -60,7 +60,7 @@ module _ (search : Search) (step : Step) (so_far : ℕ) (items : List Arrival)
           line = over.ends.here;
           at = over.ends.at;
           within =
-              omega (arith, over.class, class);
+              omega arith;
         };
         ends = over.ends;
         long = refl;

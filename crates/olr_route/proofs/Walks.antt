@@ -11,7 +11,7 @@ use Rattle.olr_route.proofs.Lines.{long_before_turn, length_here}
 pub departure_length : (road : RoadMap) (place : Place) → IsDeparture road place
     → place.at < length_at road place.line
 departure_length road place start =
-    omega (arith, start.before_end, length_here road place.line start.line start.at_rank)
+    omega (arith, length_here road place.line start.line start.at_rank)
 
 -- a walk's length is the rest of the place's line and the length from the next line on
 pub rest_more : (road : RoadMap) (place to : Place) (next : ℕ) (rest : List ℕ)
@@ -53,7 +53,7 @@ at_once road class line = record {
   turns = tt;
   ends = refl;
   drivable = All-cons (IsDrivable road class) (last_piece (start_of line)) []
-      (λ positive. absurd (omega (arith, positive))) (All-nil (IsDrivable road class));
+      (λ positive. absurd (omega arith)) (All-nil (IsDrivable road class));
 }
 
 pub lead_more : {road : RoadMap} {class : ℕ} {to : Place} {next : ℕ} {rest : List ℕ} (place : Place)
@@ -73,7 +73,7 @@ behind_first on = record {
   turns = on.turns.1;
   ends = on.ends;
   drivable =
-      λ k d inside. on.drivable (suc k) d (omega (arith, inside));
+      λ k d inside. on.drivable (suc k) d (omega arith);
 }
 
 pub first_open : {road : RoadMap} {class : ℕ} {place to : Place} {next : ℕ} {rest : List ℕ}
@@ -95,9 +95,8 @@ module _ (road : RoadMap) (class : ℕ) (from : Place) where
       → HasWalk to (len + walk_length road (start_of line) to rest)
   extend zero line len reaches to rest on = (
     line ∷ rest,
-    as_walk (lead_more from reaches.0 reaches.1 on),
-    omega
-        (arith, rest_more road from to line rest, reaches.2),
+    as_walk (lead_more _ reaches.0 reaches.1 on),
+    omega (arith, rest_more road from to line rest),
   )
   extend (suc n) line len (before, so_far, reaches, clear, turn, long) to rest on =
       let found = extend n before so_far reaches to (line ∷ rest)
@@ -123,10 +122,9 @@ module _ (road : RoadMap) (class : ℕ) (from : Place) where
         × ReachesStart road class from m target sum
     follow n line len reaches target [] on sum long =
         let same : len ≡ sum =
-        omega (arith, long, rest_last road (start_of line) (start_of target)) in (
+        omega (arith, rest_last road (start_of line) (start_of target)) in (
           n,
-          subst (λ (l : ℕ). ReachesStart road class from n l sum) on.ends
-              (subst (λ (w : ℕ). ReachesStart road class from n line w) same reaches),
+          rw on.ends at (subst (λ (w : ℕ). ReachesStart road class from n line w) same reaches),
         )
     follow n line len reaches target (next ∷ rest) on sum long =
         follow (suc n) next (len + length_at road line) (
@@ -137,7 +135,7 @@ module _ (road : RoadMap) (class : ℕ) (from : Place) where
           on.turns.0,
           refl,
         ) target rest (behind_first on) sum
-        (omega (arith, long, rest_more road (start_of line) (start_of target) next rest))
+        (omega (arith, rest_more road (start_of line) (start_of target) next rest))
 
     pub reached : from.at < length_at road from.line → (line : ℕ) (behind : List ℕ)
         → IsWalk road class from (start_of line) behind
@@ -153,7 +151,7 @@ module _ (road : RoadMap) (class : ℕ) (from : Place) where
 pub within_more : (known : Option ℕ) (a b : ℕ) → a ≤ b → IsKnownWithin known a
     → IsKnownWithin known b
 within_more None a b le is = is
-within_more (Some len) a b le is = omega (arith, le, is)
+within_more (Some len) a b le is = omega arith
 
 -- the length that is known
 known_length : (known : Option ℕ) (len : ℕ) → IsKnownWithin known len → (old : ℕ)
@@ -163,7 +161,7 @@ known_length (Some old) len is = (old, refl, is)
 
 module _ (road : RoadMap) (class : ℕ) (asked : Option (List ℕ)) where
   pub useful_within : {limit line len : ℕ} → IsUseful road class asked limit line len → len ≤ limit
-  useful_within is = omega (arith, is.within)
+  useful_within is = omega arith
 
   -- a lesser length is useful, too, and one up to a farther limit
   pub useful_more : {limit line len : ℕ} (farther less : ℕ) → limit ≤ farther → less ≤ len
@@ -175,7 +173,7 @@ module _ (road : RoadMap) (class : ℕ) (asked : Option (List ℕ)) where
         rest = is.rest;
         on = is.on;
         within =
-            omega (arith, is.within, far, le);
+            omega arith;
       }
 
   -- so is the length to the line before
@@ -186,10 +184,9 @@ module _ (road : RoadMap) (class : ℕ) (asked : Option (List ℕ)) where
     target = is.target;
     is_asked = is.is_asked;
     rest = next ∷ is.rest;
-    on = lead_more (start_of line) clear turn is.on;
+    on = lead_more _ clear turn is.on;
     within = omega (
       arith,
-      is.within,
       rest_more road (start_of line) (start_of is.target) next
           is.rest,
     );
@@ -202,8 +199,8 @@ module _ (road : RoadMap) (class : ℕ) (asked : Option (List ℕ)) where
     target = line;
     is_asked = is;
     rest = [];
-    on = at_once road class line;
-    within = omega (arith, within, rest_last road (start_of line) (start_of line));
+    on = at_once _ _ _;
+    within = omega (arith, rest_last road (start_of line) (start_of line));
   }
 
 module _ (road : RoadMap) (class : ℕ) (from : Place) (asked : Option (List ℕ)) (limit : ℕ)
@@ -213,36 +210,35 @@ module _ (road : RoadMap) (class : ℕ) (from : Place) (asked : Option (List ℕ
   pub known : (n line len : ℕ) → ReachesStart road class from n line len
       → IsUseful road class asked limit line len → IsKnownWithin (table line) len
   known zero line len (clear, turn, long) useful =
-      subst (λ (w : ℕ). IsKnownWithin (table line) w) (sym long)
-      (search.first line clear turn (subst (λ (w : ℕ). IsUseful road class asked limit line w)
-      long useful))
+      rw (sym long) at (search.first line clear turn
+      (subst (λ (w : ℕ). IsUseful road class asked limit line w) long useful))
   known (suc n) line len (before, so_far, reaches, clear, turn, long) useful =
-      let there = subst (λ (w : ℕ). IsUseful road class asked limit line w) long useful in
-      let old = known_length (table before) so_far
+      let there = rw long at useful in
+      let old = known_length _ _
       (known n before so_far reaches (useful_before road class asked before line clear turn
       there)) in
-      within_more (table line) (old.0 + length_at road before) len (omega (arith, old.2, long))
+      within_more (table line) (old.0 + length_at road before) len (omega arith)
       (all before old.0 line old.1 clear turn
       (useful_more road class asked limit (old.0 + length_at road before) (omega arith)
-      (omega (arith, old.2)) there))
+      (omega arith) there))
 
   -- along a walk of least length to a line that is asked for the lengths are known
   pub walks_known : (target : ℕ) → IsAskedFor asked target
       → HasWalksTo road class from limit table target
   walks_known target is n line len rest reaches on least shortest long within =
-      let old = known_length (table line) len
-      (known n line len reaches (record {
+      let old = known_length _ _
+      (known n _ len reaches (record {
         target = target;
         is_asked = is;
         rest = rest;
         on =
             on;
-        within = omega (arith, long, within);
+        within = omega arith;
       })) in
       let sound = search.sound line old.0 old.1 in
       let other = extend road class from sound.1.0 line old.0 sound.1.1 (start_of target) rest on in
       old.1 ∙ ap Some (let same : old.0 ≡ len =
-      omega (arith, old.2, shortest.least other.0 other.1, other.2, long) in same)
+      omega (arith, shortest.least other.0 other.1) in same)
 
   module _ (sound : IsSoundMap road) (start : IsDeparture road from) where
     answer : (line : ℕ) (known_here : Option ℕ)
@@ -252,7 +248,7 @@ module _ (road : RoadMap) (class : ℕ) (from : Place) (asked : Option (List ℕ
         → IsKnownWithin known_here len)
         → IsLengthWithin road class from (start_of line) limit known_here
     answer line None sounds all = λ behind is.
-        let found = reached road class from sound (departure_length road from start) line behind
+        let found = reached _ _ _ sound (departure_length _ _ start) line behind
         is in
         let never = all found.0 (walk_length road from (start_of line) behind) found.1 in
         grind arith

@@ -26,9 +26,9 @@ returns-clause-held c =
       knows = record {
         sound = last.lowered.sound;
         first = λ line clear turn useful.
-            within_more (table_in c.args.map.now c.relax_lines.new.starts line)
-            (0 + rest_of_line c.args.map.now c.args.from)
-            (rest_of_line c.args.map.now c.args.from) (omega arith)
+            within_more _
+            _
+            _ (omega arith)
             (last.lowered.falls line _ (c.loop-starts.invariant.first line clear turn
             (omega (arith, useful_within c.args.map.now c.args.class None useful))));
       };

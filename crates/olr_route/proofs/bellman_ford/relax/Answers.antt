@@ -9,19 +9,19 @@ use Rattle.olr_route.proofs.bellman_ford.relax.Goals as goal
 pub offer-requires-clause-reached : goal.offer-requires-clause-reached
 offer-requires-clause-reached c =
     let ahead = c.lines_from-ahead.result.now in
-    let next = get_or ahead c.loop-next.next-index 0 in
+    let next = get_or ahead _ 0 in
     subst (λ (w : ℕ). Reaches c.args.search.now next w) (sym c.in-Some.ensures.1)
     (c.requires.reached next c.in-Some.ensures.0
     (turn_ahead _ _ _ c.line.ensures.line _ c.lines_from-ahead.ensures.lines next
-    (Contains-get_or ahead c.loop-next.next-index 0 c.loop-next-test.true)
+    (Contains-get_or ahead _ 0 c.loop-next-test.true)
     c.if-not-is_allowed.ensures))
 
 pub offer-requires-clause-line : goal.offer-requires-clause-line
 offer-requires-clause-line c =
     let ahead = c.lines_from-ahead.result.now in
     let turn = turn_ahead c.args.search.now.map.now _ _ c.line.ensures.line _
-    c.lines_from-ahead.ensures.lines (get_or ahead c.loop-next.next-index 0)
-    (Contains-get_or ahead c.loop-next.next-index 0 c.loop-next-test.true)
+    c.lines_from-ahead.ensures.lines (get_or ahead _ 0)
+    (Contains-get_or ahead _ 0 c.loop-next-test.true)
     c.if-not-is_allowed.ensures in
     slice_get_within c.args.search.now.map.now.lines _ turn.after turn.enters
 
@@ -31,7 +31,7 @@ loop-next-preserved-then-not-is_allowed c = record {
   known = passed_over (IsAllowed c.args.search.now.map.now c.args.place.line)
       (λ n. IsKnownWithin (table_in c.args.search.now.map.now c.loop-next.starts n)
       c.in-Some.at_end)
-      c.lines_from-ahead.result.now c.loop-next.next-index c.loop-next.invariant.known
+      _ _ c.loop-next.invariant.known
       c.loop-next-test.true (λ allowed. absurd (c.if-not-is_allowed.ensures allowed));
 }
 
@@ -43,7 +43,7 @@ loop-next-preserved c =
       known = passed_over (IsAllowed c.args.search.now.map.now c.args.place.line)
           (λ n. IsKnownWithin (table_in c.args.search.now.map.now c.offer.new.starts n)
           c.in-Some.at_end)
-          c.lines_from-ahead.result.now c.loop-next.next-index
+          _ _
           (λ i d lt allowed. after.lowered.falls _ c.in-Some.at_end
           (c.loop-next.invariant.known i d lt allowed)) c.loop-next-test.true
           (λ _. after.known);
@@ -53,4 +53,4 @@ pub returns-clause-offered : goal.returns-clause-offered
 returns-clause-offered c = λ next clear turn within.
     let at = all_ahead _ _ _ c.line.ensures.line _ c.lines_from-ahead.ensures.lines next turn in
     rw (sym c.in-Some.ensures.1, sym at.2)
-    (c.loop-next.invariant.known at.0 next (omega (arith, at.1)) (rw at.2 turn.allowed))
+    (c.loop-next.invariant.known at.0 next (omega arith) (rw at.2 turn.allowed))

@@ -9,7 +9,7 @@ loop-line-preserved-in_default c = record {
   offered = offered_more c.args.search.now c.args.starts.now c.loop-line.starts c.loop-line.starts
       c.loop-line.line c.loop-line.invariant.lowered.falls (λ _ _ known. known)
       c.loop-line.invariant.offered
-      (λ at_start is. let none : Some at_start ≡ None = sym is ∙ sym c.length_to.ensures
+      (λ at_start is. let none = sym is ∙ sym c.length_to.ensures
       ∙ c.in_default.is in absurd cc);
 }
 
@@ -28,7 +28,6 @@ loop-line-preserved c =
       offered = offered_more c.args.search.now c.args.starts.now c.loop-line.starts
           c.relax.new.starts c.loop-line.line c.loop-line.invariant.lowered.falls
           after.lowered.falls c.loop-line.invariant.offered
-          (λ at_start is. subst (λ (w : ℕ). IsOffered c.args.search.now (start_of c.loop-line.line)
-          w c.relax.new.starts) (same_length _ at_start _ (sym c.length_to.ensures
-          ∙ c.in-Some.is) is) after.offered);
+          (λ at_start is. rw (same_length _ _ _ (sym c.length_to.ensures
+          ∙ c.in-Some.is) is) at after.offered);
     }

@@ -4,5 +4,5 @@ use Rattle.olr_route.proofs.Ending.{held_by}
 use Rattle.olr_route.proofs.dijkstra.lengths_from.Goals as goal
 
 pub returns-clause-held : goal.returns-clause-held
-returns-clause-held c = subst (AreLengthsOn c.args.map.now) (sym c.new.ensures)
+returns-clause-held c = rw (sym c.new.ensures) at
     (held_by c.args.map.now _ c.sound.ensures c.requires c.in_ok-starts.ensures.ended)

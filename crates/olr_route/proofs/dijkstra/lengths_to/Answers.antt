@@ -7,22 +7,21 @@ use Rattle.olr_route.proofs.dijkstra.lengths_to.Goals as goal
 
 pub goals-requires : goal.goals-requires
 goals-requires c =
-    lines_inside c.args.map.now _ c.args.targets.now (c.deref.ensures.value ∙ c.in_ok-lines.ensures)
+    lines_inside _ _ _ (c.deref.ensures.value ∙ c.in_ok-lines.ensures)
     c.requires.targets
 
 pub search_near-requires-clause-lines : goal.search_near-requires-clause-lines
 search_near-requires-clause-lines c =
-    lines_inside c.args.map.now _ c.args.targets.now (c.goals.ensures.lines ∙ c.deref.ensures.value
+    lines_inside _ _ _ (c.goals.ensures.lines ∙ c.deref.ensures.value
     ∙ c.in_ok-lines.ensures) c.requires.targets
 
 pub returns-clause-held : goal.returns-clause-held
 returns-clause-held c =
-    subst (AreLengthsOn c.args.map.now) (sym c.new.ensures)
-    (held_by c.args.map.now _ c.sound.ensures c.requires.from
+    rw (sym c.new.ensures) at (held_by c.args.map.now _ c.sound.ensures c.requires.from
     (rw (c.goals.ensures.lines ∙ c.deref.ensures.value) at c.in_ok-starts.ensures))
 
 pub returns-clause-tells : goal.returns-clause-tells
 returns-clause-tells c =
     subst (λ (reach : Lengths). All (λ (target : Place). Tells reach target.line)
     c.args.targets.now) (sym c.new.ensures)
-    (all_told c.in_ok-lines.lines.items c.args.targets.now c.in_ok-lines.ensures)
+    (all_told _ _ c.in_ok-lines.ensures)

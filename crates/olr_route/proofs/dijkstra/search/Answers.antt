@@ -13,7 +13,7 @@ loop-arrival-init c =
     record {
       underway = underway_begun ask _ c.leave.new.queue
           (c.in_ok-state.ensures.none_reached ask.map.now)
-          (omega (arith, departure_length ask.map.now ask.from c.requires.from))
+          (omega (arith, departure_length _ _ c.requires.from))
           (rw c.in_ok-state.ensures.queue at c.in_ok-leave.ensures);
       nodes = record {
         unreached = nodes.unreached;
@@ -22,7 +22,7 @@ loop-arrival-init c =
             nodes.banned;
         steps = nodes.steps;
       };
-      reached = λ index target before is. absurd (omega (arith, before));
+      reached = λ index target before is. absurd (omega arith);
       at_most = omega arith;
     }
 
@@ -51,8 +51,8 @@ loop-arrival-preserved c =
 
 pub count_reached-count-requires-clause-reached : goal.count_reached-count-requires-clause-reached
 count_reached-count-requires-clause-reached c =
-    still_reached _ _ _ _ _ _ _ c.in_ok-arrive.ensures.arrived c.targets_of-targets.result.now
-    c.loop-arrival.count c.loop-arrival.invariant.reached
+    still_reached _ _ _ _ _ _ _ c.in_ok-arrive.ensures.arrived _
+    _ c.loop-arrival.invariant.reached
 
 pub returns-then-is_some-clause-ended : goal.returns-then-is_some-clause-ended
 returns-then-is_some-clause-ended c =
@@ -68,7 +68,7 @@ pub returns-clause-ended : goal.returns-clause-ended
 returns-clause-ended c =
     let underway = c.loop-arrival.invariant.underway in
     ended _ c.loop-arrival.longest c.args.search.now.limit _ _ underway (omega arith)
-    (λ line length known. omega (arith, underway.at_most, (underway.sound line length known).0))
+    (λ line length known. omega (arith, (underway.sound line length known).0))
     (λ arrival is. absurd (let none =
-    subst (λ l. Contains l arrival) c.in_default.ensures.none.0 is in omega (arith, none.1)))
+    subst (λ l. Contains l arrival) c.in_default.ensures.none.0 is in omega arith))
     (inr refl)

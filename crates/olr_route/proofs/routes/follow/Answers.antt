@@ -12,7 +12,7 @@ pub overflow_add-so_far : goal.overflow_add-so_far
 overflow_add-so_far c =
     let within = next_within _ _ _ _ c.sound.ensures c.requires.groups _ _ _ _ c.in-Some.next
     c.loop-next.invariant c.in-Some.ensures in
-    omega (arith, within, c.from-so_far.ensures, c.rest_of_line.ensures)
+    omega arith
 
 pub loop-next-smaller : goal.loop-next-smaller
 loop-next-smaller c =
@@ -20,11 +20,8 @@ loop-next-smaller c =
     c.loop-next.invariant c.in-Some.ensures in
     omega (
       arith,
-      within,
-      c.from-so_far.ensures,
-      c.rest_of_line.ensures,
       departure_length
-          c.args.search.now.map.now c.loop-next.place c.loop-next.invariant.start,
+          _ _ c.loop-next.invariant.start,
     )
 
 pub returns : goal.returns

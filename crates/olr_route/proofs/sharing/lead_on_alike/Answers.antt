@@ -10,7 +10,7 @@ returns-then-is_empty c =
       λ is. record {
         one = one.0;
         another = another.0;
-        meets = omega (arith, one.1, another.1, c.if-one-another.false);
+        meets = omega arith;
         free = (free_of_bans c.args.map.now _ _ c.bans_from.ensures).0 (sym c.is_empty.ensures
             ∙ c.if-is_empty.true);
         other_free = other_none.0 (sym c.is_empty-then-is_empty.ensures ∙ is);

@@ -14,7 +14,7 @@ groups-init c =
     record {
       spread = spread_begun _ _ _ c.sound.ensures _ (sym c.length_to.ensures ∙ c.in-Some.is) _ _ _
           c.new-groups.ensures.lines c.new-groups.ensures.none starts c.in_ok-add.ensures;
-      on_map = origin_inside c.args.search.now.map.now c.line.result.from c.args.target
+      on_map = origin_inside _ c.line.result.from c.args.target
           c.sound.ensures starts;
     }
 
@@ -29,13 +29,13 @@ start_on_path-requires-clause-groups c =
 pub loop-line-preserved-in_default-start_on_path : goal.loop-line-preserved-in_default-start_on_path
 loop-line-preserved-in_default-start_on_path c =
     spread_skip _ _ _ _ _ _ _ _ (rw
-    (next_line c.lines_into-line-items.result.now c.loop-line.line-index c.loop-line-test.true)
+    (next_line _ _ c.loop-line-test.true)
     at c.loop-line.invariant) c.in_default-start_on_path.ensures
 
 pub loop-line-preserved : goal.loop-line-preserved
 loop-line-preserved c =
     spread_more _ _ _ _ _ _ _ _ (rw
-    (next_line c.lines_into-line-items.result.now c.loop-line.line-index c.loop-line-test.true)
+    (next_line _ _ c.loop-line-test.true)
     at c.loop-line.invariant) c.sound.ensures _ _
     c.in-Some-start_on_path.ensures _
     (origin_of c.args.search.now.map.now _ c.line-in-loop-line.result
@@ -44,14 +44,14 @@ loop-line-preserved c =
 pub returns-in_default-last_before : goal.returns-in_default-last_before
 returns-in_default-last_before c =
     spread_all _ _ _ _ _ _ c.in_default-last_before.ensures
-    (spread_over _ _ _ _ _ _ (no_line_left c.lines_into-line-items.result.now c.loop-line.line-index
+    (spread_over _ _ _ _ _ _ (no_line_left _ _
     c.loop-line.auto.line-index-end c.loop-line-test.false) _ c.loop-line.invariant)
 
 pub groups-preserved : goal.groups-preserved
 groups-preserved c = record {
   spread = spread_next _ _ _ _ _ _ _ _ c.in-Some-last_before.ensures
-      (spread_over _ _ _ _ _ _ (no_line_left c.lines_into-line-items.result.now
-      c.loop-line.line-index c.loop-line.auto.line-index-end c.loop-line-test.false) _
+      (spread_over _ _ _ _ _ _ (no_line_left _
+      _ c.loop-line.auto.line-index-end c.loop-line-test.false) _
       c.loop-line.invariant);
   on_map = c.loop-line.invariant.on_map c.in-Some-last_before.before
       c.in-Some-last_before.ensures.0;

@@ -8,7 +8,7 @@ use Rattle.olr_route.proofs.tight_turns.first_tight_turn.Goals as goal
 
 pub loop-next-preserved : goal.loop-next-preserved
 loop-next-preserved c =
-    let allowed : ℕ → Type 0 = IsAllowed c.args.search.now.map.now c.args.place.line in
+    let allowed = IsAllowed c.args.search.now.map.now c.args.place.line in
     let ahead = c.tight_ahead-ahead.result.now in
     let i = c.loop-next.next-index in
     record {
@@ -25,4 +25,4 @@ loop-next-preserved c =
 
 pub returns : goal.returns
 returns c = least_over _ _ _ _ _ c.tight_ahead-ahead.ensures _ c.loop-next.invariant.among
-    (λ k d inside may. c.loop-next.invariant.least k d (omega (arith, inside)) may)
+    (λ k d inside may. c.loop-next.invariant.least k d (omega arith) may)

@@ -9,5 +9,5 @@ returns c =
     tight_found _ _ _ _ _ c.tight_ahead.ensures _
     (cases_from_any _ _ _ (λ next. IsAllowed c.args.search.now.map.now c.args.place.line next)
     (λ next. IsAllowed c.args.search.now.map.now c.args.place.line next → ⊥) c.any.ensures.ran
-    (YieldsList-from_slice c.tight_ahead.result.now cc) (λ x q k. search rules)
+    (YieldsList-from_slice _ cc) (λ x q k. search rules)
     (λ x q k. search rules))

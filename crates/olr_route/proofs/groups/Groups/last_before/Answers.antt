@@ -11,9 +11,9 @@ pub returns : goal.returns
 returns c = (
   some_group c.args.self.now c.in-Some.before.now _
       ((c.range.ensures.in_range tt).3 _ _ c.in-Some.ensures.steps).1,
-  before_from_less _ _ c.args.key.0 c.args.key.1
+  before_from_less _ _ _ _
       ((c.range.ensures.in_range tt).3 _ _ c.in-Some.ensures.steps).0.1,
-  λ length node before behind. none_behind c.args.self.now c.in-Some.before.now length node
+  λ length node before behind. none_behind c.args.self.now _ _ _
       (λ found. (c.range.ensures.in_range tt).4 _ _ c.in-Some.ensures.steps (length, node)
-      (tt, less_from_before length node c.args.key.0 c.args.key.1 before) found) behind,
+      (tt, less_from_before _ node c.args.key.0 c.args.key.1 before) found) behind,
 )

@@ -10,4 +10,4 @@ invariant_of-self c =
     let is : more ≡ take c.args.count pages ++ replicate (c.args.count - length pages) 0 =
     search rules in
     pages_wider pages c.self.inside.lengths.items more
-    (wider pages c.args.count more (search rules) is) c.self.invariant
+    (wider _ _ _ (search rules) is) c.self.invariant

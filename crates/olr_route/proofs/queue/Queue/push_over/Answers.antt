@@ -8,5 +8,5 @@ returns c =
     let over = c.in-Some.ensures in
     rw (sym c.self.view_is) (pushes c.args.search.now c.args.step c.args.so_far _ c.requires.step _
     over.0
-    (omega (arith, over.1, ap (λ (a : Arrival). a.at_end) over.2))
+    (omega (arith, ap (λ a. a.at_end) over.2))
     (rw over.2 at c.in_ok-push.ensures.permutation))

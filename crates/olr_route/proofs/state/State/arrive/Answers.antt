@@ -58,12 +58,12 @@ returns-then-is_none c =
 pub returns-in_default : goal.returns-in_default
 returns-in_default c =
     let self = c.args.self.now in
-    let none : get nat_eq self.banned c.args.arrival.node ≡ None = sym c.get_mut.ensures.value
+    let none = sym c.get_mut.ensures.value
     ∙ ap option_copied_mut c.in_default.is in
     let some : IsSome (length_of self.starts.nodes c.args.arrival.node) = search rules in
     subst (λ banned. HasArrived c.args.search.now c.args.arrival self
     (record self { banned = banned })) (sym c.get_mut.follows.holds-at-none)
-    (arrived_done c.args.search.now c.args.arrival c.requires.ends self c.requires.nodes
+    (arrived_done _ _ c.requires.ends _ c.requires.nodes
     (record { arrived = some; none_banned = none }))
 
 pub try_turns-requires-2-clause-later : goal.try_turns-requires-2-clause-later
@@ -71,7 +71,7 @@ try_turns-requires-2-clause-later c = λ _ next among.
     let are = c.deref.ensures.value ∙ ap (λ steps. steps.items) c.replace-steps.ensures.value
     ∙ ap items_in c.in-Some.ensures.value in
     (c.requires.nodes.banned c.args.arrival.node next
-    (subst (λ (l : List Step). Contains (line_ranks l) next) are among)).1
+    (rw are at among)).1
 
 pub returns : goal.returns
 returns c =
@@ -86,20 +86,20 @@ returns c =
     ∙ ap items_in c.in-Some.ensures.value in
     let some : IsSome (length_of self.starts.nodes node) = search rules in
     let elsewhere = λ (other : ℕ) (differs : other ≢ node). kept.2 other
-    (key_differs node other differs) in
+    (key_differs _ _ differs) in
     let still_none : (other : ℕ) → get nat_eq mid.banned other ≡ None
     → get nat_eq self.banned other ≡ None =
-    λ other none. sym (elsewhere other
+    λ other none. sym (elsewhere _
     (λ same. absurd (let here = ap (λ n. get nat_eq mid.banned n) (sym same) ∙ none in
     let some = kept.1 in cc))) ∙ none in
     subst (λ s. HasArrived c.args.search.now c.args.arrival self s) (sym aside.same)
     (has_arrived c.args.search.now c.args.arrival c.requires.ends
-    (end_inside road node c.args.arrival.line c.sound.ensures c.requires.ends) self _
+    (end_inside _ _ _ c.sound.ensures c.requires.ends) self _
     c.requires.nodes (IsDone road mid) false
     (line_ranks c.deref.result.now) (line_ranks c.in_ok-banned-2.banned.items) visits.visited
     (record {
-      done = λ next is. done_ahead road self c.requires.nodes next
-          (done_before road self mid refl still_none next is);
+      done = λ next is. done_ahead _ _ c.requires.nodes _
+          (done_before _ self mid refl still_none next is);
       there = λ next among. let was =
           c.requires.nodes.banned node next
           (subst (λ (l : List Step). Contains (line_ranks l) next) are among) in
@@ -128,5 +128,4 @@ pub try_turns-requires-2-clause-steps : goal.try_turns-requires-2-clause-steps
 try_turns-requires-2-clause-steps c =
     let are = c.deref.ensures.value ∙ ap (λ steps. steps.items) c.replace-steps.ensures.value
     ∙ ap items_in c.in-Some.ensures.value in
-    subst (λ (l : List Step). All (IsStepOf c.args.search.now.map.now.lines) l) (sym are)
-    (c.requires.nodes.steps c.args.arrival.node)
+    rw (sym are) at (c.requires.nodes.steps c.args.arrival.node)

@@ -3,7 +3,7 @@ use Rattle.olr_route.proofs.Visiting.{step_length, step_over}
 use Rattle.olr_route.proofs.state.State.push.Goals as goal
 
 pub push_over-requires-clause-step : goal.push_over-requires-clause-step
-push_over-requires-clause-step c = step_over c.args.search.now.map.now c.args.step c.requires.step
+push_over-requires-clause-step c = step_over _ _ c.requires.step
 
 pub returns-clause-pushed : goal.returns-clause-pushed
 returns-clause-pushed c =

@@ -61,7 +61,7 @@ loop-step-preserved-then-is_first c =
     let more = map_more (λ (s : Step). s.line) c.args.steps.now c.loop-step.step-index _
     c.loop-step-test.true in
     let none = c.requires.own c.if-is_first.true _
-    (line_among c.args.steps.now c.loop-step.step-index _ c.loop-step-test.true)
+    (line_among _ _ _ c.loop-step-test.true)
     ∙ ap (λ b. own_reached b c.args.arrival.at_end) (sym c.if-is_first.true) in
     let own = λ (line : ℕ). ap (λ s. get nat_eq s.own line) pushed.starts in
     record {
@@ -70,7 +70,7 @@ loop-step-preserved-then-is_first c =
           _ (λ other _. own other) may
           (own _ ∙ own_still ask _ c.args.arrival c.args.is_first _ _ _ more _ _ _ _ _ inv.visited
           may none) _ _ pushed.pushed
-          (done_before ask.map.now c.args.self.now c.loop-step.self inv.same.0
+          (done_before _ _ _ inv.same.0
           (λ node is. ap (λ b. get nat_eq b node) (sym inv.same.1) ∙ is) _);
       same = (ap (λ s. s.nodes) pushed.starts ∙ inv.same.0, pushed.banned ∙ inv.same.1);
     }
@@ -92,7 +92,7 @@ loop-step-preserved c =
           c.bans_from-bans.ensures c.if-not-is_allowed_by.ensures)
           (updates.1 ∙ ap (λ b. own_reached b c.args.arrival.at_end) (sym c.if-is_first.false)) _ _
           pushed.pushed
-          (done_before ask.map.now c.args.self.now c.loop-step.self inv.same.0
+          (done_before _ _ _ inv.same.0
           (λ node is. ap (λ b. get nat_eq b node) (sym inv.same.1) ∙ is) _);
       same = (ap (λ s. s.nodes) pushed.starts ∙ inv.same.0, pushed.banned ∙ inv.same.1);
     }
