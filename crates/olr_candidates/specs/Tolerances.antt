@@ -28,6 +28,15 @@ greatest_of Lowest = 7
 greatest_of Percent = 100
 greatest_of Slack = 10000
 
+-- and the value where none is given
+abbrev pub default_of : Name → ℕ
+default_of Radius = 100
+default_of Bearing = 4
+default_of Class = 7
+default_of Lowest = 0
+default_of Percent = 30
+default_of Slack = 300
+
 -- a value within its range
 pub record IsTolerance (name : Name) (value : ℕ) : Type 0 where
   pub least : least_of name ≤ value

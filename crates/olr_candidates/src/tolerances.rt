@@ -119,15 +119,14 @@ pub struct Tolerances {
 }
 
 impl Default for Tolerances {
+    ghost use Rattle.olr_candidates.specs.Tolerances.{default_of};
+    ghost use Rattle.olr_candidates.specs.Values.{value_of};
+    ghost use Rattle.olr_candidates.specs.declared.tolerances.Name.{Name};
+
     /// A radius of 100 metres, 4 sectors, every class, a class limit that is the lowest class, 30
     /// percent and 300 decimetres of slack.
     fn default() -> Self
-        ensures radius { result.radius ≡ 100 }
-        ensures bearing { result.bearing ≡ 4 }
-        ensures class { result.class ≡ 7 }
-        ensures lowest { result.lowest ≡ 0 }
-        ensures percent { result.percent ≡ 30 }
-        ensures slack { result.slack ≡ 300 }
+        ensures { (name : Name) → value_of result name ≡ default_of name }
     {
         Tolerances {
             radius: 100,
