@@ -5,6 +5,7 @@ use Rattle.olr_app.specs.declared.fault.Fault.TheVariants as fault
 use Rattle.olr_app.specs.Common.{Refused, File, MapFault}
 use Rattle.olr_binary.specs.declared.refusal.Refused.TheVariants as refused
 use Rattle.olr_binary.specs.declared.refusal.Kind.TheVariants.{Area, GeoCoordinate}
+use Rattle.olr_candidates.specs.Tolerances.{tolerance_name}
 use Rattle.olr_candidates.specs.declared.fault.LayersFault.{LayersFault}
 use Rattle.olr_records.specs.declared.file.File.TheVariants.{Nodes, Lines, Bans}
 use Rattle.olr_map.specs.declared.fault.MapFault.TheVariants as map
@@ -13,7 +14,6 @@ use Rattle.olr_keys.specs.declared.pages.PageFault.{PageFault}
 use Rattle.olr_keys.specs.declared.pages.PageFault.TheVariants as page
 use Rattle.olr_places.specs.declared.limits.Number.{Number}
 use Rattle.olr_places.specs.declared.limits.Number.TheVariants.{Apart, Look, Most, Within}
-use Rattle.olr_why.specs.Text.{tolerance_name}
 
 -- the fault of a text that is refused
 abbrev pub fault_of : Refused → Fault

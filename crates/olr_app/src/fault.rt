@@ -8,7 +8,6 @@ ghost use Rattle.olr_app.specs.declared.fault.Fault.TheVariants.{BadTolerance as
 ghost use Rattle.olr_app.specs.declared.fault.Fault.TheVariants.{NoMemory as OutOfMemory};
 ghost use Rattle.olr_app.specs.Fault.{fault_of, fault_of_layers, fault_of_map, fault_of_page};
 ghost use Rattle.olr_app.specs.Fault.{fault_text, file_name, number_name};
-ghost use Rattle.olr_why.specs.Text.{tolerance_name};
 
 use olr_binary::{Kind, Refused};
 use olr_candidates::{BadTolerance, Name};
@@ -215,20 +214,6 @@ fn name_of(file: File) -> &'static str
     }
 }
 
-/// The name of a tolerance.
-fn name_of_tolerance(name: Name) -> &'static str
-    ensures { result.now ≡ tolerance_name name }
-{
-    match name {
-        Name::Radius => "radius",
-        Name::Bearing => "bearing",
-        Name::Class => "class",
-        Name::Lowest => "lowest",
-        Name::Percent => "percent",
-        Name::Slack => "slack",
-    }
-}
-
 /// The name of a number.
 fn name_of_number(number: Number) -> &'static str
     ensures { result.now ≡ number_name number }
@@ -270,7 +255,7 @@ impl fmt::Display for Fault {
             Fault::NotAdjacent(record) => write!(f, "NotAdjacent {record}"),
             Fault::TooMany(file) => write!(f, "TooMany {}", name_of(*file)),
             Fault::TooManyCandidates(point) => write!(f, "TooManyCandidates {point}"),
-            Fault::BadTolerance(name) => write!(f, "BadTolerance {}", name_of_tolerance(*name)),
+            Fault::BadTolerance(name) => write!(f, "BadTolerance {}", name.text()),
             Fault::BadNumber(number) => write!(f, "BadNumber {}", name_of_number(*number)),
             Fault::BadNearest => write!(f, "BadNumber nearest"),
             Fault::BadPage(size) => write!(f, "BadPage {size}"),

@@ -1,4 +1,7 @@
 pub mod Common
+pub mod Cutting
+pub mod Joined
+pub mod Values
 mod Projections
 mod Polylines
 mod LineCandidates

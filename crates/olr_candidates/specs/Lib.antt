@@ -1,5 +1,6 @@
 pub mod Common
 pub mod Tolerances
+pub mod Values
 pub mod Form
 pub mod Projection
 pub mod Candidate

@@ -1,8 +1,17 @@
 -- How far a line of the map may differ from its point, and a route from its leg. The numbers and
 -- their ranges are this project's choice.
-use Rattle.std.specs.Prelude.{ℕ, ◌<◌, ◌≤◌}
+use Rattle.std.specs.Prelude.{ℕ, ◌<◌, ◌≤◌, List, [], ◌∷◌, codes}
 use Rattle.olr_candidates.specs.declared.tolerances.Name.{Name}
 use Rattle.olr_candidates.specs.declared.tolerances.Name.TheVariants.{Radius, Bearing, Class, Lowest, Percent, Slack}
+
+-- the text of a name, as in the option that gives its value
+abbrev pub tolerance_name : Name → List ℕ
+tolerance_name Radius = codes "radius"
+tolerance_name Bearing = codes "bearing"
+tolerance_name Class = codes "class"
+tolerance_name Lowest = codes "lowest"
+tolerance_name Percent = codes "percent"
+tolerance_name Slack = codes "slack"
 
 -- the least value of each: the radius in metres, the bearing in sectors, classes in steps, the
 -- percent, the slack in decimetres
@@ -19,12 +28,21 @@ greatest_of Lowest = 7
 greatest_of Percent = 100
 greatest_of Slack = 10000
 
+-- and the value where none is given
+abbrev pub default_of : Name → ℕ
+default_of Radius = 100
+default_of Bearing = 4
+default_of Class = 7
+default_of Lowest = 0
+default_of Percent = 30
+default_of Slack = 300
+
 -- a value within its range
 pub record IsTolerance (name : Name) (value : ℕ) : Type 0 where
   pub least : least_of name ≤ value
   pub greatest : value ≤ greatest_of name
 
--- the order in which they are checked
+-- the order in which they are tested
 abbrev pub order_of : Name → ℕ
 order_of Radius = 0
 order_of Bearing = 1
@@ -32,6 +50,10 @@ order_of Class = 2
 order_of Lowest = 3
 order_of Percent = 4
 order_of Slack = 5
+
+-- all names, in this order
+abbrev pub names : List Name
+names = Radius ∷ Bearing ∷ Class ∷ Lowest ∷ Percent ∷ Slack ∷ []
 
 -- six numbers by their names
 abbrev pub by_name : ℕ → ℕ → ℕ → ℕ → ℕ → ℕ → Name → ℕ

@@ -2,7 +2,9 @@
 
 ghost use Rattle.std.specs.Prelude.{◌≡◌, ◌≤◌, Decides, IfErr, IfOk};
 ghost use Rattle.olr_candidates.specs.declared.tolerances.Name.TheVariants.{Radius, Bearing, Class, Lowest, Percent, Slack};
-ghost use Rattle.olr_candidates.specs.Tolerances.{IsFirstOutOfRange, IsTolerance, by_name, greatest_of, least_of};
+ghost use Rattle.olr_candidates.specs.Tolerances.{IsFirstOutOfRange, IsTolerance, by_name, greatest_of, least_of, order_of, tolerance_name};
+
+use std::fmt;
 
 /// The name of a tolerance.
 #[derive(Clone, Copy, Debug, PartialEq, Eq)]
@@ -22,6 +24,40 @@ pub enum Name {
 }
 
 impl Name {
+    /// How many there are.
+    pub const COUNT: usize = 6;
+
+    /// All of them, in the order in which [`Tolerances::new`] tests their values.
+    pub const ALL: [Name; Name::COUNT] = [
+        Name::Radius,
+        Name::Bearing,
+        Name::Class,
+        Name::Lowest,
+        Name::Percent,
+        Name::Slack,
+    ];
+
+    /// Its number in [`Name::ALL`], from 0.
+    pub fn order(self) -> usize
+        ensures { result ≡ order_of self }
+    {
+        self as usize
+    }
+
+    /// Its text, as in the option that gives its value.
+    pub fn text(self) -> &'static str
+        ensures { result.now ≡ tolerance_name self }
+    {
+        match self {
+            Name::Radius => "radius",
+            Name::Bearing => "bearing",
+            Name::Class => "class",
+            Name::Lowest => "lowest",
+            Name::Percent => "percent",
+            Name::Slack => "slack",
+        }
+    }
+
     /// The least value of this tolerance: the radius in metres, the bearing in sectors, classes in
     /// steps, the percent, the slack in decimetres.
     pub fn least(self) -> u32
@@ -47,7 +83,7 @@ impl Name {
     }
 
     /// Whether this tolerance can have this value.
-    fn allows(self, value: u32) -> bool
+    pub fn allows(self, value: u32) -> bool
         ensures { Decides result (IsTolerance self value) }
     {
         self.least() <= value && value <= self.greatest()
@@ -83,15 +119,14 @@ pub struct Tolerances {
 }
 
 impl Default for Tolerances {
+    ghost use Rattle.olr_candidates.specs.Tolerances.{default_of};
+    ghost use Rattle.olr_candidates.specs.Values.{value_of};
+    ghost use Rattle.olr_candidates.specs.declared.tolerances.Name.{Name};
+
     /// A radius of 100 metres, 4 sectors, every class, a class limit that is the lowest class, 30
     /// percent and 300 decimetres of slack.
     fn default() -> Self
-        ensures radius { result.radius ≡ 100 }
-        ensures bearing { result.bearing ≡ 4 }
-        ensures class { result.class ≡ 7 }
-        ensures lowest { result.lowest ≡ 0 }
-        ensures percent { result.percent ≡ 30 }
-        ensures slack { result.slack ≡ 300 }
+        ensures { (name : Name) → value_of result name ≡ default_of name }
     {
         Tolerances {
             radius: 100,
@@ -105,6 +140,8 @@ impl Default for Tolerances {
 }
 
 impl Tolerances {
+    ghost use Rattle.olr_candidates.specs.Values.{IsChanged, value_of};
+
     /// These tolerances: radius in metres, bearing in sectors, class and lowest as differences of
     /// class numbers, percent, and slack in decimetres.
     ///
@@ -154,5 +191,52 @@ impl Tolerances {
             percent,
             slack,
         })
+    }
+
+    /// The value of the tolerance of a name.
+    pub fn value(&self, name: Name) -> u32
+        ensures { result ≡ value_of self.now name }
+    {
+        match name {
+            Name::Radius => self.radius,
+            Name::Bearing => self.bearing,
+            Name::Class => self.class,
+            Name::Lowest => self.lowest,
+            Name::Percent => self.percent,
+            Name::Slack => self.slack,
+        }
+    }
+
+    /// The same tolerances, but for the one of this name, which has this value.
+    pub fn with(&self, name: Name, value: u32) -> Tolerances
+        requires { IsTolerance name value }
+        ensures { IsChanged name value self.now result }
+    {
+        let mut changed = *self;
+        match name {
+            Name::Radius => changed.radius = value,
+            Name::Bearing => changed.bearing = value,
+            Name::Class => changed.class = value,
+            Name::Lowest => changed.lowest = value,
+            Name::Percent => changed.percent = value,
+            Name::Slack => changed.slack = value,
+        }
+        changed
+    }
+}
+
+impl fmt::Display for Tolerances {
+    ghost use Rattle.std.specs.Prelude.{Some};
+    ghost use Rattle.olr_candidates.specs.Values.{tolerances_text};
+
+    ghost output = { λ tolerances. Some (tolerances_text tolerances) };
+
+    /// The numbers in decimal, in the order of [`Name::ALL`], a space between each two.
+    fn fmt<W: fmt::Write>(&self, f: &mut fmt::Formatter<W>) -> fmt::Result {
+        write!(
+            f,
+            "{} {} {} {} {} {}",
+            self.radius, self.bearing, self.class, self.lowest, self.percent, self.slack,
+        )
     }
 }

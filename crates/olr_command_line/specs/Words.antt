@@ -1,5 +1,5 @@
 -- What the words of a command line ask for.
-use Rattle.std.specs.Prelude.{◌≡◌, ℕ, ◌≤◌, Some, IsSome, unwrap_or, true, if◌then◌else◌}
+use Rattle.std.specs.Prelude.{◌≡◌, ℕ, ◌≤◌, None, Some, IsSome, get_or, unwrap_or, true, if◌then◌else◌}
 use Rattle.olr_app.specs.declared.fault.Fault.{Fault}
 use Rattle.olr_app.specs.declared.fault.Fault.TheVariants.{AfterWithAll, BadNearest, BadNumber, BadPage, BadTolerance}
 use Rattle.olr_app.specs.declared.request.MatchRequest.{MatchRequest}
@@ -8,10 +8,9 @@ use Rattle.olr_app.specs.declared.request.Pages.TheVariants as pages
 use Rattle.olr_app.specs.declared.request.PlacesRequest.{PlacesRequest}
 use Rattle.olr_app.specs.declared.request.Request.TheVariants.{Candidates, Match, Places, Why}
 use Rattle.olr_app.specs.declared.request.WhyRequest.{WhyRequest}
-use Rattle.olr_candidates.specs.Tolerances.{IsFirstOutOfRange}
+use Rattle.olr_candidates.specs.Tolerances.{IsFirstOutOfRange, default_of, order_of}
+use Rattle.olr_candidates.specs.Values as tolerance
 use Rattle.olr_candidates.specs.declared.tolerances.Name.{Name}
-use Rattle.olr_candidates.specs.declared.tolerances.Name.TheVariants.{Radius, Bearing, Class}
-use Rattle.olr_candidates.specs.declared.tolerances.Name.TheVariants.{Lowest, Percent, Slack}
 use Rattle.olr_candidates.specs.declared.tolerances.Tolerances.{Tolerances}
 use Rattle.olr_places.specs.Limits.{IsFirstOutOfRange as IsFirstNumberOutOfRange}
 use Rattle.olr_places.specs.declared.limits.Number.{Number}
@@ -28,24 +27,14 @@ use Rattle.olr_command_line.specs.declared.words.Input.{Input}
 
 -- ---- tolerances
 
--- the value of each tolerance: the given one, else its default; radius in metres, bearing in
--- sectors, classes in steps, percent, slack in decimetres
+-- the value of each tolerance: the given one, else its default
 abbrev pub value_of : Given → Name → ℕ
-value_of given Radius = unwrap_or given.radius 100
-value_of given Bearing = unwrap_or given.bearing 4
-value_of given Class = unwrap_or given.class 7
-value_of given Lowest = unwrap_or given.lowest 0
-value_of given Percent = unwrap_or given.percent 30
-value_of given Slack = unwrap_or given.slack 300
+value_of given name =
+    unwrap_or (get_or given.tolerances (order_of name) None) (default_of name)
 
 -- tolerances with these values
 pub record AreTolerances (given : Given) (tolerances : Tolerances) : Type 0 where
-  pub radius : tolerances.radius ≡ value_of given Radius
-  pub bearing : tolerances.bearing ≡ value_of given Bearing
-  pub class : tolerances.class ≡ value_of given Class
-  pub lowest : tolerances.lowest ≡ value_of given Lowest
-  pub percent : tolerances.percent ≡ value_of given Percent
-  pub slack : tolerances.slack ≡ value_of given Slack
+  pub each : (name : Name) → tolerance.value_of tolerances name ≡ value_of given name
 
 -- why tolerances are refused: the first that is out of its range
 abbrev pub IsRefusedTolerance : Given → Fault → Type 0

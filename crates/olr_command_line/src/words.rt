@@ -21,6 +21,7 @@ use olr_app::{
     Request, Tolerances, WhyRequest,
 };
 use olr_batch::{BatchRequest, What};
+use olr_candidates::Name;
 use std::alloc::{AllocError, Global};
 
 /// How many matchings a page has where the words don't say it.
@@ -107,20 +108,14 @@ impl GivenNumbers {
     }
 }
 
-/// What the words give to a subcommand, in range or not: the radius in metres, the bearing in
-/// sectors, class and lowest as differences of class numbers, the percent of a length, the slack in
-/// decimetres, how many matchings a page has, the numbers for places, and how many lines near a
+/// What the words give to a subcommand, in range or not: the tolerances in the order of
+/// [`Name::ALL`], how many matchings a page has, the numbers for places, and how many lines near a
 /// point are printed.
 /// `None` where an option is left out, or where the subcommand has no such option.
 #[derive(Clone, Copy)]
 struct Given<'a> {
     text: &'a str,
-    radius: Option<u32>,
-    bearing: Option<u32>,
-    class: Option<u32>,
-    lowest: Option<u32>,
-    percent: Option<u32>,
-    slack: Option<u32>,
+    tolerances: [Option<u32>; Name::COUNT],
     page: Option<u32>,
     numbers: GivenNumbers,
     nearest: Option<u32>,
@@ -132,14 +127,13 @@ struct Given<'a> {
 impl<'a> Given<'a> {
     /// What the words found for a subcommand give, beside the text of a reference.
     fn read(found: &ArgMatches<'a>, text: &'a str) -> Given<'a> {
+        let mut tolerances = [None; Name::COUNT];
+        for name in Name::ALL {
+            tolerances[name.order()] = found.get_one(name.text());
+        }
         Given {
             text,
-            radius: found.get_one("radius"),
-            bearing: found.get_one("bearing"),
-            class: found.get_one("class"),
-            lowest: found.get_one("lowest"),
-            percent: found.get_one("percent"),
-            slack: found.get_one("slack"),
+            tolerances,
             page: found.get_one("page"),
             numbers: GivenNumbers::read(found),
             nearest: found.get_one("nearest"),
@@ -177,20 +171,21 @@ impl<'a> Given<'a> {
     /// # Errors
     ///
     /// [`Fault::BadTolerance`] with the first that is out of its range, in the order of
-    /// [`Tolerances::new`].
+    /// [`Name::ALL`].
     fn tolerances(&self) -> Result<Tolerances, Fault>
         ensures accepted { IfOk result (AreTolerances self.now) }
         ensures refused { IfErr result (IsRefusedTolerance self.now) }
     {
-        let default = Tolerances::default();
-        let tolerances = Tolerances::new(
-            self.radius.unwrap_or(default.radius),
-            self.bearing.unwrap_or(default.bearing),
-            self.class.unwrap_or(default.class),
-            self.lowest.unwrap_or(default.lowest),
-            self.percent.unwrap_or(default.percent),
-            self.slack.unwrap_or(default.slack),
-        )?;
+        let mut tolerances = Tolerances::default();
+        for name in Name::ALL {
+            let Some(value) = self.tolerances[name.order()] else {
+                continue;
+            };
+            if !name.allows(value) {
+                return Err(Fault::BadTolerance(name));
+            }
+            tolerances = tolerances.with(name, value);
+        }
         Ok(tolerances)
     }
 

@@ -14,7 +14,6 @@ pub mod Admissible
 pub mod Totals
 pub mod LengthRows
 mod DigestRows
-mod Cutting
 mod OneRequest
 mod OneLine
 mod DigestBytes

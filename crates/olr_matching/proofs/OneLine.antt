@@ -7,7 +7,7 @@ use Rattle.olr_binary.specs.Text.{trimmed, IsBase64}
 use Rattle.olr_binary.specs.Outcome.{IsTextOf}
 use Rattle.olr_matching.proofs.Common.{Reference}
 use Rattle.olr_matching.specs.FingerprintLaws.{IsOneLine}
-use Rattle.olr_matching.proofs.Cutting.{Lacks}
+use Rattle.olr_candidates.proofs.Cutting.{Lacks}
 
 -- ---- from a test to the fact
 

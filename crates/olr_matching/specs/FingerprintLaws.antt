@@ -17,21 +17,12 @@ pub record IsRequest (text : List ℕ) (tolerances : Tolerances) (road : RoadMap
   pub one_line : IsOneLine (trimmed text)
   pub sound : IsSoundMap road
 
--- the two requests have the same tolerances
-pub record SameTolerances (a b : Tolerances) : Type 0 where
-  pub radius : a.radius ≡ b.radius
-  pub bearing : a.bearing ≡ b.bearing
-  pub class : a.class ≡ b.class
-  pub lowest : a.lowest ≡ b.lowest
-  pub percent : a.percent ≡ b.percent
-  pub slack : a.slack ≡ b.slack
-
 -- Equal texts name the same reference, but for blanks at the ends of its text, the same tolerances
 -- and the same map.
 pub record SameInputs (text other : List ℕ) (a b : Tolerances) (road another : RoadMap) : Type 0
   where
     pub reference : trimmed text ≡ trimmed other
-    pub tolerances : SameTolerances a b
+    pub tolerances : a ≡ b
     pub map : road ≡ another
 
 abbrev pub OneRequestByText : Type 0

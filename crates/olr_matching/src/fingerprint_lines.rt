@@ -1,41 +1,18 @@
 //! The lines of a fingerprinted text, taken into a digest. Only one row of the map's text is in
 //! memory at a time.
 
-ghost use Rattle.std.specs.Prelude.{◌≡◌, ◌++◌, string_bytes, OnOk};
+ghost use Rattle.std.specs.Prelude.{OnOk};
 ghost use Rattle.olr_map.specs.Canonical.{canonical_text};
-ghost use Rattle.olr_matching.specs.Fingerprint.{line_text, tolerances_line, request_text};
+ghost use Rattle.olr_matching.specs.Fingerprint.{request_text};
 ghost use Rattle.olr_matching.specs.Digest.{Extends};
 
 use olr_binary::trim;
 use olr_candidates::Tolerances;
 use olr_map::Map;
 use olr_metric::NoMemory;
-use olr_text::Decimal;
 use sha2::{Digest, Sha256};
 use std::alloc::Global;
 use std::fmt::Write;
-
-/// Adds the line of the tolerances.
-fn push_tolerances(text: &mut String, tolerances: &Tolerances) -> Result<(), NoMemory>
-    ensures { OnOk result (string_bytes text.new
-        ≡ string_bytes text.old ++ line_text (tolerances_line tolerances.now)) }
-{
-    let Tolerances {
-        radius,
-        bearing,
-        class,
-        lowest,
-        percent,
-        slack,
-    } = *tolerances;
-    let (radius, bearing, class) = (Decimal(radius), Decimal(bearing), Decimal(class));
-    let (lowest, percent, slack) = (Decimal(lowest), Decimal(percent), Decimal(slack));
-    write!(
-        text,
-        "{radius} {bearing} {class} {lowest} {percent} {slack}\n"
-    )?;
-    Ok(())
-}
 
 /// Takes in the lines before those of the map, from the text of the reference and the tolerances.
 pub(crate) fn take_request(
@@ -47,7 +24,7 @@ pub(crate) fn take_request(
     ensures { OnOk result (Extends hasher.old hasher.new (request_text text.now tolerances.now)) }
 {
     let mut line = String::new(alloc);
-    push_tolerances(&mut line, tolerances)?;
+    write!(line, "{tolerances}\n")?;
     hasher.update("olr 2\n");
     hasher.update(trim(text.as_bytes()));
     hasher.update("\n");

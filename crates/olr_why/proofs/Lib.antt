@@ -10,6 +10,7 @@ pub mod FirstKeys
 pub mod Trials
 pub mod Tried
 pub mod Halving
+pub mod OfNames
 pub mod Lowering
 pub mod Places
 pub mod Tuples
@@ -22,6 +23,5 @@ mod JsonWhy
 mod OnePoints
 mod OnePairs
 mod OneLegs
-mod OneTolerances
 mod OneRemedies
 mod OneWhy

@@ -1,15 +1,16 @@
 -- What would help a reference is the same in all reasons.
 use Rattle.std.proofs.Common.{◌≡◌, ℕ, ◌<◌, List, refl, sym, ◌∙◌, ap, arith, MatchOption, Option, Some, slice_get}
-use Rattle.olr_why.proofs.Common.{Bearing, Class, KeyValue, Lowest, MatchingHasKey, Name, OneLayers, Percent, Radius, Reference, RoadMap, Slack, Tolerances, Verdict}
+use Rattle.olr_why.proofs.Common.{KeyValue, MatchingHasKey, Name, OneLayers, Reference, RoadMap, Tolerances, Verdict}
+use Rattle.olr_candidates.proofs.Values.{one_changed}
 use Rattle.olr_keys.specs.Laws.{OneList}
 use Rattle.olr_matching.proofs.Lists.{same_some}
 use Rattle.olr_why.specs.Chain.{HasMatching, IsFirstMatching}
-use Rattle.olr_why.specs.Remedies.{AreNarrower, AreRemedies, AreWider, IsGreatestUncrowded, IsLeastEnough, IsNarrower, IsOpener, IsWider, without_bans}
+use Rattle.olr_why.specs.Remedies.{AreNarrower, AreRemedies, AreWider, IsGreatestUncrowded, IsLeastEnough, IsNarrower, IsOpener, IsWider, by_trust, narrowed, without_bans}
 use Rattle.olr_why.specs.declared.remedy.Change.TheVariants.{Tolerance}
 use Rattle.olr_why.specs.declared.remedy.Remedy.{Remedy}
 use Rattle.olr_why.specs.declared.verdict.Verdict.TheVariants.{Crowded, Match}
 use Rattle.olr_why.proofs.Lists.{one_option}
-use Rattle.olr_why.proofs.OneTolerances.{one_changed}
+use Rattle.olr_why.proofs.OfNames.{one_of_names}
 use Rattle.olr_why.proofs.Tried.{has_matching}
 
 -- where neither of two numbers is less
@@ -105,27 +106,18 @@ module _ (one_layers : OneLayers) (one_list : OneList) (has_key : MatchingHasKey
     all_wider : (a b : List Remedy) → AreWider road given reference a
         → AreWider road given reference b → a ≡ b
     all_wider a b one other =
-        let lowest = one_wider Lowest one.of_lowest other.of_lowest one.lowest other.lowest in
-        let bearing = one_wider Bearing one.of_bearing other.of_bearing one.bearing other.bearing in
-        let radius = one_wider Radius one.of_radius other.of_radius one.radius other.radius in
-        let slack = one_wider Slack one.of_slack other.of_slack one.slack other.slack in
-        let percent = one_wider Percent one.of_percent other.of_percent one.percent other.percent in
-        let class = one_wider Class one.of_class other.of_class one.class other.class in
-        let bans = one_opener one.of_bans other.of_bans one.bans other.bans in
-        rw (one.list_is, other.list_is, lowest, bearing, radius, slack, percent, class, bans) refl
-
-    all_narrower : (a b : List Remedy) → AreNarrower road given reference a
-        → AreNarrower road given reference b → a ≡ b
-    all_narrower a b one other =
-        let radius = one_narrower Radius one.of_radius other.of_radius one.radius other.radius in
-        let bearing = one_narrower Bearing one.of_bearing other.of_bearing one.bearing
-        other.bearing in
-        let class = one_narrower Class one.of_class other.of_class one.class other.class in
-        rw (one.list_is, other.list_is, radius, bearing, class) refl
+        rw (
+          one.list_is,
+          other.list_is,
+          one_opener one.of_bans other.of_bans one.bans other.bans,
+          one_of_names (IsWider road given reference) one_wider by_trust one.of_tolerances
+              other.of_tolerances one.tolerances other.tolerances,
+        ) refl
 
     pub one_remedies : (verdict : Verdict) (a b : List Remedy)
         → AreRemedies road given reference verdict a → AreRemedies road given reference verdict b
         → a ≡ b
-    one_remedies (Crowded number) a b one other = all_narrower a b one other
+    one_remedies (Crowded number) a b one other =
+        one_of_names (IsNarrower road given reference) one_narrower narrowed a b one other
     one_remedies Match a b one other = one ∙ sym other
     one_remedies _ a b one other = all_wider a b one other

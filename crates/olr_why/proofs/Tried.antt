@@ -2,6 +2,7 @@
 use Rattle.std.proofs.Common.{◌≢◌, ℕ, ◌≤◌, List, subst}
 use Rattle.std.proofs.lemmas.Option.{slice_get_within}
 use Rattle.olr_why.proofs.Common.{all_at, Candidate, IsTolerance, KeyValue, Lowest, MatchingHasKey, Name, NoListsAndTooMany, OneCandidateALine, order_of, points_of, Reference, RoadMap, Tolerances}
+use Rattle.olr_candidates.proofs.Values.{in_range}
 use Rattle.olr_candidates.specs.Points.{AreLists}
 use Rattle.olr_keys.specs.Matching.{IsKey}
 use Rattle.olr_why.specs.Chain.{HasMatching, IsFirstMatching, IsUncrowded}
@@ -9,7 +10,7 @@ use Rattle.olr_why.specs.Remedies.{IsChanged, IsEnough, IsUncrowdedWith}
 use Rattle.olr_why.specs.Trial.{IsCrowded}
 use Rattle.olr_why.specs.Trying.{AreCrowdedFrom, IsCrowdedWith, IsEnoughFor, IsNoneUpTo, IsTrialWith}
 use Rattle.olr_why.specs.declared.trial.Trial.TheVariants.{Crowded, Matching, NoMatching}
-use Rattle.olr_why.proofs.AtMost.{AreAtMost, at_most_same, at_most_wider, in_range}
+use Rattle.olr_why.proofs.AtMost.{AreAtMost, at_most_same, at_most_wider}
 use Rattle.olr_why.proofs.Trials.{uncrowded}
 use Rattle.olr_why.proofs.Widened.{matching, too_many}
 

@@ -2,7 +2,7 @@
 -- of each leg, and so each tuple of candidates. They keep also that a point has too many
 -- candidates.
 use Rattle.std.proofs.Common.{◌≡◌, ℕ, zero, suc, ◌+◌, ◌-◌, ◌*◌, ◌/◌, ◌<◌, ◌≤◌, Bool, List, [], ◌∷◌, length, get_or, All, refl, sym, ◌∙◌, ap, subst, arith, ◌==◌, mul-le-mul_left}
-use Rattle.olr_why.proofs.Common.{AdmitsPlaces, AreAdmitted, AreAdmittedBehind, Candidate, HasMatching, IsCandidatePlace, Next, OneCandidateALine, Place, points_of, Reference, Tolerances}
+use Rattle.olr_why.proofs.Common.{AdmitsPlaces, AreAdmitted, AreAdmittedBehind, Bearing, Candidate, Class, HasMatching, IsCandidatePlace, Next, OneCandidateALine, Percent, Place, points_of, Radius, Reference, Slack, Tolerances}
 use Rattle.olr_binary.specs.declared.point.Point.{Point}
 use Rattle.olr_candidates.specs.Candidate.{penalty_of}
 use Rattle.olr_candidates.specs.Candidates.{AreTooMany, IsCandidateAt, IsOneOf}
@@ -55,9 +55,9 @@ module _ {before after : Tolerances} (at_most : AreAtMost before after) where
               is_projection = it.is_projection;
               rates = record {
                 conditions = record {
-                  near = omega (arith, it.rates.conditions.near, at_most.radius);
-                  alike = omega (arith, it.rates.conditions.alike, at_most.bearing);
-                  classed = omega (arith, it.rates.conditions.classed, at_most.class);
+                  near = omega (arith, it.rates.conditions.near, at_most.each Radius);
+                  alike = omega (arith, it.rates.conditions.alike, at_most.each Bearing);
+                  classed = omega (arith, it.rates.conditions.classed, at_most.each Class);
                   on_line = it.rates.conditions.on_line;
                 };
                 line_is = it.rates.line_is;
@@ -183,10 +183,10 @@ module _ {before after : Tolerances} (at_most : AreAtMost before after) where
     admitted next from to length it =
         let least : least_admitted after next ≤ least_admitted before next =
         less_widened (586 * next.interval) before.percent after.percent before.slack after.slack
-        at_most.percent at_most.slack in
+        (at_most.each Percent) (at_most.each Slack) in
         let greatest : greatest_admitted before next ≤ greatest_admitted after next =
         more_widened (586 * (next.interval + 1)) before.percent after.percent before.slack
-        after.slack at_most.percent at_most.slack in record {
+        after.slack (at_most.each Percent) (at_most.each Slack) in record {
           is_least = subst (λ (class : ℕ). IsLeastLength road class from to length)
               (same_limit next) it.is_least;
           at_least = omega (arith, least, it.at_least);

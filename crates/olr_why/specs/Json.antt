@@ -5,10 +5,11 @@ use Rattle.std.specs.Prelude.{ℕ, Bool, List, [], ◌∷◌, ◌++◌, Option, 
 use Rattle.serde_json.specs.Data.{Data, Members, null, string, object, no_members, member}
 use Rattle.olr_binary.specs.JsonValues.{array_of, whole, whole_or_null}
 use Rattle.olr_candidates.specs.declared.near.FailedConditions.{FailedConditions}
+use Rattle.olr_candidates.specs.Tolerances.{tolerance_name}
 use Rattle.olr_why.specs.Common.{KeyValue, NearLine, RoadMap}
 use Rattle.olr_keys.specs.Cursor.{key_text}
 use Rattle.olr_route.specs.Route.{id_at}
-use Rattle.olr_why.specs.Text.{class_at, form_at, long_of, number_of, short_of, tolerance_name, verdict_word}
+use Rattle.olr_why.specs.Text.{class_at, form_at, long_of, number_of, short_of, verdict_word}
 use Rattle.olr_why.specs.declared.leg.LegReason.{LegReason}
 use Rattle.olr_why.specs.declared.pair.Better.{Better}
 use Rattle.olr_why.specs.declared.pair.PairLength.{PairLength}

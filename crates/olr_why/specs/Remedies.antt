@@ -1,29 +1,18 @@
 -- What would help a reference that has no matching: a change of one tolerance, all else being the
 -- same, or a map without bans. A value that is spoken of is always within its range, because every
 -- value of `Tolerances` is.
-use Rattle.std.specs.Prelude.{◌≡◌, ◌≢◌, ℕ, ◌<◌, List, [], ◌++◌, Option, Some, MatchOption}
+use Rattle.std.specs.Prelude.{◌≡◌, ◌≢◌, ℕ, ◌<◌, List, [], ◌∷◌, ◌++◌, Option, Some, MatchOption}
 use Rattle.std.specs.Option.{option_to_list}
 use Rattle.olr_why.specs.Common.{KeyValue, Name, Reference, RoadMap, Tolerances}
 use Rattle.olr_candidates.specs.declared.tolerances.Name.TheVariants.{Radius, Bearing, Class, Lowest, Percent, Slack}
-use Rattle.olr_candidates.specs.Tolerances.{by_name, order_of}
+pub use Rattle.olr_candidates.specs.Values.{IsChanged, value_of}
 use Rattle.olr_why.specs.Chain.{HasMatching, IsFirstMatching, IsUncrowded}
 use Rattle.olr_why.specs.declared.remedy.Change.TheVariants.{Tolerance, WithoutBans}
 use Rattle.olr_why.specs.declared.remedy.Remedy.{Remedy}
 use Rattle.olr_why.specs.declared.verdict.Verdict.{Verdict}
 use Rattle.olr_why.specs.declared.verdict.Verdict.TheVariants.{Chain, Crowded, Leg, Match, Point}
 
--- ---- a change
-
--- the value of the tolerance of a name
-abbrev pub value_of : Tolerances → Name → ℕ
-value_of tolerances name = by_name tolerances.radius tolerances.bearing tolerances.class
-    tolerances.lowest tolerances.percent tolerances.slack name
-
--- one tolerance has this value, and the others are as given
-pub record IsChanged (name : Name) (value : ℕ) (given changed : Tolerances) : Type 0 where
-  pub changed_is : value_of changed name ≡ value
-  pub others : (other : Name) → order_of other ≢ order_of name
-      → value_of changed other ≡ value_of given other
+-- ---- a map without bans
 
 -- the same map with no turn banned
 abbrev pub without_bans : RoadMap → RoadMap
@@ -37,6 +26,22 @@ pub record IsUnbanned (road other : RoadMap) : Type 0 where
 -- the map without bans, where the map has bans
 abbrev pub AreUnbanned : RoadMap → Option RoadMap → Type 0
 AreUnbanned road unbanned = MatchOption unbanned (road.bans ≡ []) (IsUnbanned road)
+
+-- ---- the order of remedies
+
+-- the tolerances of which a greater value may help, the most trusted one first
+abbrev pub by_trust : List Name
+by_trust = Lowest ∷ Bearing ∷ Radius ∷ Slack ∷ Percent ∷ Class ∷ []
+
+-- those of which a lesser value may help
+abbrev pub narrowed : List Name
+narrowed = Radius ∷ Bearing ∷ Class ∷ []
+
+-- the remedies of these names, one after the other, of each name the one that there is, if any
+unfoldable pub AreOfNames : (Name → Option Remedy → Type 0) → List Name → List Remedy → Type 0
+AreOfNames IsOf [] remedies = remedies ≡ []
+AreOfNames IsOf (name ∷ names) remedies = (first : Option Remedy) × (rest : List Remedy)
+    × IsOf name first × AreOfNames IsOf names rest × (remedies ≡ option_to_list first ++ rest)
 
 module _ (road : RoadMap) (given : Tolerances) (reference : Reference) where
   -- ---- where a reference has no matching, and no point has too many candidates
@@ -99,36 +104,18 @@ module _ (road : RoadMap) (given : Tolerances) (reference : Reference) where
 
   -- ---- all of them
 
-  -- what helps where no point has too many candidates, in the order of trust
+  -- what helps where no point has too many candidates: tolerances in the order of trust, and then
+  -- a map without bans
   pub record AreWider (remedies : List Remedy) : Type 0 where
-    pub of_lowest : Option Remedy
-    pub of_bearing : Option Remedy
-    pub of_radius : Option Remedy
-    pub of_slack : Option Remedy
-    pub of_percent : Option Remedy
-    pub of_class : Option Remedy
+    pub of_tolerances : List Remedy
     pub of_bans : Option Remedy
-    pub lowest : IsWider Lowest of_lowest
-    pub bearing : IsWider Bearing of_bearing
-    pub radius : IsWider Radius of_radius
-    pub slack : IsWider Slack of_slack
-    pub percent : IsWider Percent of_percent
-    pub class : IsWider Class of_class
+    pub tolerances : AreOfNames IsWider by_trust of_tolerances
     pub bans : IsOpener of_bans
-    pub list_is : remedies ≡ option_to_list of_lowest ++ option_to_list of_bearing
-        ++ option_to_list of_radius ++ option_to_list of_slack
-        ++ option_to_list of_percent ++ option_to_list of_class ++ option_to_list of_bans
+    pub list_is : remedies ≡ of_tolerances ++ option_to_list of_bans
 
   -- what helps where a point has too many candidates
-  pub record AreNarrower (remedies : List Remedy) : Type 0 where
-    pub of_radius : Option Remedy
-    pub of_bearing : Option Remedy
-    pub of_class : Option Remedy
-    pub radius : IsNarrower Radius of_radius
-    pub bearing : IsNarrower Bearing of_bearing
-    pub class : IsNarrower Class of_class
-    pub list_is : remedies ≡ option_to_list of_radius ++ option_to_list of_bearing
-        ++ option_to_list of_class
+  abbrev pub AreNarrower : List Remedy → Type 0
+  AreNarrower = AreOfNames IsNarrower narrowed
 
   -- what helps, by the verdict
   abbrev pub AreRemedies : Verdict → List Remedy → Type 0

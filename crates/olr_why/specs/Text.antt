@@ -3,8 +3,8 @@
 -- with a line feed. Distances are in centimetres, positions and lengths in decimetres.
 use Rattle.std.specs.Prelude.{ℕ, ◌+◌, ◌-◌, Bool, List, [], ◌∷◌, ◌++◌, Option, None, Some, option_map, unwrap_or, slice_get, codes, decimal, if◌then◌else◌, nat_lt}
 use Rattle.olr_candidates.specs.declared.near.FailedConditions.{FailedConditions}
-use Rattle.olr_why.specs.Common.{KeyValue, Name, NearLine, RoadMap}
-use Rattle.olr_candidates.specs.declared.tolerances.Name.TheVariants.{Radius, Bearing, Class, Lowest, Percent, Slack}
+use Rattle.olr_why.specs.Common.{KeyValue, NearLine, RoadMap}
+use Rattle.olr_candidates.specs.Tolerances.{tolerance_name}
 use Rattle.olr_keys.specs.Cursor.{key_text}
 use Rattle.olr_map.specs.Rows.{RoadLine}
 use Rattle.olr_route.specs.Route.{id_at}
@@ -173,15 +173,6 @@ number_text (Some number) = codes " " ++ decimal number
 abbrev pub verdict_row : Verdict → List ℕ
 verdict_row verdict = codes "verdict " ++ verdict_word verdict ++ number_text (number_of verdict)
     ++ codes "\n"
-
--- the name of a tolerance
-abbrev pub tolerance_name : Name → List ℕ
-tolerance_name Radius = codes "radius"
-tolerance_name Bearing = codes "bearing"
-tolerance_name Class = codes "class"
-tolerance_name Lowest = codes "lowest"
-tolerance_name Percent = codes "percent"
-tolerance_name Slack = codes "slack"
 
 -- a change, as it is written
 abbrev pub change_text : Change → List ℕ

@@ -12,7 +12,6 @@ use crate::leg::LegReason;
 use crate::pair::{Better, PairLength};
 use crate::point::PointReason;
 use crate::remedy::{Change, Remedy};
-use crate::text::name_of_tolerance;
 use crate::verdict::Verdict;
 use crate::why::Why;
 use olr_binary::json_line;
@@ -225,7 +224,7 @@ fn option_of(change: Change) -> &'static str
     ensures { result.now ≡ option_of change }
 {
     match change {
-        Change::Tolerance(name, _) => name_of_tolerance(name),
+        Change::Tolerance(name, _) => name.text(),
         Change::WithoutBans => "without-bans",
     }
 }

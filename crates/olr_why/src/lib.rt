@@ -8,8 +8,8 @@
 //! - [`pair`]: the lengths between two candidates that a leg doesn't admit; [`pairs`]: searches for
 //!   them, one class limit after another.
 //! - [`leg`]: what a leg admits; [`legs`]: that of each leg of a reference.
-//! - [`changed`]: tolerances of which one has another value; [`trial`]: what is found with some
-//!   tolerances; [`trying`]: what is found with one value of a tolerance.
+//! - [`trial`]: what is found with some tolerances; [`trying`]: what is found with one value of a
+//!   tolerance.
 //! - [`bracket`], [`widening`]: the least value above the given one that gives a matching;
 //!   [`narrowing`]: the greatest one below it with which no point has too many candidates.
 //! - [`remedy`]: a change that would help; [`remedies`]: all of them.
@@ -25,7 +25,6 @@
 
 mod bracket;
 mod chain;
-mod changed;
 mod explaining;
 mod json;
 mod laws;

@@ -5,10 +5,10 @@ ghost use Rattle.std.specs.Prelude.{◌≡◌, ◌≢◌, ◌<◌, ℕ, IfOk, Ma
 ghost use Rattle.olr_binary.specs.Reference.{IsReference};
 ghost use Rattle.olr_candidates.specs.declared.tolerances.Name.TheVariants.{Lowest};
 ghost use Rattle.olr_candidates.specs.Tolerances.{order_of};
-ghost use Rattle.olr_why.specs.Remedies.{IsNarrower, IsUncrowdedWith, value_of};
+ghost use Rattle.olr_candidates.specs.Values.{value_of};
+ghost use Rattle.olr_why.specs.Remedies.{IsNarrower, IsUncrowdedWith};
 ghost use Rattle.olr_why.specs.Trying.{IsGreatest};
 
-use crate::changed::{least_of, value_of};
 use crate::remedy::{Change, Remedy};
 use crate::trying::Question;
 use olr_candidates::{Name, one_candidate_a_line};
@@ -28,8 +28,8 @@ impl Question<'_> {
             (IsGreatest self.now.map.now self.now.given.now self.now.reference.now name)) }
     {
         one_candidate_a_line();
-        let mut low = least_of(name);
-        let mut high = value_of(self.given, name);
+        let mut low = name.least();
+        let mut high = self.given.value(name);
         if low >= high {
             return Ok(None);
         }

@@ -4,7 +4,8 @@ ghost use Rattle.std.specs.Prelude.{◌≡◌, [], ◌++◌, IfOk, MatchOption, 
 ghost use Rattle.std.specs.Option.{option_to_list};
 ghost use Rattle.olr_binary.specs.Reference.{IsReference};
 ghost use Rattle.olr_why.specs.Chain.{IsUncrowded};
-ghost use Rattle.olr_why.specs.Remedies.{AreNarrower, AreRemedies, AreWider, IsOpener, IsUnbanned};
+ghost use Rattle.olr_why.specs.Remedies.{AreNarrower, AreOfNames, AreRemedies, AreWider, IsOpener};
+ghost use Rattle.olr_why.specs.Remedies.{IsUnbanned, IsWider, by_trust};
 ghost use Rattle.olr_why.specs.Verdict.{IsVerdict};
 
 use crate::remedy::{Change, Remedy};
@@ -16,6 +17,19 @@ use olr_candidates::{Name, Tolerances};
 use olr_map::Map;
 use olr_metric::NoMemory;
 use std::alloc::Global;
+
+/// The tolerances of which a greater value may help, the most trusted one first.
+const BY_TRUST: [Name; 6] = [
+    Name::Lowest,
+    Name::Bearing,
+    Name::Radius,
+    Name::Slack,
+    Name::Percent,
+    Name::Class,
+];
+
+/// The tolerances of which a lesser value may help.
+const NARROWED: [Name; 3] = [Name::Radius, Name::Bearing, Name::Class];
 
 /// Adds a remedy, if there is one.
 fn push_if(remedies: &mut Vec<Remedy>, remedy: Option<Remedy>) -> Result<(), NoMemory>
@@ -51,6 +65,21 @@ impl Question<'_> {
         }
     }
 
+    /// The greater values of tolerances that help.
+    fn all_greater(&self, alloc: Global) -> Result<Vec<Remedy>, NoMemory>
+        requires { IsReference self.now.reference.now }
+        ensures { IfOk result (λ remedies. AreOfNames
+            (IsWider self.now.map.now self.now.given.now self.now.reference.now) by_trust
+            remedies.items) }
+    {
+        let mut remedies = Vec::new(alloc);
+        for name in BY_TRUST {
+            let remedy = self.greater(alloc, name)?;
+            push_if(&mut remedies, remedy)?;
+        }
+        Ok(remedies)
+    }
+
     /// What helps where no point has more than 64 candidates.
     fn all_wider(&self, alloc: Global, unbanned: Option<&Map>) -> Result<Vec<Remedy>, NoMemory>
         requires reference { IsReference self.now.reference.now }
@@ -61,19 +90,7 @@ impl Question<'_> {
         ensures { IfOk result (λ remedies. AreWider self.now.map.now self.now.given.now
             self.now.reference.now remedies.items) }
     {
-        let mut remedies = Vec::new(alloc);
-        let lowest = self.lowest(alloc)?;
-        push_if(&mut remedies, lowest)?;
-        let bearing = self.wider(alloc, Name::Bearing)?;
-        push_if(&mut remedies, bearing)?;
-        let radius = self.wider(alloc, Name::Radius)?;
-        push_if(&mut remedies, radius)?;
-        let slack = self.wider(alloc, Name::Slack)?;
-        push_if(&mut remedies, slack)?;
-        let percent = self.wider(alloc, Name::Percent)?;
-        push_if(&mut remedies, percent)?;
-        let class = self.wider(alloc, Name::Class)?;
-        push_if(&mut remedies, class)?;
+        let mut remedies = self.all_greater(alloc)?;
         let opener = self.opener(alloc, unbanned)?;
         push_if(&mut remedies, opener)?;
         Ok(remedies)
@@ -86,12 +103,10 @@ impl Question<'_> {
             self.now.reference.now remedies.items) }
     {
         let mut remedies = Vec::new(alloc);
-        let radius = self.narrower(alloc, Name::Radius)?;
-        push_if(&mut remedies, radius)?;
-        let bearing = self.narrower(alloc, Name::Bearing)?;
-        push_if(&mut remedies, bearing)?;
-        let class = self.narrower(alloc, Name::Class)?;
-        push_if(&mut remedies, class)?;
+        for name in NARROWED {
+            let remedy = self.narrower(alloc, name)?;
+            push_if(&mut remedies, remedy)?;
+        }
         Ok(remedies)
     }
 }

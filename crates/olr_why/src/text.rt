@@ -4,7 +4,7 @@ ghost use Rattle.std.specs.Prelude.{◌≡◌, ◌++◌, ◌+◌, ◌<◌, All, 
 ghost use Rattle.olr_why.specs.Reasons.{AreOnMap};
 ghost use Rattle.olr_why.specs.Text.{better_text, change_text, count_text, counts_text, failed_words, leg_rows, leg_text, legs_rows, length_text, matching_text};
 ghost use Rattle.olr_why.specs.Text.{miss_text, near_row, near_rows, number_or, pair_row, pair_rows, point_rows, point_text, points_rows, rating_text};
-ghost use Rattle.olr_why.specs.Text.{remedy_row, remedy_rows, tolerance_name, verdict_row, why_text, word_if};
+ghost use Rattle.olr_why.specs.Text.{remedy_row, remedy_rows, verdict_row, why_text, word_if};
 
 use crate::leg::LegReason;
 use crate::pair::{Better, PairLength};
@@ -12,7 +12,7 @@ use crate::point::PointReason;
 use crate::remedy::{Change, Remedy};
 use crate::verdict::Verdict;
 use crate::why::Why;
-use olr_candidates::{FailedConditions, Name, NearLine};
+use olr_candidates::{FailedConditions, NearLine};
 use olr_keys::{Cursor, Key};
 use olr_map::Map;
 use olr_metric::NoMemory;
@@ -267,20 +267,6 @@ fn push_verdict(text: &mut String, verdict: Verdict) -> Result<(), NoMemory>
     Ok(())
 }
 
-/// The name of a tolerance, as an option without its dashes.
-pub(crate) fn name_of_tolerance(name: Name) -> &'static str
-    ensures { result.now ≡ tolerance_name name }
-{
-    match name {
-        Name::Radius => "radius",
-        Name::Bearing => "bearing",
-        Name::Class => "class",
-        Name::Lowest => "lowest",
-        Name::Percent => "percent",
-        Name::Slack => "slack",
-    }
-}
-
 /// Adds a change, as it is written.
 fn push_change(text: &mut String, change: Change) -> Result<(), NoMemory>
     ensures { OnOk result (string_bytes text.new
@@ -288,7 +274,7 @@ fn push_change(text: &mut String, change: Change) -> Result<(), NoMemory>
 {
     match change {
         Change::Tolerance(name, value) => {
-            let name = name_of_tolerance(name);
+            let name = name.text();
             write!(text, "--{name} {}", Decimal(value))?;
         }
         Change::WithoutBans => text.push_str("without-bans")?,

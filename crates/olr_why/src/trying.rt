@@ -6,7 +6,6 @@ ghost use Rattle.olr_candidates.specs.Tolerances.{IsTolerance};
 ghost use Rattle.olr_why.specs.Remedies.{IsUncrowdedWith};
 ghost use Rattle.olr_why.specs.Trying.{IsCrowdedWith, IsMatchingWith, IsTrialWith};
 
-use crate::changed::changed;
 use crate::laws::matching_has_key;
 use crate::trial::{Trial, lists_of_points, try_tolerances};
 use olr_binary::Reference;
@@ -32,7 +31,7 @@ impl Question<'_> {
         ensures { IfOk result
             (IsTrialWith self.now.map.now self.now.given.now self.now.reference.now name value) }
     {
-        let tolerances = changed(self.given, name, value);
+        let tolerances = self.given.with(name, value);
         let trial = try_tolerances(alloc, self.map, self.reference, &tolerances)?;
         Ok(trial)
     }
@@ -73,7 +72,7 @@ impl Question<'_> {
             value)) }
     {
         no_lists_and_too_many();
-        let tolerances = changed(self.given, name, value);
+        let tolerances = self.given.with(name, value);
         let Some(_lists) = lists_of_points(alloc, self.map, self.reference, &tolerances)? else {
             return Ok(true);
         };

@@ -4,11 +4,11 @@ ghost use Rattle.std.specs.Prelude.{◌≡◌, ◌≢◌, ◌+◌, ◌-◌, ◌<
 ghost use Rattle.olr_binary.specs.Reference.{IsReference};
 ghost use Rattle.olr_candidates.specs.declared.tolerances.Name.TheVariants.{Lowest};
 ghost use Rattle.olr_candidates.specs.Tolerances.{order_of};
-ghost use Rattle.olr_why.specs.Remedies.{IsEnough, IsWider, value_of};
+ghost use Rattle.olr_candidates.specs.Values.{value_of};
+ghost use Rattle.olr_why.specs.Remedies.{IsEnough, IsWider};
 ghost use Rattle.olr_why.specs.Trying.{IsBracket};
 
 use crate::bracket::Bracket;
-use crate::changed::{greatest_of, value_of};
 use crate::laws::matching_has_key;
 use crate::remedy::{Change, Remedy};
 use crate::trial::Trial;
@@ -29,8 +29,8 @@ impl Question<'_> {
             (IsBracket self.now.map.now self.now.given.now self.now.reference.now name)) }
     {
         matching_has_key();
-        let low = value_of(self.given, name);
-        let high = greatest_of(name);
+        let low = self.given.value(name);
+        let high = name.greatest();
         if low >= high {
             return Ok(None);
         }
@@ -86,7 +86,7 @@ impl Question<'_> {
     /// The least value above the given one that is enough, and the first matching that it gives. A
     /// greater value gives a matching, or makes a point have too many candidates, where a lesser
     /// one does; so the least that does either is found by halving.
-    pub(crate) fn wider(&self, alloc: Global, name: Name) -> Result<Option<Remedy>, NoMemory>
+    fn wider(&self, alloc: Global, name: Name) -> Result<Option<Remedy>, NoMemory>
         requires reference { IsReference self.now.reference.now }
         requires name { order_of name ≢ order_of Lowest }
         ensures { IfOk result
@@ -112,12 +112,12 @@ impl Question<'_> {
     /// The least value of what is added to the lowest class, above the given one, that is enough,
     /// and the first matching that it gives. They are tried one by one: a road of a class that is
     /// let through can also take a matching away.
-    pub(crate) fn lowest(&self, alloc: Global) -> Result<Option<Remedy>, NoMemory>
+    fn lowest(&self, alloc: Global) -> Result<Option<Remedy>, NoMemory>
         requires { IsReference self.now.reference.now }
         ensures { IfOk result
             (IsWider self.now.map.now self.now.given.now self.now.reference.now Lowest) }
     {
-        let end = greatest_of(Name::Lowest) + 1;
+        let end = Name::Lowest.greatest() + 1;
         for value in self.given.lowest + 1..end {
             if let Some(key) = self.matching_with(alloc, Name::Lowest, value)? {
                 return Ok(Some(Remedy {
@@ -127,5 +127,18 @@ impl Question<'_> {
             }
         }
         Ok(None)
+    }
+
+    /// The least value of any tolerance above the given one that is enough, and the first matching
+    /// that it gives.
+    pub(crate) fn greater(&self, alloc: Global, name: Name) -> Result<Option<Remedy>, NoMemory>
+        requires { IsReference self.now.reference.now }
+        ensures { IfOk result
+            (IsWider self.now.map.now self.now.given.now self.now.reference.now name) }
+    {
+        match name {
+            Name::Lowest => self.lowest(alloc),
+            _ => self.wider(alloc, name),
+        }
     }
 }

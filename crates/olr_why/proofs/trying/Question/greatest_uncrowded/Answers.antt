@@ -6,7 +6,7 @@ use Rattle.olr_why.proofs.trying.Question.greatest_uncrowded.Goals as goal
 pub returns-then-branch : goal.returns-then-branch
 returns-then-branch c =
     all_crowded c.requires c.one_candidate_a_line.ensures
-    (rw (← c.least_of-low.ensures) (rw c.if-branch.true at c.in_ok-is_crowded_with.ensures))
+    (rw (← c.least-low.ensures) (rw c.if-branch.true at c.in_ok-is_crowded_with.ensures))
 
 pub loop-high-preserved-then-branch-2 : goal.loop-high-preserved-then-branch-2
 loop-high-preserved-then-branch-2 c = record {

@@ -7,17 +7,17 @@ use Rattle.olr_why.proofs.trying.Question.wider_values.Goals as goal
 pub returns-in-NoMatching : goal.returns-in-NoMatching
 returns-in-NoMatching c =
     let trial : IsTrialWith c.args.self.now.map.now c.args.self.now.given.now
-    c.args.self.now.reference.now c.args.name c.greatest_of-high.result NoMatching =
+    c.args.self.now.reference.now c.args.name c.greatest-high.result NoMatching =
     rw c.in-NoMatching.is at c.in_ok-try_value.ensures in
-    none_up_to_greatest (rw (← c.greatest_of-high.ensures) (none_up_to c.requires.name trial))
+    none_up_to_greatest (rw (← c.greatest-high.ensures) (none_up_to c.requires.name trial))
 
 pub returns-in-Crowded : goal.returns-in-Crowded
 returns-in-Crowded c =
-    first_two c.value_of-low.ensures c.greatest_of-high.ensures c.if-low-high.false
+    first_two c.value-low.ensures c.greatest-high.ensures c.if-low-high.false
     (crowded_with (rw c.in-Crowded.is at c.in_ok-try_value.ensures))
 
 pub returns-in-Matching : goal.returns-in-Matching
 returns-in-Matching c =
-    first_two c.value_of-low.ensures c.greatest_of-high.ensures c.if-low-high.false
+    first_two c.value-low.ensures c.greatest-high.ensures c.if-low-high.false
     (matching_is_enough c.matching_has_key.ensures
     (rw c.in-Matching.is at c.in_ok-try_value.ensures))

@@ -3,7 +3,7 @@ use Rattle.std.proofs.Common.{◌≡◌, ℕ, ◌^◌, ◌<◌, suc, List, [], �
 use Rattle.std.specs.Prelude.{Contains, decimal, ⊤}
 use Rattle.std.specs.Str.Parse.{AllDigits}
 use Rattle.std.proofs.lemmas.Str.Parse.{digit_from_value}
-use Rattle.std.proofs.lemmas.Fmt.{decimal_injective, decimal_is_IsNumeral}
+use Rattle.std.proofs.lemmas.Fmt.{decimal_is_IsNumeral}
 
 -- a byte doesn't occur in a text
 abbrev pub Lacks : ℕ → List ℕ → Type 0
@@ -41,16 +41,5 @@ digits_lack byte (c ∷ text) low digits =
     ((λ e. omega (arith, e, range.0, low)), digits_lack byte text low digits.1)
 
 -- a number has digits alone
-decimal_lacks : (byte n : ℕ) → byte < 48 → n < 2 ^ 64 → Lacks byte (decimal n)
+pub decimal_lacks : (byte n : ℕ) → byte < 48 → n < 2 ^ 64 → Lacks byte (decimal n)
 decimal_lacks byte n low small = digits_lack _ _ low (decimal_is_IsNumeral n small).0.1
-
--- two numbers, and what follows a byte behind each
-pub record SameNumber (m n : ℕ) (s t : List ℕ) : Type 0 where
-  pub number : m ≡ n
-  pub rest : s ≡ t
-
-pub number_once : (byte m n : ℕ) (s t : List ℕ) → byte < 48 → m < 2 ^ 64 → n < 2 ^ 64
-    → decimal m ++ byte ∷ s ≡ decimal n ++ byte ∷ t → SameNumber m n s t
-number_once byte m n s t low small other same =
-    let cut = cut_once _ _ _ s t (decimal_lacks _ m low small) (decimal_lacks _ n low other) same in
-    record { number = decimal_injective m n small other cut.front; rest = cut.rest }
