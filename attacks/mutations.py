@@ -6,13 +6,19 @@ A case is a list of words and a dictionary of files. Every mutation returns a ne
 import base64
 import binascii
 import re
+import sys
+from pathlib import Path
+
+sys.path.insert(0, str(Path(__file__).parents[1] / "python"))
+from olr.client.questions import NUMBERS as NUMBERS_OF, TOLERANCES
 
 NUMBERS = [0, 1, 2, 7, 8, 9, 10, 63, 64, 65, 255, 256, 586, 1000, 65535, 65536, 80_000_000, 80_000_001, 180_000_000, 180_000_001]
 NUMBERS += [9_999_999, 10_000_000, 10_000_001, 2**31 - 1, 2**31, 2**32 - 1, 2**32, 2**53, 2**53 + 1, 10**16 - 1, 10**16, 2**63, 2**64]
 BYTES = [0, 9, 10, 13, 32, 34, 43, 44, 45, 46, 47, 48, 57, 59, 61, 127, 128, 0xBF, 0xC3, 0xEF, 255]
-RANGES = {"radius": 1000, "bearing": 16, "class": 7, "lowest": 7, "percent": 100, "slack": 10_000, "page": 1000}
-PLACE_RANGES = {"apart": 1_000_000, "within": 14_620, "look": 1_000_000, "most": 100}
-WHY_RANGES = {"nearest": 64}
+RANGES, PLACE_RANGES, WHY_RANGES = (
+    {name: number.greatest for name, number in numbers.items()}
+    for numbers in ({**TOLERANCES, **NUMBERS_OF["match"]}, NUMBERS_OF["places"], NUMBERS_OF["why"])
+)
 # The tolerances that can be narrow enough for a reference to have no matching, each with its least value and a low one.
 NARROW = {"radius": (1, 40), "bearing": (0, 1), "class": (0, 1), "percent": (0, 5), "slack": (0, 100)}
 TOKENS = [b"", b" ", b"\r", b"\n", b"\r\n", b'"', b'""', b",", b";", b"-", b"0", b"00", b"+1", b"-0", b"1.5", b"1e3", b"\xef\xbb\xbf", b"\xff", b"\0"]

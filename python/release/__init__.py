@@ -4,6 +4,7 @@
 |---|---|
 | `state` | the tree that is released: its commit, version, program and files |
 | `files` | files with fixed dates, order and owners, and folders made of them |
+| `help` | the numbers that the program takes, as its help lists them |
 | `program_files` | the man page, completion, examples and documents that go with the program |
 | `archive` | `olr-VERSION-linux-x86_64.tar.gz` |
 | `debian` | what all Debian packages have |

@@ -21,8 +21,8 @@ def archive(state: State) -> bytes:
     entries = [
         program_entry(state),
         Entry("COMMIT", f"{state.commit}\n".encode()),
-        Entry("olr.1", manual(state)),
-        Entry("olr.bash", completion()),
+        Entry("olr.1", manual(state, state.program)),
+        Entry("olr.bash", completion(state.program)),
         *(Entry(name, state.read(name)) for name in PAGES),
         *documents(state),
     ]

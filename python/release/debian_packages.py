@@ -40,8 +40,8 @@ def program_package(state: State) -> Package:
         description=PROGRAM_DESCRIPTION,
         entries=[
             program.below("usr/bin"),
-            Entry("usr/share/man/man1/olr.1.gz", compressed(manual(state))),
-            Entry("usr/share/bash-completion/completions/olr", completion()),
+            Entry("usr/share/man/man1/olr.1.gz", compressed(manual(state, state.program))),
+            Entry("usr/share/bash-completion/completions/olr", completion(state.program)),
             Entry("usr/share/lintian/overrides/olr", (TEXTS / "lintian").read_bytes()),
             *(entry.below("usr/share/doc/olr") for entry in documentation),
         ],

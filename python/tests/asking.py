@@ -5,6 +5,7 @@ import json
 import random
 import subprocess
 from collections.abc import Sequence
+from functools import cache
 from pathlib import Path
 from typing import Any
 
@@ -12,21 +13,29 @@ from conftest import TOP, Program
 from olr.client.late import Late
 
 
+@cache
+def fields_of(kind: type) -> tuple[tuple[str, str], ...]:
+    """The fields of a dataclass, each with its name in JSON. Others have none."""
+    if not dataclasses.is_dataclass(kind):
+        return ()
+    return tuple((field.name, field.name.rstrip("_")) for field in dataclasses.fields(kind))
+
+
 def as_json(answer: Any) -> Any:
     """An answer as the program's JSON has it."""
-    if dataclasses.is_dataclass(answer):
-        fields = {field.name: getattr(answer, field.name) for field in dataclasses.fields(answer)}
-        if "earliest" in fields:
-            absent = ("earliest", "latest") if fields["earliest"] is None else ("outer", "inner")
-            fields = {name: value for name, value in fields.items() if name not in absent}
-        if fields.get("kind") == "line":
-            fields = {name: fields[name] for name in fields if name not in ("orientation", "side")}
-        if fields.get("kind") == "point-along-line":
-            fields.pop("negative")
-        return {name.rstrip("_"): as_json(value) for name, value in fields.items()}
+    if isinstance(answer, (int, str, type(None))):
+        return answer
     if isinstance(answer, (Late, tuple)):
         return [as_json(item) for item in answer]
-    return answer
+    found = {name: getattr(answer, field) for field, name in fields_of(type(answer))}
+    if "earliest" in found:
+        absent = ("earliest", "latest") if found["earliest"] is None else ("outer", "inner")
+        found = {name: value for name, value in found.items() if name not in absent}
+    if found.get("kind") == "line":
+        found = {name: found[name] for name in found if name not in ("orientation", "side")}
+    if found.get("kind") == "point-along-line":
+        found.pop("negative")
+    return {name: as_json(value) for name, value in found.items()}
 
 
 def draw_map(folder: Path, nodes: int = 1500, lines: int = 3000) -> Path:

@@ -195,11 +195,13 @@ def test_numbers_that_arent_there() -> None:
 
 def test_defaults() -> None:
     """The table, and what help shows of the calls, are the same."""
-    calls: list[Callable[..., object]] = [olr.Map, olr.Map.of_folder]
+    calls: list[Callable[..., object]] = [olr.Map.__init__, olr.Map.__new__, olr.Map.of_folder]
+    assert inspect.signature(olr.Map).parameters.keys() > {"nodes", "radius", "patience"}
     for call in calls:
         parameters = inspect.signature(call).parameters
         for name, number in TOLERANCES.items():
             assert parameters["class_" if name == "class" else name].default == number.default
+            assert number.range_text() in (inspect.getdoc(call) or "")
     for what, of_question in NUMBERS.items():
         parameters = inspect.signature(getattr(olr.Map, what)).parameters
         own = {name: number.default for name, number in of_question.items()}

@@ -147,6 +147,20 @@ def test_a_table_fits_its_own_tolerances() -> None:
     )
 
 
+def test_a_tolerance_that_a_table_doesnt_name_had_its_default(tmp_path: Path) -> None:
+    content = json.loads(DEFAULT.read_text())
+    content["tolerances"] = {"radius": 50}
+    file = tmp_path / "table.json"
+    file.write_text(json.dumps(content))
+    table = ConfidenceTable.of_file(file)
+    assert table.numbers() == {**USUAL, "radius": 50, "apart": 750}
+    assert table.fits({"radius": 50}, 750) is None
+    assert table.fits({"slack": 0}, 750) == (
+        "radius is 100, and 50 in the table; slack is 0, and 300 in the table"
+    )
+    assert json.loads(text_of(table)) == content
+
+
 def test_a_file_says_the_same_again(tmp_path: Path) -> None:
     table = table_of(outcomes(5, 9.5, 10, 50), outcomes(None, 0, 8, 10))
     file = tmp_path / "table.json"
@@ -205,7 +219,6 @@ REFUSED: dict[str, tuple[Callable[[Any], object], str]] = {
     "apart": (_set("apart", -1), "apart is -1, not a whole number from 0 to 1,000,000"),
     "least": (_set("least", 0), "least is 0"),
     "tolerance": (_set("tolerances", "radius", 0), "radius is 0"),
-    "no tolerance": (lambda content: content["tolerances"].pop("slack"), "tolerances isn't"),
     "a tolerance more": (_set("tolerances", "within", 30), "tolerances isn't an object of"),
     "about": (_set("about", {"seed": 1}), "about isn't an object with changes"),
     "no rows": (_set("by_total", []), "by_total isn't a list of rows"),

@@ -18,7 +18,7 @@ from olr.__main__ import _without_click
 from olr.errors import ToolError
 from release.archive import archive
 from release.files import Entry, write_folder
-from release.program_files import TEXTS
+from release.program_files import completion, manual
 from release.state import State
 
 QUESTIONS = ("candidates", "match", "places", "why")
@@ -31,11 +31,11 @@ COMMANDS = (
 )
 
 
-def offered(folder: Path, *words: str) -> set[str]:
+def offered(program: Program, folder: Path, *words: str) -> set[str]:
     """What completion offers in a folder for the last of some words."""
-    script = """source "$1"; shift; COMP_WORDS=("$@"); COMP_CWORD=$(($# - 1)); _olr
+    script = """eval "$1"; shift; COMP_WORDS=("$@"); COMP_CWORD=$(($# - 1)); _olr
     printf '%s\\n' "${COMPREPLY[@]}" """
-    command = ["bash", "-c", script, "bash", str(TEXTS / "olr.bash"), "olr", *words]
+    command = ["bash", "-c", script, "bash", completion(program.path), "olr", *words]
     ended = subprocess.run(command, cwd=folder, capture_output=True, text=True, timeout=60)
     assert (ended.returncode, ended.stderr) == (0, "")
     return set(ended.stdout.split())
@@ -54,23 +54,26 @@ def test_completion_offers_what_help_has(
     options = set(re.findall(r"(?m)^ +(?:-\w, )?(--[a-z-]+)", section(text, "Options")))
     names = set(re.findall(r"(?m)^  ([a-z]+)", section(text, "Commands")))
     assert "--help" in options
-    assert offered(tmp_path, *command, "") == options | names
-    assert offered(tmp_path, *command, "--h") == {"--help"}
+    assert offered(program, tmp_path, *command, "") == options | names
+    assert offered(program, tmp_path, *command, "--h") == {"--help"}
 
 
-def test_completion_of_values(tmp_path: Path) -> None:
+def test_completion_of_values(program: Program, tmp_path: Path) -> None:
     (tmp_path / "town").mkdir()
     (tmp_path / "nodes.csv").touch()
-    assert offered(tmp_path, "match", "REF", "--nodes", "") == {"town", "nodes.csv"}
-    assert offered(tmp_path, "match", "REF", "--map", "") == {"town"}
-    assert offered(tmp_path, "match", "REF", "--format", "j") == {"json"}
-    assert offered(tmp_path, "match", "REF", "--radius", "") == set()
-    assert offered(tmp_path, "batch", "why", "--input", "n") == {"nodes.csv"}
-    assert offered(tmp_path, "help", "wh") == {"why"}
+    assert offered(program, tmp_path, "match", "REF", "--nodes", "") == {"town", "nodes.csv"}
+    assert offered(program, tmp_path, "match", "REF", "--map", "") == {"town"}
+    assert offered(program, tmp_path, "match", "REF", "--format", "j") == {"json"}
+    assert offered(program, tmp_path, "match", "REF", "--radius", "") == set()
+    assert offered(program, tmp_path, "batch", "why", "--input", "n") == {"nodes.csv"}
+    assert offered(program, tmp_path, "help", "wh") == {"why"}
 
 
 def test_the_man_page_has_all_of_the_help(program: Program) -> None:
-    page = (TEXTS / "olr.1").read_text(encoding="utf-8").replace("\\", "")
+    page = manual(State(), program.path).decode().replace("\\", "")
+    radius = "How far a line may lie from its point, in metres: 1 to 1000. By default 100."
+    assert f'.TP\n.BI --radius " N"\n{radius}\n.TP\n.BI --bearing " N"\n' in page
+    assert "@" not in page
     told = 0
     for command in COMMANDS:
         text = program.run(*command, "--help").stdout

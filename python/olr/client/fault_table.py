@@ -10,7 +10,7 @@ ROWS: dict[str, tuple[str, str]] = {
     ),
     "BadTolerance NAME": (
         "the tolerance NAME is out of its range",
-        "the ranges are `--radius` 1 to 1000 m, `--bearing` 0 to 16 sectors of 11.25 degrees, `--class` and `--lowest` 0 to 7, `--percent` 0 to 100, `--slack` 0 to 10000 dm",
+        "`olr match --help` lists their ranges and units",
     ),
     "BadPage N": (
         "the page size N is out of its range",

@@ -21,10 +21,13 @@ from olr.client.program import PathLike, find_program
 from olr.client.questions import (
     TOLERANCES,
     What,
+    all_tolerances,
+    argument,
     cursor_of,
     many,
     number_words,
     record_text,
+    with_tolerances,
     words_of,
 )
 from olr.errors import TimedOut, closed_error
@@ -55,20 +58,16 @@ class Map:
     one that is out of its range `Fault`, before the program is asked.
     """
 
+    @with_tolerances
     def __new__(
         cls,
         nodes: PathLike,
         lines: Optional[PathLike] = None,
         bans: Optional[PathLike] = None,
         *,
-        radius: int = 100,
-        bearing: int = 4,
-        class_: int = 7,
-        lowest: int = 0,
-        percent: int = 30,
-        slack: int = 300,
         program: Optional[PathLike] = None,
         patience: Optional[float] = PATIENCE,
+        **tolerances: int,
     ) -> "Map":
         """A map of files, or one behind a store, which is a `Map` too. What help shows of `Map` is the signature here."""
         if cls is Map and lines is None and store_of(Path(nodes)) is not None:
@@ -77,30 +76,23 @@ class Map:
             return object.__new__(StoreMap)
         return object.__new__(cls)
 
+    @with_tolerances
     def __init__(
         self,
         nodes: PathLike,
         lines: Optional[PathLike] = None,
         bans: Optional[PathLike] = None,
         *,
-        radius: int = 100,
-        bearing: int = 4,
-        class_: int = 7,
-        lowest: int = 0,
-        percent: int = 30,
-        slack: int = 300,
         program: Optional[PathLike] = None,
         patience: Optional[float] = PATIENCE,
+        **tolerances: int,
     ) -> None:
         """A map of these files; or, of one path alone, that of a folder with its `nodes.csv`, its `lines.csv` and, if it is there, its
-        `bans.csv`, or of a store. The tolerances are those of the program's options: `radius` in metres, from 1 to 1000; `bearing` in
-        sectors of 11.25 degrees, from 0 to 16; `class_` and `lowest` in classes, from 0 to 7; `percent` from 0 to 100; `slack` in
-        decimetres, from 0 to 10,000. `find_program` says which program is run, and `patience` for how many seconds it may answer
-        nothing; with None it is waited for without end."""
+        `bans.csv`, or of a store. The tolerances are those of the program's options. `find_program` says which program is run, and
+        `patience` for how many seconds it may answer nothing; with None it is waited for without end."""
+        self._given = all_tolerances(tolerances)
         self._patience = require_patience(patience)
         self._files = self._files_of(nodes, lines, bans)
-        tolerances = (radius, bearing, class_, lowest, percent, slack)
-        self._given = dict(zip(TOLERANCES, tolerances, strict=True))
         words = [number_words(name, value) for name, value in self._given.items()]
         self._tolerances = [word for pair in words for word in pair]
         self._program = None if program is None else Path(program)
@@ -119,37 +111,23 @@ class Map:
         return MapFiles.of_folder(Path(nodes))
 
     @classmethod
+    @with_tolerances
     def of_folder(
         cls,
         folder: PathLike,
         *,
-        radius: int = 100,
-        bearing: int = 4,
-        class_: int = 7,
-        lowest: int = 0,
-        percent: int = 30,
-        slack: int = 300,
         program: Optional[PathLike] = None,
         patience: Optional[float] = PATIENCE,
+        **tolerances: int,
     ) -> "Map":
         """The map of a folder, or a store: as `Map` of its path alone."""
-        return cls(
-            folder,
-            radius=radius,
-            bearing=bearing,
-            class_=class_,
-            lowest=lowest,
-            percent=percent,
-            slack=slack,
-            program=program,
-            patience=patience,
-        )
+        return cls(folder, None, None, program=program, patience=patience, **tolerances)
 
     def __repr__(self) -> str:
         words = [repr(str(file)) for file in self._files.paths()]
         for name, value in self._given.items():
             if value != TOLERANCES[name].default:
-                words.append(f"{'class_' if name == 'class' else name}={value}")
+                words.append(f"{argument(name)}={value}")
         text = f"Map({', '.join(words)})"
         return f"<closed {text}>" if self._closed else text
 

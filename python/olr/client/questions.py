@@ -1,14 +1,17 @@
 """What can be asked about a reference on a map, with which numbers; and a reference as the text of a record."""
 
+import inspect
 import re
-from collections.abc import Iterable, Mapping
+from collections.abc import Callable, Iterable, Mapping
+from keyword import iskeyword
 from numbers import Integral
-from typing import Literal, NamedTuple, TypeVar
+from typing import Any, Literal, NamedTuple, TypeVar
 
 from olr.client.fault import Fault
 
 What = Literal["candidates", "match", "places", "why"]
 Item = TypeVar("Item")
+Call = TypeVar("Call", bound=Callable[..., Any])
 
 
 class Number(NamedTuple):
@@ -19,6 +22,10 @@ class Number(NamedTuple):
     default: int
     unit: str
     purpose: str
+
+    def range_text(self) -> str:
+        """Its range, with its unit and its default."""
+        return f"{self.least} to {self.greatest} {self.unit}, by default {self.default}"
 
 
 TOLERANCES: Mapping[str, Number] = {
@@ -100,6 +107,40 @@ def number_words(name: str, value: int) -> list[str]:
     if not least <= number <= greatest:
         raise Fault(_fault_of(name, number), wanted)
     return [f"--{name}", str(number)]
+
+
+def argument(name: str) -> str:
+    """The name of a number as an argument in Python, where `class` is a word of the language: `class_`."""
+    return f"{name}_" if iskeyword(name) else name
+
+
+def all_tolerances(given: Mapping[str, int]) -> dict[str, int]:
+    """All tolerances by their names: those that were given as arguments, and the others at their defaults. Raises `TypeError` for
+    what is no tolerance, as a call in Python does."""
+    names = {argument(name): name for name in TOLERANCES}
+    for name in given:
+        if name not in names:
+            raise TypeError(
+                f"Map() got an unexpected keyword argument {name!r}: the tolerances are {', '.join(names)}"
+            )
+    return {name: given.get(key, TOLERANCES[name].default) for key, name in names.items()}
+
+
+def with_tolerances(call: Call) -> Call:
+    """A call that has tolerances as its `**` arguments: help shows each by its name, with its default, and what it is."""
+    signature, kind = inspect.signature(call), inspect.Parameter.KEYWORD_ONLY
+    others = list(signature.parameters.values())[:-1]
+    tolerances = [
+        inspect.Parameter(argument(name), kind, default=number.default, annotation=int)
+        for name, number in TOLERANCES.items()
+    ]
+    lines = [
+        f"`{argument(name)}`: {number.purpose}: {number.range_text()}."
+        for name, number in TOLERANCES.items()
+    ]
+    call.__doc__ = "\n".join([f"{inspect.getdoc(call) or ''}\n", *lines])
+    setattr(call, "__signature__", signature.replace(parameters=[*others, *tolerances]))
+    return call
 
 
 def words_of(what: What, given: Mapping[str, int]) -> list[str]:

@@ -150,9 +150,10 @@ def _numbered(value: Any, number: Number, what: str) -> int:
 
 
 def _tolerances(content: Any) -> dict[str, int]:
-    """The tolerances, by name. Raises `ValueError` if one is missing or out of range."""
-    fields = _object(content, set(TOLERANCES), "tolerances")
-    return {name: _numbered(fields[name], number, name) for name, number in TOLERANCES.items()}
+    """The tolerances, by name, of which some may be left out. Raises `ValueError` for what is none, or out of range."""
+    if not isinstance(content, dict) or not content.keys() <= TOLERANCES.keys():
+        raise ValueError(f"tolerances isn't an object of {', '.join(sorted(TOLERANCES))}")
+    return {name: _numbered(value, TOLERANCES[name], name) for name, value in content.items()}
 
 
 def _about(content: Any) -> dict[str, Any]:

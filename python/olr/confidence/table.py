@@ -42,6 +42,9 @@ class Cells(NamedTuple):
     rows: tuple[Row, ...]
 
 
+_DEFAULTS = {name: number.default for name, number in TOLERANCES.items()}
+
+
 @dataclass(frozen=True)
 class ConfidenceTable:
     """How often the first place was the right one, of answers to references whose right place was known.
@@ -51,7 +54,8 @@ class ConfidenceTable:
     """
 
     tolerances: Mapping[str, int]
-    """Under which they were answered, by the names of the program's options; and so is `apart`, in decimetres."""
+    """Under which they were answered, by the names of the program's options: one that isn't here had its default. So is `apart`, in
+    decimetres."""
     apart: int
     least: int
     """A cell says something if it has so many answers."""
@@ -93,17 +97,20 @@ class ConfidenceTable:
         rows = next(cells.rows for cells in self.cells if _is_in(margin, cells.margin))
         return next(row.share for row in rows if _is_in(total, row.bin))
 
+    def numbers(self) -> dict[str, int]:
+        """All numbers under which they were answered, by the names of the program's options."""
+        return {**_DEFAULTS, **self.tolerances, "apart": self.apart}
+
     def fits(self, tolerances: Mapping[str, int], apart: int) -> Optional[str]:
         """None if the table was made with these numbers, else which of them are others: a table says nothing about answers under
         others. Tolerances that aren't given are the program's defaults; `class` may be called `class_`.
         """
         given = {name.removesuffix("_"): value for name, value in tolerances.items()}
-        asked = {name: given.get(name, number.default) for name, number in TOLERANCES.items()}
-        made = {**self.tolerances, "apart": self.apart}
+        asked = {**_DEFAULTS, **given, "apart": apart}
         others = [
-            f"{name} is {value}, and {made[name]} in the table"
-            for name, value in {**asked, "apart": apart}.items()
-            if value != made[name]
+            f"{name} is {asked[name]}, and {number} in the table"
+            for name, number in self.numbers().items()
+            if asked[name] != number
         ]
         return "; ".join(others) or None
 

@@ -7,7 +7,7 @@ from typing import Any
 import click
 
 from olr.client.patience import PATIENCE, require_patience
-from olr.client.questions import NUMBERS, TOLERANCES, Number, What
+from olr.client.questions import NUMBERS, TOLERANCES, Number, What, argument
 
 Command = Callable[..., None]
 
@@ -29,7 +29,7 @@ def number_options(numbers: Mapping[str, Number], before: str = "") -> Callable[
         for name, number in reversed(numbers.items()):
             command = click.option(
                 f"--{name}",
-                "class_" if name == "class" else name,
+                argument(name),
                 type=click.INT,
                 metavar="N",
                 help=_help(f"{before}{number.purpose}", number),
@@ -41,8 +41,7 @@ def number_options(numbers: Mapping[str, Number], before: str = "") -> Callable[
 
 def _help(purpose: str, number: Number) -> str:
     """The text of an option's help."""
-    least, greatest, default, unit, _ = number
-    text = f"{purpose}: {least} to {greatest} {unit}, by default {default}."
+    text = f"{purpose}: {number.range_text()}."
     return text[0].upper() + text[1:]
 
 

@@ -107,8 +107,7 @@ def _confidence(table: ConfidenceTable) -> dict[str, Any]:
         }
         for cells in table.cells
     ]
-    made = {**table.tolerances, "apart": table.apart}
-    return {"made": made, "least": table.least, "cells": cells}
+    return {"made": table.numbers(), "least": table.least, "cells": cells}
 
 
 def described(document: Mapping[str, Any]) -> str:

@@ -12,7 +12,7 @@ from typing import TYPE_CHECKING, Any, Optional, TypeVar
 from olr.client.fault import Fault
 from olr.client.map_client import Map
 from olr.client.program import find_program
-from olr.client.questions import TOLERANCES
+from olr.client.questions import TOLERANCES, argument
 from olr.errors import MapRefused, ToolError
 from olr.map_folder import store_of
 from olr.regions.current import CurrentStore
@@ -118,8 +118,8 @@ class StoreMap:
         if there is None:
             if self._digest_there() != self._digest:
                 raise MapRefused(f"the store {self._path} has changed")
-            names = (f"{name}_" if name == "class" else name for name in TOLERANCES)
-            options: dict[str, Any] = dict(zip(names, tolerances))
+            names = map(argument, TOLERANCES)
+            options: dict[str, Any] = dict(zip(names, tolerances, strict=True))
             there = Map(self._path, patience=self._limits.time, **options)
             while len(self._maps) >= MOST_MAPS:
                 self._maps.pop(next(iter(self._maps))).close()

@@ -1,10 +1,13 @@
 # Completion of the words of olr, for bash: commands, options and files. `source` this file, or install it as
 # /usr/share/bash-completion/completions/olr.
 
+# The options that all questions have, each with a number.
+_olr_tolerances='@TOLERANCES@'
+
 # The options of a command: _olr_options COMMAND QUESTION
 _olr_options() {
     local map='--nodes --lines --bans --map' format='--format'
-    local tolerances='--radius --bearing --class --lowest --percent --slack'
+    local tolerances=$_olr_tolerances
     if [ "$1" = batch ]; then
         [ -n "$2" ] || return
         format='--input'
@@ -23,6 +26,7 @@ _olr() {
     local current=${COMP_WORDS[COMP_CWORD]} before=${COMP_WORDS[COMP_CWORD - 1]}
     local command=${COMP_WORDS[1]} question='' words=''
     COMPREPLY=()
+    case " $_olr_tolerances " in *" $before "*) return ;; esac
     [ "$command" != batch ] || [ "$COMP_CWORD" -lt 3 ] || question=${COMP_WORDS[2]}
     case $before in
         --nodes | --lines | --bans | --input)
@@ -36,8 +40,7 @@ _olr() {
             return
             ;;
         --format) words='text json' ;;
-        --radius | --bearing | --class | --lowest | --percent | --slack | --page | --after) return ;;
-        --apart | --within | --look | --most | --nearest) return ;;
+        --page | --after | --apart | --within | --look | --most | --nearest) return ;;
         *)
             if [ "$COMP_CWORD" -eq 1 ]; then
                 words='show candidates match places why batch help --help --version'
