@@ -11,7 +11,7 @@ use Rattle.olr_keys.specs.Order.{asymmetric}
 use Rattle.olr_keys.specs.Page.{PageValue, IsRestAfter, IsPageOf, IsPageAfter, last_key_of, last_of, page_of}
 use Rattle.olr_keys.specs.declared.pages.Page.{Page}
 use Rattle.olr_keys.proofs.PageLists.{after_keys, in_answers, in_rest, position_within, rest_of, rest_rises_too}
-use Rattle.olr_keys.proofs.Rising.{same_list}
+use Rattle.olr_metric.proofs.Rising.{same_list}
 use Rattle.olr_keys.specs.Laws.{SizesAgree}
 
 -- ---- one rest

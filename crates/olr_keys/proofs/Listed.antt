@@ -21,8 +21,9 @@ use Rattle.olr_keys.specs.Matching.{IsKey, IsCompletion}
 use Rattle.olr_keys.specs.Table.{Penalties}
 use Rattle.olr_keys.specs.Order.{compared_by, asymmetric}
 use Rattle.olr_keys.proofs.Ranges.{rank_inside}
-use Rattle.olr_keys.specs.Rise.{answers_rise, further, here, member}
-use Rattle.olr_keys.proofs.Rising.{same_list}
+use Rattle.olr_keys.specs.Rise.{answers_rise}
+use Rattle.olr_metric.proofs.Contained.{further, here, member}
+use Rattle.olr_metric.proofs.Rising.{same_list}
 use Rattle.olr_keys.proofs.Completions.{layer_inside, same_some}
 use Rattle.olr_keys.specs.Laws.{OneList, HasList}
 

@@ -8,7 +8,8 @@ use Rattle.olr_keys.specs.Finder.{IsAfter, IsNext, IsPosition}
 use Rattle.olr_keys.specs.Key.{KeyValue, IsBefore}
 use Rattle.olr_keys.specs.Order.{asymmetric}
 use Rattle.olr_keys.specs.Page.{IsRestAfter, IsPageAfter, IsPageOf, last_of}
-use Rattle.olr_keys.specs.Rise.{after_first, further, here, member, rest_rises}
+use Rattle.olr_metric.proofs.Contained.{further, here, member}
+use Rattle.olr_metric.proofs.Rising.{behind_first, rest_rises}
 
 -- ---- the last key
 
@@ -68,14 +69,14 @@ rest_of answers (Some after) (index, inside, is) = split_at _ _ inside is
 later_rises : (front rest : List KeyValue) → AllPairs IsBefore (front ++ rest)
     → AllPairs IsBefore rest
 later_rises [] rest rise = rise
-later_rises (key ∷ front) rest rise = later_rises front rest (rest_rises IsBefore key _ rise)
+later_rises (key ∷ front) rest rise = later_rises front rest (rest_rises IsBefore asymmetric key _ rise)
 
 earlier_before : (front rest : List KeyValue) (a b : KeyValue) → AllPairs IsBefore (front ++ rest)
     → Contains front a → Contains rest b → IsBefore a b
 earlier_before [] rest a b rise in_front in_rest = absurd (omega arith)
 earlier_before (key ∷ front) rest a b rise in_front in_rest = elim (member key _ a in_front) [
-  | inl same ↦ rw (← same) (after_first IsBefore key _ rise b (Contains-append_right _ _ b in_rest))
-  | inr later ↦ earlier_before front rest a b (rest_rises IsBefore key _ rise) later in_rest
+  | inl same ↦ rw (← same) (behind_first IsBefore asymmetric key _ rise b (Contains-append_right _ _ b in_rest))
+  | inr later ↦ earlier_before front rest a b (rest_rises IsBefore asymmetric key _ rise) later in_rest
 ]
 
 module _ (answers : List KeyValue) (rise : AllPairs IsBefore answers) where
@@ -84,7 +85,7 @@ module _ (answers : List KeyValue) (rise : AllPairs IsBefore answers) where
   rest_rises_too None rest is = rw is rise
   rest_rises_too (Some after) rest (front, is) =
       let all : AllPairs IsBefore (front ++ after ∷ rest) = rw (← is) rise in
-      rest_rises IsBefore after _ (later_rises front (after ∷ rest) all)
+      rest_rises IsBefore asymmetric after _ (later_rises front (after ∷ rest) all)
 
   -- the members of the rest are the keys after the position
   pub in_answers : (after : Option KeyValue) (rest : List KeyValue) {key : KeyValue}
@@ -94,7 +95,7 @@ module _ (answers : List KeyValue) (rise : AllPairs IsBefore answers) where
   in_answers (Some after) rest {key} (front, is) there =
       let all : AllPairs IsBefore (front ++ after ∷ rest) = rw (← is) rise in (
         rw is (Contains-append_right front (after ∷ rest) _ (further after _ key there)),
-        after_first IsBefore after _ (later_rises front (after ∷ rest) all) key there,
+        behind_first IsBefore asymmetric after _ (later_rises front (after ∷ rest) all) key there,
       )
 
   pub in_rest : (after : Option KeyValue) (rest : List KeyValue) (key : KeyValue)
@@ -128,7 +129,7 @@ module _ (answers : List KeyValue) (rise : AllPairs IsBefore answers) where
         | inr before ↦ elim (member first _ key (in_rest _ _ _ is next.0.0 next.0.1)) [
           | inl same ↦ ap Some (sym same)
           | inr later ↦ absurd (asymmetric _ _ before
-              (after_first IsBefore first _ (rest_rises_too _ _ is) key later))
+              (behind_first IsBefore asymmetric first _ (rest_rises_too _ _ is) key later))
         ]
       ]
 
@@ -144,7 +145,7 @@ pub first_none : {answers : List KeyValue} {after : Option KeyValue} → IsPosit
     → AreFirst answers after []
 first_none position = let rest = rest_of _ _ position in record { left = rest.0; rest = rest.1 }
 
-first_and_others : {X : Type 0} {x : X} (xs : List X) → Some x ≡ slice_get xs 0 → xs ≡ x ∷ drop 1 xs
+pub first_and_others : {X : Type 0} {x : X} (xs : List X) → Some x ≡ slice_get xs 0 → xs ≡ x ∷ drop 1 xs
 first_and_others [] is = absurd cc
 first_and_others (y ∷ xs) is = cc
 
