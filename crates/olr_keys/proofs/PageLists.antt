@@ -25,7 +25,7 @@ found_at before (first ∷ second ∷ keys) (suc index) key last is =
 pub last_found : (before : Option KeyValue) (keys : List KeyValue) (key : KeyValue)
     → Some key ≡ slice_get keys (length keys - 1) → Some key ≡ last_of before keys
 last_found before keys key is =
-    found_at before keys (length keys - 1) key
+    found_at _ _ (length keys - 1) key
     (omega (arith, slice_get_within keys (length keys - 1) key (sym is))) is
 
 -- ---- what is left
@@ -37,7 +37,7 @@ after_keys answers after [] left rest = rest
 after_keys answers None (key ∷ keys) left rest =
     after_keys answers (Some key) keys left ([], sym rest)
 after_keys answers (Some after) (key ∷ keys) left (front, is) =
-    after_keys answers (Some key) keys left (
+    after_keys _ _ keys left (
       front ++ after ∷ [],
       is
           ∙ sym (append_assoc front (after ∷ []) (key ∷ (keys ++ left))),
@@ -54,10 +54,10 @@ position_within answers (Some after) rest (front, is) =
 split_at : (answers : List KeyValue) (index : ℕ) {key : KeyValue} → index < length answers
     → get_or answers index key ≡ key → (rest : List KeyValue) × IsRestAfter answers (Some key) rest
 split_at [] index inside is = absurd (omega arith)
-split_at (first ∷ answers) zero inside is = (answers, ([], ap (λ (k : KeyValue). k ∷ answers) is))
+split_at (first ∷ answers) zero inside is = (answers, ([], ap (λ k. k ∷ answers) is))
 split_at (first ∷ answers) (suc index) inside is =
     let later = split_at _ _ (omega arith) is in
-    (later.0, (first ∷ later.1.0, ap (λ (l : List KeyValue). first ∷ l) later.1.1))
+    (later.0, (first ∷ later.1.0, ap (λ l. first ∷ l) later.1.1))
 
 pub rest_of : (answers : List KeyValue) (after : Option KeyValue) → IsPosition answers after
     → (rest : List KeyValue) × IsRestAfter answers after rest
@@ -108,8 +108,8 @@ module _ (answers : List KeyValue) (rise : AllPairs IsBefore answers) where
         | inl in_front ↦ absurd (asymmetric _ _ later
             (earlier_before _ _ _ _ all in_front (here after _)))
         | inr second ↦ elim (member after _ key second) [
-          | inl same ↦ let itself : IsBefore after after =
-              subst (λ (k : KeyValue). IsBefore after k) (sym same) later in
+          | inl same ↦ let itself =
+              rw (sym same) at later in
               absurd (asymmetric _ _ itself itself)
           | inr within ↦ within
         ]
@@ -158,7 +158,7 @@ first_more keys found key rise first next some =
     let is = next_is _ rise _ first.left found (after_keys _ _ keys first.left first.rest) next in
     let same : keys ++ first.left ≡ (keys ++ key ∷ []) ++ drop 1 first.left =
     cc (
-      first_and_others first.left (sym some ∙ is),
+      first_and_others _ (sym some ∙ is),
       append_assoc keys (key ∷ [])
           (drop 1 first.left),
     ) in
@@ -168,7 +168,7 @@ pub one_longer : {grown : List KeyValue} (keys : List KeyValue) (key : KeyValue)
     → grown ≡ keys ++ key ∷ [] → length keys ≡ count → length grown ≡ count + 1
 one_longer keys key is counted = omega (
   arith,
-  ap (λ (l : List KeyValue). length l) is,
+  ap length is,
   length-append keys (key ∷ []),
 )
 
@@ -225,5 +225,5 @@ module _ {now answers : List KeyValue} (same : now ≡ answers) {after position 
           rest = keys ++ first.left;
           is_rest = first.rest;
           is_page =
-              page_before keys first.left (is ∙ ap is_some next_here) full at_most;
+              page_before _ _ (is ∙ ap is_some next_here) full at_most;
         }
