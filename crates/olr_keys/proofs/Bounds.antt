@@ -13,7 +13,7 @@ pub at_index : {X : Type 0} (P : X → Type 0) (xs : List X) (index : ℕ) (defa
     → P default → P (slice_index_or xs index default)
 at_index P xs index default each otherwise = elim (cases_lt index (length xs)) [
   | inl inside ↦ All-get_or P _ _ _ inside each
-  | inr outside ↦ rw (get_or-eq_default xs default {n = index} (omega (arith, outside))) otherwise
+  | inr outside ↦ rw (get_or-eq_default xs default {n = index} (omega arith)) otherwise
 ]
 
 -- what holds of each of the first elements, and of one more, holds of all of them
@@ -41,10 +41,10 @@ pub penalty_at_most : (p : Penalties) (layer rank : ℕ) → IsTable p
 penalty_at_most p layer zero sound = tt
 penalty_at_most p layer (suc index) sound =
     let it = layer_sound _ _ sound in
-    let here : List ℕ = slice_index_or p.candidates layer [] in
+    let here = slice_index_or p.candidates layer [] in
     elim (cases_lt index (length here)) [
       | inl inside ↦ rw (slice_get-get_or _ _ 0 inside)
-          (All-get_or (λ (penalty : ℕ). penalty ≤ max_penalty) _ _ 0 inside it.each)
+          (All-get_or (λ penalty. penalty ≤ max_penalty) _ _ 0 inside it.each)
       | inr outside ↦ rw (slice_get_past here index (omega (arith, outside))) tt
     ]
 

@@ -11,7 +11,7 @@ use Rattle.olr_keys.specs.Order.{asymmetric}
 use Rattle.olr_keys.specs.Page.{PageValue, IsRestAfter, IsPageOf, IsPageAfter, last_key_of, last_of, page_of}
 use Rattle.olr_keys.specs.declared.pages.Page.{Page}
 use Rattle.olr_keys.proofs.PageLists.{after_keys, in_answers, in_rest, position_within, rest_of, rest_rises_too}
-use Rattle.olr_keys.proofs.Rising.{same_list}
+use Rattle.olr_metric.proofs.Rising.{same_list}
 use Rattle.olr_keys.specs.Laws.{SizesAgree}
 
 -- ---- one rest
@@ -42,7 +42,7 @@ found_at : (before : Option KeyValue) (pages : List Page) (index : ℕ) (page : 
     → last_of before page.keys.items ≡ last_key_of before (map page_of pages)
 found_at before [] index page last is = absurd (omega arith)
 found_at before (first ∷ []) zero page last is = let same : page ≡ first = cc in
-    ap (λ (p : Page). last_of before p.keys.items) same
+    ap (λ p. last_of before p.keys.items) same
 found_at before (first ∷ []) (suc index) page last is = absurd (omega arith)
 found_at before (first ∷ second ∷ pages) zero page last is = absurd (omega arith)
 found_at before (first ∷ second ∷ pages) (suc index) page last is =
@@ -52,7 +52,7 @@ pub last_key_found : (before : Option KeyValue) (pages : List Page) (page : Page
     → Some page ≡ slice_get pages (length pages - 1)
     → last_of before page.keys.items ≡ last_key_of before (map page_of pages)
 last_key_found before pages page is =
-    found_at before pages (length pages - 1) page
+    found_at _ _ (length pages - 1) page
     (omega (arith, slice_get_within pages (length pages - 1) page (sym is))) is
 
 -- ---- pages that are resumed and end
@@ -61,13 +61,13 @@ last_key_found before pages page is =
 short_rest : (rest : List KeyValue) (size : ℕ) (page : PageValue) → IsPageOf rest size page
     → page.more ≡ false → length rest ≤ size
 short_rest rest size page is last = elim (cases_lt size (length rest)) [
-  | inl longer ↦ let more : page.more ≡ true = is.more.1 longer in absurd cc
+  | inl longer ↦ let more = is.more.1 longer in absurd cc
   | inr at_most ↦ at_most
 ]
 
 page_and_rest : {rest : List KeyValue} {size : ℕ} {page : PageValue} → IsPageOf rest size page
     → page.keys ++ drop size rest ≡ rest
-page_and_rest {rest} {size} is = ap (λ (l : List KeyValue). l ++ drop size rest) is.keys
+page_and_rest {rest} {size} is = ap (λ l. l ++ drop size rest) is.keys
     ∙ take-append-drop _ _
 
 module _ (answers : List KeyValue) (size : ℕ) (rise : AllPairs IsBefore answers) where
@@ -82,12 +82,12 @@ module _ (answers : List KeyValue) (size : ℕ) (rise : AllPairs IsBefore answer
       ) in
       rw all first.is_rest
   pages_join after (page ∷ next ∷ pages) (first, resumed) (more, ended) =
-      let parts : page.keys ++ drop size first.rest ≡ first.rest = page_and_rest first.is_page in
-      let left : IsRestAfter answers (last_of after page.keys) (drop size first.rest) =
+      let parts = page_and_rest first.is_page in
+      let left =
       after_keys _ _ page.keys (drop size first.rest) (rw parts first.is_rest) in
-      let same : joined (next ∷ pages) ≡ drop size first.rest =
+      let same =
       one_rest _ _ rise (pages_join (last_of after page.keys) (next ∷ pages) resumed ended) left in
-      rw (ap (λ (l : List KeyValue). page.keys ++ l) same ∙ parts) first.is_rest
+      rw (ap (λ l. page.keys ++ l) same ∙ parts) first.is_rest
 
 -- ---- a chain so far
 
@@ -130,7 +130,7 @@ module _ (answers : List KeyValue) (after : Option KeyValue) (size : ℕ) (pages
     (so_far : IsChainSoFar answers after size pages)
     (next : IsPageAfter answers (last_key_of after pages) size page) where
   is_page : IsPageOf so_far.left size page
-  is_page = let same : next.rest ≡ so_far.left = one_rest _ _ rise next.is_rest so_far.rest in
+  is_page = let same = one_rest _ _ rise next.is_rest so_far.rest in
       rw (← same) next.is_page
 
   chain_more : 1 ≤ size → page.more ≡ true → IsChainSoFar answers after size (pages ++ page ∷ [])
@@ -178,7 +178,7 @@ module _ (answers : List KeyValue) (after : Option KeyValue) (size : ℕ) (pages
   chain_smaller : page.more ≡ true
       → length answers - length (pages ++ page ∷ []) < length answers - length pages
   chain_smaller more =
-      omega (arith, is_page.more.0 more, so_far.at_most, length-append pages (page ∷ []))
+      omega (arith, is_page.more.0 more, length-append pages (page ∷ []))
 
 -- ---- the same for what calls answer
 
@@ -192,7 +192,7 @@ module _ {now answers : List KeyValue} (same : now ≡ answers) {position : Opti
 
   pub position_found : IsPosition now position
   position_found =
-      rw position_is (rw same (position_within _ _ so_far.left so_far.rest))
+      rw position_is (rw same (position_within _ _ _ so_far.rest))
 
   module _ (rise : AllPairs IsBefore answers) (page : Page)
       (next : IsPageAfter now position count (page_of page)) {grown : List Page}

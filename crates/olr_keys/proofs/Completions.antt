@@ -10,7 +10,7 @@ use Rattle.olr_keys.specs.Matching.{leg_to, IsKey, IsCompletion}
 use Rattle.olr_keys.proofs.Bounds.{penalty_at_most, leg_at_most}
 
 some_at_most : {o : Option ℕ} {x bound : ℕ} → o ≡ Some x → IfSome o (λ n. n ≤ bound) → x ≤ bound
-some_at_most {bound} is at_most = subst (λ (p : Option ℕ). IfSome p (λ n. n ≤ bound)) is at_most
+some_at_most {bound} is at_most = rw is at at_most
 
 -- a candidate is in one of the layers
 pub layer_inside : (p : Penalties) (layer rank penalty : ℕ) → penalty_at p layer rank ≡ Some penalty
@@ -19,8 +19,8 @@ layer_inside p layer zero penalty is = absurd cc
 layer_inside p layer (suc index) penalty is = elim (cases_lt layer (length p.candidates)) [
   | inl inside ↦ inside
   | inr outside ↦
-      let none : penalty_at p layer (suc index) ≡ None =
-      ap (λ (l : List ℕ). slice_get l index)
+      let none =
+      ap (λ l. slice_get l index)
       (get_or-eq_default p.candidates [] {n = layer} (omega arith)) in
       absurd cc
 ]
@@ -60,7 +60,7 @@ one_total p layer before (rank ∷ ranks) a b (leg, penalty, rest, joined, there
     (leg', penalty', rest', joined', there', later', sum') = omega (
       arith,
       same_some leg leg' joined joined',
-      same_some penalty penalty' there there',
+      same_some _ _ there there',
       one_total p (layer + 1) (Some rank) ranks rest rest' later later',
     )
 
@@ -72,5 +72,5 @@ key_decides p key total known same completion is =
     let here : IsCompletion p 0 None key.ranks total = rw (← same) completion in
     let equal = Decides-eqb total known in (
       λ yes. rw (← (equal.0 yes ∙ is)) here,
-      λ matching. equal.1 (one_total _ 0 None _ _ _ here matching ∙ sym is),
+      λ matching. equal.1 (one_total _ 0 _ _ _ _ here matching ∙ sym is),
     )

@@ -49,7 +49,7 @@ parts_of cut (Some mark) cursor =
 -- ---- cursors have one text
 
 same_mark : {mark mark' : Mark} → mark.0 ≡ mark'.0 → Some mark ≡ Some mark'
-same_mark same = ap (λ (bytes : List ℕ). Some (record { 0 = bytes })) same
+same_mark same = ap (λ bytes. Some (record { 0 = bytes })) same
 
 pub one_cursor : OneCursor
 one_cursor text key key' None None one other = (one_key one.in_range other.in_range (cc), refl)

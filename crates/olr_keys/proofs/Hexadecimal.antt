@@ -26,7 +26,7 @@ pub digits_are : (bytes : List ℕ) → All (λ (byte : ℕ). byte < 256) bytes
 unfolding encode_with
 digits_are [] each = refl
 digits_are (byte ∷ bytes) each =
-    let fits : byte < 256 = All-head (λ (byte : ℕ). byte < 256) byte _ each in
+    let fits = All-head (λ byte. byte < 256) byte _ each in
     let high = one_digit (byte / 16) (omega arith) in
     let low = one_digit (byte % 16) (omega arith) in
     let later = digits_are bytes (All-tail (λ (byte : ℕ). byte < 256) byte _ each) in cc

@@ -18,11 +18,11 @@ pub chunk_at : (size count index : ℕ) (xs : List ℕ) → index < count
     → get_or (first_chunks size count xs) index [] ≡ chunk (size * index) size xs
 chunk_at size zero index xs inside = absurd (omega arith)
 chunk_at size (suc count) zero xs inside =
-    ap (λ (n : ℕ). take size (drop n xs)) {x = 0} (omega arith)
+    ap (λ n. take size (drop n xs)) {x = 0} (omega arith)
 chunk_at size (suc count) (suc index) xs inside =
     chunk_at size count index (drop size xs) (omega arith)
     ∙ ap (take size) (drop-drop (size * index) size xs
-    ∙ ap (λ (n : ℕ). drop n xs) {x = size + size * index} (omega arith))
+    ∙ ap (λ n. drop n xs) {x = size + size * index} (omega arith))
 
 module _ (before other now : List ℕ) (at size : ℕ) (as_long : length other ≡ length before)
     (room : at + size ≤ length other) (so_far : IsJoinedBelow before other at now) where
@@ -44,7 +44,7 @@ module _ (before other now : List ℕ) (at size : ℕ) (as_long : length other �
       let right = length-chunk at size other room in
       get_or-zip2 bit_or (chunk at size now) (chunk at size other) j 0 0 0 (omega arith)
       (omega arith)
-      ∙ ap (λ (x : ℕ). bit_or x (get_or (chunk at size other) j 0))
+      ∙ ap (λ x. bit_or x (get_or (chunk at size other) j 0))
       (get_or-chunk at size now j 0 inside)
       ∙ ap (bit_or (get_or now (at + j) 0)) (get_or-chunk at size other j 0 inside)
 
@@ -65,7 +65,7 @@ module _ (before other now : List ℕ) (at size : ℕ) (as_long : length other �
     same_length = cc (length-put_chunk at now lanes);
     joined = λ m below. elim (cases_lt m at) [
       | inl earlier ↦ get_or-put_chunk_below _ _ _ m 0 earlier ∙ so_far.joined m earlier
-      | inr here ↦ subst (λ (n : ℕ). get_or (put_chunk at now lanes) n 0
+      | inr here ↦ subst (λ n. get_or (put_chunk at now lanes) n 0
           ≡ bit_or (get_or before n 0) (get_or other n 0)) {x = at + (m - at)} (omega arith)
           (joined_at _ (omega arith))
     ];

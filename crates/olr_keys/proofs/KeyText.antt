@@ -45,7 +45,7 @@ pub too_few : {text total ranks : List ℕ} {key : KeyValue} {found : List ℕ}
 too_few cut are is few in_range same =
     let parts = parts_of cut in_range same in
     let same_ranks = one_ranks _ _ are (ranks_of_key in_range) (cc) in
-    omega (arith, ap (λ (l : List ℕ). length l) same_ranks)
+    omega (arith, ap length same_ranks)
 
 -- keys have one text
 pub one_key : {a b : KeyValue} → IsInRange a → IsInRange b → key_text a ≡ key_text b → a ≡ b
@@ -60,25 +60,25 @@ one_key in_range in_range' same =
 lacks_after : (ranks : List ℕ) → All IsRank ranks → Lacks 64 (later ranks)
 lacks_after [] each = record { each = search rules }
 lacks_after (rank ∷ ranks) each =
-    let first : IsRank rank = All-head IsRank rank ranks each in
+    let first = All-head IsRank rank ranks each in
     let front = lacks_decimal (λ _. omega arith) (omega arith) in
     let rest = lacks_after ranks (All-tail IsRank rank ranks each) in
     let dot : 46 ≢ 64 = λ same. absurd (omega (arith, same)) in
     record {
-      each = All-cons (λ (other : ℕ). other ≢ 64) 46 (decimal rank ++ later ranks) dot
-          (All-append (λ (other : ℕ). other ≢ 64) (decimal rank) (later ranks)
+      each = All-cons (λ other. other ≢ 64) 46 (decimal rank ++ later ranks) dot
+          (All-append (λ other. other ≢ 64) (decimal rank) (later ranks)
           front.each rest.each);
     }
 
 lacks_ranks : (ranks : List ℕ) → All IsRank ranks → Lacks 64 (ranks_text ranks)
 lacks_ranks [] each = record { each = search rules }
 lacks_ranks (rank ∷ ranks) each =
-    let first : IsRank rank = All-head IsRank rank ranks each in
+    let first = All-head IsRank rank ranks each in
     let front = lacks_decimal (λ _. omega arith) (omega arith) in
     let rest = lacks_after _ (All-tail IsRank rank ranks each) in
     rw (ranks_text-cons _ _) (record {
       each =
-          All-append (λ (other : ℕ). other ≢ 64) (decimal rank) (later ranks) front.each rest.each;
+          All-append (λ other. other ≢ 64) (decimal rank) (later ranks) front.each rest.each;
     })
 
 pub lacks_key : {key : KeyValue} → IsInRange key → Lacks 64 (key_text key)
@@ -87,7 +87,7 @@ lacks_key {key} in_range =
     let rest = lacks_ranks _ in_range.each in
     let other : 58 ≢ 64 = λ same. absurd (omega (arith, same)) in
     rw (colon _) (record {
-      each = All-append (λ (other : ℕ). other ≢ 64) (decimal key.total) (58 ∷ ranks_text key.ranks)
-          front.each (All-cons (λ (other : ℕ). other ≢ 64) 58 (ranks_text key.ranks) other
+      each = All-append (λ other. other ≢ 64) (decimal key.total) (58 ∷ ranks_text key.ranks)
+          front.each (All-cons (λ other. other ≢ 64) 58 (ranks_text key.ranks) other
           rest.each);
     })

@@ -32,12 +32,12 @@ one_cut {byte} (first ∷ front) later [] later' lacks lacks' same = let is : fi
     absurd (lacks.each 0 0 (omega arith) is)
 one_cut {byte} (first ∷ front) later (first' ∷ front') later' lacks lacks' same =
     let others : front ++ byte ∷ later ≡ front' ++ byte ∷ later' = cc in
-    let rest : (front ≡ front') × (later ≡ later') =
+    let rest =
     one_cut _ _ _ _ (record {
       each =
-          All-tail (λ (other : ℕ). other ≢ byte) first _ lacks.each;
+          All-tail (λ other. other ≢ byte) first _ lacks.each;
     })
-    (record { each = All-tail (λ (other : ℕ). other ≢ byte) first' _ lacks'.each }) others in
+    (record { each = All-tail (λ other. other ≢ byte) first' _ lacks'.each }) others in
     let front_is : front ≡ front' = rest.0 in (cc, rest.1)
 
 -- a text that lacks a byte isn't one that is cut at it
@@ -60,11 +60,7 @@ lacks_each {text} each = record {
 pub lacks_uncut : {byte : ℕ} {text : List ℕ} (found : Option (Bor (List ℕ) × Bor (List ℕ)))
     → IsSplitOnceResult byte text found → byte < 128 → found ≡ None → Lacks byte text
 lacks_uncut {byte} {text} found split ascii none =
-    lacks_each (subst (λ (o : Option (Bor (List ℕ) × Bor (List ℕ))). MatchOption o ((i : ℕ)
-    → i < length text → get_or text i 0 ≢ byte)
-    (λ x. (text ≡ x.0.now ++ (byte ∷ x.1.now))
-    × ((i : ℕ) → i < length x.0.now → get_or x.0.now i 0 ≢ byte))) none
-    (split_parts _ _ found split ascii))
+    lacks_each (rw none at (split_parts _ _ found split ascii))
 
 -- a text that is cut at its first such byte
 pub record IsCut (byte : ℕ) (text front later : List ℕ) : Type 0 where
@@ -75,9 +71,5 @@ pub cut_at : {byte : ℕ} {text : List ℕ} (found : Option (Bor (List ℕ) × B
     (parts : Bor (List ℕ) × Bor (List ℕ)) → IsSplitOnceResult byte text found → byte < 128
     → found ≡ Some parts → IsCut byte text parts.0.now parts.1.now
 cut_at {byte} {text} found parts split ascii some =
-    let cut = subst (λ (o : Option (Bor (List ℕ) × Bor (List ℕ))). MatchOption o ((i : ℕ)
-    → i < length text → get_or text i 0 ≢ byte)
-    (λ x. (text ≡ x.0.now ++ (byte ∷ x.1.now))
-    × ((i : ℕ) → i < length x.0.now → get_or x.0.now i 0 ≢ byte))) some
-    (split_parts _ _ found split ascii) in
+    let cut = rw some at (split_parts _ _ found split ascii) in
     record { whole = cut.0; lacks = lacks_each cut.1 }

@@ -17,13 +17,13 @@ pub layer_at : (marks : List (Vec (Vec ℕ))) (index : ℕ)
     ≡ rows_of (slice_index_or (map (λ (rows : Vec (Vec ℕ)). rows.items) marks) index [])
 layer_at marks index =
     let items : Vec (Vec ℕ) → List (Vec ℕ) = λ rows. rows.items in
-    ap (λ (l : List (List (List ℕ))). slice_index_or l index []) (sym (map-map rows_of items marks))
+    ap (λ l. slice_index_or l index []) (sym (map-map rows_of items marks))
     ∙ map_at rows_of (map items marks) index []
 
 -- after the last layer there are no candidates
 none_later : (p : Penalties) (layer : ℕ) → layer ≡ length p.candidates → AreRowsOf p layer []
 none_later p layer is =
-    let none : 0 ≡ count_of p layer =
+    let none =
     sym (ap length (get_or-eq_default p.candidates [] {n = layer} (omega arith))) in
     record { count = none; each = λ index inside. absurd (omega arith) }
 
@@ -34,10 +34,10 @@ pub last_rows : {p : Penalties} {count : ℕ} (marks : List (Vec (Vec ℕ))) {ro
     → AreRowsOf p (length p.candidates - 1 - (count - 1)) (rows_of rows)
 last_rows {count} marks {rows} they some is =
     let long : length marks ≡ count =
-    cc (length-map marks (λ (rows : Vec (Vec ℕ)). rows_of rows.items)) in
+    cc (length-map marks (λ rows. rows_of rows.items)) in
     let same : slice_index_or (layers_of marks) (length marks - 1) [] ≡ rows_of rows =
-    cc (layer_at marks (length marks - 1)) in
-    rw (← (ap (λ (n : ℕ). slice_index_or (layers_of marks) (n - 1) []) (sym long) ∙ same))
+    cc (layer_at _ _) in
+    rw (← (ap (λ n. slice_index_or (layers_of marks) (n - 1) []) (sym long) ∙ same))
     (they.each (count - 1) (omega arith))
 
 -- the rows of the layer after the next one
@@ -48,12 +48,12 @@ pub next_rows : (p : Penalties) {layer : ℕ} (later : ℕ) (marks : List (Vec (
     [] → AreRowsOf p (layer + 1) (rows_of rows)
 next_rows p later marks rows they inside position is = elim (cases_lt 0 later) [
   | inl some ↦
-      subst (λ (n : ℕ). AreRowsOf p n (rows_of rows)) {x = length p.candidates - 1 - (later - 1)}
+      subst (λ n. AreRowsOf p n (rows_of rows)) {x = length p.candidates - 1 - (later - 1)}
       (omega arith) (last_rows _ they some is)
   | inr none ↦
       let same : slice_index_or (layers_of marks) (length marks - 1) [] ≡ rows_of rows =
-      cc (layer_at marks (length marks - 1)) in
-      let empty : slice_index_or (layers_of marks) (length marks - 1) [] ≡ [] =
+      cc (layer_at _ _) in
+      let empty =
       get_or-eq_default (layers_of marks) [] {n = length marks - 1} (omega arith) in
       rw (← (sym empty ∙ same)) (none_later _ _ (omega arith))
 ]

@@ -34,7 +34,7 @@ module _ (p : Penalties) (layer : ℕ) (before : Option ℕ) (rank : ℕ) where
       let same : m ≡ n = cc in
       omega (
         arith,
-        same_some leg' leg joined' joined,
+        same_some _ _ joined' joined,
         first (penalty + rest) (ranks, (0, penalty, rest, refl, there, later, omega arith)),
       )
 

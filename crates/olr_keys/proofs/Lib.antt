@@ -10,10 +10,9 @@ mod Stepping
 mod Least
 mod Beginnings
 mod Ranges
-pub mod Rising
 mod Listed
 mod FromStart
-mod PageLists
+pub mod PageLists
 mod Chains
 mod OneChain
 mod CursorText

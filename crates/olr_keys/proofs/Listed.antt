@@ -21,8 +21,9 @@ use Rattle.olr_keys.specs.Matching.{IsKey, IsCompletion}
 use Rattle.olr_keys.specs.Table.{Penalties}
 use Rattle.olr_keys.specs.Order.{compared_by, asymmetric}
 use Rattle.olr_keys.proofs.Ranges.{rank_inside}
-use Rattle.olr_keys.specs.Rise.{answers_rise, further, here, member}
-use Rattle.olr_keys.proofs.Rising.{same_list}
+use Rattle.olr_keys.specs.Rise.{answers_rise}
+use Rattle.olr_metric.proofs.Contained.{further, here, member}
+use Rattle.olr_metric.proofs.Rising.{same_list}
 use Rattle.olr_keys.proofs.Completions.{layer_inside, same_some}
 use Rattle.olr_keys.specs.Laws.{OneList, HasList}
 
@@ -39,7 +40,7 @@ one_list p a b one other = same_list IsBefore asymmetric _ _ one.rise other.rise
 -- ---- in order
 
 is_total : IsTotalOrder by_key
-is_total = on_texts (λ (key : KeyValue). key.total ∷ key.ranks)
+is_total = on_texts (λ key. key.total ∷ key.ranks)
 
 one_at_most : CmpEqualImpliesEq by_key
 one_at_most a b tie = rw tie at (compared_by a b)
@@ -127,9 +128,9 @@ unfolding completions_with
 within_completions_with None penalty later joined found there = absurd cc
 within_completions_with (Some m) None later joined found there = absurd cc
 within_completions_with (Some m) (Some r) {l} {q} later {key} joined found there =
-    let leg : m ≡ l = same_some _ _ refl joined in
-    let penalty : r ≡ q = same_some _ _ refl found in
-    rw (← leg) (rw (← penalty) (within_map _ _ key there))
+    let leg = same_some _ _ refl joined in
+    let penalty = same_some _ _ refl found in
+    rw (← leg) (rw (← penalty) (within_map _ _ _ there))
 
 from_completions : (p : Penalties) (left layer : ℕ) (before : Option ℕ) (z : KeyValue)
     → layer + left ≡ length p.candidates → Contains (completions p left layer before) z
@@ -142,7 +143,7 @@ from_completions p zero layer before z reaches there =
     ]
 from_completions p (suc left) layer before z reaches there =
     let in_list = from_lists _ _ z there in
-    let rank : ℕ = in_list.0 in
+    let rank = in_list.0 in
     let with_rank = from_completions_with _ _ _ in_list.1 in
     let later = from_completions p left (layer + 1) (Some rank) with_rank.2 (omega arith)
     with_rank.5 in
@@ -166,15 +167,15 @@ within_completions p zero layer before [] total reaches completion =
 within_completions p zero layer before (rank ∷ ranks) total reaches
     (leg, penalty, rest, joined, there, later, sum) = absurd (omega (
       arith,
-      layer_inside p layer rank penalty there,
+      layer_inside p _ _ _ there,
     ))
 within_completions p (suc left) layer before [] total reaches completion = absurd (omega arith)
 within_completions p (suc left) layer before (rank ∷ ranks) total reaches
     (leg, penalty, rest, joined, there, later, sum) =
-    let inside = rank_inside p layer _ _ there in
+    let inside = rank_inside p _ _ _ there in
     let found = within_completions_with _ _ _ joined there
     (within_completions p left (layer + 1) (Some rank) ranks rest (omega arith) later) in
-    rw sum (within_lists _ _ (record { total = leg + penalty + rest; ranks = rank ∷ ranks }) _
+    rw sum (within_lists _ _ _ _
     inside.0 inside.1 found)
 
 -- ---- at least one
@@ -183,8 +184,8 @@ pub has_list : HasList
 unfolding answers_of
 has_list p =
     record {
-      only = λ k d inside. from_completions _ _ 0 None _ (omega arith)
+      only = λ k d inside. from_completions _ _ 0 _ _ (omega arith)
           (from_order _ _ (All-contains_itself _ k d inside));
-      each = λ key is. within_order _ _ (within_completions _ _ 0 None _ _ (omega arith) is);
+      each = λ key is. within_order _ _ (within_completions _ _ 0 _ _ _ (omega arith) is);
       rise = answers_rise _;
     }

@@ -25,12 +25,12 @@ pub no_more_totals : (p : Penalties) {from : ℕ} (number : ℕ) → HasNoTotalT
     → (IsTotal p number → ⊥) → HasNoTotalTo p from (number + 1)
 no_more_totals p number none here total least below is = elim (cases_eq total number) [
   | inl same ↦ here (rw (← same) is)
-  | inr other ↦ none total least (omega arith) is
+  | inr other ↦ none _ least (omega arith) is
 ]
 
 pub no_totals_at_all : (p : Penalties) {from number : ℕ} → width_of p ≤ number
     → HasNoTotalTo p from number → (total : ℕ) → from ≤ total → IsTotal p total → ⊥
-no_totals_at_all p all none total least is = none total least (omega (arith, total_below _ _ is)) is
+no_totals_at_all p all none total least is = none _ least (omega (arith, total_below _ _ is)) is
 
 -- ---- the first key from a total on
 
@@ -79,11 +79,11 @@ found_in_range sound completion = key_in_range _ _ sound completion
 
 pub found_alone : {P : List ℕ → Type 0} {none longer : List ℕ} → none ≡ [] → Appends none longer P
     → P longer
-found_alone is (found, longer_is, holds) = rw (longer_is ∙ ap (λ (l : List ℕ). l ++ found) is) holds
+found_alone is (found, longer_is, holds) = rw (longer_is ∙ ap (λ l. l ++ found) is) holds
 
 pub layers_at_most : (p : Penalties) {key : KeyValue} → IsKey p key → IsInRange key
     → length p.candidates ≤ 32
-layers_at_most p is range = omega (arith, completion_length _ 0 None _ _ is)
+layers_at_most p is range = omega (arith, completion_length _ 0 _ _ _ is)
 
 -- ---- the listed answers
 

@@ -16,8 +16,8 @@ page_with keys more = record { keys = keys; more = more }
 
 same_page : (page other : PageValue) → page.keys ≡ other.keys → page.more ≡ other.more
     → page ≡ other
-same_page page other keys more = ap (λ (l : List KeyValue). page_with l page.more) keys
-    ∙ ap (λ (b : Bool). page_with other.keys b) more
+same_page page other keys more = ap (λ l. page_with l page.more) keys
+    ∙ ap (page_with other.keys) more
 
 -- a page with more is no page without more
 differ : {page other : PageValue} → page ≡ other → page.more ≡ false → other.more ≡ true → ⊥
@@ -33,7 +33,7 @@ module _ (answers : List KeyValue) (rise : AllPairs IsBefore answers) where
   pub one_page : (after : Option KeyValue) (size : ℕ) (page other : PageValue)
       → IsPageAfter answers after size page → IsPageAfter answers after size other → page ≡ other
   one_page after size page other one two =
-      let same : two.rest ≡ one.rest = one_rest _ _ rise two.is_rest one.is_rest in
+      let same = one_rest _ _ rise two.is_rest one.is_rest in
       page_of_rest _ _ one.is_page (rw (← same) two.is_page)
 
   -- ---- one list of pages
@@ -48,20 +48,20 @@ module _ (answers : List KeyValue) (rise : AllPairs IsBefore answers) where
     one_chain after (page ∷ []) (other ∷ []) resumed ended as_resumed as_ended =
         cc (one_page _ _ _ _ resumed.0 as_resumed.0)
     one_chain after (page ∷ []) (other ∷ next ∷ others) resumed ended as_resumed as_ended =
-        let same : page ≡ other = one_page _ _ _ _ resumed.0 as_resumed.0 in
+        let same = one_page _ _ _ _ resumed.0 as_resumed.0 in
         absurd (differ same ended as_ended.0)
     one_chain after (page ∷ next ∷ pages) (other ∷ []) resumed ended as_resumed as_ended =
-        let same : other ≡ page = one_page _ _ _ _ as_resumed.0 resumed.0 in
+        let same = one_page _ _ _ _ as_resumed.0 resumed.0 in
         absurd (differ same as_ended ended.0)
     one_chain after (page ∷ next ∷ pages) (other ∷ second ∷ others) resumed ended as_resumed
         as_ended =
-        let same : other ≡ page = one_page _ _ _ _ as_resumed.0 resumed.0 in
+        let same = one_page _ _ _ _ as_resumed.0 resumed.0 in
         let later : AreResumed answers (last_of after page.keys) size (second ∷ others) =
         rw (← same) as_resumed.1 in
-        let rest : next ∷ pages ≡ second ∷ others =
+        let rest =
         one_chain _ _ _ resumed.1 ended.1 later as_ended.1 in
-        ap (λ (l : List PageValue). page ∷ l) rest
-        ∙ ap (λ (p : PageValue). p ∷ second ∷ others) (sym same)
+        ap (λ l. page ∷ l) rest
+        ∙ ap (λ p. p ∷ second ∷ others) (sym same)
 
 -- ---- no page after a key that the list doesn't contain
 

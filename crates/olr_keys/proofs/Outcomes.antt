@@ -18,5 +18,5 @@ same_ok a b one other = cc
 pub differ : {a b : List ℕ} → true ≡ not (pointwise nat_eq a b) → a ≡ b → ⊥
 differ {a} {b} other same =
     let decides = slice_eq-Decides Decides-eqb a b _ refl in
-    let yes : pointwise nat_eq a b ≡ true = decides.1 same in
+    let yes = decides.1 same in
     cc

@@ -8,7 +8,8 @@ use Rattle.olr_keys.specs.Finder.{IsAfter, IsNext, IsPosition}
 use Rattle.olr_keys.specs.Key.{KeyValue, IsBefore}
 use Rattle.olr_keys.specs.Order.{asymmetric}
 use Rattle.olr_keys.specs.Page.{IsRestAfter, IsPageAfter, IsPageOf, last_of}
-use Rattle.olr_keys.specs.Rise.{after_first, further, here, member, rest_rises}
+use Rattle.olr_metric.proofs.Contained.{further, here, member}
+use Rattle.olr_metric.proofs.Rising.{behind_first, rest_rises}
 
 -- ---- the last key
 
@@ -24,7 +25,7 @@ found_at before (first ∷ second ∷ keys) (suc index) key last is =
 pub last_found : (before : Option KeyValue) (keys : List KeyValue) (key : KeyValue)
     → Some key ≡ slice_get keys (length keys - 1) → Some key ≡ last_of before keys
 last_found before keys key is =
-    found_at before keys (length keys - 1) key
+    found_at _ _ (length keys - 1) key
     (omega (arith, slice_get_within keys (length keys - 1) key (sym is))) is
 
 -- ---- what is left
@@ -36,7 +37,7 @@ after_keys answers after [] left rest = rest
 after_keys answers None (key ∷ keys) left rest =
     after_keys answers (Some key) keys left ([], sym rest)
 after_keys answers (Some after) (key ∷ keys) left (front, is) =
-    after_keys answers (Some key) keys left (
+    after_keys _ _ keys left (
       front ++ after ∷ [],
       is
           ∙ sym (append_assoc front (after ∷ []) (key ∷ (keys ++ left))),
@@ -53,10 +54,10 @@ position_within answers (Some after) rest (front, is) =
 split_at : (answers : List KeyValue) (index : ℕ) {key : KeyValue} → index < length answers
     → get_or answers index key ≡ key → (rest : List KeyValue) × IsRestAfter answers (Some key) rest
 split_at [] index inside is = absurd (omega arith)
-split_at (first ∷ answers) zero inside is = (answers, ([], ap (λ (k : KeyValue). k ∷ answers) is))
+split_at (first ∷ answers) zero inside is = (answers, ([], ap (λ k. k ∷ answers) is))
 split_at (first ∷ answers) (suc index) inside is =
     let later = split_at _ _ (omega arith) is in
-    (later.0, (first ∷ later.1.0, ap (λ (l : List KeyValue). first ∷ l) later.1.1))
+    (later.0, (first ∷ later.1.0, ap (λ l. first ∷ l) later.1.1))
 
 pub rest_of : (answers : List KeyValue) (after : Option KeyValue) → IsPosition answers after
     → (rest : List KeyValue) × IsRestAfter answers after rest
@@ -68,14 +69,14 @@ rest_of answers (Some after) (index, inside, is) = split_at _ _ inside is
 later_rises : (front rest : List KeyValue) → AllPairs IsBefore (front ++ rest)
     → AllPairs IsBefore rest
 later_rises [] rest rise = rise
-later_rises (key ∷ front) rest rise = later_rises front rest (rest_rises IsBefore key _ rise)
+later_rises (key ∷ front) rest rise = later_rises front rest (rest_rises IsBefore asymmetric key _ rise)
 
 earlier_before : (front rest : List KeyValue) (a b : KeyValue) → AllPairs IsBefore (front ++ rest)
     → Contains front a → Contains rest b → IsBefore a b
 earlier_before [] rest a b rise in_front in_rest = absurd (omega arith)
 earlier_before (key ∷ front) rest a b rise in_front in_rest = elim (member key _ a in_front) [
-  | inl same ↦ rw (← same) (after_first IsBefore key _ rise b (Contains-append_right _ _ b in_rest))
-  | inr later ↦ earlier_before front rest a b (rest_rises IsBefore key _ rise) later in_rest
+  | inl same ↦ rw (← same) (behind_first IsBefore asymmetric key _ rise b (Contains-append_right _ _ b in_rest))
+  | inr later ↦ earlier_before front rest a b (rest_rises IsBefore asymmetric key _ rise) later in_rest
 ]
 
 module _ (answers : List KeyValue) (rise : AllPairs IsBefore answers) where
@@ -84,7 +85,7 @@ module _ (answers : List KeyValue) (rise : AllPairs IsBefore answers) where
   rest_rises_too None rest is = rw is rise
   rest_rises_too (Some after) rest (front, is) =
       let all : AllPairs IsBefore (front ++ after ∷ rest) = rw (← is) rise in
-      rest_rises IsBefore after _ (later_rises front (after ∷ rest) all)
+      rest_rises IsBefore asymmetric after _ (later_rises front (after ∷ rest) all)
 
   -- the members of the rest are the keys after the position
   pub in_answers : (after : Option KeyValue) (rest : List KeyValue) {key : KeyValue}
@@ -94,7 +95,7 @@ module _ (answers : List KeyValue) (rise : AllPairs IsBefore answers) where
   in_answers (Some after) rest {key} (front, is) there =
       let all : AllPairs IsBefore (front ++ after ∷ rest) = rw (← is) rise in (
         rw is (Contains-append_right front (after ∷ rest) _ (further after _ key there)),
-        after_first IsBefore after _ (later_rises front (after ∷ rest) all) key there,
+        behind_first IsBefore asymmetric after _ (later_rises front (after ∷ rest) all) key there,
       )
 
   pub in_rest : (after : Option KeyValue) (rest : List KeyValue) (key : KeyValue)
@@ -107,8 +108,8 @@ module _ (answers : List KeyValue) (rise : AllPairs IsBefore answers) where
         | inl in_front ↦ absurd (asymmetric _ _ later
             (earlier_before _ _ _ _ all in_front (here after _)))
         | inr second ↦ elim (member after _ key second) [
-          | inl same ↦ let itself : IsBefore after after =
-              subst (λ (k : KeyValue). IsBefore after k) (sym same) later in
+          | inl same ↦ let itself =
+              rw (sym same) at later in
               absurd (asymmetric _ _ itself itself)
           | inr within ↦ within
         ]
@@ -128,7 +129,7 @@ module _ (answers : List KeyValue) (rise : AllPairs IsBefore answers) where
         | inr before ↦ elim (member first _ key (in_rest _ _ _ is next.0.0 next.0.1)) [
           | inl same ↦ ap Some (sym same)
           | inr later ↦ absurd (asymmetric _ _ before
-              (after_first IsBefore first _ (rest_rises_too _ _ is) key later))
+              (behind_first IsBefore asymmetric first _ (rest_rises_too _ _ is) key later))
         ]
       ]
 
@@ -144,7 +145,7 @@ pub first_none : {answers : List KeyValue} {after : Option KeyValue} → IsPosit
     → AreFirst answers after []
 first_none position = let rest = rest_of _ _ position in record { left = rest.0; rest = rest.1 }
 
-first_and_others : {X : Type 0} {x : X} (xs : List X) → Some x ≡ slice_get xs 0 → xs ≡ x ∷ drop 1 xs
+pub first_and_others : {X : Type 0} {x : X} (xs : List X) → Some x ≡ slice_get xs 0 → xs ≡ x ∷ drop 1 xs
 first_and_others [] is = absurd cc
 first_and_others (y ∷ xs) is = cc
 
@@ -157,7 +158,7 @@ first_more keys found key rise first next some =
     let is = next_is _ rise _ first.left found (after_keys _ _ keys first.left first.rest) next in
     let same : keys ++ first.left ≡ (keys ++ key ∷ []) ++ drop 1 first.left =
     cc (
-      first_and_others first.left (sym some ∙ is),
+      first_and_others _ (sym some ∙ is),
       append_assoc keys (key ∷ [])
           (drop 1 first.left),
     ) in
@@ -167,7 +168,7 @@ pub one_longer : {grown : List KeyValue} (keys : List KeyValue) (key : KeyValue)
     → grown ≡ keys ++ key ∷ [] → length keys ≡ count → length grown ≡ count + 1
 one_longer keys key is counted = omega (
   arith,
-  ap (λ (l : List KeyValue). length l) is,
+  ap length is,
   length-append keys (key ∷ []),
 )
 
@@ -224,5 +225,5 @@ module _ {now answers : List KeyValue} (same : now ≡ answers) {after position 
           rest = keys ++ first.left;
           is_rest = first.rest;
           is_page =
-              page_before keys first.left (is ∙ ap is_some next_here) full at_most;
+              page_before _ _ (is ∙ ap is_some next_here) full at_most;
         }

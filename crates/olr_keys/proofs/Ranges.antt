@@ -28,8 +28,8 @@ completion_ranks : (p : Penalties) (layer : ℕ) (before : Option ℕ) (ranks : 
 completion_ranks p layer before [] total sound completion = All-nil _
 completion_ranks p layer before (rank ∷ ranks) total sound
     (leg, penalty, rest, joined, there, later, sum) =
-    let inside = rank_inside p layer rank penalty there in
-    All-cons (λ (rank : ℕ). (1 ≤ rank) × (rank ≤ 64)) rank ranks
+    let inside = rank_inside p _ _ _ there in
+    All-cons (λ rank. (1 ≤ rank) × (rank ≤ 64)) rank ranks
     (inside.0, omega (arith, count_at_most p layer sound))
     (completion_ranks p (layer + 1) (Some rank) ranks rest sound later)
 
@@ -57,7 +57,7 @@ start_at_most (rank ∷ ranks) sound (leg, penalty, rest, joined, there, later, 
 pub key_in_range : KeysAreInRange
 key_in_range p key sound is = record {
   total_at_most = start_at_most _ sound is;
-  ranks_at_least = omega (arith, completion_length _ 0 None _ _ is);
-  ranks_at_most = omega (arith, completion_length _ 0 None _ _ is);
-  each = completion_ranks _ 0 None _ _ sound is;
+  ranks_at_least = omega (arith, completion_length _ 0 _ _ _ is);
+  ranks_at_most = omega (arith, completion_length _ 0 _ _ _ is);
+  each = completion_ranks _ 0 _ _ _ sound is;
 }

@@ -45,7 +45,7 @@ head_of text piece rest most cut [] are same = absurd (omega arith)
 head_of text piece rest most cut (rank ∷ []) are same =
     absurd (not_cut _ _ _ _ (lacks_rank (are.each 0 0 (omega arith))) (sym same ∙ cut.whole))
 head_of text piece rest most cut (rank ∷ next ∷ more) are same =
-    let in_range : IsRank rank = are.each 0 0 (omega arith) in
+    let in_range = are.each 0 0 (omega arith) in
     let parts = one_cut _ _ _ _ cut.lacks (lacks_rank in_range) (cc) in
     record {
       rank = rank;
@@ -63,20 +63,20 @@ pub one_ranks : {most : ℕ} (a b : List ℕ) → AreRanks most a → AreRanks m
 one_ranks [] b are are' same = absurd (omega arith)
 one_ranks (rank ∷ ranks) [] are are' same = absurd (omega arith)
 one_ranks (rank ∷ []) (rank' ∷ []) are are' same =
-    let in_range : IsRank rank = are.each 0 0 (omega arith) in
-    let in_range' : IsRank rank' = are'.each 0 0 (omega arith) in
-    ap (λ (n : ℕ). n ∷ []) (decimal_injective _ _ (omega arith) (omega arith) same)
+    let in_range = are.each 0 0 (omega arith) in
+    let in_range' = are'.each 0 0 (omega arith) in
+    ap (λ n. n ∷ []) (decimal_injective _ _ (omega arith) (omega arith) same)
 one_ranks (rank ∷ []) (rank' ∷ next' ∷ more') are are' same =
     absurd (not_cut _ _ _ _ (lacks_rank (are.each 0 0 (omega arith))) same)
 one_ranks (rank ∷ next ∷ more) (rank' ∷ []) are are' same =
     absurd (not_cut _ _ _ _ (lacks_rank (are'.each 0 0 (omega arith))) (sym same))
 one_ranks {most} (rank ∷ next ∷ more) (rank' ∷ next' ∷ more') are are' same =
-    let in_range : IsRank rank = are.each 0 0 (omega arith) in
-    let in_range' : IsRank rank' = are'.each 0 0 (omega arith) in
+    let in_range = are.each 0 0 (omega arith) in
+    let in_range' = are'.each 0 0 (omega arith) in
     let parts = one_cut _ _ _ _ (lacks_rank in_range) (lacks_rank in_range') same in
-    let first : rank ≡ rank' = decimal_injective _ _ (omega arith) (omega arith) parts.0 in
-    let others : next ∷ more ≡ next' ∷ more' =
-    one_ranks {most = most - 1} (next ∷ more) (next' ∷ more') (tail are) (tail are') parts.1 in
+    let first = decimal_injective _ _ (omega arith) (omega arith) parts.0 in
+    let others =
+    one_ranks {most = most - 1} _ _ (tail are) (tail are') parts.1 in
     cc
 
 fewer : {most count : ℕ} {ranks : List ℕ} → AreRanks most ranks → most ≡ count
@@ -111,9 +111,9 @@ joined (Some unit) {rest} {rank} old new cut room in_range first push
         at_most = omega arith;
         each = All-cons IsRank rank (next ∷ more) in_range are.each;
       },
-      cut.whole ∙ ap (λ (l : List ℕ). l ++ (46 ∷ rest)) first
-          ∙ ap (λ (l : List ℕ). decimal rank ++ (46 ∷ l)) same,
-      whole ∙ ap (λ (l : List ℕ). l ++ (next ∷ more)) push
+      cut.whole ∙ ap (λ l. l ++ (46 ∷ rest)) first
+          ∙ ap (λ l. decimal rank ++ (46 ∷ l)) same,
+      whole ∙ ap (λ l. l ++ (next ∷ more)) push
           ∙ append_assoc old (rank ∷ []) (next ∷ more),
     )
 
@@ -137,5 +137,5 @@ pub later-next : (ranks : List ℕ) (i : ℕ) → i < length ranks
     → later (take (i + 1) ranks) ≡ later (take i ranks) ++ (46 ∷ decimal (get_or ranks i 0))
 later-next ranks i inside =
     let next : i + 1 ≡ suc i = omega arith in
-    ap (λ (n : ℕ). later (take n ranks)) next ∙ ap later (take-suc ranks i 0 inside)
+    ap (λ n. later (take n ranks)) next ∙ ap later (take-suc ranks i 0 inside)
     ∙ later-push _ _

@@ -17,7 +17,7 @@ pub only_last : (p : Penalties) {rank total : ℕ} (layer penalty : ℕ)
     → layer + 1 ≡ length p.candidates → penalty_at p layer rank ≡ Some penalty
     → IsRemainingTotal p layer rank total → total ≡ penalty
 only_last p layer penalty last there ([], (leg, own, rest, joined, here, later, sum)) =
-    let none : 0 ≡ leg = cc in omega (arith, same_some own penalty here there)
+    let none : 0 ≡ leg = cc in omega (arith, same_some _ _ here there)
 only_last p layer penalty last there (
   second ∷ ranks,
   (
@@ -30,7 +30,7 @@ only_last p layer penalty last there (
     sum,
   ),
 ) =
-    absurd (omega (arith, layer_inside p (layer + 1) second next here'))
+    absurd (omega (arith, layer_inside p _ _ _ here'))
 
 -- ---- a layer before the last one
 
@@ -86,7 +86,7 @@ by_remaining p layer penalty inside there (
   ),
 ) =
     let none : 0 ≡ leg = cc in
-    let position = rank_inside p (layer + 1) _ _ here' in (
+    let position = rank_inside p _ _ _ here' in (
       second,
       leg',
       next + rest',
@@ -94,5 +94,5 @@ by_remaining p layer penalty inside there (
       position.1,
       joined',
       (ranks, (0, next, rest', refl, here', later, omega arith)),
-      omega (arith, same_some own penalty here there),
+      omega (arith, same_some _ _ here there),
     )

@@ -24,7 +24,7 @@ module _ {p : Penalties} {layer : ℕ} (before : Option ℕ) (above rest : ℕ) 
       → HasNoStepTo p layer before above rest (last + 1)
   none_more last none here rank left later within step = elim (cases_eq rank (last + 1)) [
     | inl same ↦ here left (rw (← same) step)
-    | inr other ↦ none rank left later (omega arith) step
+    | inr other ↦ none _ _ later (omega arith) step
   ]
 
   pub step_inside : (rank left : ℕ) → IsStep p layer before rank rest left → (1 ≤ rank)
@@ -34,15 +34,15 @@ module _ {p : Penalties} {layer : ℕ} (before : Option ℕ) (above rest : ℕ) 
   pub none_at_all : {last : ℕ} → count_of p layer ≤ last
       → HasNoStepTo p layer before above rest last → HasNoStep p layer before above rest
   none_at_all all none rank left later step =
-      none rank left later (omega (arith, step_inside _ _ step)) step
+      none _ _ later (omega (arith, step_inside _ _ step)) step
 
 -- what is left is known from the rank
 same_left : {p : Penalties} {layer : ℕ} {before : Option ℕ} {rank rest a b : ℕ}
     → IsStep p layer before rank rest a → IsStep p layer before rank rest b → a ≡ b
 same_left one other = omega (
   arith,
-  same_some one.leg other.leg one.joined other.joined,
-  same_some one.penalty other.penalty one.there other.there,
+  same_some _ _ one.joined other.joined,
+  same_some _ _ one.there other.there,
 )
 
 -- ---- completions and steps
@@ -56,7 +56,7 @@ completion_of_remaining p layer rank penalty there
     let none : 0 ≡ leg = cc in (
       ranks,
       subst (IsCompletion p (layer + 1) (Some rank) ranks) {x = rest}
-          (omega (arith, same_some own penalty here there)) completion,
+          (omega (arith, same_some _ _ here there)) completion,
     )
 
 pub later_completion : {p : Penalties} {layer : ℕ} {before : Option ℕ} {rank rest left : ℕ}
@@ -122,7 +122,7 @@ pub some_step : {p : Penalties} {layer : ℕ} {before : Option ℕ} {rest : ℕ}
 some_step inside ([], completion) none = omega arith
 some_step {before} {rest} inside (rank ∷ ranks, completion) none =
     let (left, step, later) = step_of_completion _ _ _ _ _ _ completion in
-    none rank left (step_inside before 0 rest rank left step).0 step
+    none _ _ (step_inside before 0 rest rank left step).0 step
 
 first_of : {p : Penalties} {layer : ℕ} {before : Option ℕ} {rest rank left : ℕ} {ranks : List ℕ}
     (other : List ℕ) → IsFirstStep p layer before 0 rest rank left
@@ -134,9 +134,9 @@ first_of {p} {layer} {before} {rest} {rank} {left} (second ∷ others) step on t
     let (less, other_step, later) = step_of_completion _ _ _ _ _ _ there in
     elim (cases_order second rank) [
       | inl same ↦
-          let again : IsStep p layer before rank rest less =
+          let again =
           subst (λ (n : ℕ). IsStep p layer before n rest less) same other_step in
-          let left_same : less ≡ left = same_left again step.step in
+          let left_same = same_left again step.step in
           let completion : IsCompletion p (layer + 1) (Some rank) others left =
           rw (← left_same) (rw (← same) later) in
           elim (on.first others completion) [
@@ -175,7 +175,7 @@ pub same_later : {p : Penalties} {layer : ℕ} {before : Option ℕ} {own rank r
     → IsCompletion p (layer + 1) (Some own) ranks left
 same_later {p} {layer} {before} {own} {rest} ranks step same there =
     let (less, other, on) = step_of_completion _ _ _ _ _ _ there in
-    let again : IsStep p layer before own rest less =
+    let again =
     subst (λ (n : ℕ). IsStep p layer before n rest less) (sym same) other in
     rw (← (same_left again step)) (
     rw same on)
@@ -254,10 +254,10 @@ none_above p layer before step none no_step (rank ∷ ranks) there (inr (same, l
 pub is_predecessor : {p : Penalties} {layer : ℕ} {before : Option ℕ} {rank rest left : ℕ}
     → IsStep p layer before rank rest left → IsPredecessor p (layer + 1) (Some rank)
 is_predecessor {p} {layer} {rank} step =
-    let within = rank_inside p layer _ _ step.there in (
+    let within = rank_inside p _ _ _ step.there in (
       omega arith,
       within.0,
-      subst (λ (n : ℕ). rank ≤ count_of p n) {x = layer} (omega arith)
+      subst (λ n. rank ≤ count_of p n) {x = layer} (omega arith)
           within.1,
     )
 
@@ -268,7 +268,7 @@ pub appends_deeper : (P Q : List ℕ → Type 0) (ranks pushed longer : List ℕ
     → Appends pushed longer P → Appends ranks longer Q
 appends_deeper P Q ranks pushed longer rank is more (found, longer_is, on) = (
   rank ∷ found,
-  longer_is ∙ ap (λ (l : List ℕ). l ++ found) is ∙ append_assoc ranks (rank ∷ []) found,
+  longer_is ∙ ap (λ l. l ++ found) is ∙ append_assoc ranks (rank ∷ []) found,
   more found on,
 )
 
@@ -280,7 +280,7 @@ pub popped_back : {pushed popped : List ℕ} (ranks deeper : List ℕ) (rank : �
     → pushed ≡ ranks ++ rank ∷ [] → deeper ≡ pushed → popped ≡ take (length deeper - 1) deeper
     → popped ≡ ranks
 popped_back ranks deeper rank is same taken =
-    let all : deeper ≡ ranks ++ rank ∷ [] = same ∙ is in
+    let all = same ∙ is in
     let long : length deeper ≡ length ranks + 1 = cc (length-append ranks (rank ∷ [])) in
     taken ∙ ap (take (length deeper - 1)) all
     ∙ take_at ranks (rank ∷ []) (length deeper - 1) (omega arith)
@@ -293,7 +293,7 @@ pub layer_budget : {first new count later : ℕ} (old layers layer most : ℕ) �
     → later ≡ (layers - (layer + 1)) * most
     → new ≤ old + (layers - layer) * most
 layer_budget old layers layer most inside few one rest is =
-    let split : (layers - layer) * most ≡ (layers - (layer + 1)) * most + most =
-    ap (λ (n : ℕ). n * most) {x = layers - layer} {y = suc (layers - (layer + 1))} (omega arith)
+    let split =
+    ap (λ n. n * most) {x = layers - layer} {y = suc (layers - (layer + 1))} (omega arith)
     ∙ suc-mul (layers - (layer + 1)) most in
     omega arith

@@ -2,8 +2,8 @@
 -- It is here because each finder cites it for the law of the trait Finder that its list rises, and
 -- such a law may cite only files of specs/.
 use Rattle.std.proofs.lemmas.List.Kept.{AllPairs-cons}
-use Rattle.std.proofs.Common.{◌≡◌, zero, suc, ◌⊎◌, Bool, true, false, ◌&&◌, List, [], ◌∷◌, map, All, inl, inr, refl, arith}
-use Rattle.std.specs.Prelude.{AllPairs, Contains, T}
+use Rattle.std.proofs.Common.{◌≡◌, Bool, true, false, ◌&&◌, List, [], ◌∷◌, map, All, arith}
+use Rattle.std.specs.Prelude.{AllPairs, T}
 use Rattle.std.specs.FinMap.{entries_sorted}
 use Rattle.std.specs.FinMap.Entries.{below_all, is_sorted}
 use Rattle.std.specs.Ordering.{MatchOrdering, is_lt}
@@ -14,30 +14,6 @@ use Rattle.olr_keys.specs.AnswersOf.{answers_of, by_key}
 use Rattle.olr_keys.specs.Key.{KeyValue, IsBefore}
 use Rattle.olr_keys.specs.Order.{compared_by}
 use Rattle.olr_keys.specs.Table.{Penalties}
-
--- ---- members
-
--- a member is the first or a later one
-pub member : {X : Type 0} (x : X) (xs : List X) (z : X) → Contains (x ∷ xs) z → (x ≡ z)
-    ⊎ Contains xs z
-member x xs z (zero, inside, is) = inl is
-member x xs z (suc k, inside, is) = inr (k, omega arith, is)
-
-pub here : {X : Type 0} (x : X) (xs : List X) → Contains (x ∷ xs) x
-here x xs = (0, omega arith, refl)
-
-pub further : {X : Type 0} (x : X) (xs : List X) (z : X) → Contains xs z → Contains (x ∷ xs) z
-further x xs z (k, inside, is) = (suc k, omega arith, is)
-
--- ---- order
-
-pub rest_rises : {X : Type 0} (R : X → X → Type 0) (x : X) (xs : List X) → AllPairs R (x ∷ xs)
-    → AllPairs R xs
-rest_rises R x xs rise i j d below inside = rise (suc i) (suc j) d (omega arith) (omega arith)
-
-pub after_first : {X : Type 0} (R : X → X → Type 0) (x : X) (xs : List X) → AllPairs R (x ∷ xs)
-    → (z : X) → Contains xs z → R x z
-after_first R x xs rise z (k, inside, is) = rw (← is) (rise 0 (suc k) z (omega arith) (omega arith))
 
 -- ---- the keys of a map in their order
 

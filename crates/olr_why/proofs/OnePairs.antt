@@ -10,7 +10,7 @@ use Rattle.olr_matching.proofs.Pairs.{one_next}
 use Rattle.olr_route.specs.Least.{IsLengthWithin}
 use Rattle.olr_why.specs.Legs.{AreEarlyPairs, IsBeforePair, IsBetter, IsEarlyRank, IsPairLength, IsUpTo, far}
 use Rattle.olr_why.proofs.Lists.{one_option}
-use Rattle.olr_keys.proofs.Rising.{same_list}
+use Rattle.olr_metric.proofs.Rising.{same_list}
 use Rattle.olr_matching.proofs.Admitted.{one_length as one_least}
 
 -- ---- one pair of places

@@ -4,7 +4,7 @@ use Rattle.olr_keys.proofs.chain.all_pages.Goals as goal
 
 pub pages-init : goal.pages-init
 pages-init g c =
-    (refl, rw c.new-pages.ensures.items (chain_start None tt))
+    (refl, rw c.new-pages.ensures.items (chain_start _ tt))
 
 pub page_after-requires : goal.page_after-requires
 page_after-requires g c =

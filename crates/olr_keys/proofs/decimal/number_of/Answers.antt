@@ -19,12 +19,12 @@ pub returns-then-number-most : goal.returns-then-number-most
 returns-then-number-most c n at_most same =
     omega (
       arith,
-      same_ok c.in-Ok.number n c.in-Ok.is
+      same_ok _ n c.in-Ok.is
           (parsed (omega arith) at_most same c.parse.ensures.value.0),
     )
 
 pub returns-then-ne : goal.returns-then-ne
 returns-then-ne c n at_most same =
-    let is = same_ok c.in-Ok.number n c.in-Ok.is
+    let is = same_ok _ n c.in-Ok.is
     (parsed (omega arith) at_most same c.parse.ensures.value.0) in
     differ (sym c.if-ne.true ∙ c.ne.ensures) (c.format.ensures.text ∙ ap decimal is ∙ sym same)

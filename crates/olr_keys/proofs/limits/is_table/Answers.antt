@@ -24,10 +24,10 @@ module _ (penalties : List (Vec ℕ)) (legs : List (Vec (Option ℕ))) where
 
   -- there are as many lists of numbers as layers, and as many lists of entries as lists of legs
   count_is : length table.candidates ≡ length penalties
-  count_is = length-map penalties (λ (layer : Vec ℕ). layer.items)
+  count_is = length-map penalties (λ layer. layer.items)
 
   legs_is : length table.legs ≡ length legs
-  legs_is = length-map legs (λ (between : Vec (Option ℕ)). between.items)
+  legs_is = length-map legs (λ between. between.items)
 
   -- lists that pass the three tests are a table
   table_from : HaveLengths → All (λ (layer : Vec ℕ). IsLayer layer.items) penalties → HaveLegs
@@ -53,7 +53,7 @@ module _ (penalties : List (Vec ℕ)) (legs : List (Vec (Option ℕ))) where
 
   layers_of : IsTable table → All (λ (layer : Vec ℕ). IsLayer layer.items) penalties
   layers_of is = λ k d inside.
-      rw (← (map_at (λ (layer : Vec ℕ). layer.items) penalties k d))
+      rw (← (map_at (λ layer. layer.items) penalties k d))
       (is.layers k d.items (omega (arith, count_is)))
 
   legs_of : IsTable table → HaveLegs

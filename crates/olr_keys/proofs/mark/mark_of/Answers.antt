@@ -9,6 +9,6 @@ returns-in_default c mark is same = c.in_default.not-Ok mark.0 (cc (mark_read is
 
 pub returns-then-ne : goal.returns-then-ne
 returns-then-ne c mark is same =
-    let bytes = same_ok c.in-Ok.bytes mark.0 c.in-Ok.is (cc (mark_read is same)) in
+    let bytes = same_ok _ _ c.in-Ok.is (cc (mark_read is same)) in
     differ (sym c.if-ne.true ∙ c.ne.ensures) (c.as_str.ensures.value ∙ c.digits_of.ensures.digits
     ∙ ap hexadecimal bytes ∙ sym same)

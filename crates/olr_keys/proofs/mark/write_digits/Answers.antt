@@ -7,5 +7,5 @@ use Rattle.olr_keys.proofs.mark.write_digits.Goals as goal
 pub returns-clause-digits : goal.returns-clause-digits
 returns-clause-digits c =
     let ok : IsOk c.encode_to_slice.result = search rules in
-    of_ok _ (c.encode_to_slice.new.output ≡ encode_lower c.args.bytes.now) ok
+    of_ok _ _ ok
     c.encode_to_slice.ensures.written

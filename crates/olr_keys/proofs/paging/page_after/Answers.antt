@@ -6,7 +6,7 @@ use Rattle.olr_keys.proofs.paging.page_after.Goals as goal
 
 pub loop-taken-init : goal.loop-taken-init
 loop-taken-init g c =
-    let answers : List KeyValue = g.F.Finder.answers c.args.finder.now in
+    let answers = g.F.Finder.answers c.args.finder.now in
     let after = option_map (λ key. key.now) c.args.after in
     let first = subst (λ (l : List KeyValue). AreFirst answers after l) (cc)
     (first_none c.requires) in

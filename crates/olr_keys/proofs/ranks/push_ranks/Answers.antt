@@ -15,12 +15,12 @@ short {rank} in_range = length-decimal-le 2 rank (omega arith) (omega arith) (om
 module _ {ranks others : List ℕ} {first : ℕ} (whole : ranks ≡ first ∷ others)
     (are : AreRanks 32 ranks) where
   each : All IsRank (first ∷ others)
-  each = subst (λ (l : List ℕ). All IsRank l) whole are.each
+  each = rw whole at are.each
 
   -- the length of the text of the first rank, and of the other ones
   short_first : {text : List ℕ} → text ≡ decimal first → length text ≤ 2
   short_first is =
-      omega (arith, ap (λ (l : List ℕ). length l) is, short (All-head IsRank first others each))
+      omega (arith, ap length is, short (All-head IsRank first others each))
 
   short_other : {text : List ℕ} {i : ℕ} → i < length others → text ≡ decimal (get_or others i 0)
       → length text ≤ 2
@@ -28,7 +28,7 @@ module _ {ranks others : List ℕ} {first : ℕ} (whole : ranks ≡ first ∷ ot
       omega (arith, ap length is, short (All-tail IsRank first others each i 0 inside))
 
   fewer : length others ≤ 31
-  fewer = omega (arith, ap (λ (l : List ℕ). length l) whole)
+  fewer = omega (arith, ap length whole)
 
 pub push-requires : goal.push-requires
 push-requires c =
@@ -36,7 +36,7 @@ push-requires c =
       omega arith,
       omega (
         arith,
-        ap (λ (l : List ℕ). length l) (encode_ascii 46 (omega arith)),
+        ap length (encode_ascii 46 (omega arith)),
         short_first whole c.requires.ranks c.format.ensures.text,
         fewer whole c.requires.ranks,
       ),

@@ -12,8 +12,7 @@ pub descend-requires : goal.descend-requires
 descend-requires t c =
     let p = c.args.rows.now.penalties in
     let same = c.next_step.ensures.same in
-    let step : IsFirstStep p c.args.layer c.args.before 0 c.args.rest c.in-Some.step.rank
-    c.in-Some.step.left = c.in-Some.ensures.step in
+    let step = c.in-Some.ensures.step in
     let rank = c.in-Some.step.rank in
     let long : length c.next_step.new.rows.penalties.candidates ≡ length p.candidates = cc in
     let leads = is_predecessor step.step in (

@@ -10,9 +10,9 @@ descend-requires c =
     let same = c.next_step.ensures.same in
     let rank = c.in-Some.step.rank in
     let left = c.in-Some.step.left in
-    let step : IsFirstStep p c.args.layer c.args.before c.args.above c.args.rest rank left =
+    let step =
     c.in-Some.ensures.step in
-    let long = ap (λ (p : Penalties). length p.candidates) same in
+    let long = ap (λ p. length p.candidates) same in
     record {
       layer = omega arith;
       before = rw same (is_predecessor step.step);

@@ -11,7 +11,6 @@ pub invariant_of-result : goal.invariant_of-result
 invariant_of-result c =
     let p = c.args.rows.now.penalties in
     let total = c.after.inside.total in
-    let found : IsNextCompletion p 0 None total c.deref.result.now
-    c.next_completion.new.ranks.items =
+    let found =
     found_alone c.new-ranks.ensures c.if-not-next_completion.ensures.found in
     found_in_range (c.if-not-next_completion.ensures.sound refl) found.completion

@@ -9,7 +9,7 @@ pub returns : goal.returns
 returns c =
     let p = c.self.inside.table.now in
     let same = ap (λ v. v.penalties) c.self.view_is in
-    let many = length-map c.self.inside.marks.items (λ (rows : Vec (Vec ℕ)). rows_of rows.items) in
+    let many = length-map c.self.inside.marks.items (λ rows. rows_of rows.items) in
     rw (← same) (
     rows_of_layer _ _ _ _ c.self.invariant.layers
     (rw same c.requires) (omega arith) c.deref.ensures.value c.list_at.ensures)
