@@ -27,7 +27,8 @@ def as_json(answer: Any) -> Any:
         return answer
     if isinstance(answer, (Late, tuple)):
         return [as_json(item) for item in answer]
-    found = {name: getattr(answer, field) for field, name in fields_of(type(answer))}
+    kind: Any = type(answer)
+    found = {name: getattr(answer, field) for field, name in fields_of(kind)}
     if "earliest" in found:
         absent = ("earliest", "latest") if found["earliest"] is None else ("outer", "inner")
         found = {name: value for name, value in found.items() if name not in absent}

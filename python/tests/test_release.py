@@ -35,7 +35,8 @@ def offered(program: Program, folder: Path, *words: str) -> set[str]:
     """What completion offers in a folder for the last of some words."""
     script = """eval "$1"; shift; COMP_WORDS=("$@"); COMP_CWORD=$(($# - 1)); _olr
     printf '%s\\n' "${COMPREPLY[@]}" """
-    command = ["bash", "-c", script, "bash", completion(program.path), "olr", *words]
+    functions = completion(program.path).decode()
+    command = ["bash", "-c", script, "bash", functions, "olr", *words]
     ended = subprocess.run(command, cwd=folder, capture_output=True, text=True, timeout=60)
     assert (ended.returncode, ended.stderr) == (0, "")
     return set(ended.stdout.split())
