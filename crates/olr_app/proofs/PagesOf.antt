@@ -14,6 +14,7 @@ use Rattle.olr_keys.specs.Headline.{joined}
 use Rattle.olr_keys.specs.Page.{page_of}
 use Rattle.olr_keys.specs.declared.pages.PageFault.{PageFault}
 use Rattle.olr_keys.specs.declared.pages.PageFault.TheVariants.{CursorNotHere, NoMemory}
+use Rattle.olr_map.proofs.Zips.{zip_push}
 use Rattle.olr_app.specs.Fault.{fault_of_page}
 use Rattle.olr_app.specs.declared.request.Pages.TheVariants.{All as AllPages}
 use Rattle.olr_app.specs.declared.fault.Fault.TheVariants as fault
@@ -23,11 +24,10 @@ pub all_related : {A B : Type 0} (K : A → Type 0) (R : A → B → Type 0) (P 
     (keys : List A) (all : List B) → All K keys → AllZip R keys all
     → ((key : A) (one : B) → K key → R key one → P one) → All P all
 all_related K R P [] [] keys is each = All-nil P
-all_related K R P [] (one ∷ all) keys is each = absurd is
-all_related K R P (key ∷ more) [] keys is each = absurd is
 all_related K R P (key ∷ more) (one ∷ all) keys is each =
     All-cons P one all (each key one (All-head K key more keys) is.0)
     (all_related K R P more all (All-tail K key more keys) is.1 each)
+all_related K R P _ _ keys is each = absurd is
 
 -- a position that isn't in the answers is the key of a cursor, and not that of a matching
 pub not_here : (penalties : Penalties) (answers : List KeyValue) (start : Option CursorRead)
@@ -128,19 +128,11 @@ no_mark_needed pages page X none there more =
 
 -- ---- two lists, element by element
 
-zip_push : {X Y : Type 0} (R : X → Y → Type 0) (xs : List X) (ys : List Y) (x : X) (y : Y)
-    → AllZip R xs ys → R x y → AllZip R (xs ++ x ∷ []) (ys ++ y ∷ [])
-zip_push R [] [] x y they is = (is, tt)
-zip_push R [] (other ∷ ys) x y they is = absurd they
-zip_push R (other ∷ xs) [] x y they is = absurd they
-zip_push R (a ∷ xs) (b ∷ ys) x y they is = (they.0, zip_push R xs ys x y they.1 is)
-
 zip_values : {X Y Z : Type 0} (R : X → Y → Type 0) (f : Z → X) (zs : List Z) (ys : List Y)
     → AllZip (λ (z : Z) (y : Y). R (f z) y) zs ys → AllZip R (map f zs) ys
 zip_values R f [] [] they = tt
-zip_values R f [] (y ∷ ys) they = absurd they
-zip_values R f (z ∷ zs) [] they = absurd they
 zip_values R f (z ∷ zs) (y ∷ ys) they = (they.0, zip_values R f zs ys they.1)
+zip_values R f _ _ they = absurd they
 
 -- ---- the texts so far
 

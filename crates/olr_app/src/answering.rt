@@ -146,6 +146,8 @@ pub fn run<S1: Source, S2: Source, S3: Source, O: Sink>(
     ensures fault { IfErr result (IsFault O.taken O.failed O.put_gives O.flush_gives
         (texts_of (S1.left nodes.old) (S2.left lines.old) (S3.left bans.old))
         request.now out.old out.new) }
+
+    // Each source: untouched by `Show` and by a refusal, else read to its end or up to a fault.
     ensures nodes_source { AnswerLeaves S1.left S1.failed nodes.old nodes.new File.Nodes
         request.now result }
     ensures lines_source { AnswerLeaves S2.left S2.failed lines.old lines.new File.Lines

@@ -12,7 +12,6 @@ ghost use Rattle.olr_matching.specs.Matched.{IsMatchedBy};
 ghost use Rattle.olr_matching.specs.Searches.{AreSearchesOn};
 ghost use Rattle.olr_report.specs.Entries.{CanBeShown};
 ghost use Rattle.olr_app.specs.Matching.{AreLayers, AreMatchings, ArePages, AreTextsOfPages};
-ghost use Rattle.olr_app.specs.Matching.{IsPageIn};
 ghost use Rattle.olr_app.specs.Matching.{IsStartHere, IsTextOfPage, key_of, values_of};
 ghost use Rattle.olr_app.specs.Stages.{IsStageFault};
 
@@ -157,33 +156,6 @@ fn mark_of(
     Ok(mark)
 }
 
-/// A page in a format.
-///
-/// # Errors
-///
-/// [`NoMemory`] where the allocator refused memory.
-fn printed_page(
-    alloc: Global,
-    map: &Map,
-    reference: &Reference,
-    page: &Page,
-    matched: &[Matched],
-    mark: Option<&Mark>,
-    format: Format,
-) -> Result<String, NoMemory>
-    requires reference { IsReference reference.now }
-    requires one_each { length matched.now ≡ length page.now.keys.items }
-    requires shown { All (CanBeShown map.now reference.now) matched.now }
-    ensures { let page = page_of page.now in let mark = option_map (λ mark. mark.now) mark.entry in
-        IfOk result (λ text.
-        IsPageIn format map.now reference.now page matched.now mark (string_bytes text)) }
-{
-    match format {
-        Format::Text => text_page(alloc, map, reference, page, matched, mark),
-        Format::Json => json_page(alloc, map, reference, page, matched, mark),
-    }
-}
-
 /// The parts of the matchings of a page.
 ///
 /// # Errors
@@ -207,6 +179,7 @@ fn matched_on_page(
     matchings_are_sound();
     sound_parts_can_be_shown();
     sound(routes.map());
+    // Called for its clause: the layers are those of a reference on this map.
     let _layers = routes.layers();
     let matched = routes.matched(alloc, &page.keys)?;
     Ok(matched)
@@ -231,9 +204,18 @@ pub(crate) fn text_of_page(
     ensures same { routes.new ≡ routes.old }
 {
     let matched = matched_on_page(alloc, routes, page)?;
+    let map = routes.map();
     let reference = routes.layers().reference();
-    let text = printed_page(alloc, routes.map(), reference, page, &matched, mark, format)?;
-    Ok(text)
+    match format {
+        Format::Text => {
+            let text = text_page(alloc, map, reference, page, &matched, mark)?;
+            Ok(text)
+        }
+        Format::Json => {
+            let text = json_page(alloc, map, reference, page, &matched, mark)?;
+            Ok(text)
+        }
+    }
 }
 
 /// The texts of pages, one after the other.

@@ -46,6 +46,8 @@ pub fn run_batch<S1: Source, S2: Source, S3: Source, S4: Source, O: Sink>(
         × IsMapLeft (texts_of (S1.left nodes.old) (S2.left lines.old) (S3.left bans.old)) road
         × IsStopped S4.left S4.failed O.taken O.failed O.put_gives O.flush_gives asked.now road
         input.old input.new out.old out.new fault)) }
+
+    // Each source of a file: read to its end, or up to a fault.
     ensures nodes_source { LeavesFile S1.left S1.failed nodes.old nodes.new File.Nodes result }
     ensures lines_source { LeavesFile S2.left S2.failed lines.old lines.new File.Lines result }
     ensures bans_source { LeavesFile S3.left S3.failed bans.old bans.new File.Bans result }
