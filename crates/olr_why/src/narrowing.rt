@@ -6,7 +6,7 @@ ghost use Rattle.olr_binary.specs.Reference.{IsReference};
 ghost use Rattle.olr_candidates.specs.declared.tolerances.Name.TheVariants.{Lowest};
 ghost use Rattle.olr_candidates.specs.Tolerances.{order_of};
 ghost use Rattle.olr_why.specs.Remedies.{IsNarrower, IsUncrowdedWith, value_of};
-ghost use Rattle.olr_why.specs.Trying.{IsGreatest};
+ghost use Rattle.olr_why.specs.inner.Trying.{IsGreatest};
 
 use crate::changed::{least_of, value_of};
 use crate::remedy::{Change, Remedy};
