@@ -7,7 +7,7 @@ use Rattle.olr_why.proofs.Common.{Candidate, points_of, RoadMap}
 use Rattle.olr_matching.specs.Layers.{AreLayersOn, IsCandidateOf, LayersValue, length_at}
 use Rattle.olr_matching.proofs.Points.{at_least_two}
 use Rattle.olr_why.specs.Chain.{AdmitsPlaces, HasMatching, HasTuple}
-use Rattle.olr_why.specs.Ends.{AreEnds, IsEnd, IsJoined}
+use Rattle.olr_why.specs.inner.Ends.{AreEnds, IsEnd, IsJoined}
 use Rattle.olr_why.specs.Verdict.{HasNoTuple, IsFirst}
 use Rattle.olr_why.proofs.Lists.{AreBelow, is_some_from, some_of}
 use Rattle.olr_matching.proofs.Points.{some_at}

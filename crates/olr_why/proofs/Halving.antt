@@ -1,19 +1,26 @@
 -- The least value of a tolerance that is enough lies between two values, which come closer with
--- each trial.
+-- each trial. So does the greatest one below the given one with which no point has too many
+-- candidates.
 use Rattle.std.proofs.Common.{◌≡◌, ◌≢◌, ℕ, ◌+◌, ◌<◌, ◌≤◌, None, Some, inl, inr, arith, Option, MatchOption}
 use Rattle.std.proofs.lemmas.Bool.{cases_lt}
-use Rattle.olr_why.proofs.Common.{KeyValue, Lowest, Name, NoMatching, OneCandidateALine, Reference, RoadMap, Tolerances}
-use Rattle.olr_candidates.specs.Tolerances.{greatest_of, order_of}
-use Rattle.olr_why.specs.Remedies.{IsEnough, IsLeastEnough, value_of}
-use Rattle.olr_why.specs.Trying.{IsBracket, IsCrowdedWith, IsEnoughFor, IsNoneUpTo, IsTrialWith}
+use Rattle.olr_why.proofs.Common.{KeyValue, Lowest, MatchingHasKey, Name, NoMatching, OneCandidateALine, Reference, RoadMap, Tolerances}
+use Rattle.olr_candidates.specs.Tolerances.{greatest_of, order_of, least_of}
+use Rattle.olr_why.specs.Remedies.{IsEnough, IsLeastEnough, value_of, IsGreatestUncrowded, IsUncrowdedWith}
+use Rattle.olr_why.specs.inner.Trying.{IsBracket, IsNoneUpTo, IsTrialWith, IsGreatest, IsMatchingWith}
 use Rattle.olr_why.specs.declared.bracket.Bracket.{Bracket}
-use Rattle.olr_why.proofs.Tried.{crowded_up_is_none, none_up_to, value_in_range}
+use Rattle.olr_why.specs.declared.trial.Trial.TheVariants.{Crowded, Matching}
+use Rattle.olr_why.proofs.Tried.{crowded_up_is_none, least_enough, none_up_to, value_in_range, crowded_from}
 
 module _ (road : RoadMap) (reference : Reference) (given : Tolerances) (name : Name) where
   -- no value above the given one is enough
   abbrev pub IsNoneAbove : Type 0
   IsNoneAbove = (value : ℕ) → value_of given name < value → IsEnough road given reference name value
       → ⊥
+
+  -- with each value below the given one some point has too many candidates
+  abbrev pub AreAllCrowded : Type 0
+  AreAllCrowded = (value : ℕ) → value < value_of given name
+      → IsUncrowdedWith road given reference name value → ⊥
 
 module _ {road : RoadMap} {reference : Reference} {given : Tolerances} {name : Name} where
   -- where none is enough up to the greatest value, none is
@@ -27,8 +34,8 @@ module _ {road : RoadMap} {reference : Reference} {given : Tolerances} {name : N
   pub first_two : {low high : ℕ} {first : Option KeyValue} → low ≡ value_of given name
       → high ≡ greatest_of name
       → low < high
-      → MatchOption first (IsCrowdedWith road given reference name high)
-      (IsEnoughFor road given reference name high)
+      → MatchOption first (IsTrialWith road given reference name high Crowded)
+      (λ key. IsTrialWith road given reference name high (Matching key))
       → IsBracket road given reference name (record { low = low; high = high; first = first })
   first_two low_is high_is lower found = record {
     none = λ value above less enough. omega (arith, low_is, above, less);
@@ -56,8 +63,8 @@ module _ {road : RoadMap} {reference : Reference} {given : Tolerances} {name : N
     }
 
     pub lower_half : {first : Option KeyValue}
-        → MatchOption first (IsCrowdedWith road given reference name middle)
-        (IsEnoughFor road given reference name middle)
+        → MatchOption first (IsTrialWith road given reference name middle Crowded)
+        (λ key. IsTrialWith road given reference name middle (Matching key))
         → IsBracket road given reference name
         (record { low = bracket.low; high = middle; first = first })
     lower_half found =
@@ -74,23 +81,57 @@ module _ {road : RoadMap} {reference : Reference} {given : Tolerances} {name : N
 
   module _ {bracket : Bracket} (is : IsBracket road given reference name bracket)
       (close : bracket.high ≤ bracket.low + 1) where
-    pub least_in : {key : KeyValue} → bracket.first ≡ Some key
+    pub least_in : {key : KeyValue} → MatchingHasKey → bracket.first ≡ Some key
         → IsLeastEnough road given reference name bracket.high key
-    least_in {key} first =
-        let it : IsEnoughFor road given reference name bracket.high key = rw first at is.found in
-        record {
-          above = omega (arith, is.above, is.lower);
-          enough = it.enough;
-          least = λ lesser above less enough. is.none lesser above (omega (arith, less, close))
-              enough;
-          first = it.first;
-        }
+    least_in law first =
+        least_enough law (omega (arith, is.above, is.lower)) (λ lesser above less.
+        is.none lesser above (omega (arith, less, close))) (rw first at is.found)
 
     pub none_in : OneCandidateALine → order_of name ≢ order_of Lowest → bracket.first ≡ None
         → IsNoneAbove road reference given name
     none_in law differ first value above enough =
-        let crowded : IsCrowdedWith road given reference name bracket.high = rw first at is.found in
+        let crowded : IsTrialWith road given reference name bracket.high Crowded =
+        rw first at is.found in
         elim (cases_lt value bracket.high) [
           | inl less ↦ is.none value above (omega (arith, less, close)) enough
           | inr greater ↦ crowded_up_is_none differ law greater crowded enough
         ]
+
+  -- ---- values below the given one
+
+  -- where a point has too many candidates with the least value
+  pub all_crowded : order_of name ≢ order_of Lowest → OneCandidateALine
+      → IsTrialWith road given reference name (least_of name) Crowded
+      → AreAllCrowded road reference given name
+  all_crowded differ law crowded value below uncrowded =
+      crowded_from differ law crowded value (value_in_range uncrowded.is_changed).least below
+      uncrowded
+
+  -- the first matching that the greatest value gives
+  pub greatest_uncrowded : {value : ℕ} (answer : Option KeyValue)
+      → IsGreatest road given reference name value
+      → IsMatchingWith road given reference name value answer
+      → IsGreatestUncrowded road given reference name value answer
+  greatest_uncrowded None is none = record {
+    below = is.below;
+    enough = is.uncrowded;
+    greatest = λ greater above below other. is.greatest greater (omega (arith, above)) below other;
+    first =
+        λ matching.
+        none (record {
+          changed = is.uncrowded.changed;
+          is_changed = is.uncrowded.is_changed;
+          uncrowded = is.uncrowded.uncrowded;
+          matching = matching;
+        });
+  }
+  greatest_uncrowded (Some key) is found = record {
+    below = is.below;
+    enough = record {
+      changed = found.changed;
+      is_changed = found.is_changed;
+      uncrowded = found.is.0;
+    };
+    greatest = λ greater above below other. is.greatest greater (omega (arith, above)) below other;
+    first = found.is.1;
+  }

@@ -1,14 +1,17 @@
--- A point without candidates, and a leg without pairs, by the layers of their reference.
-use Rattle.std.proofs.Common.{◌≡◌, ℕ, ◌+◌, ◌*◌, ◌/◌, ◌%◌, ◌<◌, List, [], length, arith, Option, Some, Any, IsSome, slice_index_or}
+-- A point without candidates, a leg without pairs, and how many pairs a leg has, by the layers of
+-- their reference.
+use Rattle.std.proofs.Common.{◌≡◌, ℕ, ◌+◌, ◌*◌, ◌/◌, ◌%◌, ◌<◌, List, [], length, arith, Option, Some, Any, IsSome, slice_index_or, ◌≤◌}
 use Rattle.std.proofs.Math.Nat.{div-add-mod, div-lt_iff_lt-mul, mod-lt}
 use Rattle.std.proofs.lemmas.Option.{slice_get_within}
-use Rattle.olr_why.proofs.Common.{AdmitsPlaces, Candidate, leads_on, points_of, RoadMap}
-use Rattle.olr_matching.specs.Layers.{AreLayersOn, LayersValue, length_at}
+use Rattle.olr_why.proofs.Common.{AdmitsPlaces, Candidate, leads_on, points_of, RoadMap, Next}
+use Rattle.olr_matching.specs.Layers.{AreLayersOn, LayersValue, length_at, LeadsOn}
 use Rattle.olr_matching.proofs.OneLayers.{long, not_empty}
 use Rattle.olr_why.specs.Verdict.{AdmitsNone, HasNoCandidate}
 use Rattle.olr_why.proofs.Lists.{any_some, some_at}
 use Rattle.olr_matching.proofs.Points.{some_at as at_index}
 use Rattle.olr_why.proofs.Places.{admits, candidate_in_layer, length_of, place_in_layer}
+use Rattle.std.proofs.lemmas.Nat.{mul-le}
+use Rattle.olr_matching.proofs.LegLaws.{count_is, layers_count}
 
 module _ {road : RoadMap} {layers : LayersValue} (are : AreLayersOn road layers) where
   -- ---- points
@@ -83,3 +86,29 @@ module _ {road : RoadMap} {layers : LayersValue} (are : AreLayersOn road layers)
       none first.0.place second.0.place (place_in_layer are index (k / n) first.0 first.1)
       (place_in_layer are (index + 1) (k % n) second.0 second.1)
       (admits are index (k / n) (k % n) first.0 second.0 first.1 second.1 found.1 known)
+
+-- ---- how many pairs
+
+module _ {road : RoadMap} {layers : LayersValue} (layer : ℕ) (are : AreLayersOn road layers) where
+  -- a point that isn't the last leads on
+  pub layer_leads_on : layer + 1 < length layers.candidates → (next : Next)
+      × LeadsOn layers.reference layer next
+  layer_leads_on within = leads_on layers.reference layer are.reference
+      (omega (arith, within, are.lists.all))
+
+  -- a layer has at most 64 candidates
+  count_at_most : layer < length layers.candidates
+      → length (slice_index_or layers.candidates layer []) ≤ 64
+  count_at_most within =
+      let at_most = (are.table.layers layer [] (omega (arith, layers_count are))).at_most in
+      rw (count_is layers.penalties layers.candidates layer are.penalties) at at_most
+
+-- a leg has at most 4,096 pairs of candidates
+pub lengths_at_most : {road : RoadMap} {layers : LayersValue} (layer : ℕ)
+    (are : AreLayersOn road layers)
+    → layer + 1 < length layers.candidates
+    → length (slice_index_or layers.lengths layer []) ≤ 4096
+lengths_at_most layer are within =
+    let most = mul-le _ _ 64 64 (count_at_most layer are (omega (arith, within)))
+    (count_at_most (layer + 1) are within) in
+    omega (arith, pairs_count are layer (omega (arith, within, are.lists.all)), most)

@@ -1,19 +1,50 @@
 -- What is found with some tolerances, by the candidates of the points and the keys of the layers'
 -- table.
-use Rattle.std.proofs.Common.{◌≡◌, ℕ, ◌+◌, ◌*◌, ◌<◌, List, [], ◌∷◌, length, get_or, inl, inr, None, Some, ◌∙◌, ap, subst, arith, All, Any, Contains, Option, slice_get, slice_index_or}
+use Rattle.std.proofs.Common.{◌≡◌, zero, suc, ◌⊎◌, List, [], ◌∷◌, Option, None, Some, inl, inr, refl, ap, arith, AllPairs, Contains, slice_get, ℕ, ◌+◌, ◌*◌, ◌<◌, length, get_or, ◌∙◌, subst, All, Any, slice_index_or}
+use Rattle.olr_why.proofs.Common.{AreAnswers, Penalties, AdmitsPlaces, AreLayersOn, Candidate, HasMatching, IsUncrowded, KeyValue, LayersValue, MatchingHasKey, NoListsAndTooMany, points_of, Reference, RoadMap, Tolerances}
+use Rattle.olr_keys.specs.Finder.{IsNext}
+use Rattle.olr_keys.specs.Key.{IsBefore}
+use Rattle.olr_keys.specs.Order.{asymmetric}
+use Rattle.olr_why.specs.inner.Trial.{IsFirstKey, IsTrial}
 use Rattle.std.proofs.lemmas.Bool.{cases_lt}
 use Rattle.std.proofs.lemmas.List.{get_or-map, get_or_past, length-map, nil_from_length}
 use Rattle.std.proofs.lemmas.Option.{slice_get-get_or, slice_get_within}
 use Rattle.arrayvec.specs.ArrayVec.{ArrayVec, array_vec_len}
-use Rattle.olr_why.proofs.Common.{AdmitsPlaces, AreLayersOn, Candidate, HasMatching, IsUncrowded, KeyValue, LayersValue, MatchingHasKey, NoListsAndTooMany, points_of, Reference, RoadMap, Tolerances}
 use Rattle.olr_candidates.specs.Points.{AreLists, lists_of}
 use Rattle.olr_matching.specs.Leg.{IsAdmittedLength}
 use Rattle.olr_matching.specs.Lengths.{HasShutLeg}
 use Rattle.olr_matching.proofs.Points.{list_of}
-use Rattle.olr_why.specs.Trial.{IsFirstKey, IsTrial}
 use Rattle.olr_why.specs.declared.trial.Trial.TheVariants.{Matching, NoMatching}
 use Rattle.olr_why.proofs.Places.{candidate_at}
 use Rattle.olr_why.proofs.Tuples.{candidate_of, pair_of}
+
+-- ---- the first key of a table is the least of its keys
+
+-- the first of a rising list is a member of it before which no other comes
+first_is_least : (first : KeyValue) (rest : List KeyValue) (least : KeyValue)
+    → AllPairs IsBefore (first ∷ rest) → Contains (first ∷ rest) least
+    → (first ≡ least) ⊎ IsBefore least first → first ≡ least
+first_is_least first rest least rise there (inl same) = same
+first_is_least first rest least rise (zero, inside, is) (inr before) = is
+first_is_least first rest least rise (suc k, inside, is) (inr before) =
+    absurd (asymmetric first least (rw is at (rise 0 (suc k) least (omega arith) inside)) before)
+
+least_is_first : (answers : List KeyValue) (found : Option KeyValue) → AllPairs IsBefore answers
+    → IsNext answers None found
+    → slice_get answers 0 ≡ found
+least_is_first [] None rise next = refl
+least_is_first [] (Some least) rise next = absurd (omega (arith, next.0.0.1))
+least_is_first (first ∷ rest) None rise next = absurd (next first ((0, omega arith, refl), tt))
+least_is_first (first ∷ rest) (Some least) rise next =
+    let there : Contains (first ∷ rest) first = (0, omega arith, refl) in
+    ap (λ (key : KeyValue). Some key)
+    (first_is_least first rest least rise next.0.0 (next.1 first (there, tt)))
+
+pub first_key : (penalties : Penalties) (answers : List KeyValue) (found : Option KeyValue)
+    → AreAnswers penalties answers
+    → IsNext answers None found → IsFirstKey penalties found
+first_key penalties answers found are next =
+    record { answers = answers; are = are; is = least_is_first answers found are.rise next }
 
 -- a list without elements is an empty one
 empty_contained : (lists : List (ArrayVec Candidate))
@@ -64,9 +95,9 @@ module _ {road : RoadMap} {tolerances : Tolerances} {reference : Reference} wher
           absurd (omega (arith, slice_get_within [] found.0 found.1 found.2))
 
       -- nor where a leg admits no pair of the candidates
-      none_with_shut : HasShutLeg road tolerances reference lists
+      none_without_pair : HasShutLeg road tolerances reference lists
           → HasMatching road tolerances reference → ⊥
-      none_with_shut shut matching =
+      none_without_pair shut matching =
           let index : ℕ = shut.layer in
           let inside : index + 1 < length (points_of reference) =
           omega (arith, shut.within, are.all) in
@@ -83,10 +114,10 @@ module _ {road : RoadMap} {tolerances : Tolerances} {reference : Reference} wher
           (none_at shut.lengths (first.0 * length (slice_index_or lists (index + 1) []) + second.0)
           shut.none) known) same.length same.admitted
 
-  pub trial_shut : {lists : List (List Candidate)} → NoListsAndTooMany
+  pub trial_without_pair : {lists : List (List Candidate)} → NoListsAndTooMany
       → AreLists tolerances reference road.lines lists
       → HasShutLeg road tolerances reference lists → IsTrial road tolerances reference NoMatching
-  trial_shut law are shut = (uncrowded road are law, none_with_shut are shut)
+  trial_without_pair law are shut = (uncrowded road are law, none_without_pair are shut)
 
   pub trial_with_empty : NoListsAndTooMany → (lists : List (ArrayVec Candidate))
       → AreLists tolerances reference road.lines (lists_of lists)

@@ -1,17 +1,15 @@
 -- What one trial tells of the value that was tried, and of greater and lesser values.
-use Rattle.std.proofs.Common.{◌≢◌, ℕ, ◌≤◌, List, subst}
+use Rattle.std.proofs.Common.{◌≢◌, ℕ, ◌<◌, ◌≤◌, subst}
 use Rattle.std.proofs.lemmas.Option.{slice_get_within}
-use Rattle.olr_why.proofs.Common.{all_at, Candidate, IsTolerance, KeyValue, Lowest, MatchingHasKey, Name, NoListsAndTooMany, OneCandidateALine, order_of, points_of, Reference, RoadMap, Tolerances}
+use Rattle.olr_why.proofs.Common.{all_at, IsTolerance, KeyValue, Lowest, MatchingHasKey, Name, NoListsAndTooMany, OneCandidateALine, order_of, points_of, Reference, RoadMap, Tolerances}
 use Rattle.olr_candidates.proofs.Values.{in_range}
-use Rattle.olr_candidates.specs.Points.{AreLists}
 use Rattle.olr_keys.specs.Matching.{IsKey}
 use Rattle.olr_why.specs.Chain.{HasMatching, IsFirstMatching, IsUncrowded}
-use Rattle.olr_why.specs.Remedies.{IsChanged, IsEnough, IsUncrowdedWith}
-use Rattle.olr_why.specs.Trial.{IsCrowded}
-use Rattle.olr_why.specs.Trying.{AreCrowdedFrom, IsCrowdedWith, IsEnoughFor, IsNoneUpTo, IsTrialWith}
+use Rattle.olr_why.specs.Remedies.{IsChanged, IsEnough, IsLeastEnough, value_of}
+use Rattle.olr_why.specs.inner.Trial.{IsCrowded}
+use Rattle.olr_why.specs.inner.Trying.{AreCrowdedFrom, IsNoneUpTo, IsTrialWith}
 use Rattle.olr_why.specs.declared.trial.Trial.TheVariants.{Crowded, Matching, NoMatching}
 use Rattle.olr_why.proofs.AtMost.{AreAtMost, at_most_same, at_most_wider}
-use Rattle.olr_why.proofs.Trials.{uncrowded}
 use Rattle.olr_why.proofs.Widened.{matching, too_many}
 
 -- ---- ranges
@@ -53,17 +51,7 @@ module _ (road : RoadMap) (reference : Reference) where
 module _ {road : RoadMap} {reference : Reference} {given : Tolerances} {name : Name} where
   -- ---- the value that was tried
 
-  -- a value with which a point has too many candidates
-  pub crowded_with : {value : ℕ} → IsTrialWith road given reference name value Crowded
-      → IsCrowdedWith road given reference name value
-  crowded_with trial = record {
-    changed = trial.changed;
-    is_changed = trial.is_changed;
-    crowded =
-        trial.is;
-  }
-
-  -- isn't enough
+  -- a value with which a point has too many candidates isn't enough
   pub crowded_is_none : {value : ℕ} → OneCandidateALine
       → IsTrialWith road given reference name value Crowded
       → IsEnough road given reference name value → ⊥
@@ -78,33 +66,23 @@ module _ {road : RoadMap} {reference : Reference} {given : Tolerances} {name : N
       trial.is.1 (matching (at_most_same enough.is_changed trial.is_changed) road reference
       enough.matching)
 
-  -- one that gives a first matching is
-  pub matching_is_enough : {value : ℕ} {key : KeyValue} → MatchingHasKey
+  -- one that gives a first matching is the least, where no lesser one is enough
+  pub least_enough : {value : ℕ} {key : KeyValue} → MatchingHasKey → value_of given name < value
+      → ((lesser : ℕ) → value_of given name < lesser → lesser < value
+      → IsEnough road given reference name lesser → ⊥)
       → IsTrialWith road given reference name value (Matching key)
-      → IsEnoughFor road given reference name value key
-  matching_is_enough law trial = record {
+      → IsLeastEnough road given reference name value key
+  least_enough law above least trial = record {
+    above = above;
     enough = record {
       changed = trial.changed;
       is_changed = trial.is_changed;
       uncrowded = trial.is.0;
       matching = has_matching road reference law trial.is.1;
     };
+    least = least;
     first = trial.is.1;
   }
-
-  -- one with which each point has its list
-  pub uncrowded_with : {value : ℕ} {changed : Tolerances} {lists : List (List Candidate)}
-      → NoListsAndTooMany
-      → IsChanged name value given changed
-      → AreLists changed reference road.lines lists
-      → IsUncrowdedWith road given reference name value
-  uncrowded_with {changed =
-      changed} law is are = record {
-        changed = changed;
-        is_changed = is;
-        uncrowded =
-            uncrowded road are law;
-      }
 
   -- ---- other values
 
@@ -118,20 +96,20 @@ module _ {road : RoadMap} {reference : Reference} {given : Tolerances} {name : N
 
     -- where a point has too many candidates with a value, it has with each greater one
     crowded_up : {value greater : ℕ} {changed : Tolerances} → OneCandidateALine → value ≤ greater
-        → IsCrowdedWith road given reference name value
+        → IsTrialWith road given reference name value Crowded
         → IsChanged name greater given changed → IsUncrowded road changed reference → ⊥
     crowded_up law less crowded is =
         still_crowded road reference law (at_most_wider less crowded.is_changed is differ)
-        crowded.crowded
+        crowded.is
 
     pub crowded_up_is_none : {value greater : ℕ} → OneCandidateALine → value ≤ greater
-        → IsCrowdedWith road given reference name value
+        → IsTrialWith road given reference name value Crowded
         → IsEnough road given reference name greater → ⊥
     crowded_up_is_none law less crowded enough =
         crowded_up law less crowded enough.is_changed enough.uncrowded
 
     pub crowded_from : {value : ℕ} → OneCandidateALine
-        → IsCrowdedWith road given reference name value
+        → IsTrialWith road given reference name value Crowded
         → AreCrowdedFrom road given reference name value
     crowded_from law crowded greater less below uncrowded =
         crowded_up law less crowded uncrowded.is_changed uncrowded.uncrowded

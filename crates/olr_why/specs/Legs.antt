@@ -1,10 +1,9 @@
 -- What a leg admits, and why it admits nothing. Lengths are in decimetres, ranks are counted from
 -- 1, layers from 0.
-use Rattle.std.specs.Prelude.{◌≡◌, ℕ, ◌+◌, ◌*◌, ◌<◌, ◌≤◌, ◌⊎◌, ⊤, List, [], Option, None, Some, MatchOption, length, is_some, count_by, slice_get, slice_index_or, All, AllPairs, Any}
-use Rattle.olr_why.specs.Common.{Candidate, Next, Place, RoadMap}
+use Rattle.std.specs.Prelude.{◌≡◌, ℕ, ◌+◌, ◌*◌, ◌<◌, ◌≤◌, ⊤, List, [], Option, None, Some, MatchOption, length, is_some, count_by, slice_get, slice_index_or, take}
+use Rattle.olr_why.specs.Common.{Candidate, Next, Place, RoadMap, Tolerances}
 use Rattle.olr_matching.specs.Layers.{LayersValue, LeadsOn}
 use Rattle.olr_matching.specs.Leg.{class_limit, greatest_admitted, least_admitted}
-use Rattle.olr_matching.specs.Matched.{IsOfRank}
 use Rattle.olr_route.specs.Least.{IsLeastLength, IsLengthWithin}
 use Rattle.olr_why.specs.declared.leg.LegReason.{LegReason}
 use Rattle.olr_why.specs.declared.pair.Better.{Better}
@@ -31,59 +30,42 @@ module _ (road : RoadMap) (next : Next) (from to : Place) where
     pub within : length ≤ far next
     pub less : IsLess length known
 
-  -- the least class limit above this one, at most 7, under which the least length is less than the
-  -- known one, if there is one
-  abbrev pub IsBetter : ℕ → Option ℕ → Option Better → Type 0
-  IsBetter class known answer = MatchOption answer
-      ((other length : ℕ) → class < other → other ≤ 7 → IsShorterUnder known other length → ⊥)
-      (λ better. (class < better.class) × (better.class ≤ 7)
+  -- the least class limit above this one and below `end` under which the least length is less than
+  -- the known one, if there is one
+  abbrev pub IsBetter : ℕ → ℕ → Option ℕ → Option Better → Type 0
+  IsBetter class end known answer = MatchOption answer
+      ((other length : ℕ) → class < other → other < end → IsShorterUnder known other length → ⊥)
+      (λ better. (class < better.class) × (better.class < end)
       × IsShorterUnder known better.class better.length
       × ((other length : ℕ) → class < other → other < better.class
       → IsShorterUnder known other length → ⊥))
 
--- Two candidates of a leg, by their ranks: the least length between them under the leg's class
--- limit, where that is at most `far`; and, where there is none, or it is greater than the leg
--- admits, the least class limit above the leg's under which there is a lesser one that is at most
--- `far`.
-pub record IsPairLength (road : RoadMap) (layers : LayersValue) (layer : ℕ)
-    (pair : PairLength) : Type 0 where
-  pub next : Next
-  pub from : Candidate
-  pub to : Candidate
-  pub leads_on : LeadsOn layers.reference layer next
-  pub from_is : IsOfRank layers.candidates layer pair.first from
-  pub to_is : IsOfRank layers.candidates (layer + 1) pair.second to
-  pub length : IsLengthWithin road (class_limit layers.tolerances next) from.place to.place
-      (far next) pair.length
-  pub short : IsUpTo pair.length (greatest_admitted layers.tolerances next) → pair.better ≡ None
-  pub better : (IsUpTo pair.length (greatest_admitted layers.tolerances next) → ⊥)
-      → IsBetter road next from.place to.place (class_limit layers.tolerances next) pair.length
-      pair.better
+module _ (road : RoadMap) (tolerances : Tolerances) (next : Next) where
+  -- Two candidates of a leg, of these ranks and at these places: the least length between them
+  -- under the leg's class limit, where that is at most `far`; and, where there is none, or it is
+  -- greater than the leg admits, the least class limit above the leg's and below `end` under which
+  -- there is a lesser one that is at most `far`.
+  pub record IsPairLength (end first second : ℕ) (from to : Place) (pair : PairLength) : Type 0
+    where
+      pub first_is : pair.first ≡ first
+      pub second_is : pair.second ≡ second
+      pub length : IsLengthWithin road (class_limit tolerances next) from to (far next) pair.length
+      pub short : IsUpTo pair.length (greatest_admitted tolerances next) → pair.better ≡ None
+      pub better : (IsUpTo pair.length (greatest_admitted tolerances next) → ⊥)
+          → IsBetter road next from to (class_limit tolerances next) end pair.length pair.better
 
--- a pair of ranks comes before another one
-abbrev pub IsBeforePair : PairLength → PairLength → Type 0
-IsBeforePair a b = (a.first < b.first) ⊎ ((a.first ≡ b.first) × (a.second < b.second))
-
--- the ranks of the candidates of a layer up to the third
-pub record IsEarlyRank (layers : LayersValue) (layer rank : ℕ) : Type 0 where
-  pub at_least : 1 ≤ rank
-  pub at_most : rank ≤ 3
-  pub within : rank ≤ length (slice_index_or layers.candidates layer [])
-
--- exactly the pairs of ranks of at most 3, by ranks, each with its lengths
-pub record AreEarlyPairs (road : RoadMap) (layers : LayersValue) (layer : ℕ)
-    (pairs : List PairLength) : Type 0 where
-  pub only : All (IsPairLength road layers layer) pairs
-  pub early : All (λ (pair : PairLength). IsEarlyRank layers layer pair.first
-      × IsEarlyRank layers (layer + 1) pair.second) pairs
-  pub each : (first second : ℕ) → IsEarlyRank layers layer first
-      → IsEarlyRank layers (layer + 1) second
-      → Any (λ (pair : PairLength). (pair.first ≡ first) × (pair.second ≡ second)) pairs
-  pub rise : AllPairs IsBeforePair pairs
+  -- Exactly the pairs of one of the first candidates and one of the second ones, by the first and
+  -- then by the second. Class limits go up to 7.
+  pub record ArePairs (firsts seconds : List Candidate) (pairs : List PairLength) : Type 0 where
+    pub count : length pairs ≡ length firsts * length seconds
+    pub each : (first second : ℕ) (from to : Candidate) (pair : PairLength)
+        → slice_get firsts first ≡ Some from → slice_get seconds second ≡ Some to
+        → slice_get pairs (first * length seconds + second) ≡ Some pair
+        → IsPairLength 8 (first + 1) (second + 1) from.place to.place pair
 
 -- The leg from a layer: its class limit, its interval as it is widened, and how many pairs of
 -- candidates it admits, of all pairs. Where it admits none, though there are pairs, the lengths of
--- the early ones tell why.
+-- those of the candidates of ranks up to 3 tell why.
 pub record IsLegReason (road : RoadMap) (layers : LayersValue) (layer : ℕ) (leg : LegReason) : Type
     0 where
   pub next : Next
@@ -95,7 +77,9 @@ pub record IsLegReason (road : RoadMap) (layers : LayersValue) (layer : ℕ) (le
   pub of_is : leg.of ≡ length (slice_index_or layers.candidates layer []) * length
       (slice_index_or layers.candidates (layer + 1) [])
   pub admitting : 0 < leg.admits → leg.pairs ≡ []
-  pub pairs : leg.admits ≡ 0 → AreEarlyPairs road layers layer leg.pairs
+  pub pairs : leg.admits ≡ 0 → ArePairs road layers.tolerances next
+      (take 3 (slice_index_or layers.candidates layer []))
+      (take 3 (slice_index_or layers.candidates (layer + 1) [])) leg.pairs
 
 -- all legs, in order
 pub record AreLegReasons (road : RoadMap) (layers : LayersValue) (legs : List LegReason) : Type 0

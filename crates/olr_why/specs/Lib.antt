@@ -1,14 +1,11 @@
 pub mod Common
 pub mod Chain
-pub mod Ends
 pub mod Verdict
 pub mod Values
 pub mod Legs
-pub mod Pairs
-pub mod Trial
 pub mod Remedies
-pub mod Trying
 pub mod Reasons
 pub mod Text
 pub mod Json
 pub mod Laws
+pub mod inner

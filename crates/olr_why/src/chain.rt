@@ -4,7 +4,7 @@ ghost use Rattle.std.specs.Prelude.{◌+◌, ◌<◌, ◌↔◌, Any, IsTrue, Ma
 ghost use Rattle.olr_map.specs.RoadMap.{RoadMap};
 ghost use Rattle.olr_matching.specs.Layers.{AreLayersOn};
 ghost use Rattle.olr_why.specs.Chain.{HasMatching};
-ghost use Rattle.olr_why.specs.Ends.{AreEnds, IsJoined};
+ghost use Rattle.olr_why.specs.inner.Ends.{AreEnds, IsJoined};
 ghost use Rattle.olr_why.specs.Verdict.{HasNoTuple, IsFirst};
 
 use arrayvec::ArrayVec;

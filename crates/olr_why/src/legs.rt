@@ -1,13 +1,14 @@
 //! What the legs of a reference admit, and why they admit nothing.
 
-ghost use Rattle.std.specs.Prelude.{◌≡◌, ◌+◌, ◌*◌, ◌<◌, ◌≤◌, [], IfOk, count_by, is_some, length, slice_index_or, take};
-ghost use Rattle.olr_matching.specs.Layers.{AreLayersOn, LeadsOn};
-ghost use Rattle.olr_why.specs.Legs.{AreEarlyPairs, AreLegReasons, IsLegReason};
+ghost use Rattle.std.specs.Prelude.{◌≡◌, ◌+◌, ◌*◌, ◌<◌, ◌≤◌, [], IfOk, count_by, is_some, length, take};
+ghost use Rattle.olr_matching.specs.Layers.{AreLayersOn};
+ghost use Rattle.olr_why.specs.Legs.{AreLegReasons, ArePairs, IsLegReason};
+ghost use Rattle.olr_why.specs.inner.Pairs.{EndsAreOnMap};
 
 use crate::leg::LegReason;
 use crate::pair::PairLength;
-use crate::pairs::pairs_of;
-use olr_binary::{Next, Reference};
+use crate::pairs::LegOnMap;
+use olr_binary::Reference;
 use olr_candidates::{Candidate, Tolerances, places};
 use olr_map::Map;
 use olr_matching::{Layers, class_limit, greatest_admitted, least_admitted, next_of};
@@ -22,32 +23,22 @@ fn early(candidates: &[Candidate]) -> &[Candidate]
     &candidates[..candidates.len().min(3)]
 }
 
-/// The pairs that tell why a leg admits none, those of the candidates of ranks up to 3, by ranks;
-/// there are none where it admits some.
+/// The pairs that tell why a leg admits none; there are none where it admits some.
 fn pairs_where_none(
     alloc: Global,
-    map: &Map,
-    tolerances: &Tolerances,
-    next: &Next,
-    layers: &Layers,
-    layer: usize,
+    leg: &LegOnMap<'_>,
     admits: u32,
 ) -> Result<Vec<PairLength>, NoMemory>
-    requires layers { AreLayersOn map.now layers.now }
-    requires tolerances { layers.now.tolerances ≡ tolerances.now }
-    requires leads_on { LeadsOn layers.now.reference layer next.now }
-
+    requires { EndsAreOnMap leg.now }
     ensures admitting { IfOk result (λ pairs. 0 < admits → pairs.items ≡ []) }
     ensures none { IfOk result (λ pairs. admits ≡ 0
-        → AreEarlyPairs map.now layers.now layer pairs.items) }
+        → ArePairs leg.now.map.now leg.now.tolerances leg.now.next leg.now.firsts.now
+        leg.now.seconds.now pairs.items) }
 {
     if admits > 0 {
         return Ok(Vec::new(alloc));
     }
-    places();
-    let firsts = early(layers.layer(layer));
-    let seconds = early(layers.layer(layer + 1));
-    let pairs = pairs_of(alloc, map, tolerances, next, firsts, seconds)?;
+    let pairs = leg.pairs(alloc)?;
     Ok(pairs)
 }
 
@@ -83,16 +74,27 @@ fn leg_of(
 
     ensures { IfOk result (IsLegReason map.now layers.now layer) }
 {
+    places();
     let next = next_of(reference, layer);
+    let firsts = layers.layer(layer);
+    let seconds = layers.layer(layer + 1);
+    let early_firsts = early(firsts);
+    let early_seconds = early(seconds);
+    let leg = LegOnMap {
+        map,
+        tolerances: *tolerances,
+        next,
+        firsts: early_firsts,
+        seconds: early_seconds,
+    };
     let admits = admitted(layers.lengths(layer)) as u32;
-    let of = pair_count(layers.layer(layer), layers.layer(layer + 1));
-    let pairs = pairs_where_none(alloc, map, tolerances, &next, layers, layer, admits)?;
+    let pairs = pairs_where_none(alloc, &leg, admits)?;
     Ok(LegReason {
         class: class_limit(tolerances, &next),
         from: least_admitted(tolerances, &next),
         to: greatest_admitted(tolerances, &next),
         admits,
-        of,
+        of: pair_count(firsts, seconds),
         pairs,
     })
 }

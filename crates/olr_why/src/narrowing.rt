@@ -7,7 +7,7 @@ ghost use Rattle.olr_candidates.specs.declared.tolerances.Name.TheVariants.{Lowe
 ghost use Rattle.olr_candidates.specs.Tolerances.{order_of};
 ghost use Rattle.olr_candidates.specs.Values.{value_of};
 ghost use Rattle.olr_why.specs.Remedies.{IsNarrower, IsUncrowdedWith};
-ghost use Rattle.olr_why.specs.Trying.{IsGreatest};
+ghost use Rattle.olr_why.specs.inner.Trying.{IsGreatest};
 
 use crate::remedy::{Change, Remedy};
 use crate::trying::Question;

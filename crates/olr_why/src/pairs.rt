@@ -1,11 +1,11 @@
 //! The pairs of candidates of a leg, with their lengths under one class limit after another.
 
-ghost use Rattle.std.specs.Prelude.{◌≡◌, ◌+◌, ◌<◌, ◌≤◌, ◌↔◌, All, Decides, IfOk, IsTrue, OnOk, length};
+ghost use Rattle.std.specs.Prelude.{◌≡◌, ◌+◌, ◌<◌, ◌↔◌, ℕ, All, Decides, IfOk, IsTrue, length};
 ghost use Rattle.olr_map.specs.Place.{IsDeparture, IsPlace};
-ghost use Rattle.olr_matching.specs.Leg.{class_limit};
+ghost use Rattle.olr_matching.specs.Leg.{class_limit, greatest_admitted};
 ghost use Rattle.olr_route.specs.Reach.{AreLengthsOn, Tells};
-ghost use Rattle.olr_why.specs.Legs.{IsLess, far};
-ghost use Rattle.olr_why.specs.Pairs.{ArePairLengths, ArePairsFrom, ArePairsOf, IsAnswered, IsPairOfRanks};
+ghost use Rattle.olr_why.specs.Legs.{ArePairs, IsLess, far};
+ghost use Rattle.olr_why.specs.inner.Pairs.{ArePairsFrom, EndsAreOnMap, IsAnswered, IsPair};
 
 use crate::pair::{Better, PairLength};
 use olr_binary::Next;
@@ -16,71 +16,23 @@ use olr_metric::NoMemory;
 use olr_route::{Reach, one_least_length};
 use std::alloc::Global;
 
+/// A leg of a reference on a map, between the first candidates of its two points.
+#[derive(Clone, Copy)]
+pub(crate) struct LegOnMap<'a> {
+    pub map: &'a Map,
+    pub tolerances: Tolerances,
+    /// The attributes of the path from the first point to the second one.
+    pub next: Next,
+    pub firsts: &'a [Candidate],
+    pub seconds: &'a [Candidate],
+}
+
 /// The greatest length in decimetres that a leg admits with any percent and slack, 11,172 to
 /// 310,032.
 fn far(next: &Next) -> u64
     ensures { result ≡ far next.now }
 {
     1172 * (u64::from(next.interval) + 1) + 10_000
-}
-
-/// The pair of these ranks, with the least length from the first candidate to the second one under
-/// the leg's class limit, by a search from the first one.
-fn pair_of(
-    map: &Map,
-    tolerances: &Tolerances,
-    next: &Next,
-    reach: &Reach,
-    first: u8,
-    second: u8,
-    to: Place,
-) -> PairLength
-    requires held { AreLengthsOn map.now reach.now }
-    requires class { reach.now.class ≡ class_limit tolerances.now next.now }
-    requires limit { reach.now.limit ≡ far next.now }
-    requires on_map { IsPlace map.now to }
-    requires tells { Tells reach.now to.line }
-
-    ensures { IsPairOfRanks map.now tolerances.now next.now (class_limit tolerances.now next.now + 1)
-        reach.now.from to first second result }
-{
-    PairLength {
-        first,
-        second,
-        length: reach.length_to(map, to),
-        better: None,
-    }
-}
-
-/// The pairs of a first candidate, of this rank, and each of the second ones, with their lengths
-/// under the leg's class limit.
-fn pairs_under_limit(
-    alloc: Global,
-    map: &Map,
-    tolerances: &Tolerances,
-    next: &Next,
-    first: u8,
-    from: Place,
-    seconds: &[Candidate],
-) -> Result<Vec<PairLength>, NoMemory>
-    requires departure { IsDeparture map.now from }
-    requires places { All (λ second. IsPlace map.now second.place) seconds.now }
-    requires at_most { length seconds.now ≤ 3 }
-
-    ensures { IfOk result (λ pairs. ArePairsFrom map.now tolerances.now next.now
-        (class_limit tolerances.now next.now + 1) first from seconds.now pairs.items) }
-{
-    // The leg admits none of these lengths, so hardly one is near.
-    let class = class_limit(tolerances, next);
-    let limit = far(next);
-    let reach = lengths_to_candidates(alloc, map, class, from, limit, limit, seconds)?;
-    let mut pairs = Vec::new(alloc);
-    for (index, second) in seconds.iter().enumerate() {
-        let rank = index as u8 + 1;
-        let pair = pair_of(map, tolerances, next, &reach, first, rank, second.place);
-        pairs.push(pair)?;
-    }
-    Ok(pairs)
 }
 
 /// Whether no other class limit is looked at for a pair: its length is at most the greatest one
@@ -114,166 +66,188 @@ fn is_less(length: u64, other: Option<u64>) -> bool
     }
 }
 
-/// A pair, with what another class limit gives, by a search from its first candidate.
-fn pair_under(
-    map: &Map,
-    tolerances: &Tolerances,
-    next: &Next,
-    reach: &Reach,
-    class: u8,
-    to: Place,
-    pair: PairLength,
-) -> PairLength
-    requires held { AreLengthsOn map.now reach.now }
-    requires class { reach.now.class ≡ class }
-    requires above { class_limit tolerances.now next.now < class }
-    requires limit { reach.now.limit ≡ far next.now }
-    requires on_map { IsPlace map.now to }
-    requires tells { Tells reach.now to.line }
-    requires lengths { ArePairLengths map.now tolerances.now next.now class reach.now.from to pair }
-
-    ensures first { result.first ≡ pair.first }
-    ensures second { result.second ≡ pair.second }
-    ensures lengths { ArePairLengths map.now tolerances.now next.now (class + 1) reach.now.from to
-        result }
-{
-    one_least_length();
-    if is_answered(&pair, greatest_admitted(tolerances, next)) {
-        return pair;
+impl LegOnMap<'_> {
+    /// The greatest class of the lines that a route may drive on, 0 to 7.
+    fn class_limit(&self) -> u8
+        ensures { result ≡ class_limit self.now.tolerances self.now.next }
+    {
+        class_limit(&self.tolerances, &self.next)
     }
-    let Some(length) = reach.length_to(map, to) else {
-        return pair;
-    };
-    if !is_less(length, pair.length) {
-        return pair;
-    }
-    PairLength {
-        better: Some(Better { class, length }),
-        ..pair
-    }
-}
 
-/// Looks at another class limit for the pairs of a first candidate, by a search from it.
-fn look_by(
-    map: &Map,
-    tolerances: &Tolerances,
-    next: &Next,
-    reach: &Reach,
-    class: u8,
-    first: u8,
-    seconds: &[Candidate],
-    pairs: &mut [PairLength],
-)
-    requires held { AreLengthsOn map.now reach.now }
-    requires class { reach.now.class ≡ class }
-    requires above { class_limit tolerances.now next.now < class }
-    requires limit { reach.now.limit ≡ far next.now }
-    requires places { All (λ second. IsPlace map.now second.place) seconds.now }
-    requires tells { All (λ second. Tells reach.now second.place.line) seconds.now }
-    requires pairs { ArePairsFrom map.now tolerances.now next.now class first reach.now.from
-        seconds.now pairs.old }
+    /// The greatest length in decimetres that the leg admits.
+    fn greatest_admitted(&self) -> u64
+        ensures { result ≡ greatest_admitted self.now.tolerances self.now.next }
+    {
+        greatest_admitted(&self.tolerances, &self.next)
+    }
 
-    ensures { ArePairsFrom map.now tolerances.now next.now (class + 1) first reach.now.from
-        seconds.now pairs.new }
-{
-    for (index, second) in seconds.iter().enumerate() {
-        pairs[index] = pair_under(
-            map,
-            tolerances,
-            next,
-            reach,
+    /// The pair of these ranks, with the least length from the first candidate to the second one
+    /// under the leg's class limit, by a search from the first one.
+    fn pair_of(&self, reach: &Reach, first: u8, second: u8, to: Place) -> PairLength
+        requires held { AreLengthsOn self.now.map.now reach.now }
+        requires class { reach.now.class ≡ class_limit self.now.tolerances self.now.next }
+        requires limit { reach.now.limit ≡ far self.now.next }
+        requires on_map { IsPlace self.now.map.now to }
+        requires tells { Tells reach.now to.line }
+
+        ensures { IsPair self.now (class_limit self.now.tolerances self.now.next + 1) first second
+            reach.now.from to result }
+    {
+        PairLength {
+            first,
+            second,
+            length: reach.length_to(self.map, to),
+            better: None,
+        }
+    }
+
+    /// The pairs of a first candidate, of this rank, and each second one, with their lengths under
+    /// the leg's class limit.
+    fn pairs_under_limit(
+        &self,
+        alloc: Global,
+        first: u8,
+        from: Place,
+    ) -> Result<Vec<PairLength>, NoMemory>
+        requires ends { EndsAreOnMap self.now }
+        requires departure { IsDeparture self.now.map.now from }
+
+        ensures { IfOk result (λ pairs. ArePairsFrom self.now
+            (class_limit self.now.tolerances self.now.next + 1) first from pairs.items) }
+    {
+        // The leg admits none of these lengths, so hardly one is near.
+        let class = self.class_limit();
+        let limit = far(&self.next);
+        let reach = lengths_to_candidates(
+            alloc,
+            self.map,
             class,
-            second.place,
-            pairs[index],
-        );
-    }
-}
-
-/// Looks at another class limit for the pairs of a first candidate. There is a search of the map
-/// where some pair is still without an answer.
-fn look_under(
-    alloc: Global,
-    map: &Map,
-    tolerances: &Tolerances,
-    next: &Next,
-    class: u8,
-    first: u8,
-    from: Place,
-    seconds: &[Candidate],
-    pairs: &mut [PairLength],
-) -> Result<(), NoMemory>
-    requires departure { IsDeparture map.now from }
-    requires above { class_limit tolerances.now next.now < class }
-    requires places { All (λ second. IsPlace map.now second.place) seconds.now }
-    requires pairs { ArePairsFrom map.now tolerances.now next.now class first from seconds.now
-        pairs.old }
-
-    ensures { OnOk result (ArePairsFrom map.now tolerances.now next.now (class + 1) first from
-        seconds.now pairs.new) }
-{
-    if are_answered(pairs, greatest_admitted(tolerances, next)) {
-        return Ok(());
-    }
-    let near = likely_greatest(next);
-    let reach = lengths_to_candidates(alloc, map, class, from, near, far(next), seconds)?;
-    look_by(map, tolerances, next, &reach, class, first, seconds, pairs);
-    Ok(())
-}
-
-/// The pairs of a first candidate, of this rank, and each of the second ones.
-fn pairs_from(
-    alloc: Global,
-    map: &Map,
-    tolerances: &Tolerances,
-    next: &Next,
-    first: u8,
-    from: Place,
-    seconds: &[Candidate],
-) -> Result<Vec<PairLength>, NoMemory>
-    requires departure { IsDeparture map.now from }
-    requires places { All (λ second. IsPlace map.now second.place) seconds.now }
-    requires at_most { length seconds.now ≤ 3 }
-
-    ensures { IfOk result (λ pairs.
-        ArePairsFrom map.now tolerances.now next.now 8 first from seconds.now pairs.items) }
-{
-    let mut pairs = pairs_under_limit(alloc, map, tolerances, next, first, from, seconds)?;
-    for class in class_limit(tolerances, next) + 1..8 {
-        look_under(
-            alloc, map, tolerances, next, class, first, from, seconds, &mut pairs,
+            from,
+            limit,
+            limit,
+            self.seconds,
         )?;
+        let mut pairs = Vec::new(alloc);
+        for (index, second) in self.seconds.iter().enumerate() {
+            pairs.push(self.pair_of(&reach, first, index as u8 + 1, second.place))?;
+        }
+        Ok(pairs)
     }
-    Ok(pairs)
-}
 
-/// The pairs of these first and second candidates of a leg, at most three of each, by ranks.
-///
-/// There is one search of the map for each first candidate and each class limit that is looked at;
-/// there is none where there are no second candidates.
-pub(crate) fn pairs_of(
-    alloc: Global,
-    map: &Map,
-    tolerances: &Tolerances,
-    next: &Next,
-    firsts: &[Candidate],
-    seconds: &[Candidate],
-) -> Result<Vec<PairLength>, NoMemory>
-    requires departures { All (λ first. IsDeparture map.now first.place) firsts.now }
-    requires places { All (λ second. IsPlace map.now second.place) seconds.now }
-    requires firsts_at_most { length firsts.now ≤ 3 }
-    requires seconds_at_most { length seconds.now ≤ 3 }
+    /// A pair, with what another class limit gives, by a search from its first candidate.
+    fn pair_under(&self, reach: &Reach, class: u8, to: Place, pair: PairLength) -> PairLength
+        requires held { AreLengthsOn self.now.map.now reach.now }
+        requires class { reach.now.class ≡ class }
+        requires above { class_limit self.now.tolerances self.now.next < class }
+        requires limit { reach.now.limit ≡ far self.now.next }
+        requires on_map { IsPlace self.now.map.now to }
+        requires tells { Tells reach.now to.line }
 
-    ensures { IfOk result (λ pairs. ArePairsOf map.now tolerances.now next.now firsts.now
-        seconds.now (length firsts.now) pairs.items) }
-{
-    let mut pairs = Vec::new(alloc);
-    if seconds.is_empty() {
-        return Ok(pairs);
+        ensures { (first second : ℕ) → IsPair self.now class first second reach.now.from to pair
+            → IsPair self.now (class + 1) first second reach.now.from to result }
+    {
+        one_least_length();
+        if is_answered(&pair, self.greatest_admitted()) {
+            return pair;
+        }
+        let Some(length) = reach.length_to(self.map, to) else {
+            return pair;
+        };
+        if !is_less(length, pair.length) {
+            return pair;
+        }
+        PairLength {
+            better: Some(Better { class, length }),
+            ..pair
+        }
     }
-    for (index, first) in firsts.iter().enumerate() {
-        let rank = index as u8 + 1;
-        let mut more = pairs_from(alloc, map, tolerances, next, rank, first.place, seconds)?;
-        pairs.append(&mut more)?;
+
+    /// The pairs of a first candidate, with what another class limit gives, by a search from it.
+    fn pairs_by(
+        &self,
+        alloc: Global,
+        reach: &Reach,
+        class: u8,
+        first: u8,
+        pairs: &[PairLength],
+    ) -> Result<Vec<PairLength>, NoMemory>
+        requires ends { EndsAreOnMap self.now }
+        requires held { AreLengthsOn self.now.map.now reach.now }
+        requires class { reach.now.class ≡ class }
+        requires above { class_limit self.now.tolerances self.now.next < class }
+        requires limit { reach.now.limit ≡ far self.now.next }
+        requires tells { All (λ second. Tells reach.now second.place.line) self.now.seconds.now }
+        requires pairs { ArePairsFrom self.now class first reach.now.from pairs.now }
+
+        ensures { IfOk result (λ looked.
+            ArePairsFrom self.now (class + 1) first reach.now.from looked.items) }
+    {
+        let mut looked = Vec::new(alloc);
+        for (index, second) in self.seconds.iter().enumerate() {
+            looked.push(self.pair_under(reach, class, second.place, pairs[index]))?;
+        }
+        Ok(looked)
     }
-    Ok(pairs)
+
+    /// The pairs of a first candidate, with what another class limit gives. There is a search of
+    /// the map where some pair is still without an answer.
+    fn pairs_under(
+        &self,
+        alloc: Global,
+        class: u8,
+        first: u8,
+        from: Place,
+        pairs: Vec<PairLength>,
+    ) -> Result<Vec<PairLength>, NoMemory>
+        requires ends { EndsAreOnMap self.now }
+        requires departure { IsDeparture self.now.map.now from }
+        requires above { class_limit self.now.tolerances self.now.next < class }
+        requires pairs { ArePairsFrom self.now class first from pairs.items }
+
+        ensures { IfOk result (λ looked.
+            ArePairsFrom self.now (class + 1) first from looked.items) }
+    {
+        if are_answered(&pairs, self.greatest_admitted()) {
+            return Ok(pairs);
+        }
+        let near = likely_greatest(&self.next);
+        let limit = far(&self.next);
+        let reach = lengths_to_candidates(alloc, self.map, class, from, near, limit, self.seconds)?;
+        let looked = self.pairs_by(alloc, &reach, class, first, &pairs)?;
+        Ok(looked)
+    }
+
+    /// The pairs of a first candidate, of this rank, and each of the second ones.
+    fn pairs_from(&self, alloc: Global, first: u8, from: Place) -> Result<Vec<PairLength>, NoMemory>
+        requires ends { EndsAreOnMap self.now }
+        requires departure { IsDeparture self.now.map.now from }
+
+        ensures { IfOk result (λ pairs. ArePairsFrom self.now 8 first from pairs.items) }
+    {
+        let mut pairs = self.pairs_under_limit(alloc, first, from)?;
+        for class in self.class_limit() + 1..8 {
+            pairs = self.pairs_under(alloc, class, first, from, pairs)?;
+        }
+        Ok(pairs)
+    }
+
+    /// The pairs of the first and second candidates, at most three of each, by ranks.
+    ///
+    /// There is one search of the map for each first candidate and each class limit that is looked
+    /// at; there is none where there are no second candidates.
+    pub(crate) fn pairs(&self, alloc: Global) -> Result<Vec<PairLength>, NoMemory>
+        requires { EndsAreOnMap self.now }
+        ensures { IfOk result (λ pairs. ArePairs self.now.map.now self.now.tolerances self.now.next
+            self.now.firsts.now self.now.seconds.now pairs.items) }
+    {
+        let mut pairs = Vec::new(alloc);
+        if self.seconds.is_empty() {
+            return Ok(pairs);
+        }
+        for (index, first) in self.firsts.iter().enumerate() {
+            let mut more = self.pairs_from(alloc, index as u8 + 1, first.place)?;
+            pairs.append(&mut more)?;
+        }
+        Ok(pairs)
+    }
 }

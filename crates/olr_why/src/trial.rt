@@ -4,7 +4,7 @@ ghost use Rattle.std.specs.Prelude.{◌≡◌, Any, Decides, IfOk, MatchOption};
 ghost use Rattle.arrayvec.specs.ArrayVec.{array_vec_len};
 ghost use Rattle.olr_binary.specs.Reference.{IsReference};
 ghost use Rattle.olr_candidates.specs.Points.{AreLists, lists_of};
-ghost use Rattle.olr_why.specs.Trial.{IsCrowded, IsFirstKey, IsTrial};
+ghost use Rattle.olr_why.specs.inner.Trial.{IsCrowded, IsFirstKey, IsTrial};
 
 use crate::laws::matching_has_key;
 use arrayvec::ArrayVec;

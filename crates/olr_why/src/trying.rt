@@ -4,9 +4,9 @@ ghost use Rattle.std.specs.Prelude.{IfOk, MatchBool};
 ghost use Rattle.olr_binary.specs.Reference.{IsReference};
 ghost use Rattle.olr_candidates.specs.Tolerances.{IsTolerance};
 ghost use Rattle.olr_why.specs.Remedies.{IsUncrowdedWith};
-ghost use Rattle.olr_why.specs.Trying.{IsCrowdedWith, IsMatchingWith, IsTrialWith};
+ghost use Rattle.olr_why.specs.inner.Trying.{IsMatchingWith, IsTrialWith};
+ghost use Rattle.olr_why.specs.declared.trial.Trial.TheVariants.{Crowded};
 
-use crate::laws::matching_has_key;
 use crate::trial::{Trial, lists_of_points, try_tolerances};
 use olr_binary::Reference;
 use olr_candidates::{Name, Tolerances, no_lists_and_too_many, one_candidate_a_line};
@@ -50,7 +50,6 @@ impl Question<'_> {
             (IsMatchingWith self.now.map.now self.now.given.now self.now.reference.now name value) }
     {
         one_candidate_a_line();
-        matching_has_key();
         match self.try_value(alloc, name, value)? {
             Trial::Crowded => Ok(None),
             Trial::NoMatching => Ok(None),
@@ -67,7 +66,8 @@ impl Question<'_> {
     ) -> Result<bool, NoMemory>
         requires { IsTolerance name value }
         ensures { IfOk result (λ crowded. MatchBool crowded
-            (IsCrowdedWith self.now.map.now self.now.given.now self.now.reference.now name value)
+            (IsTrialWith self.now.map.now self.now.given.now self.now.reference.now name value
+            Crowded)
             (IsUncrowdedWith self.now.map.now self.now.given.now self.now.reference.now name
             value)) }
     {

@@ -6,7 +6,7 @@ ghost use Rattle.olr_candidates.specs.declared.tolerances.Name.TheVariants.{Lowe
 ghost use Rattle.olr_candidates.specs.Tolerances.{order_of};
 ghost use Rattle.olr_candidates.specs.Values.{value_of};
 ghost use Rattle.olr_why.specs.Remedies.{IsEnough, IsWider};
-ghost use Rattle.olr_why.specs.Trying.{IsBracket};
+ghost use Rattle.olr_why.specs.inner.Trying.{IsBracket};
 
 use crate::bracket::Bracket;
 use crate::laws::matching_has_key;
@@ -28,7 +28,6 @@ impl Question<'_> {
             → IsEnough self.now.map.now self.now.given.now self.now.reference.now name value → ⊥)
             (IsBracket self.now.map.now self.now.given.now self.now.reference.now name)) }
     {
-        matching_has_key();
         let low = self.given.value(name);
         let high = name.greatest();
         if low >= high {
@@ -61,7 +60,6 @@ impl Question<'_> {
         ensures smaller { IfOk result
             (λ half. half.high - half.low < bracket.high - bracket.low) }
     {
-        matching_has_key();
         let Bracket { low, high, first } = bracket;
         let middle = low + (high - low) / 2;
         match self.try_value(alloc, name, middle)? {
@@ -93,6 +91,7 @@ impl Question<'_> {
             (IsWider self.now.map.now self.now.given.now self.now.reference.now name) }
     {
         one_candidate_a_line();
+        matching_has_key();
         let Some(mut bracket) = self.wider_values(alloc, name)? else {
             return Ok(None);
         };
@@ -117,6 +116,7 @@ impl Question<'_> {
         ensures { IfOk result
             (IsWider self.now.map.now self.now.given.now self.now.reference.now Lowest) }
     {
+        matching_has_key();
         let end = Name::Lowest.greatest() + 1;
         for value in self.given.lowest + 1..end {
             if let Some(key) = self.matching_with(alloc, Name::Lowest, value)? {

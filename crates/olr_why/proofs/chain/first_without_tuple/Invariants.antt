@@ -1,5 +1,5 @@
 use Rattle.std.proofs.Common.{◌<◌, ◌-◌, length}
-use Rattle.olr_why.specs.Ends.{AreEnds}
+use Rattle.olr_why.specs.inner.Ends.{AreEnds}
 use Rattle.olr_why.proofs.chain.first_without_tuple.Given as goal
 
 abbrev pub invariant-loop-layer : goal.invariant-loop-layer

@@ -1,6 +1,10 @@
-use Rattle.std.proofs.Common.{ℕ, List, length, ap, arith, Option, is_some}
+use Rattle.std.proofs.Common.{ℕ, ◌+◌, ◌<◌, List, length, ap, arith, Option, is_some}
+use Rattle.std.proofs.lemmas.List.Elements.{All-take}
 use Rattle.std.proofs.lemmas.List.Sums.{count_by-le-length}
-use Rattle.olr_why.proofs.LegReasons.{layer_leads_on, lengths_at_most}
+use Rattle.olr_map.specs.Place.{IsDeparture, IsPlace}
+use Rattle.olr_matching.proofs.Points.{list_of}
+use Rattle.olr_why.proofs.Common.{Candidate}
+use Rattle.olr_why.proofs.Lacking.{layer_leads_on, lengths_at_most}
 use Rattle.olr_why.proofs.legs.leg_of.Goals as goal
 
 pub next_of-next-requires : goal.next_of-next-requires
@@ -20,6 +24,24 @@ overflow_cast-admits c =
           c.lengths.ensures,
     )
 
+pub pairs_where_none-requires : goal.pairs_where_none-requires
+pairs_where_none-requires c =
+    let on = c.requires.layers in
+    let IsFrom : Candidate → Type 0 = λ candidate. IsDeparture c.args.map.now candidate.place in
+    let IsTo : Candidate → Type 0 = λ candidate. IsPlace c.args.map.now candidate.place in
+    let firsts = list_of _ _ _ _ c.args.layer on.lists (omega (arith, c.requires.within)) in
+    let seconds = list_of _ _ _ _ (c.args.layer + 1) on.lists c.requires.within in
+    record {
+      departures = rw (c.early-early_firsts.ensures.list, c.layer-firsts.ensures.layer)
+          (All-take IsFrom 3 _ (c.places.ensures.departures _ _ c.args.map.now c.args.layer _
+          (omega (arith, c.requires.within, on.lists.all)) firsts.0));
+      places = rw (c.early-early_seconds.ensures.list, c.layer-seconds.ensures.layer)
+          (All-take IsTo 3 _ (c.places.ensures.places _ _ c.args.map.now (c.args.layer + 1) _
+          seconds.0));
+      firsts_at_most = c.early-early_firsts.ensures.at_most;
+      seconds_at_most = c.early-early_seconds.ensures.at_most;
+    }
+
 pub returns : goal.returns
 returns c = record {
   next = c.next_of-next.result;
@@ -28,7 +50,13 @@ returns c = record {
   from_is = rw c.requires.tolerances c.least_admitted.ensures;
   to_is = rw c.requires.tolerances c.greatest_admitted.ensures.is;
   admits_is = rw (← c.lengths.ensures) c.admitted-admits.ensures;
-  of_is = rw (← c.layer.ensures.layer, ← c.layer-2.ensures.layer) c.pair_count-of.ensures;
+  of_is = rw (← c.layer-firsts.ensures.layer, ← c.layer-seconds.ensures.layer) c.pair_count.ensures;
   admitting = c.in_ok-pairs.ensures.admitting;
-  pairs = c.in_ok-pairs.ensures.none;
+  pairs = λ none. rw (
+    c.early-early_firsts.ensures.list,
+    c.early-early_seconds.ensures.list,
+    c.layer-firsts.ensures.layer,
+    c.layer-seconds.ensures.layer,
+    ← c.requires.tolerances,
+  ) at (c.in_ok-pairs.ensures.none none);
 }

@@ -1,4 +1,4 @@
-use Rattle.olr_why.proofs.Trials.{trial_matching, trial_shut, trial_with_empty, trial_without}
+use Rattle.olr_why.proofs.Trials.{trial_matching, trial_without_pair, trial_with_empty, trial_without}
 use Rattle.olr_why.proofs.trial.try_tolerances.Goals as goal
 
 pub returns-then-has_empty : goal.returns-then-has_empty
@@ -9,7 +9,7 @@ returns-then-has_empty c =
 
 pub returns-in_default-2 : goal.returns-in_default-2
 returns-in_default-2 c =
-    trial_shut c.no_lists_and_too_many.ensures (rw c.in-Some.is at c.in_ok-lists.ensures)
+    trial_without_pair c.no_lists_and_too_many.ensures (rw c.in-Some.is at c.in_ok-lists.ensures)
     (rw c.in_default-2.is at c.in_ok-layers.ensures)
 
 pub returns-in-Some-3 : goal.returns-in-Some-3

@@ -1,5 +1,5 @@
 use Rattle.std.proofs.Common.{arith}
-use Rattle.olr_why.proofs.Lowering.{all_crowded}
+use Rattle.olr_why.proofs.Halving.{all_crowded}
 use Rattle.olr_why.proofs.Tried.{crowded_from}
 use Rattle.olr_why.proofs.trying.Question.greatest_uncrowded.Goals as goal
 

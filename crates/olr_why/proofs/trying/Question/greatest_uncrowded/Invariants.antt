@@ -1,7 +1,7 @@
 use Rattle.std.proofs.Common.{◌-◌, ◌<◌, ◌≤◌}
 use Rattle.olr_candidates.specs.Tolerances.{least_of}
 use Rattle.olr_why.specs.Remedies.{IsUncrowdedWith, value_of}
-use Rattle.olr_why.specs.Trying.{AreCrowdedFrom}
+use Rattle.olr_why.specs.inner.Trying.{AreCrowdedFrom}
 use Rattle.olr_why.proofs.trying.Question.greatest_uncrowded.Given as goal
 
 abbrev pub invariant-loop-high : goal.invariant-loop-high

@@ -1,22 +1,19 @@
 use Rattle.std.proofs.Common.{ℕ, ◌<◌, below_more, refl, arith}
 use Rattle.olr_why.proofs.Common.{IsEnough, Lowest}
 use Rattle.olr_why.proofs.Halving.{none_up_to_greatest}
+use Rattle.olr_why.proofs.Tried.{least_enough}
 use Rattle.olr_why.proofs.trying.Question.lowest.Goals as goal
 
 pub returns-in-Some : goal.returns-in-Some
-returns-in-Some c =
-    let it = rw c.in-Some.is at c.in_ok-key.ensures in (
-      c.loop-value.value,
-      c.in-Some.key,
-      refl,
-      refl,
-      record {
-        above = omega (arith, c.loop-value.auto.value);
-        enough = it.enough;
-        least = λ lesser above less. c.loop-value.invariant lesser less above;
-        first = it.first;
-      },
-    )
+returns-in-Some c = (
+  c.loop-value.value,
+  c.in-Some.key,
+  refl,
+  refl,
+  least_enough c.matching_has_key.ensures (omega (arith, c.loop-value.auto.value))
+      (λ lesser above less. c.loop-value.invariant lesser less above)
+      (rw c.in-Some.is at c.in_ok-key.ensures),
+)
 
 pub loop-value-preserved : goal.loop-value-preserved
 loop-value-preserved c =

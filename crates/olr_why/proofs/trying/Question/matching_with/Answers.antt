@@ -1,4 +1,4 @@
-use Rattle.olr_why.proofs.Tried.{crowded_is_none, matching_is_enough, without_is_none}
+use Rattle.olr_why.proofs.Tried.{crowded_is_none, without_is_none}
 use Rattle.olr_why.proofs.trying.Question.matching_with.Goals as goal
 
 pub returns-in-Crowded : goal.returns-in-Crowded
@@ -10,5 +10,4 @@ returns-in-NoMatching c =
     without_is_none (rw c.in-NoMatching.is at c.in_ok-try_value.ensures)
 
 pub returns-in-Matching : goal.returns-in-Matching
-returns-in-Matching c =
-    matching_is_enough c.matching_has_key.ensures (rw c.in-Matching.is at c.in_ok-try_value.ensures)
+returns-in-Matching c = rw c.in-Matching.is at c.in_ok-try_value.ensures

@@ -1,5 +1,5 @@
 use Rattle.olr_why.specs.Remedies.{IsUnbanned, without_bans}
-use Rattle.olr_why.specs.Trial.{IsCrowded}
+use Rattle.olr_why.specs.inner.Trial.{IsCrowded}
 use Rattle.olr_why.proofs.Tried.{not_both}
 use Rattle.olr_why.proofs.trying.Question.opener.Goals as goal
 

@@ -14,6 +14,6 @@ returns c = (
   c.in-Some-first.key,
   refl,
   refl,
-  least_in c.loop-bracket.invariant
-      (omega (arith, c.loop-bracket-test.false)) c.in-Some-first.is,
+  least_in c.loop-bracket.invariant (omega (arith, c.loop-bracket-test.false))
+      c.matching_has_key.ensures c.in-Some-first.is,
 )

@@ -1,5 +1,5 @@
 use Rattle.std.proofs.Common.{◌-◌}
-use Rattle.olr_why.specs.Trying.{IsBracket}
+use Rattle.olr_why.specs.inner.Trying.{IsBracket}
 use Rattle.olr_why.proofs.trying.Question.wider.Given as goal
 
 abbrev pub invariant-loop-bracket : goal.invariant-loop-bracket

@@ -1,7 +1,7 @@
-use Rattle.olr_why.specs.Trying.{IsTrialWith}
+use Rattle.olr_why.specs.inner.Trying.{IsTrialWith}
 use Rattle.olr_why.proofs.Common.{NoMatching}
 use Rattle.olr_why.proofs.Halving.{first_two, none_up_to_greatest}
-use Rattle.olr_why.proofs.Tried.{crowded_with, matching_is_enough, none_up_to}
+use Rattle.olr_why.proofs.Tried.{none_up_to}
 use Rattle.olr_why.proofs.trying.Question.wider_values.Goals as goal
 
 pub returns-in-NoMatching : goal.returns-in-NoMatching
@@ -14,10 +14,9 @@ returns-in-NoMatching c =
 pub returns-in-Crowded : goal.returns-in-Crowded
 returns-in-Crowded c =
     first_two c.value-low.ensures c.greatest-high.ensures c.if-low-high.false
-    (crowded_with (rw c.in-Crowded.is at c.in_ok-try_value.ensures))
+    (rw c.in-Crowded.is at c.in_ok-try_value.ensures)
 
 pub returns-in-Matching : goal.returns-in-Matching
 returns-in-Matching c =
     first_two c.value-low.ensures c.greatest-high.ensures c.if-low-high.false
-    (matching_is_enough c.matching_has_key.ensures
-    (rw c.in-Matching.is at c.in_ok-try_value.ensures))
+    (rw c.in-Matching.is at c.in_ok-try_value.ensures)

@@ -1,5 +1,5 @@
 use Rattle.std.proofs.Common.{◌≡◌, arith}
-use Rattle.olr_why.proofs.pairs.pairs_from.Goals as goal
+use Rattle.olr_why.proofs.pairs.LegOnMap.pairs_from.Goals as goal
 
 pub returns : goal.returns
 returns c =

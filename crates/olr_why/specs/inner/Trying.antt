@@ -3,11 +3,11 @@
 use Rattle.std.specs.Prelude.{ℕ, ◌+◌, ◌<◌, ◌≤◌, Option, MatchOption}
 use Rattle.olr_why.specs.Common.{KeyValue, Name, Reference, RoadMap, Tolerances}
 use Rattle.olr_candidates.specs.Tolerances.{greatest_of}
-use Rattle.olr_why.specs.Chain.{IsFirstMatching}
 use Rattle.olr_why.specs.Remedies.{IsChanged, IsEnough, IsUncrowdedWith, value_of}
-use Rattle.olr_why.specs.Trial.{IsCrowded, IsTrial}
+use Rattle.olr_why.specs.inner.Trial.{IsTrial}
 use Rattle.olr_why.specs.declared.bracket.Bracket.{Bracket}
 use Rattle.olr_why.specs.declared.trial.Trial.{Trial}
+use Rattle.olr_why.specs.declared.trial.Trial.TheVariants.{Crowded, Matching}
 
 module _ (road : RoadMap) (given : Tolerances) (reference : Reference) (name : Name) where
   -- ---- one value
@@ -18,21 +18,10 @@ module _ (road : RoadMap) (given : Tolerances) (reference : Reference) (name : N
     pub is_changed : IsChanged name value given changed
     pub is : IsTrial road changed reference trial
 
-  -- this value is enough, and this is the key of the first matching that it gives
-  pub record IsEnoughFor (value : ℕ) (key : KeyValue) : Type 0 where
-    pub enough : IsEnough road given reference name value
-    pub first : IsFirstMatching road enough.changed reference key
-
   -- the key of the first matching that this value gives; none where the value isn't enough
   abbrev pub IsMatchingWith : ℕ → Option KeyValue → Type 0
   IsMatchingWith value answer = MatchOption answer (IsEnough road given reference name value → ⊥)
-      (IsEnoughFor value)
-
-  -- with this value a point has more than 64 candidates
-  pub record IsCrowdedWith (value : ℕ) : Type 0 where
-    pub changed : Tolerances
-    pub is_changed : IsChanged name value given changed
-    pub crowded : IsCrowded road changed reference
+      (λ key. IsTrialWith value (Matching key))
 
   -- ---- values above the given one
 
@@ -45,7 +34,8 @@ module _ (road : RoadMap) (given : Tolerances) (reference : Reference) (name : N
   -- a point has more than 64 candidates.
   pub record IsBracket (bracket : Bracket) : Type 0 where
     pub none : IsNoneUpTo bracket.low
-    pub found : MatchOption bracket.first (IsCrowdedWith bracket.high) (IsEnoughFor bracket.high)
+    pub found : MatchOption bracket.first (IsTrialWith bracket.high Crowded)
+        (λ key. IsTrialWith bracket.high (Matching key))
     pub above : value_of given name ≤ bracket.low
     pub lower : bracket.low < bracket.high
     pub at_most : bracket.high ≤ greatest_of name
