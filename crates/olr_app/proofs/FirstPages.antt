@@ -1,13 +1,13 @@
 -- The first page for one of many references is that of a run for it alone.
-use Rattle.std.proofs.Common.{◌≡◌, ℕ, List, None, Ok, Err, Bor, refl, sym}
+use Rattle.std.proofs.Common.{◌≡◌, ℕ, List, None, Some, Ok, Err, Bor, refl, sym}
 use Rattle.std.proofs.Common.{subst, ◌∙◌, inl, inr}
 use Rattle.std.proofs.lemmas.Option.{none-some}
-use Rattle.olr_app.proofs.Common.{Reference, Tolerances, AreAnswers, KeyValue, IsPageAfter, PageValue, IsSoundMap, RoadMap, LayersValue, Laws, AreMatchings, IsTextOfPage, key_of, Accepted, Fault, Json}
+use Rattle.olr_app.proofs.Common.{Reference, Tolerances, AreAnswers, KeyValue, IsPageAfter, PageValue, IsSoundMap, RoadMap, LayersValue, Laws, AreMatchings, IsPageIn, IsTextOfPage, key_of, Accepted, Fault, Json}
 use Rattle.olr_app.specs.FirstPage.{IsFirstPage, IsFirstPageOf}
-use Rattle.olr_app.specs.FirstPageLaws.{FirstFaultIsOfRun, FirstPageIsOfRun, OneFirstPage, OnePlaces}
+use Rattle.olr_app.specs.FirstPageLaws.{FirstFaultIsOfRun, FirstPageIsOfRun, OneFirstPage}
 use Rattle.olr_app.specs.FirstPageLaws.{ShowsSame, first_asked}
 use Rattle.olr_app.proofs.HeadlineRuns.{on_map}
-use Rattle.olr_app.proofs.OneAnswer.{layers_once, page_once, parts_once, places_once}
+use Rattle.olr_app.proofs.OneAnswer.{layers_once, page_once, parts_once}
 use Rattle.olr_app.proofs.Single.{IsSingle, first_then, no_fault_once}
 
 module _ (laws : Laws) (road : RoadMap) (sound : IsSoundMap road) where
@@ -48,8 +48,9 @@ module _ (laws : Laws) (road : RoadMap) (sound : IsSoundMap road) where
       let parts = parts_once laws road on.layers sound on.page.keys shown.matched first.matched
       shown.each first.each in (
         on.mark,
-        laws.only_mark _ _ _ _ _ _ _ _
-            (laws.json_of_same_parts _ _ _ _ first.matched _ _ parts shown.text_is) first.text_is,
+        laws.only_mark _ _ _ _ _ _ _ _ (subst (λ matched.
+            IsPageIn Json road on.layers.reference on.page matched (Some on.mark) output) parts
+            shown.text_is) first.text_is,
       )
 
 module _ (road : RoadMap) (text : Bor (List ℕ)) (tolerances : Tolerances) (size : ℕ)
@@ -85,9 +86,5 @@ first_fault_is_of_run road text tolerances size accepted fault none = (
 )
 
 pub one_first_page : Laws → OneFirstPage
-one_first_page laws road tolerances size reference one other sound =
-    first_once laws road sound tolerances size reference one other
-
-pub one_places : Laws → OnePlaces
-one_places laws format tolerances limits reference road one other sound =
-    places_once laws format tolerances limits reference road sound one other
+one_first_page laws road tolerances size reference sound =
+    first_once laws road sound tolerances size reference

@@ -25,10 +25,9 @@ use Rattle.olr_app.proofs.OneAnswer.{parts_once}
 zip_append : {X Y : Type 0} (R : X → Y → Type 0) (xs : List X) (ys : List Y) (xs' : List X)
     (ys' : List Y) → AllZip R xs ys → AllZip R xs' ys' → AllZip R (xs ++ xs') (ys ++ ys')
 zip_append R [] [] xs' ys' they others = others
-zip_append R [] (y ∷ ys) xs' ys' they others = absurd they
-zip_append R (x ∷ xs) [] xs' ys' they others = absurd they
 zip_append R (x ∷ xs) (y ∷ ys) xs' ys' they others =
     (they.0, zip_append R xs ys xs' ys' they.1 others)
+zip_append R _ _ xs' ys' they others = absurd they
 
 shown_append : (format : Format) (road : RoadMap) (layers : LayersValue)
     (keys keys' : List KeyValue) (parts parts' : List (Part format))
@@ -202,11 +201,10 @@ module _ (laws : Laws) where
     text_once : (keys : List KeyValue) (a b : List ℕ) → AreShown Text road layers keys a
         → AreShown Text road layers keys b → a ≡ b
     text_once keys a b is is' =
-        let parts = parts_once laws road layers sound keys is.matched is'.matched is.each
-        is'.each in
-        append_cancel_right a b (codes "end\n")
-        (laws.text _ _ _ _ _ _ _ (laws.text_of_same_parts _ _ _ _ is'.matched _ _ parts
-        (as_page keys a is)) (as_page keys b is'))
+        append_cancel_right a b (codes "end\n") (laws.text _ _ _ _ _ _ _
+        (subst (λ matched. IsPageText road layers.reference (last_page keys) matched None
+        (a ++ codes "end\n")) (parts_once laws road layers sound keys is.matched is'.matched
+        is.each is'.each) (as_page keys a is)) (as_page keys b is'))
 
   -- ---- the matchings after a cursor have one text
 

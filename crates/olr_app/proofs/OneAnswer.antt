@@ -10,7 +10,6 @@ use Rattle.serde_json.specs.Written.{compact_text}
 use Rattle.olr_binary.specs.JsonValues.{IsJsonLine}
 use Rattle.olr_app.proofs.Common.{Reference, IsSoundMap, RoadMap, AreLists, Candidate, Tolerances, AreAnswers, KeyValue, IsKey, IsPageAfter, PageValue, Penalties, CursorRead, Mark, LayersValue, IsMatchedBy, Matched, IsPageText, IsStart, Accepts, IsAnswer, IsAnswerOf, IsAnswerOn, IsMapOfFiles, fault_of_map, fault_of, Laws, OneOutcome, AreLayers, AreMatchings, ArePages, ArePagesAsked, IsOfInputs, IsPageIn, IsPrinted, IsStartHere, IsTextOfPage, OnLayers, OnStart, key_of, text_of, Accepted, TooManyCandidates, Format, Json, Text, MatchRequest, Pages, One, Request, Candidates, Match, Places, Show}
 use Rattle.olr_map.specs.Files.{known}
-use Rattle.olr_matching.specs.Matched.{IsSameMatched}
 use Rattle.olr_places.specs.Looking.{IsLooked, Looked}
 use Rattle.olr_places.specs.declared.limits.PlaceLimits.{PlaceLimits}
 use Rattle.olr_report.specs.Json.{IsPageJson}
@@ -28,6 +27,20 @@ use Rattle.olr_app.specs.declared.request.Pages.TheVariants.{All}
 use Rattle.olr_app.specs.declared.request.Request.TheVariants.{Why}
 use Rattle.olr_app.proofs.Accepts.{accepted_once}
 use Rattle.olr_app.proofs.Single.{IsSingle, first_then, no_fault_once, no_ok_and_err, same_err}
+
+-- two relations that give each item the same give a list the same
+zip_once : {A B : Type 0} (R S : A → B → Type 0) (xs : List A) (ys zs : List B)
+    → ((x : A) (y z : B) → Contains xs x → R x y → S x z → y ≡ z) → AllZip R xs ys
+    → AllZip S xs zs → ys ≡ zs
+zip_once R S [] [] [] same is its = refl
+zip_once R S [] [] (z ∷ zs) same is its = absurd its
+zip_once R S [] (y ∷ ys) zs same is its = absurd is
+zip_once R S (x ∷ xs) [] zs same is its = absurd is
+zip_once R S (x ∷ xs) (y ∷ ys) [] same is its = absurd its
+zip_once R S (x ∷ xs) (y ∷ ys) (z ∷ zs) same is its =
+    let here = same x y z (zero, omega arith, refl) is.0 its.0 in
+    let rest = zip_once R S xs ys zs
+    (λ a b c has. same a b c (suc has.0, omega (arith, has.1), has.2)) is.1 its.1 in cc
 
 -- ---- an output in either format
 
@@ -139,60 +152,46 @@ module _ (laws : Laws) where
   with_mark P page mark other true more same ends is = subst P (same more) is
   with_mark P page mark other false more same ends is = ends more
 
-  -- The text of a page is one by the same parts of its matchings, and where more follow, by the
-  -- same mark.
+  -- the text of a page is one, where more follow by the same mark
   one_in : (format : Format) (road : RoadMap) (reference : Reference) (page : PageValue)
-      (matched others : List Matched) (mark other : Option Mark) (text again : List ℕ)
-      → AllZip IsSameMatched matched others → (page.more ≡ true → mark ≡ other)
-      → IsPageIn format road reference page matched mark text
-      → IsPageIn format road reference page others other again → text ≡ again
-  one_in Text road reference page matched others mark other text again parts same is its =
-      let shown = laws.text_of_same_parts _ _ _ _ others _ _ parts is in
+      (matched : List Matched) (mark other : Option Mark) (text again : List ℕ)
+      → (page.more ≡ true → mark ≡ other) → IsPageIn format road reference page matched mark text
+      → IsPageIn format road reference page matched other again → text ≡ again
+  one_in Text road reference page matched mark other text again same is its =
       laws.text _ _ _ _ _ _ _ (with_mark (λ (m : Option Mark).
-      IsPageText road reference page others m text) page mark other page.more refl same
-      (λ ends. laws.text_ends _ _ _ _ _ _ _ ends shown) shown) its
-  one_in Json road reference page matched others mark other text again parts same is its =
-      let shown = laws.json_of_same_parts _ _ _ _ others _ _ parts is in
+      IsPageText road reference page matched m text) page mark other page.more refl same
+      (λ ends. laws.text_ends _ _ _ _ _ _ _ ends is) is) its
+  one_in Json road reference page matched mark other text again same is its =
       laws.json _ _ _ _ _ _ _ (with_mark (λ (m : Option Mark).
-      IsPageJson road reference page others m text) page mark other page.more refl same
-      (λ ends. laws.json_ends _ _ _ _ _ _ _ ends shown) shown) its
+      IsPageJson road reference page matched m text) page mark other page.more refl same
+      (λ ends. laws.json_ends _ _ _ _ _ _ _ ends is) is) its
 
   module _ (road : RoadMap) (layers : LayersValue) (sound : IsSoundMap road) where
     -- each key has one value of parts
     pub parts_once : (keys : List KeyValue) (one other : List Matched)
         → AllZip (IsMatchedBy road layers) keys one → AllZip (IsMatchedBy road layers) keys other
-        → AllZip IsSameMatched one other
-    parts_once [] [] [] is again = tt
-    parts_once [] [] (matched ∷ other) is again = absurd again
-    parts_once [] (matched ∷ one) other is again = absurd is
-    parts_once (key ∷ keys) [] other is again = absurd is
-    parts_once (key ∷ keys) (matched ∷ one) [] is again = absurd again
-    parts_once (key ∷ keys) (matched ∷ one) (parts ∷ other) is again =
-        (laws.matched _ _ _ _ _ sound is.0 again.0, parts_once keys one other is.1 again.1)
+        → one ≡ other
+    parts_once keys one other = zip_once (IsMatchedBy road layers) (IsMatchedBy road layers) keys
+        one other (λ key a b has is again. laws.matched _ _ _ _ _ sound is again)
 
     pub page_once : (format : Format) (mark other : Option Mark) (page : PageValue)
         (text again : List ℕ) → (page.more ≡ true → mark ≡ other)
         → IsTextOfPage format road layers mark page text
         → IsTextOfPage format road layers other page again → text ≡ again
     page_once format mark other page text again same is its =
-        one_in format road layers.reference page is.matched its.matched mark other text again
-        (parts_once page.keys is.matched its.matched is.each its.each) same is.text_is its.text_is
+        one_in format road layers.reference page is.matched mark other text again same is.text_is
+        (subst (λ parts. IsPageIn format road layers.reference page parts other again)
+        (parts_once page.keys its.matched is.matched its.each is.each) its.text_is)
 
     texts_once : (format : Format) (mark other : Option Mark) (pages : List PageValue)
         (texts again : List (List ℕ))
         → ((page : PageValue) → Contains pages page → page.more ≡ true → mark ≡ other)
         → AllZip (IsTextOfPage format road layers mark) pages texts
         → AllZip (IsTextOfPage format road layers other) pages again → texts ≡ again
-    texts_once format mark other [] [] [] same is its = refl
-    texts_once format mark other [] [] (text ∷ again) same is its = absurd its
-    texts_once format mark other [] (text ∷ texts) again same is its = absurd is
-    texts_once format mark other (page ∷ pages) [] again same is its = absurd is
-    texts_once format mark other (page ∷ pages) (text ∷ texts) [] same is its = absurd its
-    texts_once format mark other (page ∷ pages) (text ∷ texts) (its_text ∷ again) same is its =
-        let here = page_once format mark other page text its_text
-        (same page (zero, omega arith, refl)) is.0 its.0 in
-        let rest = texts_once format mark other pages texts again
-        (λ p has. same p (suc has.0, omega (arith, has.1), has.2)) is.1 its.1 in cc
+    texts_once format mark other pages texts again same =
+        zip_once (IsTextOfPage format road layers mark) (IsTextOfPage format road layers other)
+        pages texts again (λ page text its has. page_once format mark other page text its
+        (same page has))
 
     printed_once : (asked : MatchRequest) (pages : List PageValue)
         → IsSingle (IsPrinted asked road layers pages)

@@ -3,10 +3,7 @@ use Rattle.std.proofs.Common.{◌≡◌, Ok, Err, ap, refl, sym, ◌∙◌, subs
 use Rattle.std.specs.Prelude.{IsErrAnd, Result}
 use Rattle.olr_app.proofs.Common.{Fault, AndThen}
 use Rattle.olr_app.specs.Stages.{NoFault}
-
--- a stage has one result at most
-abbrev pub IsSingle : {A : Type 0} → (Result A Fault → Type 0) → Type 0
-IsSingle {A} Is = (one other : Result A Fault) → Is one → Is other → one ≡ other
+pub use Rattle.olr_app.specs.Stages.{IsSingle}
 
 -- ---- results
 

@@ -1,6 +1,6 @@
 -- Laws on the first page for one of many references: it is the one that a run for this reference
 -- alone prints as JSON, but for the mark in the cursor at its end.
-use Rattle.std.specs.Prelude.{◌≡◌, ℕ, List, None, Some, Result, Ok, Err}
+use Rattle.std.specs.Prelude.{◌≡◌, ℕ, List, None, Some, Ok, Err}
 use Rattle.std.specs.Borrow.{Bor}
 use Rattle.olr_app.specs.Common.{Reference, Tolerances, Mark, RoadMap, PlaceLimits}
 use Rattle.olr_map.specs.RoadMap.{IsSoundMap}
@@ -9,6 +9,7 @@ use Rattle.olr_app.specs.FirstPage.{IsFirstPage}
 use Rattle.olr_app.specs.Listing.{IsListed}
 use Rattle.olr_app.specs.Matching.{AreMatchings}
 use Rattle.olr_app.specs.Places.{ArePlaces}
+use Rattle.olr_app.specs.Stages.{IsSingle}
 use Rattle.olr_app.specs.Why.{AreReasons}
 use Rattle.olr_app.specs.declared.accepting.Accepted.{Accepted}
 use Rattle.olr_app.specs.declared.fault.Fault.{Fault}
@@ -51,27 +52,20 @@ FirstFaultIsOfRun = (road : RoadMap) (text : Bor (List ℕ)) (tolerances : Toler
 -- a reference has one first page on a map, or one fault in place of it, and not both
 abbrev pub OneFirstPage : Type 0
 OneFirstPage = (road : RoadMap) (tolerances : Tolerances) (size : ℕ) (reference : Reference)
-    (one other : Result (List ℕ) Fault) → IsSoundMap road
-    → IsFirstPage tolerances size reference road one
-    → IsFirstPage tolerances size reference road other → one ≡ other
+    → IsSoundMap road → IsSingle (IsFirstPage tolerances size reference road)
 
 -- and so it is with the list of its candidates
 abbrev pub OneListing : Type 0
 OneListing = (format : Format) (tolerances : Tolerances) (reference : Reference) (road : RoadMap)
-    (one other : Result (List ℕ) Fault) → IsListed format tolerances reference road one
-    → IsListed format tolerances reference road other → one ≡ other
+    → IsSingle (IsListed format tolerances reference road)
 
 -- and with its places
 abbrev pub OnePlaces : Type 0
 OnePlaces = (format : Format) (tolerances : Tolerances) (limits : PlaceLimits)
-    (reference : Reference) (road : RoadMap)
-    (one other : Result (List ℕ) Fault) → IsSoundMap road
-    → ArePlaces format tolerances limits reference road one
-    → ArePlaces format tolerances limits reference road other → one ≡ other
+    (reference : Reference) (road : RoadMap) → IsSoundMap road
+    → IsSingle (ArePlaces format tolerances limits reference road)
 
 -- and with its reasons
 abbrev pub OneReasons : Type 0
 OneReasons = (format : Format) (tolerances : Tolerances) (nearest : ℕ) (reference : Reference)
-    (road : RoadMap)
-    (one other : Result (List ℕ) Fault) → AreReasons format tolerances nearest reference road one
-    → AreReasons format tolerances nearest reference road other → one ≡ other
+    (road : RoadMap) → IsSingle (AreReasons format tolerances nearest reference road)

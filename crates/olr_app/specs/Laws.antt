@@ -9,9 +9,8 @@ use Rattle.olr_map.specs.Files.{IsFaultOf, IsMapOf}
 use Rattle.olr_matching.specs.LayersLaws.{OneLayers}
 use Rattle.olr_matching.specs.Matched.{OneMatched}
 use Rattle.olr_places.specs.VerdictLaws.{OneLooking}
-use Rattle.olr_report.specs.JsonLaws.{JsonEndsWithoutMark, JsonOfSameParts, JsonReadsAsPage}
-use Rattle.olr_report.specs.JsonLaws.{OneJson, OnlyMarkDiffers}
-use Rattle.olr_report.specs.TextLaws.{EndsWithoutMark, OneText, TextOfSameParts}
+use Rattle.olr_report.specs.JsonLaws.{JsonEndsWithoutMark, JsonReadsAsPage, OneJson, OnlyMarkDiffers}
+use Rattle.olr_report.specs.TextLaws.{EndsWithoutMark, OneText}
 use Rattle.olr_why.specs.Laws.{OneWhy}
 
 -- a text has one outcome at most
@@ -52,10 +51,8 @@ pub record Laws : Type 0 where
   pub is_mark : FingerprintIsMark
   pub matched : OneMatched
   pub text : OneText
-  pub text_of_same_parts : TextOfSameParts
   pub text_ends : EndsWithoutMark
   pub json : OneJson
-  pub json_of_same_parts : JsonOfSameParts
   pub json_ends : JsonEndsWithoutMark
   pub only_mark : OnlyMarkDiffers
   pub json_reads : JsonReadsAsPage

@@ -5,6 +5,10 @@ use Rattle.olr_candidates.specs.Points.{IsFirstTooMany}
 use Rattle.olr_app.specs.declared.fault.Fault.{Fault}
 use Rattle.olr_app.specs.declared.fault.Fault.TheVariants.{NoMemory, TooManyCandidates}
 
+-- a stage has one result at most: it finds one thing, or has one fault, and not both
+abbrev pub IsSingle : {A : Type 0} → (Result A Fault → Type 0) → Type 0
+IsSingle {A} Stage = (one other : Result A Fault) → Stage one → Stage other → one ≡ other
+
 -- a stage that has no fault
 abbrev pub NoFault : {A : Type 0} → (A → Type 0) → Result A Fault → Type 0
 NoFault {A} Is (Ok found) = Is found

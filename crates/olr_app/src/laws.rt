@@ -7,13 +7,13 @@
 //! and the failure of a device are not among them: they may come in place of the output, and of a
 //! fault of the files.
 
-ghost use Rattle.std.specs.Prelude.{◌≡◌, ℕ, List, Result};
+ghost use Rattle.std.specs.Prelude.{ℕ, List};
 ghost use Rattle.olr_map.specs.Files.{known};
 ghost use Rattle.olr_app.specs.Answer.{IsAnswer};
 ghost use Rattle.olr_app.specs.FirstPageLaws.{FirstFaultIsOfRun, FirstPageIsOfRun, OneFirstPage};
 ghost use Rattle.olr_app.specs.FirstPageLaws.{OneListing, OnePlaces, OneReasons};
 ghost use Rattle.olr_app.specs.Laws.{Laws};
-ghost use Rattle.olr_app.specs.declared.fault.Fault.{Fault};
+ghost use Rattle.olr_app.specs.Stages.{IsSingle};
 ghost use Rattle.olr_app.specs.declared.request.Request.{Request};
 
 use olr_binary::one_outcome;
@@ -25,8 +25,8 @@ use olr_map::{no_map_and_fault, one_fault, one_map};
 use olr_matching::{fingerprint_is_mark, one_layers, one_matched};
 use olr_places::one_looking;
 use olr_report::{
-    ends_without_mark, json_ends_without_mark, json_of_same_parts, json_reads_as_page, one_json,
-    one_text, only_mark_differs, text_of_same_parts,
+    ends_without_mark, json_ends_without_mark, json_reads_as_page, one_json, one_text,
+    only_mark_differs,
 };
 use olr_why::one_why;
 
@@ -51,10 +51,8 @@ pub(crate) fn laws_below()
     fingerprint_is_mark();
     one_matched();
     one_text();
-    text_of_same_parts();
     ends_without_mark();
     one_json();
-    json_of_same_parts();
     json_ends_without_mark();
     only_mark_differs();
     json_reads_as_page();
@@ -64,9 +62,8 @@ pub(crate) fn laws_below()
 
 /// A request has one answer by the texts at most: one output, or one fault, and not both.
 pub fn one_answer()
-    ensures { (nodes lines bans : List ℕ) (request : Request) (one other : Result (List ℕ) Fault)
-        → IsAnswer (known nodes lines bans) request one
-        → IsAnswer (known nodes lines bans) request other → one ≡ other }
+    ensures { (nodes lines bans : List ℕ) (request : Request)
+        → IsSingle (IsAnswer (known nodes lines bans) request) }
 {
     laws_below();
 }

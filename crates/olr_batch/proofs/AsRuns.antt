@@ -25,19 +25,19 @@ module _ (laws : LawsBelow) where
 
   answer_to_once : (road : RoadMap) → IsSoundMap road → (what : What) (tolerances : Tolerances)
       (reference : Reference) → IsSingle (IsAnswerTo what tolerances road reference)
-  answer_to_once road sound Candidates tolerances reference one other =
-      laws.one_listing Json tolerances reference road one other
-  answer_to_once road sound (Match size) tolerances reference one other =
-      laws.one_page road tolerances size reference one other sound
-  answer_to_once road sound (Places limits) tolerances reference one other =
-      laws.one_places Json tolerances limits reference road one other sound
-  answer_to_once road sound (Why nearest) tolerances reference one other =
-      laws.one_reasons Json tolerances nearest reference road one other
+  answer_to_once road sound Candidates tolerances reference =
+      laws.one_listing Json tolerances reference road
+  answer_to_once road sound (Match size) tolerances reference =
+      laws.one_page road tolerances size reference sound
+  answer_to_once road sound (Places limits) tolerances reference =
+      laws.one_places Json tolerances limits reference road sound
+  answer_to_once road sound (Why nearest) tolerances reference =
+      laws.one_reasons Json tolerances nearest reference road
 
   pub one_answer : OneAnswer
-  one_answer road asked text one other sound =
+  one_answer road asked text sound =
       first_then _ (IsAnswerTo asked.what asked.tolerances road) (reference_once laws.outcome text)
-      (λ reference its. answer_to_once road sound asked.what asked.tolerances reference) one other
+      (λ reference its. answer_to_once road sound asked.what asked.tolerances reference)
 
   -- ---- that of a run
 

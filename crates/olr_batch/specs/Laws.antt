@@ -1,6 +1,6 @@
 -- Laws on the answers to records. Each is the contract of a public function that does nothing at
 -- run time.
-use Rattle.std.specs.Prelude.{◌≡◌, ℕ, List, Result, Ok, Err}
+use Rattle.std.specs.Prelude.{◌≡◌, ℕ, List, Ok, Err}
 use Rattle.std.specs.Borrow.{Bor}
 use Rattle.olr_candidates.specs.declared.tolerances.Tolerances.{Tolerances}
 use Rattle.olr_map.specs.Files.{IsMapOf, known}
@@ -8,6 +8,7 @@ use Rattle.olr_map.specs.RoadMap.{IsSoundMap, RoadMap}
 use Rattle.olr_app.specs.Answer.{IsAnswer as IsAnswerOfRun}
 use Rattle.olr_app.specs.FirstPageLaws.{FirstFaultIsOfRun, FirstPageIsOfRun, OneFirstPage, OneListing, OnePlaces, OneReasons, ShowsSame, first_asked}
 use Rattle.olr_app.specs.Laws.{NoMapAndFault, OneMap, OneOutcome}
+use Rattle.olr_app.specs.Stages.{IsSingle}
 use Rattle.olr_app.specs.declared.fault.Fault.{Fault}
 use Rattle.olr_app.specs.declared.request.Format.TheVariants.{Json}
 use Rattle.olr_app.specs.declared.request.PlacesRequest.{PlacesRequest}
@@ -66,9 +67,8 @@ FaultsAreOfRuns = (nodes lines bans : List ℕ) (road : RoadMap) (asked : BatchR
 -- A text has one answer, or one fault in place of it, and not both: by the map and what is asked,
 -- whatever stands before it.
 abbrev pub OneAnswer : Type 0
-OneAnswer = (road : RoadMap) (asked : BatchRequest) (text : List ℕ)
-    (one other : Result (List ℕ) Fault) → IsSoundMap road
-    → IsAnswer asked road text one → IsAnswer asked road text other → one ≡ other
+OneAnswer = (road : RoadMap) (asked : BatchRequest) (text : List ℕ) → IsSoundMap road
+    → IsSingle (IsAnswer asked road text)
 
 -- The laws of the crates below that these rest on.
 pub record LawsBelow : Type 0 where

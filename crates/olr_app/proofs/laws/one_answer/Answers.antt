@@ -2,5 +2,4 @@ use Rattle.olr_app.proofs.OneAnswer.{answer_once}
 use Rattle.olr_app.proofs.laws.one_answer.Goals as goal
 
 pub returns : goal.returns
-returns c = λ nodes lines bans request one other.
-    answer_once c.laws_below.ensures nodes lines bans request one other
+returns c = answer_once c.laws_below.ensures
