@@ -13,7 +13,6 @@ mod Shown
 mod PageEntries
 mod PiecesText
 mod OneShown
-mod SameParts
 pub mod JsonShape
 mod SentTexts
 mod SentEntries

@@ -1,13 +1,11 @@
 -- Laws on the JSON of pages. Each is the contract of a public function that does nothing at run
 -- time.
 use Rattle.std.specs.Prelude.{◌≡◌, ℕ, List, ◌++◌, Option, Some, false, codes}
-use Rattle.std.specs.List.{AllZip}
 use Rattle.serde_json.specs.Data.{Data}
 use Rattle.serde_json.specs.Find.{get}
 use Rattle.serde_json.specs.Read.{read}
 use Rattle.olr_binary.specs.JsonValues.{array_of, IsJsonLine}
 use Rattle.olr_report.specs.Common.{KeyValue, Mark, Matched, PageValue, Reference, RoadMap}
-use Rattle.olr_matching.specs.Matched.{IsSameMatched}
 use Rattle.olr_report.specs.Entries.{Entry, AreEntriesOf}
 use Rattle.olr_report.specs.Json.{entry_object, next_value, page_object, IsPageJson}
 use Rattle.olr_report.specs.Text.{next_after}
@@ -25,14 +23,6 @@ JsonEndsWithoutMark = (road : RoadMap) (reference : Reference) (page : PageValue
     (matched : List Matched) (mark other : Option Mark) (text : List ℕ)
     → page.more ≡ false → IsPageJson road reference page matched mark text
     → IsPageJson road reference page matched other text
-
--- the JSON of a page is also that of parts with the same candidates, and with legs of the same
--- lengths, penalties and routes
-abbrev pub JsonOfSameParts : Type 0
-JsonOfSameParts = (road : RoadMap) (reference : Reference) (page : PageValue)
-    (matched others : List Matched) (mark : Option Mark) (text : List ℕ)
-    → AllZip IsSameMatched matched others → IsPageJson road reference page matched mark text
-    → IsPageJson road reference page others mark text
 
 -- Two texts are the JSON of one page, with a mark of its own each, or none: they have the same
 -- matchings, and go on after the same one.

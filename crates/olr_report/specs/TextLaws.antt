@@ -1,9 +1,8 @@
 -- Laws on the texts of pages. Each is the contract of a public function that does nothing at run
 -- time.
 use Rattle.std.specs.Prelude.{◌≡◌, ℕ, List, Option, false}
-use Rattle.std.specs.List.{AllZip}
 use Rattle.olr_report.specs.Common.{Mark, Matched, PageValue, Reference, RoadMap}
-use Rattle.olr_matching.specs.Matched.{IsSameMatched, IsSoundMatched}
+use Rattle.olr_matching.specs.Matched.{IsSoundMatched}
 use Rattle.olr_report.specs.Entries.{CanBeShown}
 use Rattle.olr_report.specs.Text.{IsPageText}
 
@@ -20,14 +19,6 @@ EndsWithoutMark = (road : RoadMap) (reference : Reference) (page : PageValue)
     (matched : List Matched) (mark other : Option Mark) (text : List ℕ)
     → page.more ≡ false → IsPageText road reference page matched mark text
     → IsPageText road reference page matched other text
-
--- the text of a page is also that of parts with the same candidates, and with legs of the same
--- lengths, penalties and routes
-abbrev pub TextOfSameParts : Type 0
-TextOfSameParts = (road : RoadMap) (reference : Reference) (page : PageValue)
-    (matched others : List Matched) (mark : Option Mark) (text : List ℕ)
-    → AllZip IsSameMatched matched others → IsPageText road reference page matched mark text
-    → IsPageText road reference page others mark text
 
 -- sound parts, as the matching of every key has them, can be shown
 abbrev pub SoundCanBeShown : Type 0

@@ -1,7 +1,6 @@
 //! Laws on the JSON of pages. Each law is the contract of a function that does nothing at run time.
 
-ghost use Rattle.olr_report.specs.JsonLaws.{JsonEndsWithoutMark, JsonOfSameParts};
-ghost use Rattle.olr_report.specs.JsonLaws.{JsonReadsAsPage, OneJson, OnlyMarkDiffers};
+ghost use Rattle.olr_report.specs.JsonLaws.{JsonEndsWithoutMark, JsonReadsAsPage, OneJson, OnlyMarkDiffers};
 
 use crate::laws::one_route_of_steps;
 
@@ -23,12 +22,6 @@ pub fn only_mark_differs()
 /// The JSON of a page after which no more follow is the same for every mark, and without one.
 pub fn json_ends_without_mark()
     ensures { JsonEndsWithoutMark }
-{}
-
-/// The JSON of a page is also that of parts with the same candidates, and with legs of the same
-/// lengths, penalties and routes.
-pub fn json_of_same_parts()
-    ensures { JsonOfSameParts }
 {}
 
 /// The JSON of a page, without its line feed, is a JSON text, and under their names its value has

@@ -45,7 +45,7 @@ mod trimming;
 pub use conditions::{are_forwards, are_legs_of, is_forwards};
 pub use joining::join;
 pub use json_laws::{
-    json_ends_without_mark, json_of_same_parts, json_reads_as_page, one_json, only_mark_differs,
+    json_ends_without_mark, json_reads_as_page, one_json, only_mark_differs,
 };
 pub use laws::{legs_of_matching, one_route_of_steps, one_trimmed_part};
 pub use locating::{Located, location};
@@ -54,7 +54,7 @@ pub use page_entries::{Entry, entries, entry_of};
 pub use page_json::{json_page, next_cursor};
 pub use part_laws::{inner_lies_within_outer, some_route_of_steps};
 pub use text::text_page;
-pub use text_laws::{ends_without_mark, one_text, sound_parts_can_be_shown, text_of_same_parts};
+pub use text_laws::{ends_without_mark, one_text, sound_parts_can_be_shown};
 pub use text_rows::{push_end, push_part, push_place};
 pub use to_json::{ToJson, send_member, to_json_line};
 pub use trimming::trim;
