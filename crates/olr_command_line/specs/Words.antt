@@ -27,7 +27,7 @@ use Rattle.olr_command_line.specs.declared.words.Input.{Input}
 
 -- ---- tolerances
 
--- the value of each tolerance: the given one, else its default
+-- the value of each tolerance, in its unit: the given one, else its default
 abbrev pub value_of : Given → Name → ℕ
 value_of given name =
     unwrap_or (get_or given.tolerances (order_of name) None) (default_of name)

@@ -109,8 +109,8 @@ impl GivenNumbers {
 }
 
 /// What the words give to a subcommand, in range or not: the tolerances in the order of
-/// [`Name::ALL`], how many matchings a page has, the numbers for places, and how many lines near a
-/// point are printed.
+/// [`Name::ALL`] and the units of [`Name::least`], how many matchings a page has, the numbers for
+/// places, and how many lines near a point are printed.
 /// `None` where an option is left out, or where the subcommand has no such option.
 #[derive(Clone, Copy)]
 struct Given<'a> {

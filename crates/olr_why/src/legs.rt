@@ -23,7 +23,8 @@ fn early(candidates: &[Candidate]) -> &[Candidate]
     &candidates[..candidates.len().min(3)]
 }
 
-/// The pairs that tell why a leg admits none; there are none where it admits some.
+/// The pairs, of ranks up to 3, that tell why a leg admits none; there are none where it admits
+/// some.
 fn pairs_where_none(
     alloc: Global,
     leg: &LegOnMap<'_>,

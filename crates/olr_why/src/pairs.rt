@@ -16,7 +16,7 @@ use olr_metric::NoMemory;
 use olr_route::{Reach, one_least_length};
 use std::alloc::Global;
 
-/// A leg of a reference on a map, between the first candidates of its two points.
+/// A leg of a reference on a map, between at most three candidates of each of its two points.
 #[derive(Clone, Copy)]
 pub(crate) struct LegOnMap<'a> {
     pub map: &'a Map,
