@@ -11,7 +11,6 @@ mod Members
 mod Gaps
 mod Opening
 mod LookSteps
-mod Rests
-mod Paging
+mod Progress
 mod Outputs
 mod JsonPlaces

@@ -3,10 +3,9 @@ use Rattle.std.specs.Prelude.{◌≡◌, ℕ, zero, suc, ◌+◌, ◌-◌, List,
 use Rattle.olr_keys.specs.Key.{KeyValue}
 use Rattle.olr_keys.specs.Page.{last_of}
 use Rattle.olr_map.specs.RoadMap.{RoadMap}
-use Rattle.olr_matching.specs.Layers.{LayersValue}
-use Rattle.olr_places.specs.Looking.{IsLooked, Looked, is_within, looking, looking_on, openers_of}
+use Rattle.olr_places.specs.Looking.{Looked, is_within, looking, looking_on, openers_of}
 use Rattle.olr_places.specs.Places.{AreCounted, ArePlacesOf, shown_by}
-use Rattle.olr_places.specs.Shown.{IsShownAt, Shown, keys_of}
+use Rattle.olr_places.specs.Shown.{Shown, keys_of}
 use Rattle.olr_places.specs.declared.ending.Ending.{Ending}
 use Rattle.olr_places.specs.declared.ending.Ending.TheVariants.{Beyond, Cut, NoMore}
 use Rattle.olr_places.specs.declared.limits.PlaceLimits.{PlaceLimits}
@@ -82,25 +81,3 @@ LooksAt limits old new opener ending =
     (road : RoadMap) (before : List Shown) → Stands limits road before old → MatchOption ending
     (Stands limits road (before ++ shown_by road opener ∷ []) new)
     (HasEnded limits road (before ++ shown_by road opener ∷ []) new)
-
-module _ (limits : PlaceLimits) (road : RoadMap) (layers : LayersValue) where
-  -- the matchings of these keys were looked at, and looking goes on
-  pub record AreLookedAt (keys : List KeyValue) (kept : Looking) : Type 0 where
-    pub seen : List Shown
-    pub keys_are : keys_of seen ≡ keys
-    pub each : All (IsShownAt road layers) seen
-    pub stands : Stands limits road seen kept
-
-  -- looking at the matchings of these answers has ended, with these places
-  abbrev pub AreFound : List KeyValue → Places → Type 0
-  AreFound answers places =
-      (looked : Looked) × IsLooked limits road layers answers looked
-      × ArePlacesOf limits road looked places
-
-  -- The matchings of these keys were looked at, after those of others: looking goes on behind them,
-  -- or has ended, whatever keys are left.
-  abbrev pub LooksAtAll : Looking → Looking → List KeyValue → Option Ending → Type 0
-  LooksAtAll old new keys ending =
-      (before : List KeyValue) → AreLookedAt before old → MatchOption ending
-      (AreLookedAt (before ++ keys) new)
-      (λ why. (left : List KeyValue) → AreFound ((before ++ keys) ++ left) (places_in new why))

@@ -9,7 +9,7 @@
 //! - [`opener`]: a matching that opened a place; [`looking`]: which matchings do, and where this
 //!   ends.
 //! - [`ending`]: why looking ended, and the verdict; [`places`]: what is found.
-//! - [`finding`]: [`places_of`], all of this from layers to places, page by page.
+//! - [`finding`]: [`places_of`], all of this from layers to places, key by key.
 //! - [`text`], [`json`]: their text and their JSON.
 //!
 //! Beside them, [`laws`] says what closeness is, and [`verdict_laws`] what places, verdicts and

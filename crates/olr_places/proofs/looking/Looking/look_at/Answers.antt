@@ -3,7 +3,7 @@ use Rattle.std.proofs.lemmas.Bool.{eq-eqb, le-leb, le-ltb, lt-ltb, ne_eqb}
 use Rattle.std.proofs.lemmas.List.{length-map}
 use Rattle.std.proofs.lemmas.List.Elements.{All-push}
 use Rattle.olr_places.proofs.Common.{RoadMap, gap_of, IsOpenerAt, shown_by, Shown, PlaceLimits, Looking, Opener}
-use Rattle.olr_places.specs.Steps.{Stands, gap_behind, with_gap}
+use Rattle.olr_places.specs.Steps.{Stands, gap_behind}
 use Rattle.olr_places.proofs.LookSteps.{beyond_ends, full_ends, gap_at_first, more_kept, stands_with_member, stands_with_opener}
 use Rattle.olr_places.proofs.looking.Looking.look_at.Goals as goal
 
