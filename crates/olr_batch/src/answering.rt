@@ -23,9 +23,8 @@ const ROOM: usize = 6 * 65_536 + 256;
 
 /// What answers the records of an input, one after the other.
 #[derive(Drop)]
-struct Answering<'a> {
+struct Answering {
     alloc: Global,
-    on: &'a AskedOnMap<'a>,
     messages: Messages,
     line: Vec<u8>,
 }
@@ -74,17 +73,15 @@ fn next_record<S: Source, O: Sink>(
     messages.next(input)
 }
 
-impl<'a> Answering<'a> {
+impl Answering {
     /// What answers the records of an input that is to be read from its start.
-    fn new(alloc: Global, on: &'a AskedOnMap<'a>) -> Result<Answering<'a>, NoMemory>
-        ensures on { IfOk result (λ answering. answering.on ≡ on.entry) }
-        ensures none_at_hand { IfOk result (λ answering. answering.messages.at_hand ≡ []) }
+    fn new(alloc: Global) -> Result<Answering, NoMemory>
+        ensures { IfOk result (λ answering. answering.messages.at_hand ≡ []) }
     {
         let messages = Messages::new(alloc)?;
         let line = Vec::with_capacity(alloc, ROOM)?;
         Ok(Answering {
             alloc,
-            on,
             messages,
             line,
         })
@@ -94,14 +91,13 @@ impl<'a> Answering<'a> {
     /// was one. Before more input is asked for, the sink passes on what it took.
     fn next<S: Source, O: Sink>(
         &mut self,
+        on: &AskedOnMap<'_>,
         number: u64,
         input: &mut S,
         out: &mut O,
     ) -> Result<bool, Fault>
-        ensures map { self.new.on.now.map.now ≡ self.old.on.now.map.now }
-        ensures asked { self.new.on.now.asked.now ≡ self.old.on.now.asked.now }
         ensures moves { IfOk result (λ found. MatchBool found
-            (IsWrittenNext O.taken O.failed self.old.on.now.asked.now self.old.on.now.map.now number
+            (IsWrittenNext O.taken O.failed on.now.asked.now on.now.map.now number
             (left_of self.old.messages (S.left input.old))
             (left_of self.new.messages (S.left input.new)) out.old out.new)
             (IsLast O.taken O.failed O.flush_gives
@@ -109,7 +105,7 @@ impl<'a> Answering<'a> {
             (left_of self.new.messages (S.left input.new)) out.old out.new)) }
         ensures none_failed { OnOk result (S.failed input.new ≡ S.failed input.old) }
         ensures fault { IfErr result (IsStepStopped O.taken O.failed O.put_gives O.flush_gives
-            self.old.on.now.asked.now self.old.on.now.map.now number
+            on.now.asked.now on.now.map.now number
             (left_of self.old.messages (S.left input.old))
             (left_of self.new.messages (S.left input.new)) self.new.messages.at_hand
             (S.failed input.old) (S.failed input.new) out.old out.new) }
@@ -123,7 +119,7 @@ impl<'a> Answering<'a> {
             return Ok(false);
         }
         let content = self.messages.content();
-        write_record(self.alloc, self.on, number, content, &mut self.line)?;
+        write_record(self.alloc, on, number, content, &mut self.line)?;
         let Ok(()) = put_whole(out, &self.line) else {
             return Err(Fault::WriteFailed);
         };
@@ -131,17 +127,22 @@ impl<'a> Answering<'a> {
     }
 
     /// Writes what is written for all records.
-    fn all<S: Source, O: Sink>(&mut self, input: &mut S, out: &mut O) -> Result<(), Fault>
+    fn all<S: Source, O: Sink>(
+        &mut self,
+        on: &AskedOnMap<'_>,
+        input: &mut S,
+        out: &mut O,
+    ) -> Result<(), Fault>
         requires none_at_hand { self.old.messages.at_hand ≡ [] }
         ensures answered { OnOk result (AreAnswered O.taken O.failed O.flush_gives
-            self.old.on.now.asked.now self.old.on.now.map.now (S.left input.old) out.old out.new) }
+            on.now.asked.now on.now.map.now (S.left input.old) out.old out.new) }
         ensures input_source { OnOk result
             (IsAtEnd (S.left input.new) × (S.failed input.new ≡ S.failed input.old)) }
         ensures fault { IfErr result (IsStopped S.left S.failed O.taken O.failed O.put_gives
-            O.flush_gives self.old.on.now.asked.now self.old.on.now.map.now input.old input.new out.old out.new) }
+            O.flush_gives on.now.asked.now on.now.map.now input.old input.new out.old out.new) }
     {
         for number in 1..u64::MAX {
-            if !self.next(number, input, out)? {
+            if !self.next(on, number, input, out)? {
                 return Ok(());
             }
         }
@@ -176,6 +177,6 @@ pub(crate) fn answer_records<S: Source, O: Sink>(
         asked,
         unbanned,
     };
-    Answering::new(alloc, &on)?.all(input, out)?;
+    Answering::new(alloc)?.all(&on, input, out)?;
     Ok(())
 }

@@ -1,6 +1,5 @@
-use Rattle.std.proofs.Common.{refl, subst}
+use Rattle.std.proofs.Common.{refl}
 use Rattle.olr_app.proofs.Single.{exit}
-use Rattle.olr_batch.specs.Run.{IsStopped}
 use Rattle.olr_batch.proofs.Stopping.{none_begun}
 use Rattle.olr_batch.proofs.answering.answer_records.Goals as goal
 
@@ -23,7 +22,4 @@ returns-in_err-unbanned-clause-fault g c =
 pub returns-in_err-all-clause-fault : goal.returns-in_err-all-clause-fault
 returns-in_err-all-clause-fault g c =
     rw (exit c.from_residual-in_err-all.ensures.1)
-    (subst (λ on. IsStopped g.S.Source.left g.S.Source.failed g.O.Sink.taken g.O.Sink.failed
-    g.O.Sink.put_gives g.O.Sink.flush_gives on.now.asked.now on.now.map.now
-    c.args.input.now c.all.new.input c.args.out.now c.all.new.out c.in_err-all.field-0.0)
-    c.in_ok-new.ensures.on c.in_err-all.ensures.fault)
+    c.in_err-all.ensures.fault

@@ -3,12 +3,10 @@ use Rattle.olr_messages.specs.Messages.{left_of}
 use Rattle.olr_batch.specs.Run.{IsWrittenTo}
 use Rattle.olr_batch.proofs.answering.Answering.all.Given as goal
 
--- what is written for the records so far has been written, on the same map, and no device failed
+-- what is written for the records so far has been written, and no device failed
 abbrev pub invariant-loop-number : goal.invariant-loop-number
 invariant-loop-number g l = record {
-  map : l.self.on.now.map.now ≡ l.initial.self.on.now.map.now;
-  asked : l.self.on.now.asked.now ≡ l.initial.self.on.now.asked.now;
-  so_far : IsWrittenTo l.initial.self.on.now.asked.now l.initial.self.on.now.map.now l.number
+  so_far : IsWrittenTo l.on.asked.now l.on.map.now l.number
       (g.S.Source.left l.initial.input)
       (left_of l.self.messages (g.S.Source.left l.input)) (g.O.Sink.taken l.initial.out)
       (g.O.Sink.taken l.out);

@@ -63,8 +63,6 @@ returns-clause-moves g c =
 
 pub next_record-requires : goal.next_record-requires
 next_record-requires g c = record {
-  may_ask = may_ask g.O.Sink.taken g.O.Sink.failed g.O.Sink.flush_gives
-      c.holds_whole-is_at_hand.result c.args.self.now.messages.at_hand c.args.out.now
-      c.pass_on_unless.new.out c.holds_whole-is_at_hand.ensures
+  may_ask = may_ask _ _ _ c.holds_whole-is_at_hand.result _ _ _ c.holds_whole-is_at_hand.ensures
       c.in_ok-pass_on_unless.ensures.passed_on;
 }
