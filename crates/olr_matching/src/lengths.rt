@@ -102,9 +102,9 @@ fn is_shut(lengths: &[Option<u32>]) -> bool
 /// There is at most one search of the map for each leg and each first candidate of it, until all
 /// second candidates are reached, or as far as the greatest length that the leg admits; it may go
 /// twice, first up to a likely length. As long as it is kept, it also serves each later candidate
-/// whose line ends at the same node, at least as far from the candidate, where the leg's class limit
-/// lets both lines through and no turn from their ends is banned. There is none where the second
-/// point has no candidates.
+/// whose line ends at the same node, at least as far from it, where the leg's class limit lets both
+/// lines through and no turn from their ends is banned. There is none where the second point has no
+/// candidates.
 pub(crate) fn lengths_of_legs(
     alloc: Global,
     map: &Map,

@@ -44,9 +44,7 @@ mod trimming;
 
 pub use conditions::{are_forwards, are_legs_of, is_forwards};
 pub use joining::join;
-pub use json_laws::{
-    json_ends_without_mark, json_reads_as_page, one_json, only_mark_differs,
-};
+pub use json_laws::{json_ends_without_mark, json_reads_as_page, one_json, only_mark_differs};
 pub use laws::{legs_of_matching, one_route_of_steps, one_trimmed_part};
 pub use locating::{Located, location};
 pub use matching_json::ShownMatching;
