@@ -89,7 +89,8 @@ class Map:
     ) -> None:
         """A map of these files; or, of one path alone, that of a folder with its `nodes.csv`, its `lines.csv` and, if it is there, its
         `bans.csv`, or of a store. The tolerances are those of the program's options. `find_program` says which program is run, and
-        `patience` for how many seconds it may answer nothing; with None it is waited for without end."""
+        `patience` for how many seconds it may answer nothing; with None it is waited for without end.
+        """
         self._given = all_tolerances(tolerances)
         self._patience = require_patience(patience)
         self._files = self._files_of(nodes, lines, bans)
