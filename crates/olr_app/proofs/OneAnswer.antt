@@ -7,7 +7,7 @@ use Rattle.std.specs.List.{AllZip, concat}
 use Rattle.std.specs.Prelude.{Contains, IfSome}
 use Rattle.serde_json.specs.Data.{Data}
 use Rattle.serde_json.specs.Written.{compact_text}
-use Rattle.olr_binary.specs.JsonValues.{IsJsonLine}
+use Rattle.olr_text.specs.JsonValues.{IsJsonLine}
 use Rattle.olr_app.proofs.Common.{Reference, IsSoundMap, RoadMap, AreLists, Candidate, Tolerances, AreAnswers, KeyValue, IsKey, IsPageAfter, PageValue, Penalties, CursorRead, Mark, LayersValue, IsMatchedBy, Matched, IsPageText, IsStart, Accepts, IsAnswer, IsAnswerOf, IsAnswerOn, IsMapOfFiles, fault_of_map, fault_of, Laws, OneOutcome, AreLayers, AreMatchings, ArePages, ArePagesAsked, IsOfInputs, IsPageIn, IsPrinted, IsStartHere, IsTextOfPage, OnLayers, OnStart, key_of, text_of, Accepted, TooManyCandidates, Format, Json, Text, MatchRequest, Pages, One, Request, Candidates, Match, Places, Show}
 use Rattle.olr_map.specs.Files.{known}
 use Rattle.olr_places.specs.Looking.{IsLooked, Looked}

@@ -1,5 +1,5 @@
 -- The names that most definitions of this crate speak of, passed on from one place.
-pub use Rattle.olr_binary.specs.JsonValues.{IsJsonLine}
+pub use Rattle.olr_text.specs.JsonValues.{IsJsonLine}
 pub use Rattle.olr_binary.specs.Outcome.{IsOutcome}
 pub use Rattle.olr_binary.specs.declared.reference.Reference.{Reference}
 pub use Rattle.olr_binary.specs.declared.refusal.Refused.{Refused}

@@ -5,7 +5,7 @@ use Rattle.std.specs.Prelude.{All, Result}
 use Rattle.arrayvec.specs.ArrayVec.{ArrayVec}
 use Rattle.serde_json.specs.Data.{Data, member, no_members, object}
 use Rattle.olr_app.specs.Common.{IsJsonLine, Reference, Tolerances, RoadMap}
-use Rattle.olr_binary.specs.JsonValues.{array_of}
+use Rattle.olr_text.specs.JsonValues.{array_of}
 use Rattle.olr_candidates.specs.Points.{AreLists}
 use Rattle.olr_candidates.specs.declared.candidate.Candidate.{Candidate}
 use Rattle.olr_map.specs.Rows.{RoadLine, line_ids}

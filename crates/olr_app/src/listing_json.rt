@@ -2,17 +2,17 @@
 
 ghost use Rattle.std.specs.Prelude.{codes, IfOk, OnOk, string_bytes};
 ghost use Rattle.serde_json.specs.Data.{Data, member, no_members, object};
-ghost use Rattle.olr_binary.specs.JsonValues.{IsJsonLine, array_of};
+ghost use Rattle.olr_text.specs.JsonValues.{IsJsonLine, array_of};
 ghost use Rattle.olr_candidates.specs.Points.{lists_of};
-ghost use Rattle.olr_map.specs.RoadMap.{RoadMap};
-ghost use Rattle.olr_report.specs.Sent.{Sends};
+ghost use Rattle.olr_text.specs.Sent.{Sends};
 ghost use Rattle.olr_app.specs.Listing.{candidates_array, listing_object};
 
 use arrayvec::ArrayVec;
 use olr_candidates::{Candidate, MAX_CANDIDATES};
 use olr_map::Map;
 use olr_metric::NoMemory;
-use olr_report::{ToJson, send_member, to_json_line};
+use olr_report::OnMap;
+use olr_text::{ToJson, send_object, to_json_line};
 use serde::Serializer;
 use std::alloc::Global;
 
@@ -23,14 +23,12 @@ struct Listing<'a> {
 }
 
 /// The object of the candidates of each point.
-impl ToJson for Listing<'_> {
-    ghost value = { λ road listing. object (member (codes "points")
-        (array_of (λ list. candidates_array road list.items) listing.points.now) no_members) };
+impl ToJson<OnMap<'_>> for Listing<'_> {
+    ghost value = { λ on listing. object (member (codes "points")
+        (array_of (λ list. candidates_array on.map.now list.items) listing.points.now) no_members) };
 
-    fn send<S: Serializer>(&self, map: &Map, out: &mut S) -> Result<(), S::Error> {
-        out.begin_map(Some(1))?;
-        send_member("points", &self.points, map, out)?;
-        out.end_map()
+    fn send<S: Serializer>(&self, on: &OnMap<'_>, out: &mut S) -> Result<(), S::Error> {
+        send_object!(on, out, { "points": self.points })
     }
 }
 
@@ -48,6 +46,6 @@ pub(crate) fn json_of_lists(
     ensures { IfOk result (λ text.
         IsJsonLine (listing_object map.now (lists_of lists.now)) (string_bytes text)) }
 {
-    let text = to_json_line(alloc, map, &Listing { points: lists })?;
+    let text = to_json_line(alloc, &OnMap { map }, &Listing { points: lists })?;
     Ok(text)
 }

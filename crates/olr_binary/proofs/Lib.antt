@@ -5,5 +5,4 @@ pub mod Outcomes
 pub mod Points
 pub mod References
 pub mod Same
-pub mod PlainValues
-pub mod ReferenceValues
+mod Nesting

@@ -7,7 +7,7 @@ use Rattle.olr_binary.specs.declared.point.Point.{Point}
 use Rattle.olr_binary.specs.declared.point.Next.{Next}
 use Rattle.olr_binary.specs.declared.reference.Reference.{Reference}
 use Rattle.olr_binary.specs.declared.reference.Reference.TheVariants.{Line, PointAlong}
-use Rattle.olr_binary.specs.JsonValues.{whole, whole_or_null, integer, array_of, IsJsonLine}
+use Rattle.olr_text.specs.JsonValues.{whole, whole_or_null, integer, array_of, IsJsonLine}
 
 -- a point; its interval and its lowest class are those of the path to the next point, so the last
 -- point has neither

@@ -7,6 +7,5 @@ pub mod Reference
 pub mod Refusal
 pub mod Outcome
 pub mod Show
-pub mod JsonValues
 pub mod Json
 pub mod Stages

@@ -13,8 +13,7 @@
 //! - [`coordinates`]: the coordinates of the points.
 //! - [`attributes`]: the points, with their attributes.
 //! - [`decoding`]: the whole reference, or its refusal.
-//! - [`showing`]: the text of a reference; [`showing_json`]: its JSON, whose line [`value_line`]
-//!   writes.
+//! - [`showing`]: the text of a reference; [`showing_json`]: its JSON.
 //!
 //! [`reference`], [`point`] and [`refusal`] define the results. By [`laws`] a text has at most one
 //! outcome.
@@ -33,7 +32,6 @@ mod showing;
 mod showing_json;
 mod status;
 mod text;
-mod value_line;
 
 pub use decoding::decode;
 pub use laws::{one_outcome, one_reference};
@@ -43,4 +41,3 @@ pub use refusal::{Kind, Refused};
 pub use showing::show_text;
 pub use showing_json::show_json;
 pub use text::trim;
-pub use value_line::json_line;

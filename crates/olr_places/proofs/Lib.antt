@@ -13,4 +13,3 @@ mod Opening
 mod LookSteps
 mod Progress
 mod Outputs
-mod JsonPlaces

@@ -3,7 +3,7 @@
 use Rattle.std.specs.Prelude.{ℕ, ◌+◌, List, [], ◌∷◌, length, None, codes}
 use Rattle.serde_json.specs.Data.{Data, string, array, object, no_members, member}
 use Rattle.serde_json.specs.View.{items_of}
-use Rattle.olr_binary.specs.JsonValues.{whole, whole_or_null}
+use Rattle.olr_text.specs.JsonValues.{whole, whole_or_null}
 use Rattle.olr_report.specs.Json.{next_value}
 use Rattle.olr_places.specs.Looking.{Looked, gap_of, listed_of, members_of}
 use Rattle.olr_places.specs.Shown.{Shown}

@@ -1,7 +1,7 @@
 -- What is kept of the matchings that were looked at.
 use Rattle.std.specs.Prelude.{◌≡◌, ℕ, ◌+◌, List, [], ◌∷◌, ◌++◌, length, map, All, None, codes}
 use Rattle.serde_json.specs.Data.{Data, string, object, no_members, member}
-use Rattle.olr_binary.specs.JsonValues.{array_of, whole, whole_or_null}
+use Rattle.olr_text.specs.JsonValues.{array_of, whole, whole_or_null}
 use Rattle.olr_keys.specs.Page.{last_of}
 use Rattle.olr_map.specs.RoadMap.{RoadMap}
 use Rattle.olr_matching.specs.Layers.{LayersValue}

@@ -2,9 +2,8 @@
 
 ghost use Rattle.std.specs.Prelude.{IfOk, OnOk, string_bytes};
 ghost use Rattle.serde_json.specs.Data.{Data};
-ghost use Rattle.olr_binary.specs.JsonValues.{IsJsonLine};
-ghost use Rattle.olr_map.specs.RoadMap.{RoadMap};
-ghost use Rattle.olr_report.specs.Sent.{Sends};
+ghost use Rattle.olr_text.specs.JsonValues.{IsJsonLine};
+ghost use Rattle.olr_text.specs.Sent.{Sends};
 ghost use Rattle.olr_places.specs.Json.{places_object};
 ghost use Rattle.olr_places.specs.Looking.{Looked};
 ghost use Rattle.olr_places.specs.Places.{ArePlacesOf, object_of, opener_object};
@@ -14,43 +13,44 @@ use crate::opener::Opener;
 use crate::places::Places;
 use olr_map::Map;
 use olr_metric::NoMemory;
-use olr_report::{ShownMatching, ToJson, next_cursor, send_member, to_json_line};
+use olr_report::{OnMap, ShownMatching, next_cursor};
+use olr_text::{ToJson, send_object, to_json_line};
 use serde::Serializer;
 use std::alloc::Global;
 
 /// The object of the place of an opener.
-impl ToJson for Opener {
-    ghost value = { opener_object };
+impl ToJson<OnMap<'_>> for Opener {
+    ghost value = { λ on. opener_object on.map.now };
 
-    fn send<S: Serializer>(&self, map: &Map, out: &mut S) -> Result<(), S::Error> {
+    fn send<S: Serializer>(&self, on: &OnMap<'_>, out: &mut S) -> Result<(), S::Error> {
         let matching = ShownMatching {
             key: &self.key,
             matched: &self.matched,
             route: &self.route,
             location: self.extent.location(),
         };
-        out.begin_map(Some(3))?;
-        send_member("gap", &self.gap, map, out)?;
-        send_member("matching", &matching, map, out)?;
-        send_member("members", &self.members, map, out)?;
-        out.end_map()
+        send_object!(on, out, {
+            "gap": self.gap,
+            "matching": matching,
+            "members": self.members,
+        })
     }
 }
 
 /// The object of places.
-impl ToJson for Places {
-    ghost value = { object_of };
+impl ToJson<OnMap<'_>> for Places {
+    ghost value = { λ on. object_of on.map.now };
 
-    fn send<S: Serializer>(&self, map: &Map, out: &mut S) -> Result<(), S::Error> {
+    fn send<S: Serializer>(&self, on: &OnMap<'_>, out: &mut S) -> Result<(), S::Error> {
         let next = next_cursor(self.next(), None);
         let verdict = self.verdict();
-        out.begin_map(Some(5))?;
-        send_member("looked", &self.looked, map, out)?;
-        send_member("margin", &self.margin, map, out)?;
-        send_member("next", &next, map, out)?;
-        send_member("places", &self.openers, map, out)?;
-        send_member("verdict", &verdict.word(), map, out)?;
-        out.end_map()
+        send_object!(on, out, {
+            "looked": self.looked,
+            "margin": self.margin,
+            "next": next,
+            "places": self.openers,
+            "verdict": verdict.word(),
+        })
     }
 }
 
@@ -67,6 +67,6 @@ pub fn places_json(alloc: Global, map: &Map, places: Places) -> Result<String, N
         → ArePlacesOf limits map.now looked places
         → IsJsonLine (places_object limits looked) (string_bytes text)) }
 {
-    let text = to_json_line(alloc, map, &places)?;
+    let text = to_json_line(alloc, &OnMap { map }, &places)?;
     Ok(text)
 }

@@ -9,7 +9,6 @@ pub use Rattle.olr_matching.specs.declared.matched.Leg.{Leg}
 pub use Rattle.olr_matching.specs.declared.matched.Matched.{Matched}
 pub use Rattle.olr_report.specs.Entries.{AreEntriesOf, Entry, entry_of, IsEntryOf}
 pub use Rattle.olr_report.specs.Joined.{AreApart, IsJoined, IsJoinedRoute, IsNotEmpty, IsRouteOver}
-pub use Rattle.olr_report.specs.Sent.{SendsItems}
 pub use Rattle.olr_report.specs.Steps.{Step, steps_in, steps_of, steps_of_legs}
 pub use Rattle.olr_report.specs.Text.{entries_rows}
 pub use Rattle.olr_report.specs.declared.locating.Located.{Located}

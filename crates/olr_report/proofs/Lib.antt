@@ -14,6 +14,4 @@ mod PageEntries
 mod PiecesText
 mod OneShown
 pub mod JsonShape
-mod SentTexts
-mod SentEntries
 pub mod ShownPage

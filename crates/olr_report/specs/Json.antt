@@ -3,7 +3,7 @@
 use Rattle.std.specs.Prelude.{ℕ, List, Option, None, codes}
 use Rattle.std.specs.Global.{Vec}
 use Rattle.serde_json.specs.Data.{Data, Members, string, array, object, no_items, item, no_members, member}
-use Rattle.olr_binary.specs.JsonValues.{whole, array_of, or_null, IsJsonLine}
+use Rattle.olr_text.specs.JsonValues.{whole, array_of, or_null, IsJsonLine}
 use Rattle.olr_report.specs.Common.{Candidate, KeyValue, Leg, Mark, Matched, PageValue, Piece, Place, Reference, RoadMap}
 use Rattle.olr_keys.specs.Cursor.{cursor_text}
 use Rattle.olr_route.specs.Route.{id_at}

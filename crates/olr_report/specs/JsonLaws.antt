@@ -4,7 +4,7 @@ use Rattle.std.specs.Prelude.{◌≡◌, ℕ, List, ◌++◌, Option, Some, fals
 use Rattle.serde_json.specs.Data.{Data}
 use Rattle.serde_json.specs.Find.{get}
 use Rattle.serde_json.specs.Read.{read}
-use Rattle.olr_binary.specs.JsonValues.{array_of, IsJsonLine}
+use Rattle.olr_text.specs.JsonValues.{array_of, IsJsonLine}
 use Rattle.olr_report.specs.Common.{KeyValue, Mark, Matched, PageValue, Reference, RoadMap}
 use Rattle.olr_report.specs.Entries.{Entry, AreEntriesOf}
 use Rattle.olr_report.specs.Json.{entry_object, next_value, page_object, IsPageJson}

@@ -7,6 +7,5 @@ pub mod Entries
 pub mod TextRows
 pub mod Text
 pub mod TextLaws
-pub mod Sent
 pub mod Json
 pub mod JsonLaws

@@ -15,7 +15,6 @@
 //! - [`page_entries`]: the matchings of a page as they are shown, whatever the format.
 //! - [`text_rows`]: the rows of a matching, and the last row of a page.
 //! - [`text`]: the text of a page.
-//! - [`to_json`]: what is written as JSON, and its line.
 //! - [`matching_json`]: the JSON of a matching.
 //! - [`page_json`]: the JSON of a page.
 //!
@@ -39,7 +38,6 @@ mod pieces;
 mod text;
 mod text_laws;
 mod text_rows;
-mod to_json;
 mod trimming;
 
 pub use conditions::{are_forwards, are_legs_of, is_forwards};
@@ -47,12 +45,11 @@ pub use joining::join;
 pub use json_laws::{json_ends_without_mark, json_reads_as_page, one_json, only_mark_differs};
 pub use laws::{legs_of_matching, one_route_of_steps, one_trimmed_part};
 pub use locating::{Located, location};
-pub use matching_json::ShownMatching;
+pub use matching_json::{OnMap, ShownMatching};
 pub use page_entries::{Entry, entries, entry_of};
 pub use page_json::{json_page, next_cursor};
 pub use part_laws::{inner_lies_within_outer, some_route_of_steps};
 pub use text::text_page;
 pub use text_laws::{ends_without_mark, one_text, sound_parts_can_be_shown};
 pub use text_rows::{push_end, push_part, push_place};
-pub use to_json::{ToJson, send_member, to_json_line};
 pub use trimming::trim;

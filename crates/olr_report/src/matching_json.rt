@@ -2,23 +2,27 @@
 
 ghost use Rattle.std.specs.Prelude.{◌≡◌, OnOk};
 ghost use Rattle.serde_json.specs.Data.{Data};
-ghost use Rattle.olr_map.specs.RoadMap.{RoadMap};
 ghost use Rattle.olr_route.specs.Route.{id_at};
 ghost use Rattle.olr_report.specs.Entries.{entry_of, shown_entry};
-ghost use Rattle.olr_report.specs.Json.{candidate_object, leg_object, piece_array, place_array};
-ghost use Rattle.olr_report.specs.Json.{entry_object, located_members};
-ghost use Rattle.olr_report.specs.Sent.{Sends, SendsBefore};
+ghost use Rattle.olr_report.specs.Json.{candidate_object, entry_object, leg_object, piece_array, place_array};
+ghost use Rattle.olr_text.specs.Sent.{Sends};
 
 use crate::locating::Located;
 use crate::page_entries::Entry;
 use crate::text_rows::id_of_line;
-use crate::to_json::{ToJson, send_member};
 use olr_candidates::Candidate;
 use olr_keys::{Cursor, Key};
 use olr_map::{Map, Place};
 use olr_matching::{Leg, Matched};
 use olr_route::Piece;
+use olr_text::{ToJson, send_object};
 use serde::Serializer;
+
+/// What is shown lies on a map, and its lines have the ids that they have there.
+#[derive(Clone, Copy)]
+pub struct OnMap<'a> {
+    pub map: &'a Map,
+}
 
 /// The id of the line of a rank; 0 where the map has no such line.
 fn shown_id(map: &Map, line: u32) -> u64
@@ -33,42 +37,35 @@ fn shown_id(map: &Map, line: u32) -> u64
 
 /// The object of a candidate: its `at`, the position on its line in decimetres, `line`, the id of
 /// this line, and its `penalty`.
-impl ToJson for Candidate {
-    ghost value = { candidate_object };
+impl ToJson<OnMap<'_>> for Candidate {
+    ghost value = { λ on. candidate_object on.map.now };
 
-    fn send<S: Serializer>(&self, map: &Map, out: &mut S) -> Result<(), S::Error> {
+    fn send<S: Serializer>(&self, on: &OnMap<'_>, out: &mut S) -> Result<(), S::Error> {
         let Candidate {
             place: Place { line, at },
             penalty,
         } = *self;
-        out.begin_map(Some(3))?;
-        send_member("at", &at, map, out)?;
-        send_member("line", &shown_id(map, line), map, out)?;
-        send_member("penalty", &u32::from(penalty), map, out)?;
-        out.end_map()
+        send_object!(on, out, { "at": at, "line": shown_id(on.map, line), "penalty": penalty })
     }
 }
 
 /// The object of a leg: its `length` in decimetres and its `penalty`.
-impl ToJson for Leg {
+impl ToJson<OnMap<'_>> for Leg {
     ghost value = { λ _. leg_object };
 
-    fn send<S: Serializer>(&self, map: &Map, out: &mut S) -> Result<(), S::Error> {
-        out.begin_map(Some(2))?;
-        send_member("length", &self.length, map, out)?;
-        send_member("penalty", &u32::from(self.penalty), map, out)?;
-        out.end_map()
+    fn send<S: Serializer>(&self, on: &OnMap<'_>, out: &mut S) -> Result<(), S::Error> {
+        send_object!(on, out, { "length": self.length, "penalty": self.penalty })
     }
 }
 
 /// The array of a piece: the id of its line, and the positions where it begins and ends.
-impl ToJson for Piece {
-    ghost value = { piece_array };
+impl ToJson<OnMap<'_>> for Piece {
+    ghost value = { λ on. piece_array on.map.now };
 
-    fn send<S: Serializer>(&self, map: &Map, out: &mut S) -> Result<(), S::Error> {
+    fn send<S: Serializer>(&self, on: &OnMap<'_>, out: &mut S) -> Result<(), S::Error> {
         let Piece { line, from, to } = *self;
         out.begin_seq(Some(3))?;
-        out.u64(shown_id(map, line))?;
+        out.u64(shown_id(on.map, line))?;
         out.u64(u64::from(from))?;
         out.u64(u64::from(to))?;
         out.end_seq()
@@ -76,39 +73,15 @@ impl ToJson for Piece {
 }
 
 /// The array of a place: the id of its line, and the position on it.
-impl ToJson for Place {
-    ghost value = { place_array };
+impl ToJson<OnMap<'_>> for Place {
+    ghost value = { λ on. place_array on.map.now };
 
-    fn send<S: Serializer>(&self, map: &Map, out: &mut S) -> Result<(), S::Error> {
+    fn send<S: Serializer>(&self, on: &OnMap<'_>, out: &mut S) -> Result<(), S::Error> {
         let Place { line, at } = *self;
         out.begin_seq(Some(2))?;
-        out.u64(shown_id(map, line))?;
+        out.u64(shown_id(on.map, line))?;
         out.u64(u64::from(at))?;
         out.end_seq()
-    }
-}
-
-/// Sends the members of a location, with the legs among them.
-fn send_located<S: Serializer>(
-    location: &Located,
-    legs: &[Leg],
-    map: &Map,
-    out: &mut S,
-) -> Result<(), S::Error>
-    ensures { OnOk result (SendsBefore (located_members map.now location.now legs.now)
-        (S.written out.old) (S.written out.new)) }
-{
-    match location {
-        Located::Line { outer, inner } => {
-            send_member("inner", inner, map, out)?;
-            send_member("legs", &legs, map, out)?;
-            send_member("outer", outer, map, out)
-        }
-        Located::Point { earliest, latest } => {
-            send_member("earliest", earliest, map, out)?;
-            send_member("latest", latest, map, out)?;
-            send_member("legs", &legs, map, out)
-        }
     }
 }
 
@@ -127,10 +100,10 @@ pub struct ShownMatching<'a> {
 
 /// The object of a matching: its cursor, its location, its legs, its points, its joined route and
 /// its total.
-impl ToJson for ShownMatching<'_> {
-    ghost value = { λ road shown. entry_object road (shown_entry shown) };
+impl ToJson<OnMap<'_>> for ShownMatching<'_> {
+    ghost value = { λ on shown. entry_object on.map.now (shown_entry shown) };
 
-    fn send<S: Serializer>(&self, map: &Map, out: &mut S) -> Result<(), S::Error> {
+    fn send<S: Serializer>(&self, on: &OnMap<'_>, out: &mut S) -> Result<(), S::Error> {
         let ShownMatching {
             key,
             matched,
@@ -138,27 +111,40 @@ impl ToJson for ShownMatching<'_> {
             location,
         } = *self;
         let cursor = Cursor::write(key, None);
-        out.begin_map(Some(7))?;
-        send_member("cursor", &cursor, map, out)?;
-        send_located(location, &matched.legs, map, out)?;
-        send_member("points", &matched.candidates, map, out)?;
-        send_member("route", &route, map, out)?;
-        send_member("total", &u32::from(key.total), map, out)?;
-        out.end_map()
+        match location {
+            Located::Line { outer, inner } => send_object!(on, out, {
+                "cursor": cursor,
+                "inner": *inner,
+                "legs": matched.legs,
+                "outer": *outer,
+                "points": matched.candidates,
+                "route": route,
+                "total": key.total,
+            }),
+            Located::Point { earliest, latest } => send_object!(on, out, {
+                "cursor": cursor,
+                "earliest": *earliest,
+                "latest": *latest,
+                "legs": matched.legs,
+                "points": matched.candidates,
+                "route": route,
+                "total": key.total,
+            }),
+        }
     }
 }
 
 /// The object of the matching.
-impl ToJson for Entry<'_> {
-    ghost value = { λ road entry. entry_object road (entry_of entry) };
+impl ToJson<OnMap<'_>> for Entry<'_> {
+    ghost value = { λ on entry. entry_object on.map.now (entry_of entry) };
 
-    fn send<S: Serializer>(&self, map: &Map, out: &mut S) -> Result<(), S::Error> {
+    fn send<S: Serializer>(&self, on: &OnMap<'_>, out: &mut S) -> Result<(), S::Error> {
         let shown = ShownMatching {
             key: self.key,
             matched: self.matched,
             route: &self.route,
             location: &self.location,
         };
-        shown.send(map, out)
+        shown.send(on, out)
     }
 }

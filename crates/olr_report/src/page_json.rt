@@ -2,24 +2,24 @@
 
 ghost use Rattle.std.specs.Prelude.{◌≡◌, codes, length, option_map, string_bytes, All, IfOk, OnOk};
 ghost use Rattle.serde_json.specs.Data.{Data, member, no_members, object, string};
-ghost use Rattle.olr_binary.specs.JsonValues.{array_of, or_null};
+ghost use Rattle.olr_text.specs.JsonValues.{array_of, or_null};
 ghost use Rattle.olr_binary.specs.Reference.{IsReference};
 ghost use Rattle.olr_keys.specs.Cursor.{cursor_text};
 ghost use Rattle.olr_keys.specs.Page.{page_of};
-ghost use Rattle.olr_map.specs.RoadMap.{RoadMap};
 ghost use Rattle.olr_report.specs.Entries.{entry_of, CanBeShown};
 ghost use Rattle.olr_report.specs.Json.{entry_object, IsPageJson};
-ghost use Rattle.olr_report.specs.Sent.{Sends};
+ghost use Rattle.olr_text.specs.Sent.{Sends};
 
+use crate::matching_json::OnMap;
 use crate::page_entries::{Entry, entries};
 use crate::text::next_after;
-use crate::to_json::{ToJson, send_member, to_json_line};
 use arrayvec::ArrayString;
 use olr_binary::Reference;
 use olr_keys::{Cursor, Key, Mark, Page};
 use olr_map::Map;
 use olr_matching::Matched;
 use olr_metric::NoMemory;
+use olr_text::{ToJson, send_object, to_json_line};
 use serde::Serializer;
 use std::alloc::Global;
 
@@ -31,17 +31,14 @@ struct PageEntries<'a> {
 }
 
 /// The object of a page.
-impl ToJson for PageEntries<'_> {
-    ghost value = { λ road page. object (
+impl ToJson<OnMap<'_>> for PageEntries<'_> {
+    ghost value = { λ on page. object (
         member (codes "matchings")
-        (array_of (λ entry. entry_object road (entry_of entry)) page.matchings.items) (
+        (array_of (λ entry. entry_object on.map.now (entry_of entry)) page.matchings.items) (
         member (codes "next") (or_null (λ next. string next.bytes) page.next) no_members)) };
 
-    fn send<S: Serializer>(&self, map: &Map, out: &mut S) -> Result<(), S::Error> {
-        out.begin_map(Some(2))?;
-        send_member("matchings", &self.matchings, map, out)?;
-        send_member("next", &self.next, map, out)?;
-        out.end_map()
+    fn send<S: Serializer>(&self, on: &OnMap<'_>, out: &mut S) -> Result<(), S::Error> {
+        send_object!(on, out, { "matchings": self.matchings, "next": self.next })
     }
 }
 
@@ -93,6 +90,6 @@ pub fn json_page(
 {
     let matchings = entries(alloc, reference, page, matched)?;
     let next = next_cursor(next_after(page), mark);
-    let line = to_json_line(alloc, map, &PageEntries { matchings, next })?;
+    let line = to_json_line(alloc, &OnMap { map }, &PageEntries { matchings, next })?;
     Ok(line)
 }

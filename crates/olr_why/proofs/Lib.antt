@@ -15,7 +15,6 @@ pub mod OneVerdict
 pub mod Ends
 pub mod Lacking
 pub mod AllReasons
-mod JsonWhy
 mod OneLegs
 mod OneRemedies
 mod OneWhy

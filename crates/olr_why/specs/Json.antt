@@ -2,8 +2,8 @@
 -- object under its name, in the order of the names. All numbers are whole; distances are in
 -- centimetres, positions and lengths in decimetres.
 use Rattle.std.specs.Prelude.{ℕ, Bool, List, [], ◌∷◌, ◌++◌, Option, None, Some, codes, if◌then◌else◌}
-use Rattle.serde_json.specs.Data.{Data, Members, null, string, object, no_members, member}
-use Rattle.olr_binary.specs.JsonValues.{array_of, whole, whole_or_null}
+use Rattle.serde_json.specs.Data.{Data, string, object, no_members, member}
+use Rattle.olr_text.specs.JsonValues.{array_of, or_null, whole, whole_or_null}
 use Rattle.olr_candidates.specs.declared.near.FailedConditions.{FailedConditions}
 use Rattle.olr_candidates.specs.Tolerances.{tolerance_name}
 use Rattle.olr_why.specs.Common.{KeyValue, NearLine, RoadMap}
@@ -32,23 +32,22 @@ failed_conditions failed = words_if failed.radius (codes "radius")
     ++ words_if failed.bearing (codes "bearing") ++ words_if failed.class (codes "class")
     ++ words_if failed.end (codes "end")
 
--- the members of a line: its class, its form and its id
-abbrev pub line_members : RoadMap → ℕ → Members
-line_members road line = member (codes "class") (whole (class_at road line)) (
-    member (codes "form") (whole (form_at road line)) (
-    member (codes "line") (whole (id_at road line)) no_members))
-
--- a line near a point
-abbrev pub near_object : RoadMap → NearLine → Data
-near_object road near = object (
+-- a line near a point, with the class, the form and the id of the line
+abbrev pub near_value : ℕ → ℕ → ℕ → NearLine → Data
+near_value class form line near = object (
     member (codes "at") (whole near.at) (
-    member (codes "class") (whole (class_at road near.line)) (
+    member (codes "class") (whole class) (
     member (codes "distance") (whole near.distance) (
-    member (codes "form") (whole (form_at road near.line)) (
-    member (codes "line") (whole (id_at road near.line)) (
+    member (codes "form") (whole form) (
+    member (codes "line") (whole line) (
     member (codes "not") (array_of string (failed_conditions near.failed)) (
     member (codes "penalty") (whole_or_null near.penalty) (
     member (codes "sector") (whole_or_null near.sector) no_members))))))))
+
+-- a line near a point of a map
+abbrev pub near_object : RoadMap → NearLine → Data
+near_object road near =
+    near_value (class_at road near.line) (form_at road near.line) (id_at road near.line) near
 
 -- a point: how many candidates it has, null for more than 64, and the lines nearest to it
 abbrev pub point_object : RoadMap → PointReason → Data
@@ -59,16 +58,15 @@ point_object road point = object (
 -- ---- legs
 
 -- what another class limit gives
-abbrev pub better_value : Option Better → Data
-better_value None = null
-better_value (Some better) = object
+abbrev pub better_object : Better → Data
+better_object better = object
     (member (codes "class") (whole better.class)
     (member (codes "length") (whole better.length) no_members))
 
 -- a pair of a leg that admits these lengths
 abbrev pub pair_object : ℕ → ℕ → PairLength → Data
 pair_object least greatest pair = object (
-    member (codes "better") (better_value pair.better) (
+    member (codes "better") (or_null better_object pair.better) (
     member (codes "first") (whole pair.first) (
     member (codes "length") (whole_or_null pair.length) (
     member (codes "long") (whole_or_null (long_of greatest pair.length)) (
@@ -97,15 +95,11 @@ abbrev pub value_in : Change → Option ℕ
 value_in (Tolerance name value) = Some value
 value_in WithoutBans = None
 
--- the cursor of a matching, null where there is none
-abbrev pub matching_value : Option KeyValue → Data
-matching_value None = null
-matching_value (Some key) = string (key_text key)
-
--- a change that would help
+-- a change that would help, with the cursor of the matching, null where there is none
 abbrev pub remedy_object : Remedy → Data
 remedy_object remedy = object (
-    member (codes "matching") (matching_value remedy.matching) (
+    member (codes "matching") (or_null (λ (key : KeyValue). string (key_text key))
+    remedy.matching) (
     member (codes "option") (string (option_of remedy.change)) (
     member (codes "value") (whole_or_null (value_in remedy.change)) no_members)))
 

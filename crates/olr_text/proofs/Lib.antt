@@ -1,0 +1,2 @@
+mod SentTexts
+pub mod Nesting

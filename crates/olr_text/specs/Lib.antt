@@ -1,0 +1,2 @@
+pub mod JsonValues
+pub mod Sent
