@@ -13,11 +13,11 @@ mod Ranges
 mod Listed
 mod FromStart
 pub mod PageLists
-mod Chains
+pub mod Chains
 mod OneChain
 mod CursorText
 mod KeyText
-mod Lacking
+pub mod Lacking
 mod RanksText
 mod Hexadecimal
 mod Outcomes

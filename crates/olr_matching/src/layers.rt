@@ -44,6 +44,13 @@ impl Layers {
         &self.reference
     }
 
+    /// The tolerances that they were built with.
+    pub fn tolerances(&self) -> &Tolerances
+        ensures { result.now ≡ self.now.tolerances }
+    {
+        &self.tolerances
+    }
+
     /// The penalties of all candidates and legs.
     pub fn table(&self) -> &Table
         ensures { result.now ≡ self.now.penalties }

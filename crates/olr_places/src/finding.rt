@@ -1,7 +1,6 @@
 //! The places of a reference: its matchings are looked at in order, one after the other.
 
 ghost use Rattle.std.specs.Prelude.{◌≡◌, All, IfOk, List};
-ghost use Rattle.olr_binary.specs.Reference.{IsReference};
 ghost use Rattle.olr_keys.specs.Answers.{AreAnswers};
 ghost use Rattle.olr_keys.specs.Key.{KeyValue};
 ghost use Rattle.olr_keys.specs.Matching.{IsKey};
@@ -16,7 +15,6 @@ use crate::limits::PlaceLimits;
 use crate::looking::Looking;
 use crate::opener::Opener;
 use crate::places::Places;
-use olr_binary::Reference;
 use olr_keys::{Finder, Key, TotalsFinder};
 use olr_map::{Map, sound};
 use olr_matching::{Layers, Routes, Searches, matchings_are_sound};
@@ -26,15 +24,8 @@ use std::alloc::Global;
 use std::slice;
 
 /// The matching of a key, with its parts, as one that opens a place.
-fn opener_of(
-    alloc: Global,
-    routes: &mut Routes<'_>,
-    reference: &Reference,
-    key: Key,
-) -> Result<Opener, NoMemory>
-    requires reference { routes.old.layers.reference ≡ reference.now }
-    requires is_reference { IsReference reference.now }
-    requires key { IsKey routes.old.layers.penalties key }
+fn opener_of(alloc: Global, routes: &mut Routes<'_>, key: Key) -> Result<Opener, NoMemory>
+    requires { IsKey routes.old.layers.penalties key }
     ensures key { IfOk result (λ opener. opener.key ≡ key) }
     ensures entry { IfOk result (IsOpenerAt routes.old.road routes.old.layers) }
     ensures itself { IfOk result (λ opener. opener.members ≡ 1) }
@@ -43,8 +34,6 @@ fn opener_of(
     matchings_are_sound();
     sound_parts_can_be_shown();
     sound(routes.map());
-    // Called for its clause: the layers are those of the map.
-    let _layers = routes.layers();
     let mut all = routes.matched(alloc, slice::from_ref(&key))?;
     let Some(matched) = all.pop() else {
         unreachable!()
@@ -53,7 +42,7 @@ fn opener_of(
         route,
         location,
         ..
-    } = entry_of(alloc, reference, &key, &matched)?;
+    } = entry_of(alloc, routes.layers().reference(), &key, &matched)?;
     Ok(Opener {
         key,
         matched,
@@ -77,13 +66,10 @@ pub fn places_of(
     map: &Map,
     layers: &Layers,
     searches: Searches,
-    reference: &Reference,
     limits: &PlaceLimits,
 ) -> Result<Places, NoMemory>
     requires layers { AreLayersOn map.now layers.now }
     requires searches { AreSearchesOn map.now searches }
-    requires reference { layers.now.reference ≡ reference.now }
-    requires is_reference { IsReference reference.now }
     ensures places { IfOk result (λ places. (answers : List KeyValue) × (looked : Looked)
         × AreAnswers layers.now.penalties answers
         × IsLooked limits.now map.now layers.now answers looked
@@ -99,7 +85,7 @@ pub fn places_of(
         if looking.looked == limits.look {
             return Ok(looking.places(Ending::Cut));
         }
-        let opener = opener_of(alloc, &mut routes, reference, key)?;
+        let opener = opener_of(alloc, &mut routes, key)?;
         if let Some(ending) = looking.look_at(limits, opener)? {
             return Ok(looking.places(ending));
         }

@@ -5,7 +5,7 @@ use Rattle.olr_candidates.proofs.Values.{one_changed}
 use Rattle.olr_keys.specs.Laws.{OneList}
 use Rattle.olr_matching.proofs.Lists.{same_some}
 use Rattle.olr_why.specs.Chain.{HasMatching, IsFirstMatching}
-use Rattle.olr_why.specs.Remedies.{AreNarrower, AreRemedies, AreWider, IsGreatestUncrowded, IsLeastEnough, IsNarrower, IsOpener, IsWider, by_trust, narrowed, without_bans}
+use Rattle.olr_why.specs.Remedies.{AreNarrower, AreRemedies, AreWider, IsGreatestUncrowded, IsLeastEnough, IsNarrower, IsRemedyWithoutBans, IsWider, by_trust, narrowed, without_bans}
 use Rattle.olr_why.specs.declared.remedy.Change.TheVariants.{Tolerance}
 use Rattle.olr_why.specs.declared.remedy.Remedy.{Remedy}
 use Rattle.olr_why.specs.declared.verdict.Verdict.TheVariants.{Crowded, Match}
@@ -66,8 +66,8 @@ module _ (one_layers : OneLayers) (one_list : OneList) (has_key : MatchingHasKey
 
     -- ---- a map without bans
 
-    one_opener : (a b : Option Remedy) → IsOpener road given reference a
-        → IsOpener road given reference b → a ≡ b
+    one_opener : (a b : Option Remedy) → IsRemedyWithoutBans road given reference a
+        → IsRemedyWithoutBans road given reference b → a ≡ b
     one_opener a b = one_option a b
         (λ remedy is none. none is.3 (has_matching (without_bans road) reference has_key is.4)) λ x
         y is also.

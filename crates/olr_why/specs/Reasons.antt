@@ -32,6 +32,12 @@ module _ (road : RoadMap) (tolerances : Tolerances) (reference : Reference) wher
     pub each : (index : ℕ) (point : PointReason) → slice_get points index ≡ Some point
         → IsPointReason nearest index point
 
+  -- these are the layers of the reference
+  pub record AreLayersOf (layers : LayersValue) : Type 0 where
+    pub on : AreLayersOn road layers
+    pub reference_is : layers.reference ≡ reference
+    pub tolerances_is : layers.tolerances ≡ tolerances
+
   -- the legs, by the layers of the reference
   pub record AreLegs (legs : List LegReason) : Type 0 where
     pub layers : LayersValue

@@ -69,8 +69,8 @@ module _ (road : RoadMap) (given : Tolerances) (reference : Reference) where
       × (remedy.matching ≡ Some key) × IsLeastEnough name value key)
 
   -- a map without bans, where the map has a ban, if that helps
-  abbrev pub IsOpener : Option Remedy → Type 0
-  IsOpener answer = MatchOption answer
+  abbrev pub IsRemedyWithoutBans : Option Remedy → Type 0
+  IsRemedyWithoutBans answer = MatchOption answer
       (road.bans ≢ [] → HasMatching (without_bans road) given reference → ⊥)
       (λ remedy. (key : KeyValue) × (remedy.change ≡ WithoutBans) × (remedy.matching ≡ Some key)
       × (road.bans ≢ [])
@@ -110,7 +110,7 @@ module _ (road : RoadMap) (given : Tolerances) (reference : Reference) where
     pub of_tolerances : List Remedy
     pub of_bans : Option Remedy
     pub tolerances : AreOfNames IsWider by_trust of_tolerances
-    pub bans : IsOpener of_bans
+    pub bans : IsRemedyWithoutBans of_bans
     pub list_is : remedies ≡ of_tolerances ++ option_to_list of_bans
 
   -- what helps where a point has too many candidates

@@ -1,9 +1,10 @@
 //! Why a reference has no matching on a map: all of it, from the map.
 
-ghost use Rattle.std.specs.Prelude.{◌≡◌, ◌<◌, All, IfOk, MatchOption, [], length};
+ghost use Rattle.std.specs.Prelude.{◌≡◌, ◌<◌, All, IfOk, IfSome, MatchOption, [], length};
 ghost use Rattle.olr_binary.specs.Reference.{IsReference, points_of};
+ghost use Rattle.olr_candidates.specs.Near.{AreNearestOf};
 ghost use Rattle.olr_matching.specs.Layers.{AreLayersOn};
-ghost use Rattle.olr_why.specs.Reasons.{AreLegsFor, AreOnMap, ArePointReasons, IsCountOf, IsPointReason, IsWhy};
+ghost use Rattle.olr_why.specs.Reasons.{AreLayersOf, AreLegsFor, AreOnMap, ArePointReasons, IsCountOf, IsWhy};
 ghost use Rattle.olr_why.specs.Remedies.{IsUnbanned};
 ghost use Rattle.olr_why.specs.Verdict.{IsVerdict};
 
@@ -17,7 +18,7 @@ use crate::verdicts::verdict_of;
 use crate::why::Why;
 use olr_binary::Reference;
 use olr_candidates::{
-    LayersFault, Tolerances, candidates, nearest_are_near, nearest_lines,
+    LayersFault, NearLine, Tolerances, candidates, nearest_are_near, nearest_lines,
     no_list_of_point_and_too_many, no_lists_and_too_many,
 };
 use olr_map::Map;
@@ -25,56 +26,73 @@ use olr_matching::Layers;
 use olr_metric::NoMemory;
 use std::alloc::Global;
 
-/// How many candidates a point has, counted from 0; none where they are more than 64.
-fn count_of(map: &Map, reference: &Reference, tolerances: &Tolerances, index: usize) -> Option<u8>
-    requires { index < length (points_of reference.now) }
+/// How many candidates a point has, counted from 0; none where they are more than 64. Where there
+/// are layers of the reference, they are counted there.
+fn count_of(
+    map: &Map,
+    reference: &Reference,
+    tolerances: &Tolerances,
+    layers: Option<&Layers>,
+    index: usize,
+) -> Option<u8>
+    requires inside { index < length (points_of reference.now) }
+    requires layers { IfSome layers (λ layers.
+        AreLayersOf map.now tolerances.now reference.now layers.now) }
     ensures { IsCountOf map.now tolerances.now reference.now index result }
 {
+    if let Some(layers) = layers {
+        return Some(layers.layer(index).len() as u8);
+    }
     let Ok(list) = candidates(map, reference, tolerances, index) else {
         return None;
     };
     Some(list.len() as u8)
 }
 
-/// The reasons of a point, counted from 0, with so many of the lines nearest to it.
-fn point_of(
+/// So many of the lines nearest to a point, counted from 0.
+fn nearest_to(
     alloc: Global,
     map: &Map,
     reference: &Reference,
     tolerances: &Tolerances,
     nearest: usize,
     index: usize,
-) -> Result<PointReason, NoMemory>
+) -> Result<Vec<NearLine>, NoMemory>
     requires { index < length (points_of reference.now) }
-    ensures reason { IfOk result (IsPointReason map.now tolerances.now reference.now nearest index) }
-    ensures on_map { IfOk result (λ point.
-        All (λ near. near.line < length map.now.lines) point.nearest) }
+    ensures near { IfOk result (λ lines. AreNearestOf tolerances.now reference.now map.now.lines
+        index nearest lines.items) }
+    ensures on_map { IfOk result (λ lines.
+        All (λ near. near.line < length map.now.lines) lines.items) }
 {
     nearest_are_near();
-    let candidates = count_of(map, reference, tolerances, index);
-    let nearest = nearest_lines(alloc, map, reference, tolerances, index, nearest)?;
-    Ok(PointReason {
-        candidates,
-        nearest,
-    })
+    let lines = nearest_lines(alloc, map, reference, tolerances, index, nearest)?;
+    Ok(lines)
 }
 
-/// The reasons of all points, with so many of the lines nearest to each.
+/// The reasons of all points, with so many of the lines nearest to each, by the layers of the
+/// reference, where there are such.
 fn reasons_of_points(
     alloc: Global,
     map: &Map,
     reference: &Reference,
     tolerances: &Tolerances,
     nearest: usize,
+    layers: Option<&Layers>,
 ) -> Result<Vec<PointReason>, NoMemory>
+    requires { IfSome layers (λ layers.
+        AreLayersOf map.now tolerances.now reference.now layers.now) }
     ensures reasons { IfOk result (λ points.
         ArePointReasons map.now tolerances.now reference.now nearest points.items) }
     ensures on_map { IfOk result (λ points. AreOnMap map.now points.items) }
 {
     let mut points = Vec::new(alloc);
     for index in 0..reference.points().len() {
-        let point = point_of(alloc, map, reference, tolerances, nearest, index)?;
-        points.push(point)?;
+        let candidates = count_of(map, reference, tolerances, layers, index);
+        let nearest = nearest_to(alloc, map, reference, tolerances, nearest, index)?;
+        points.push(PointReason {
+            candidates,
+            nearest,
+        })?;
     }
     Ok(points)
 }
@@ -83,42 +101,43 @@ fn reasons_of_points(
 fn with_layers(
     alloc: Global,
     map: &Map,
-    reference: &Reference,
-    tolerances: &Tolerances,
     layers: &Layers,
 ) -> Result<(Verdict, Vec<LegReason>), NoMemory>
-    requires layers { AreLayersOn map.now layers.now }
-    requires reference { layers.now.reference ≡ reference.now }
-    requires tolerances { layers.now.tolerances ≡ tolerances.now }
+    requires { AreLayersOn map.now layers.now }
     ensures verdict { IfOk result (λ found.
-        IsVerdict map.now tolerances.now reference.now found.0) }
+        IsVerdict map.now layers.now.tolerances layers.now.reference found.0) }
     ensures legs { IfOk result (λ found.
-        AreLegsFor map.now tolerances.now reference.now found.0 found.1.items) }
+        AreLegsFor map.now layers.now.tolerances layers.now.reference found.0 found.1.items) }
 {
     no_lists_and_too_many();
-    let legs = legs_of(alloc, map, reference, tolerances, layers)?;
+    let legs = legs_of(alloc, map, layers)?;
     let verdict = verdict_of(layers);
     Ok((verdict, legs))
 }
 
-/// The verdict and the legs of a reference.
-fn verdict_and_legs(
+/// The layers of a reference, none where a point has too many candidates, its verdict and its legs.
+fn layers_and_legs(
     alloc: Global,
     map: &Map,
     reference: &Reference,
     tolerances: &Tolerances,
-) -> Result<(Verdict, Vec<LegReason>), NoMemory>
+) -> Result<(Option<Layers>, Verdict, Vec<LegReason>), NoMemory>
     requires { IsReference reference.now }
+    ensures layers { IfOk result (λ found.
+        IfSome found.0 (AreLayersOf map.now tolerances.now reference.now)) }
     ensures verdict { IfOk result (λ found.
-        IsVerdict map.now tolerances.now reference.now found.0) }
+        IsVerdict map.now tolerances.now reference.now found.1) }
     ensures legs { IfOk result (λ found.
-        AreLegsFor map.now tolerances.now reference.now found.0 found.1.items) }
+        AreLegsFor map.now tolerances.now reference.now found.1 found.2.items) }
 {
     no_list_of_point_and_too_many();
     match Layers::build(alloc, map, reference, tolerances) {
-        Ok(layers) => with_layers(alloc, map, reference, tolerances, &layers),
+        Ok(layers) => {
+            let (verdict, legs) = with_layers(alloc, map, &layers)?;
+            Ok((Some(layers), verdict, legs))
+        }
         Err(LayersFault::TooManyCandidates(number)) => {
-            Ok((Verdict::Crowded(number), Vec::new(alloc)))
+            Ok((None, Verdict::Crowded(number), Vec::new(alloc)))
         }
         Err(LayersFault::NoMemory) => Err(NoMemory),
     }
@@ -148,9 +167,9 @@ pub fn why_of(
     ensures why { IfOk result (IsWhy map.now tolerances.now reference.now nearest) }
     ensures on_map { IfOk result (λ why. AreOnMap map.now why.points.items) }
 {
-    let count = nearest.lines() as usize;
-    let points = reasons_of_points(alloc, map, reference, tolerances, count)?;
-    let (verdict, legs) = verdict_and_legs(alloc, map, reference, tolerances)?;
+    let (layers, verdict, legs) = layers_and_legs(alloc, map, reference, tolerances)?;
+    let (layers, count) = (layers.as_ref(), nearest.lines() as usize);
+    let points = reasons_of_points(alloc, map, reference, tolerances, count, layers)?;
     let remedies = remedies_of(alloc, map, unbanned, reference, tolerances, verdict)?;
     Ok(Why {
         points,

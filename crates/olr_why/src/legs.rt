@@ -8,8 +8,7 @@ ghost use Rattle.olr_why.specs.inner.Pairs.{EndsAreOnMap};
 use crate::leg::LegReason;
 use crate::pair::PairLength;
 use crate::pairs::LegOnMap;
-use olr_binary::Reference;
-use olr_candidates::{Candidate, Tolerances, places};
+use olr_candidates::{Candidate, places};
 use olr_map::Map;
 use olr_matching::{Layers, class_limit, greatest_admitted, least_admitted, next_of};
 use olr_metric::NoMemory;
@@ -60,23 +59,15 @@ fn pair_count(firsts: &[Candidate], seconds: &[Candidate]) -> u32
 }
 
 /// The leg from a layer, counted from 0 and not the last one.
-fn leg_of(
-    alloc: Global,
-    map: &Map,
-    reference: &Reference,
-    tolerances: &Tolerances,
-    layers: &Layers,
-    layer: usize,
-) -> Result<LegReason, NoMemory>
+fn leg_of(alloc: Global, map: &Map, layers: &Layers, layer: usize) -> Result<LegReason, NoMemory>
     requires layers { AreLayersOn map.now layers.now }
-    requires reference { layers.now.reference ≡ reference.now }
-    requires tolerances { layers.now.tolerances ≡ tolerances.now }
     requires within { layer + 1 < length layers.now.candidates }
 
     ensures { IfOk result (IsLegReason map.now layers.now layer) }
 {
     places();
-    let next = next_of(reference, layer);
+    let next = next_of(layers.reference(), layer);
+    let tolerances = layers.tolerances();
     let firsts = layers.layer(layer);
     let seconds = layers.layer(layer + 1);
     let early_firsts = early(firsts);
@@ -109,27 +100,16 @@ fn leg_of(
 /// there is none, or it is greater than the greatest length that the leg admits, the pair has the
 /// least class limit above the leg's that gives a lesser length.
 ///
-/// The reference and the tolerances are those of the layers.
-///
 /// # Errors
 ///
 /// [`NoMemory`] where the allocator refused memory.
-pub fn legs_of(
-    alloc: Global,
-    map: &Map,
-    reference: &Reference,
-    tolerances: &Tolerances,
-    layers: &Layers,
-) -> Result<Vec<LegReason>, NoMemory>
-    requires layers { AreLayersOn map.now layers.now }
-    requires reference { layers.now.reference ≡ reference.now }
-    requires tolerances { layers.now.tolerances ≡ tolerances.now }
-
+pub fn legs_of(alloc: Global, map: &Map, layers: &Layers) -> Result<Vec<LegReason>, NoMemory>
+    requires { AreLayersOn map.now layers.now }
     ensures { IfOk result (λ legs. AreLegReasons map.now layers.now legs.items) }
 {
     let mut legs = Vec::new(alloc);
-    for layer in 0..reference.points().len() - 1 {
-        legs.push(leg_of(alloc, map, reference, tolerances, layers, layer)?)?;
+    for layer in 0..layers.reference().points().len() - 1 {
+        legs.push(leg_of(alloc, map, layers, layer)?)?;
     }
     Ok(legs)
 }

@@ -10,12 +10,12 @@ ghost use Rattle.olr_why.specs.Remedies.{IsNarrower, IsUncrowdedWith};
 ghost use Rattle.olr_why.specs.inner.Trying.{IsGreatest};
 
 use crate::remedy::{Change, Remedy};
-use crate::trying::Question;
+use crate::trying::Trials;
 use olr_candidates::{Name, one_candidate_a_line};
 use olr_metric::NoMemory;
 use std::alloc::Global;
 
-impl Question<'_> {
+impl Trials<'_> {
     /// The greatest value below the given one with which no point has more than 64 candidates; none
     /// where there is no such value. A point that has too many has with each greater value; so it
     /// is found by halving.

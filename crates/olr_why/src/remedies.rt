@@ -4,13 +4,13 @@ ghost use Rattle.std.specs.Prelude.{◌≡◌, [], ◌++◌, IfOk, MatchOption, 
 ghost use Rattle.std.specs.Option.{option_to_list};
 ghost use Rattle.olr_binary.specs.Reference.{IsReference};
 ghost use Rattle.olr_why.specs.Chain.{IsUncrowded};
-ghost use Rattle.olr_why.specs.Remedies.{AreNarrower, AreOfNames, AreRemedies, AreWider, IsOpener};
+ghost use Rattle.olr_why.specs.Remedies.{AreNarrower, AreOfNames, AreRemedies, AreWider, IsRemedyWithoutBans};
 ghost use Rattle.olr_why.specs.Remedies.{IsUnbanned, IsWider, by_trust};
 ghost use Rattle.olr_why.specs.Verdict.{IsVerdict};
 
 use crate::remedy::{Change, Remedy};
 use crate::trial::{Trial, try_tolerances};
-use crate::trying::Question;
+use crate::trying::Trials;
 use crate::verdict::Verdict;
 use olr_binary::Reference;
 use olr_candidates::{Name, Tolerances};
@@ -41,16 +41,20 @@ fn push_if(remedies: &mut Vec<Remedy>, remedy: Option<Remedy>) -> Result<(), NoM
     Ok(())
 }
 
-impl Question<'_> {
+impl Trials<'_> {
     /// The first matching on the map without its bans, if it has bans and there is one.
-    fn opener(&self, alloc: Global, unbanned: Option<&Map>) -> Result<Option<Remedy>, NoMemory>
+    fn without_bans(
+        &self,
+        alloc: Global,
+        unbanned: Option<&Map>,
+    ) -> Result<Option<Remedy>, NoMemory>
         requires reference { IsReference self.now.reference.now }
         requires unbanned { MatchOption unbanned (self.now.map.now.bans ≡ [])
             (λ other. IsUnbanned self.now.map.now other.now) }
         requires uncrowded { IsUncrowded self.now.map.now self.now.given.now
             self.now.reference.now }
         ensures { IfOk result
-            (IsOpener self.now.map.now self.now.given.now self.now.reference.now) }
+            (IsRemedyWithoutBans self.now.map.now self.now.given.now self.now.reference.now) }
     {
         let Some(unbanned) = unbanned else {
             return Ok(None);
@@ -91,8 +95,8 @@ impl Question<'_> {
             self.now.reference.now remedies.items) }
     {
         let mut remedies = self.all_greater(alloc)?;
-        let opener = self.opener(alloc, unbanned)?;
-        push_if(&mut remedies, opener)?;
+        let without_bans = self.without_bans(alloc, unbanned)?;
+        push_if(&mut remedies, without_bans)?;
         Ok(remedies)
     }
 
@@ -141,16 +145,16 @@ pub fn remedies_of(
     ensures { IfOk result (λ remedies.
         AreRemedies map.now tolerances.now reference.now verdict remedies.items) }
 {
-    let question = Question {
+    let trials = Trials {
         map,
         reference,
         given: tolerances,
     };
     match verdict {
-        Verdict::Crowded(_) => question.all_narrower(alloc),
-        Verdict::Point(_) => question.all_wider(alloc, unbanned),
-        Verdict::Leg(_) => question.all_wider(alloc, unbanned),
-        Verdict::Chain(_) => question.all_wider(alloc, unbanned),
+        Verdict::Crowded(_) => trials.all_narrower(alloc),
+        Verdict::Point(_) => trials.all_wider(alloc, unbanned),
+        Verdict::Leg(_) => trials.all_wider(alloc, unbanned),
+        Verdict::Chain(_) => trials.all_wider(alloc, unbanned),
         Verdict::Match => Ok(Vec::new(alloc)),
     }
 }

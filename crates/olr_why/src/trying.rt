@@ -17,13 +17,13 @@ use std::alloc::Global;
 
 /// What other tolerances are tried on: a reference on a map, with the tolerances that are given.
 #[derive(Clone, Copy)]
-pub(crate) struct Question<'a> {
+pub(crate) struct Trials<'a> {
     pub map: &'a Map,
     pub reference: &'a Reference,
     pub given: &'a Tolerances,
 }
 
-impl Question<'_> {
+impl Trials<'_> {
     /// What is found where the tolerance of this name has this value.
     pub(crate) fn try_value(&self, alloc: Global, name: Name, value: u32) -> Result<Trial, NoMemory>
         requires reference { IsReference self.now.reference.now }

@@ -12,12 +12,12 @@ use crate::bracket::Bracket;
 use crate::laws::matching_has_key;
 use crate::remedy::{Change, Remedy};
 use crate::trial::Trial;
-use crate::trying::Question;
+use crate::trying::Trials;
 use olr_candidates::{Name, one_candidate_a_line};
 use olr_metric::NoMemory;
 use std::alloc::Global;
 
-impl Question<'_> {
+impl Trials<'_> {
     /// The given value and the greatest one, by a trial of the greatest one; none where no value
     /// above the given one is enough.
     fn wider_values(&self, alloc: Global, name: Name) -> Result<Option<Bracket>, NoMemory>

@@ -18,13 +18,14 @@ pub returns-clause-entry : goal.returns-clause-entry
 returns-clause-entry c =
     let road = c.args.routes.now.road in
     let layers = c.args.routes.now.layers in
+    let on = rw c.in_ok-all.ensures.same at c.layers.ensures.on_map in
     let parts = of_one (IsMatchedBy road layers) c.args.key _ _ _
     (rw c.from_ref.ensures.value at c.in_ok-all.ensures.matched)
     (rw c.in-Some.is at c.pop.ensures.items) in
     let shown =
     c.sound_parts_can_be_shown.ensures road layers.reference c.in-Some.matched
     (c.matchings_are_sound.ensures road layers c.args.key c.in-Some.matched
-    (rw c.map.ensures at c.sound.ensures) c.layers-layers.ensures.on_map c.requires.key parts) in
+    (rw c.map.ensures at c.sound.ensures) on c.requires parts) in
     let is = c.in_ok-route.ensures.on_map road shown.on_map in
     record {
       is_entry = search rules;

@@ -23,8 +23,8 @@ loop-looking-init c =
 pub next-requires : goal.next-requires
 next-requires c = rw c.as_ref.ensures.value (position c.loop-looking.invariant.1)
 
-pub opener_of-requires-clause-key : goal.opener_of-requires-clause-key
-opener_of-requires-clause-key c =
+pub opener_of-requires : goal.opener_of-requires
+opener_of-requires c =
     let next = rw c.in-Some.is at c.in_ok-key.ensures.next in
     rw c.loop-looking.invariant.2
     (All-contains (IsKey c.args.layers.now.penalties) _ _ c.loop-looking.invariant.0.only next.0.0)

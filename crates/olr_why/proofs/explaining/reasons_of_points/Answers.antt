@@ -10,8 +10,10 @@ loop-index-preserved c =
     let OnMap : PointReason → Type 0 =
     λ point. All (λ (near : NearLine). near.line < length c.args.map.now.lines) point.nearest in
     record {
-      reasons = one_more_element c.loop-index.invariant.reasons c.in_ok-point.ensures.reason
-          c.in_ok-push.ensures.items;
+      reasons = one_more_element c.loop-index.invariant.reasons (record {
+        candidates = c.count_of-candidates.ensures;
+        near = c.in_ok-nearest.ensures.near;
+      }) c.in_ok-push.ensures.items;
       on_map = rw c.in_ok-push.ensures.items
-          (All-push OnMap _ _ c.loop-index.invariant.on_map c.in_ok-point.ensures.on_map);
+          (All-push OnMap _ _ c.loop-index.invariant.on_map c.in_ok-nearest.ensures.on_map);
     }

@@ -9,7 +9,7 @@ use Rattle.olr_why.proofs.legs.leg_of.Goals as goal
 
 pub next_of-next-requires : goal.next_of-next-requires
 next_of-next-requires c =
-    rw (← c.requires.reference) (layer_leads_on c.args.layer c.requires.layers c.requires.within)
+    rw c.reference.ensures (layer_leads_on c.args.layer c.requires.layers c.requires.within)
 
 pub overflow_cast-admits : goal.overflow_cast-admits
 overflow_cast-admits c =
@@ -45,10 +45,10 @@ pairs_where_none-requires c =
 pub returns : goal.returns
 returns c = record {
   next = c.next_of-next.result;
-  leads_on = rw c.requires.reference c.next_of-next.ensures;
-  class_is = rw c.requires.tolerances c.class_limit.ensures;
-  from_is = rw c.requires.tolerances c.least_admitted.ensures;
-  to_is = rw c.requires.tolerances c.greatest_admitted.ensures.is;
+  leads_on = rw (← c.reference.ensures) c.next_of-next.ensures;
+  class_is = rw (← c.tolerances-tolerances.ensures) c.class_limit.ensures;
+  from_is = rw (← c.tolerances-tolerances.ensures) c.least_admitted.ensures;
+  to_is = rw (← c.tolerances-tolerances.ensures) c.greatest_admitted.ensures.is;
   admits_is = rw (← c.lengths.ensures) c.admitted-admits.ensures;
   of_is = rw (← c.layer-firsts.ensures.layer, ← c.layer-seconds.ensures.layer) c.pair_count.ensures;
   admitting = c.in_ok-pairs.ensures.admitting;
@@ -57,6 +57,6 @@ returns c = record {
     c.early-early_seconds.ensures.list,
     c.layer-firsts.ensures.layer,
     c.layer-seconds.ensures.layer,
-    ← c.requires.tolerances,
+    c.tolerances-tolerances.ensures,
   ) at (c.in_ok-pairs.ensures.none none);
 }

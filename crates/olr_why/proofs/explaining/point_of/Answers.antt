@@ -1,8 +1,0 @@
-use Rattle.olr_why.proofs.explaining.point_of.Goals as goal
-
-pub returns-clause-on_map : goal.returns-clause-on_map
-returns-clause-on_map c = λ k d inside.
-    let laws = c.nearest_are_near.ensures in
-    (laws.line c.args.tolerances.now c.args.reference.now c.args.map.now.lines c.args.index _ _
-    (laws.near c.args.tolerances.now c.args.reference.now c.args.map.now.lines c.args.index _ _
-    c.in_ok-nearest.ensures k d inside)).1
