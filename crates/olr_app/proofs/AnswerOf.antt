@@ -1,5 +1,5 @@
 -- What a request that is accepted is answered with, and what its answer leaves of the sources.
-use Rattle.std.proofs.Common.{◌≡◌, ◌⊎◌, ℕ, ◌+◌, List, Option, Ok, Err, refl, subst, inl, inr}
+use Rattle.std.proofs.Common.{◌≡◌, ◌⊎◌, ℕ, ◌+◌, true, List, Option, Ok, Err, refl, subst, inl, inr}
 use Rattle.std.specs.Prelude.{Result, IfErr, IfOk}
 use Rattle.std.specs.Borrow.{Bor}
 use Rattle.olr_metric.specs.declared.failure.Failed.{Failed}
@@ -24,7 +24,7 @@ use Rattle.olr_app.proofs.Single.{err_of, ok_of}
 -- the answer on the map of the files answers one that reads a map
 pub answer_of_files : (texts : Texts) (request : Request) (accepted : Accepted)
     (answer : Result (List ℕ) Fault) → ReadsMap request
-    → AndThen (IsMapOfFiles texts) (IsAnswerOn request accepted) answer
+    → AndThen (IsMapOfFiles texts) (IsAnswerOn true request accepted) answer
     → IsAnswerOf texts request accepted answer
 answer_of_files texts (Show text format) accepted answer reads is = absurd reads
 answer_of_files texts other accepted answer reads is = is
@@ -39,7 +39,7 @@ reads_map other never = tt
 
 module _ (request : Request) (accepted : Accepted) (road : RoadMap) where
   abbrev Ends : Fault → Type 0
-  Ends why = IsAnswerOn request accepted road (Err why)
+  Ends why = IsAnswerOn true request accepted road (Err why)
 
   abbrev IsFaultAfterMap : Fault → Type 0
   IsFaultAfterMap why = (why ≡ CursorOfOther)
@@ -66,7 +66,7 @@ ends_with (Places asked) accepted road why is = elim is [
 ends_with other accepted road why is = absurd is
 
 module _ (request : Request) (accepted : Accepted) (road : RoadMap) where
-  memory_or_end : (why : Fault) → IsStageFault (IsAnswerOn request accepted road) why
+  memory_or_end : (why : Fault) → IsStageFault (IsAnswerOn true request accepted road) why
       → (why ≡ NoMemory) ⊎ Ends request accepted road why
   memory_or_end NoMemory is = inl refl
   memory_or_end other is = inr is
@@ -77,7 +77,7 @@ module _ (request : Request) (accepted : Accepted) (road : RoadMap) where
       → ((number : ℕ) → Ends request accepted road (TooManyCandidates number)
       → P (TooManyCandidates number))
       → (Ends request accepted road CursorNotHere → P CursorNotHere) → (why : Fault)
-      → IsStageFault (IsAnswerOn request accepted road) why → P why
+      → IsStageFault (IsAnswerOn true request accepted road) why → P why
   each_fault P memory other many not_here why is = elim (memory_or_end why is) [
     | inl same ↦ rw same memory
     | inr ends ↦ elim (ends_with request accepted road why ends) [
@@ -113,7 +113,7 @@ module _ (texts : Texts) (request : Request) (reads : ReadsMap request) (accepte
   -- the output on the map of the files
   pub output_on_map : {T : Type 0} (bytes : T → List ℕ) (road : RoadMap) (result : Result T Fault)
       → IsMapLeft texts road
-      → IfOk result (λ output. IsAnswerOn request accepted road (Ok (bytes output)))
+      → IfOk result (λ output. IsAnswerOn true request accepted road (Ok (bytes output)))
       → IfOk result (λ output. IsOutput texts request (bytes output))
   output_on_map bytes road (Ok output) map its =
       (accepted, is, answer_of_files _ _ _ _ reads (road, map, its))
@@ -129,7 +129,7 @@ module _ (texts : Texts) (request : Request) (reads : ReadsMap request) (accepte
 
   -- a fault after the map
   pub reason_on_map : {T : Type 0} (road : RoadMap) (result : Result T Fault)
-      → IsMapLeft texts road → IfErr result (IsStageFault (IsAnswerOn request accepted road))
+      → IsMapLeft texts road → IfErr result (IsStageFault (IsAnswerOn true request accepted road))
       → IfErr result (IsReason texts request)
   reason_on_map road (Ok found) map its = tt
   reason_on_map road (Err why) map its =
@@ -152,7 +152,7 @@ module _ {S : Type 0} (left : S → Option (List ℕ)) (failed : S → ℕ) (old
   where
     -- a fault of the stages after the map
     late_leaves : (request : Request) (accepted : Accepted) (road : RoadMap) (why : Fault)
-        → IsReadWhole left failed old new → IsStageFault (IsAnswerOn request accepted road) why
+        → IsReadWhole left failed old new → IsStageFault (IsAnswerOn true request accepted road) why
         → FaultLeaves left failed old new file why
     late_leaves request accepted road why whole =
         each_fault request accepted road (FaultLeaves left failed old new file)
@@ -169,7 +169,7 @@ module _ {S : Type 0} (left : S → Option (List ℕ)) (failed : S → ℕ) (old
     -- the result of these stages
     pub answer_leaves : {T : Type 0} (request : Request) (accepted : Accepted)
         (road : RoadMap) (result : Result T Fault) → ReadsMap request
-        → IfErr result (IsStageFault (IsAnswerOn request accepted road))
+        → IfErr result (IsStageFault (IsAnswerOn true request accepted road))
         → IsReadWhole left failed old new → AnswerLeaves left failed old new file request result
     answer_leaves (Show text format) accepted road result reads is whole = absurd reads
     answer_leaves other accepted road (Ok found) reads is whole = whole

@@ -12,12 +12,10 @@ use Rattle.olr_map.specs.Files.{IsMapOf}
 use Rattle.olr_app.specs.Headline.{AllPages, FollowEachOther, HasSize, Inputs, IsRunAt}
 use Rattle.olr_app.specs.Headline.{Run, files_of, joined_outputs, request_of}
 use Rattle.olr_app.specs.HeadlineOutputs.{Shows, parts_of}
+use Rattle.olr_app.specs.Request.{at_bytes}
 use Rattle.olr_app.specs.declared.request.Pages.TheVariants.{All as EveryPage}
 use Rattle.olr_app.proofs.HeadlineOutputs.{ShowsPage, next_cursor, page_shows}
 use Rattle.olr_app.proofs.HeadlineRests.{next_exists, next_in_range}
-
-abbrev at_bytes : List ℕ → Bor (List ℕ)
-at_bytes bytes = record { ref_ptr = (0, 0); now = bytes }
 
 -- a run before others
 more_runs : (format : Format) (inputs : Inputs) (cursor : Option (List ℕ)) (following : List ℕ)
@@ -101,8 +99,8 @@ module _ (laws : Laws) (format : Format) (inputs : Inputs) (size : ℕ) (at_leas
                 page ∷ [],
                 (keys, are_keys, (page, refl, is_page)),
                 record {
-                  mark = mark;
-                  marked = marked;
+                  mark = Some mark;
+                  is_mark = (mark, refl, marked);
                   texts = record {
                     texts = output ∷ [];
                     each = (is_text, tt);
@@ -202,8 +200,10 @@ all_pages laws format inputs size request output asks is =
     let printed = stages.2.2.2 in
     let runs = runs_of laws format inputs size asks.at_least asks.text asks.text_is
     all.0.reference all.1.0 all.2.0 all.2.1 stages.2.0 stages.2.1 stages.2.2.1.0 stages.2.2.1.1
-    printed.mark None None None refl refl tt stages.2.2.0 printed.texts.texts pages.resumed
-    pages.ended printed.marked printed.texts.each in
+    printed.is_mark.0 None None None refl refl tt stages.2.2.0 printed.texts.texts pages.resumed
+    pages.ended printed.is_mark.2 (subst (λ mark.
+    AllZip (IsTextOfPage format all.2.0 stages.2.0 mark) stages.2.2.0 printed.texts.texts)
+    printed.is_mark.1 printed.texts.each) in
     record {
       runs = runs.runs;
       follow = runs.follow;

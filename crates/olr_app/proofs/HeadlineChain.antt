@@ -8,6 +8,7 @@ use Rattle.std.specs.List.{AllZip}
 use Rattle.std.specs.Prelude.{codes}
 use Rattle.olr_app.proofs.Common.{RoadMap, IsSoundMap, OneCursor, IsInRange, KeyValue, IsRestAfter, PageValue, IsFingerprint, LayersValue, IsMatchedBy, next_after, IsPageText, Laws, Format, Text}
 use Rattle.olr_keys.specs.Cursor.{IsCursorOf}
+use Rattle.olr_keys.proofs.Chains.{one_rest}
 use Rattle.olr_report.specs.Entries.{Entry, IsEntryOf}
 use Rattle.olr_app.specs.Headline.{AreShown, FollowEachOther, Headline, Inputs}
 use Rattle.olr_app.specs.Headline.{Matchings, Names, Run, joined, SizesAgree}
@@ -16,7 +17,7 @@ use Rattle.olr_app.specs.HeadlineOutputs.{Part, Shows, parts_of}
 use Rattle.olr_app.proofs.HeadlineOutputs.{ShowsPage, key_next, next_cursor, none_next, one_shown}
 use Rattle.olr_app.proofs.HeadlineOutputs.{page_shows, parts_append}
 use Rattle.olr_app.proofs.HeadlineRests.{next_in_range, next_more, page_and_rest, page_is_rest}
-use Rattle.olr_app.proofs.HeadlineRests.{one_rest, left_after}
+use Rattle.olr_app.proofs.HeadlineRests.{left_after}
 use Rattle.olr_app.proofs.HeadlineRuns.{Facts, PrintsPage, facts_of, matchings_of_run, run_prints}
 use Rattle.olr_app.proofs.OneAnswer.{parts_once}
 
@@ -148,8 +149,8 @@ module _ (laws : Laws) {format : Format} {inputs : Inputs} (all : Matchings inpu
           named = prints.named;
           names = prints.names;
           rest = prints.page.keys ++ later.rest;
-          is_rest = page_and_rest _ _ _ _ prints.is_page _ next.0 later.rest laws.page all.are_keys
-              next.1 rest;
+          is_rest = page_and_rest _ _ _ _ prints.is_page next.0 later.rest all.are_keys.rise next.1
+              rest;
           shown = shown_append format _ _ _ _ _ _ (page_shown (Some following) is) later.shown;
         }
 
@@ -216,7 +217,7 @@ module _ (laws : Laws) where
       let named = one_name laws.cursor cursor is'.named is.named is'.names is.names in
       let rest = subst (λ o. IsRestAfter all.keys o is'.rest) named
       is'.is_rest in
-      let rests : is'.rest ≡ is.rest = one_rest _ _ _ _ _ laws.page all.are_keys rest is.is_rest in
+      let rests : is'.rest ≡ is.rest = one_rest _ _ all.are_keys.rise rest is.is_rest in
       text_once all.road all.is_map.sound all.layers is.rest _ _ is.shown (rw (sym rests) is'.shown)
 
 -- what comes after a position is no longer than the list
@@ -242,7 +243,7 @@ module _ (laws : Laws) {format : Format} {inputs : Inputs} (all : Matchings inpu
       (left_after _ _ _ _ prints.is_page next.0 next.1) go.3 in
       let here = subst (λ o. IsRestAfter all.keys o prints.is_page.rest)
       (one_name laws.cursor cursor prints.named named prints.names names) prints.is_page.is_rest in
-      let same : rest ≡ prints.is_page.rest = one_rest _ _ _ _ _ laws.page all.are_keys is here in
+      let same : rest ≡ prints.is_page.rest = one_rest _ _ all.are_keys.rise is here in
       let longer : prints.size < length prints.is_page.rest =
       prints.is_page.is_page.more.0 (next_more _ prints.page.keys next.0 next.1) in
       omega (

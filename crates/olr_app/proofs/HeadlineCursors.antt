@@ -1,6 +1,6 @@
 -- The cursors of the matchings of the inputs: no run that begins at one is refused.
 use Rattle.std.proofs.Common.{inl, inr}
-use Rattle.std.proofs.Common.{◌≡◌, ℕ, List, Option, None, Some, Ok, Err, Bor, refl, sym, ◌∙◌, subst}
+use Rattle.std.proofs.Common.{◌≡◌, ℕ, true, List, Option, None, Some, Ok, Err, Bor, refl, sym, ◌∙◌, subst}
 use Rattle.std.specs.Prelude.{Contains, IfSome, Result}
 use Rattle.std.proofs.lemmas.List.Elements.{All-contains}
 use Rattle.olr_app.proofs.Common.{IsOutcome, IsFingerprint, IsKey, CursorRead, Mark, RoadMap, Accepts, IsStart, IsAnswer, IsAnswerOf, IsAnswerOn, IsMapOfFiles, Laws, AreLayers, AreMatchings, ArePages, IsOfInputs, IsPrinted, IsStartHere, OnLayers, OnStart, bytes_of, AndThen, Accepted, Fault, Format, MatchRequest, One, Match}
@@ -113,18 +113,18 @@ module _ (laws : Laws) (inputs : Inputs) (all : Matchings inputs) (fault : Fault
         is.3 (All-contains (IsKey all.layers.penalties) all.keys is.1.key all.are_keys.only read.0)
 
     no_matchings_fault : (accepted : Accepted) → accepted.reference ≡ all.layers.reference
-        → IsReadHere accepted.start → AreMatchings asked accepted all.road (Err fault) → ⊥
+        → IsReadHere accepted.start → AreMatchings true asked accepted all.road (Err fault) → ⊥
     unfolding asked
     no_matchings_fault accepted same read =
         no_fault (IsStartHere asked all.road accepted.start)
-        (OnStart asked accepted.reference all.road) fault
+        (OnStart true asked accepted.reference all.road) fault
         (no_start_here_fault accepted.start read)
         (λ here is_here. no_fault (AreLayers inputs.tolerances accepted.reference all.road)
-        (OnLayers asked here all.road) fault
+        (OnLayers true asked here all.road) fault
         (λ is. no_layers_fault (subst (λ r.
         AreLayers inputs.tolerances r all.road (Err fault)) same is))
         (λ layers are_layers. no_fault (ArePages asked layers here)
-        (IsPrinted asked all.road layers) fault
+        (IsPrinted true asked all.road layers) fault
         (λ is. no_pages_fault here (moved (sym is_here.0) read)
         (subst (λ l. ArePages asked l here (Err fault))
         (laws.layers all.road layers all.layers are_layers.0 all.are_layers (are_layers.1 ∙ same)
@@ -145,13 +145,13 @@ module _ (laws : Laws) (inputs : Inputs) (all : Matchings inputs) (fault : Fault
           | inr its ↦ no_start_fault (bytes_of begins) here its.2
         ])
         (λ accepted is. no_fault (IsMapOfFiles (files_of inputs))
-        (IsAnswerOn (Match asked) accepted)
+        (IsAnswerOn true (Match asked) accepted)
         fault
         (λ why. laws.no_map_and_fault _ _ _ all.road why.0 all.is_map (why.1, why.2))
         (λ road is_map ends. no_matchings_fault accepted
         (same_reference laws.outcome is.0 outcome)
         (read_here (bytes_of begins) accepted.start here is.1)
-        (subst (λ r. AreMatchings asked accepted r (Err fault))
+        (subst (λ r. AreMatchings true asked accepted r (Err fault))
         (laws.map _ _ _ _ _ is_map all.is_map) ends)))
 
 pub none_refused : Laws → NoneRefused

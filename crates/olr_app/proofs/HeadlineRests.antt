@@ -1,57 +1,16 @@
 -- Pages of a rising list, each of a size of its own: the keys of a page, and those of the pages
 -- after it.
-use Rattle.std.proofs.Common.{◌≡◌, ℕ, ◌+◌, ◌<◌, ◌≤◌, List, [], ◌∷◌, ◌++◌, length, drop, Bool, true, false, Option, None, Some, inl, inr, refl, sym, ap, ◌∙◌, subst, append_assoc, length-take, arith}
-use Rattle.std.specs.Prelude.{Contains, if◌then◌else◌}
+use Rattle.std.proofs.Common.{◌≡◌, ℕ, ◌<◌, ◌≤◌, List, [], ◌∷◌, ◌++◌, length, drop, Bool, true, false, Option, None, Some, inl, inr, refl, sym, ap, ◌∙◌, subst, length-take, arith}
+use Rattle.std.specs.Prelude.{AllPairs, Contains, if◌then◌else◌}
 use Rattle.std.proofs.lemmas.Bool.{cases_lt}
 use Rattle.std.proofs.lemmas.List.{take-append-drop, take_all}
-use Rattle.std.proofs.lemmas.List.Elements.{All-contains, Contains-append_right}
+use Rattle.std.proofs.lemmas.List.Elements.{All-contains}
 use Rattle.olr_app.proofs.Common.{AreAnswers, KeyValue, IsInRange, IsKey, PageValue, IsPageAfter, IsRestAfter, last_of, Penalties, next_after}
-use Rattle.olr_keys.specs.Laws.{KeysAreInRange, OnePage}
+use Rattle.olr_keys.specs.Key.{IsBefore}
+use Rattle.olr_keys.specs.Laws.{KeysAreInRange}
 use Rattle.olr_keys.specs.Table.{IsTable}
-
--- ---- one rest
-
--- the rest after a position, as a page without more
-abbrev as_page : List KeyValue → PageValue
-as_page rest = record { keys = rest; more = false }
-
-whole_page : (keys : List KeyValue) (after : Option KeyValue) (rest : List KeyValue) (size : ℕ)
-    → length rest ≤ size → IsRestAfter keys after rest → IsPageAfter keys after size (as_page rest)
-whole_page keys after rest size short is = record {
-  rest = rest;
-  is_rest = is;
-  is_page = record {
-    keys = sym (take_all size rest short);
-    more = (λ more. absurd cc, λ longer. absurd (omega arith));
-  };
-}
-
-pub one_rest : (penalties : Penalties) (keys : List KeyValue) (after : Option KeyValue)
-    (a b : List KeyValue) → OnePage → AreAnswers penalties keys → IsRestAfter keys after a
-    → IsRestAfter keys after b → a ≡ b
-one_rest penalties keys after a b law answers one other =
-    let size = length a + length b in
-    ap (λ page. page.keys)
-    (law _ _ _ size (as_page a) (as_page b) answers (whole_page _ _ a _ (omega arith) one)
-    (whole_page _ _ b _ (omega arith) other))
-
--- what is left after keys of the rest is the rest after the last of them
-after_keys : (keys : List KeyValue) (after : Option KeyValue) (front left : List KeyValue)
-    → IsRestAfter keys after (front ++ left) → IsRestAfter keys (last_of after front) left
-after_keys keys after [] left rest = rest
-after_keys keys None (key ∷ front) left rest = after_keys keys (Some key) front left ([], sym rest)
-after_keys keys (Some after) (key ∷ front) left rest =
-    after_keys _ _ front left (
-      rest.0 ++ after ∷ [],
-      rest.1
-          ∙ sym (append_assoc rest.0 (after ∷ []) (key ∷ (front ++ left))),
-    )
-
--- a key that has a rest is one of the list
-has_rest : (keys : List KeyValue) (key : KeyValue) (rest : List KeyValue)
-    → IsRestAfter keys (Some key) rest → Contains keys key
-has_rest keys key rest is =
-    rw is.1 (Contains-append_right is.0 (key ∷ rest) key (0, omega arith, refl))
+use Rattle.olr_keys.proofs.Chains.{one_rest}
+use Rattle.olr_keys.proofs.PageLists.{after_keys, position_within}
 
 -- ---- the last key of a page
 
@@ -101,12 +60,11 @@ module _ (keys : List KeyValue) (named : Option KeyValue) (size : ℕ) (page : P
       (after_keys keys named page.keys (drop size is.rest) whole)
 
   -- the keys of the page, and those after its last one
-  pub page_and_rest : (penalties : Penalties) (key : KeyValue) (rest : List KeyValue) → OnePage
-      → AreAnswers penalties keys → next_after page ≡ Some key
-      → IsRestAfter keys (Some key) rest → IsRestAfter keys named (page.keys ++ rest)
-  page_and_rest penalties key rest law answers next is_rest =
-      let same = one_rest penalties keys (Some key) rest (drop size is.rest) law answers is_rest
-      (left_after key next) in
+  pub page_and_rest : (key : KeyValue) (rest : List KeyValue) → AllPairs IsBefore keys
+      → next_after page ≡ Some key → IsRestAfter keys (Some key) rest
+      → IsRestAfter keys named (page.keys ++ rest)
+  page_and_rest key rest rise next is_rest =
+      let same = one_rest keys (Some key) rise is_rest (left_after key next) in
       subst (λ l. IsRestAfter keys named l)
       (sym (ap (λ l. page.keys ++ l) same ∙ parts)) is.is_rest
 
@@ -144,7 +102,8 @@ module _ (keys : List KeyValue) (named : Option KeyValue) (size : ℕ) (page : P
 
   -- the last key of a page behind which more follow
   pub next_within : (key : KeyValue) → next_after page ≡ Some key → Contains keys key
-  next_within key next = has_rest keys key (drop size is.rest) (left_after key next)
+  next_within key next =
+      position_within keys (Some key) (drop size is.rest) (left_after key next)
 
   -- it is in range
   pub next_in_range : (penalties : Penalties) → KeysAreInRange → IsTable penalties

@@ -2,12 +2,13 @@
 use Rattle.std.proofs.Common.{◌≡◌, ℕ, ◌≤◌, List, [], ◌∷◌, Option, None, Some, Ok, Bor, true, refl}
 use Rattle.std.proofs.Common.{sym, ap, ◌∙◌, subst, arith}
 use Rattle.std.specs.List.{AllZip, concat}
-use Rattle.std.specs.Prelude.{Contains}
+use Rattle.std.specs.Prelude.{Bool}
 use Rattle.std.proofs.lemmas.List.{append-nil}
 use Rattle.olr_app.proofs.Common.{IsOutcome, Reference, IsFingerprint, AreAnswers, KeyValue, IsPageAfter, PageValue, CursorRead, Mark, RoadMap, LayersValue, IsStart, IsOutput, Laws, OneOutcome, AreMatchings, ArePagesAsked, IsTextOfPage, key_of, bytes_of, Accepted, Format, MatchRequest, One, Match}
 use Rattle.olr_matching.specs.Layers.{AreLayersOn}
 use Rattle.olr_app.specs.Headline.{AreSame, Inputs, IsRunAt, Matchings, Names, Run, files_of}
 use Rattle.olr_app.specs.Headline.{request_of}
+use Rattle.olr_app.specs.Matching.{IsMarkOf}
 use Rattle.olr_app.proofs.Single.{same_ok}
 
 -- ---- the inputs determine the matchings
@@ -71,12 +72,9 @@ page_text page [] each = absurd each
 page_text page (text ∷ []) each = rw (append-nil text) each.0
 page_text page (text ∷ other ∷ texts) each = absurd each.1
 
-only_page : (list : List PageValue) (page : PageValue) → list ≡ page ∷ [] → Contains list page
-only_page list page is = rw is (0, omega arith, refl)
-
 -- the stages after the map, of a request for one page
-pub record OnMap (asked : MatchRequest) (accepted : Accepted) (road : RoadMap) (output : List ℕ)
-    : Type 0 where
+pub record OnMap (marks : Bool) (asked : MatchRequest) (accepted : Accepted) (road : RoadMap)
+    (output : List ℕ) : Type 0 where
   pub layers : LayersValue
   pub are_layers : AreLayersOn road layers
   pub reference_is : layers.reference ≡ accepted.reference
@@ -85,14 +83,14 @@ pub record OnMap (asked : MatchRequest) (accepted : Accepted) (road : RoadMap) (
   pub are_keys : AreAnswers layers.penalties keys
   pub page : PageValue
   pub is_page : IsPageAfter keys (key_of accepted.start) asked.size page
-  pub mark : Mark
-  pub marked : page.more ≡ true → IsFingerprint asked.text.now asked.tolerances road mark
-  pub is_text : IsTextOfPage asked.format road layers (Some mark) page output
+  pub mark : Option Mark
+  pub is_mark : IsMarkOf marks asked.text.now asked.tolerances road (page ∷ []) mark
+  pub is_text : IsTextOfPage asked.format road layers mark page output
 
-pub on_map : (asked : MatchRequest) (begins : Option (Bor (List ℕ))) (accepted : Accepted)
-    (road : RoadMap) (output : List ℕ) → asked.pages ≡ One begins
-    → AreMatchings asked accepted road (Ok output) → OnMap asked accepted road output
-on_map asked begins accepted road output one is =
+pub on_map : (marks : Bool) (asked : MatchRequest) (begins : Option (Bor (List ℕ)))
+    (accepted : Accepted) (road : RoadMap) (output : List ℕ) → asked.pages ≡ One begins
+    → AreMatchings marks asked accepted road (Ok output) → OnMap marks asked accepted road output
+on_map marks asked begins accepted road output one is =
     let answers = is.2.2.1.0 in
     let pages = subst (λ pages.
     ArePagesAsked answers asked.size pages (key_of is.0) is.2.2.0) one is.2.2.1.2 in
@@ -109,10 +107,12 @@ on_map asked begins accepted road output one is =
           pages.0)
           is.1.0 pages.2;
       mark = printed.mark;
-      marked = printed.marked pages.0 (only_page is.2.2.0 pages.0 pages.1);
+      is_mark = subst (λ l.
+          IsMarkOf marks asked.text.now asked.tolerances road l printed.mark) pages.1
+          printed.is_mark;
       is_text = rw printed.texts.whole
           (page_text pages.0 printed.texts.texts (subst (λ l.
-          AllZip (IsTextOfPage asked.format road is.2.0 (Some printed.mark)) l printed.texts.texts)
+          AllZip (IsTextOfPage asked.format road is.2.0 printed.mark) l printed.texts.texts)
           pages.1
           printed.texts.each));
     }
@@ -134,7 +134,7 @@ prints format inputs cursor run is =
     subst (λ request. IsOutput (files_of inputs) request run.output) asks.request_is
     is.writes in
     let accepted : Accepted = output.0 in
-    let on = on_map asked asks.begins accepted output.2.0 run.output refl output.2.2 in
+    let on = on_map true asked asks.begins accepted output.2.0 run.output refl output.2.2 in
     record {
       all = record {
         road = output.2.0;
@@ -156,10 +156,13 @@ prints format inputs cursor run is =
         at_least = asks.at_least;
         page = on.page;
         is_page = on.is_page;
-        mark = on.mark;
+        mark = on.is_mark.0;
         marked = λ more. subst (λ text.
-            IsFingerprint text inputs.tolerances output.2.0 on.mark) asks.text_is (on.marked more);
-        is_text = on.is_text;
+            IsFingerprint text inputs.tolerances output.2.0 on.is_mark.0) asks.text_is
+            (on.is_mark.2 on.page (0, omega arith, refl) more);
+        is_text = subst (λ mark.
+            IsTextOfPage format output.2.0 on.layers mark on.page run.output) on.is_mark.1
+            on.is_text;
       };
     }
 

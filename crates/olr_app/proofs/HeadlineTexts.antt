@@ -1,18 +1,15 @@
 -- The text of a page is whole rows and a last row, which says whether more matchings follow; and a
 -- text is cut in one way before its last row.
-use Rattle.std.proofs.Common.{◌≡◌, ℕ, ◌<◌, ◌^◌, ◌/◌, ◌%◌, List, [], ◌∷◌, ◌++◌, length, get_or}
-use Rattle.std.proofs.Common.{false, refl, sym, ap, ◌∙◌, append-nil, length-append, arith}
+use Rattle.std.proofs.Common.{◌≡◌, ℕ, ◌<◌, ◌^◌, ◌/◌, ◌%◌, List, [], ◌∷◌, ◌++◌}
+use Rattle.std.proofs.Common.{false, refl, sym, ap, ◌∙◌, append-nil, arith}
 use Rattle.std.proofs.Common.{append_assoc, inl, inr, Option, None, Some}
 use Rattle.std.proofs.Math.Facts.{eqb_no}
-use Rattle.std.proofs.Math.Seq.{get_or-append_seam}
 use Rattle.std.proofs.lemmas.Bool.Decides.{nat_tests}
 use Rattle.std.proofs.lemmas.Float.{T_from_true}
-use Rattle.std.proofs.lemmas.Fmt.{decimal_is_IsNumeral}
-use Rattle.std.proofs.lemmas.List.{get_or_default, append-nil, append_cancel_right}
+use Rattle.std.proofs.lemmas.List.{append-nil, append_cancel_right}
 use Rattle.std.proofs.lemmas.List.Elements.{All-append, All-cons, All-head, All-nil, All-tail}
 use Rattle.std.proofs.lemmas.List.Elements.{All-weaker}
 use Rattle.std.proofs.lemmas.List.Sums.{AllPass-from_list_all}
-use Rattle.std.proofs.lemmas.Str.Parse.{digit_at}
 use Rattle.std.specs.Fmt.{digit_glyph}
 use Rattle.std.specs.Global.{Vec}
 use Rattle.std.specs.List.{list_all}
@@ -21,6 +18,7 @@ use Rattle.olr_app.proofs.Common.{RoadMap, cursor_text, IsInRange, KeyValue, Mar
 use Rattle.olr_map.specs.declared.place.Place.{Place}
 use Rattle.olr_keys.specs.Cursor.{hexadecimal, key_text, ranks_text}
 use Rattle.olr_keys.specs.Key.{IsRank}
+use Rattle.olr_keys.proofs.Lacking.{Lacks, lacks_decimal, not_cut}
 use Rattle.olr_report.specs.Entries.{Entry}
 use Rattle.olr_report.specs.TextRows.{end_row, entry_rows, leg_rows, location_rows, part_row}
 use Rattle.olr_report.specs.TextRows.{pieces_row, place_row, point_rows}
@@ -38,20 +36,14 @@ LacksFeed text = All IsOther text
 
 -- ---- cuts
 
--- a text without a line feed isn't cut at one
-pub not_cut : (text front later : List ℕ) → LacksFeed text → text ≢ front ++ 10 ∷ later
-not_cut text front later lacks same =
-    lacks (length front) 0 (omega (arith, ap length same, length-append front (10 ∷ later)))
-    (ap (λ l. get_or l (length front) 0) same ∙ get_or-append_seam front 10 later 0)
-
 -- a text is cut in one way at its last line feed
 pub last_cut : (front later front' later' : List ℕ) → LacksFeed later → LacksFeed later'
     → front ++ 10 ∷ later ≡ front' ++ 10 ∷ later' → (front ≡ front') × (later ≡ later')
 last_cut [] later [] later' lacks lacks' same = (refl, cc)
 last_cut [] later (first ∷ front') later' lacks lacks' same =
-    let rest : later ≡ front' ++ 10 ∷ later' = cc in absurd (not_cut later front' later' lacks rest)
+    let rest : later ≡ front' ++ 10 ∷ later' = cc in absurd (not_cut 10 later front' later' (record { each = lacks }) rest)
 last_cut (first ∷ front) later [] later' lacks lacks' same =
-    let rest : later' ≡ front ++ 10 ∷ later = cc in absurd (not_cut later' front later lacks' rest)
+    let rest : later' ≡ front ++ 10 ∷ later = cc in absurd (not_cut 10 later' front later (record { each = lacks' }) rest)
 last_cut (first ∷ front) later (first' ∷ front') later' lacks lacks' same =
     let one : first ≡ first' = cc in
     let others : front ++ 10 ∷ later ≡ front' ++ 10 ∷ later' = cc in
@@ -78,11 +70,10 @@ ranks_text-cons rank (next ∷ ranks) =
     ap (λ l. decimal rank ++ (46 ∷ l)) (ranks_text-cons next ranks)
 
 in_decimal : (n : ℕ) → n < 2 ^ 64 → LacksFeed (decimal n)
-in_decimal n small i d inside same =
-    let numeral = decimal_is_IsNumeral n small in
-    let digit = digit_at (decimal n) i numeral.0.1 inside in
-    let here = sym (get_or_default (decimal n) i d 0 inside) ∙ same in
-    absurd (omega (arith, digit.0, here))
+in_decimal n small =
+    let lacks : Lacks 10 (decimal n) = lacks_decimal (λ at_least. absurd (omega (arith, at_least)))
+    small in
+    lacks.each
 
 in_rank : (rank : ℕ) → IsRank rank → LacksFeed (decimal rank)
 in_rank rank is = in_decimal _ (omega arith)

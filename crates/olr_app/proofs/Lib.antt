@@ -12,6 +12,7 @@ pub mod HeadlineOutputs
 pub mod HeadlineRests
 pub mod HeadlineRuns
 pub mod HeadlineChain
-pub mod FirstPages
+pub mod Marks
+pub mod Alone
 pub mod HeadlineCursors
 pub mod HeadlineAll

@@ -19,6 +19,7 @@ use Rattle.olr_why.specs.declared.why.Why.{Why as Reasons}
 use Rattle.olr_app.specs.Answer.{IsReferenceIn}
 use Rattle.olr_app.specs.Headline.{RefusedByName}
 use Rattle.olr_app.specs.Listing.{IsListed, IsListingIn}
+use Rattle.olr_app.specs.Matching.{IsMarkOf}
 use Rattle.olr_app.specs.Places.{ArePlaces, ArePlacesOn, IsPlacesIn}
 use Rattle.olr_app.specs.Stages.{OrTooMany}
 use Rattle.olr_app.specs.Why.{AreReasons, IsWhyIn}
@@ -72,6 +73,17 @@ reasons_in : (format : Format) (road : RoadMap) (why other : Reasons) (text agai
 reasons_in Text road why other text again texts values is its = is ∙ texts ∙ sym its
 reasons_in Json road why other text again texts values is its = same_line values is its
 
+-- where more follow, pages have one mark
+mark_once : (marks : Bool) (text : List ℕ) (tolerances : Tolerances) (road : RoadMap)
+    (pages : List PageValue) (mark other : Option Mark)
+    → IsMarkOf marks text tolerances road pages mark
+    → IsMarkOf marks text tolerances road pages other
+    → (page : PageValue) → Contains pages page → page.more ≡ true → mark ≡ other
+mark_once true text tolerances road pages mark other is its page has more =
+    let mark_of : List ℕ → Option Mark = λ bytes. Some (record { 0 = bytes }) in
+    is.1 ∙ ap mark_of (is.2 page has more ∙ sym (its.2 page has more)) ∙ sym its.1
+mark_once false text tolerances road pages mark other is its page has more = is ∙ sym its
+
 module _ (laws : Laws) where
   -- ---- candidates and layers
 
@@ -101,7 +113,7 @@ module _ (laws : Laws) where
       (λ one other is again.
       laws.layers road one other is.0 again.0 (is.1 ∙ sym again.1) (is.2 ∙ sym again.2))
 
-  pub listed_once : (format : Format) (tolerances : Tolerances) (reference : Reference)
+  listed_once : (format : Format) (tolerances : Tolerances) (reference : Reference)
       (road : RoadMap) → IsSingle (IsListed format tolerances reference road)
   listed_once format tolerances reference road = lists_or_fault tolerances reference road _
       (λ text is. (is.lists, is.candidates))
@@ -193,19 +205,17 @@ module _ (laws : Laws) where
         pages texts again (λ page text its has. page_once format mark other page text its
         (same page has))
 
-    printed_once : (asked : MatchRequest) (pages : List PageValue)
-        → IsSingle (IsPrinted asked road layers pages)
-    printed_once asked pages = no_fault_once _ (λ one other is again.
-        let mark_of : List ℕ → Option Mark = λ bytes. Some (record { 0 = bytes }) in
-        let marks = λ (page : PageValue) (has : Contains pages page) (more : page.more ≡ true).
-        ap mark_of (is.marked page has more ∙ sym (again.marked page has more)) in
-        let texts = texts_once asked.format (Some is.mark) (Some again.mark) pages is.texts.texts
-        again.texts.texts marks is.texts.each again.texts.each in
+    printed_once : (marks : Bool) (asked : MatchRequest) (pages : List PageValue)
+        → IsSingle (IsPrinted marks asked road layers pages)
+    printed_once marks asked pages = no_fault_once _ (λ one other is again.
+        let texts = texts_once asked.format is.mark again.mark pages is.texts.texts
+        again.texts.texts (mark_once marks asked.text.now asked.tolerances road pages is.mark
+        again.mark is.is_mark again.is_mark) is.texts.each again.texts.each in
         is.texts.whole ∙ ap (λ all. concat all) texts ∙ sym again.texts.whole)
 
   -- ---- the cursor
 
-  module _ (asked : MatchRequest) (road : RoadMap) where
+  module _ (marks : Bool) (asked : MatchRequest) (road : RoadMap) where
     abbrev IsItsOwn : CursorRead → Type 0
     IsItsOwn read = IsOfInputs asked.text.now asked.tolerances road read
 
@@ -224,19 +234,19 @@ module _ (laws : Laws) where
 
     -- ---- all stages
 
-    pub matchings_once : IsSoundMap road → (accepted : Accepted)
+    matchings_once : IsSoundMap road → (accepted : Accepted)
         → IsStart (cursor_in asked.pages) (Ok accepted.start)
-        → IsSingle (AreMatchings asked accepted road)
+        → IsSingle (AreMatchings marks asked accepted road)
     matchings_once sound accepted begins =
-        first_then _ (OnStart asked accepted.reference road) (here_once accepted.start)
-        (λ here is. first_then _ (OnLayers asked here road) (layers_once _ _ _)
-        (λ layers are. first_then _ (IsPrinted asked road layers)
+        first_then _ (OnStart marks asked accepted.reference road) (here_once accepted.start)
+        (λ here is. first_then _ (OnLayers marks asked here road) (layers_once _ _ _)
+        (λ layers are. first_then _ (IsPrinted marks asked road layers)
         (pages_once asked layers here (rw is.0 begins))
-        (λ list pages. printed_once road layers sound asked list)))
+        (λ list pages. printed_once road layers sound marks asked list)))
 
   -- ---- places and reasons
 
-  pub places_once : (format : Format) (tolerances : Tolerances) (limits : PlaceLimits)
+  places_once : (format : Format) (tolerances : Tolerances) (limits : PlaceLimits)
       (reference : Reference) (road : RoadMap) → IsSoundMap road
       → IsSingle (ArePlaces format tolerances limits reference road)
   places_once format tolerances limits reference road sound =
@@ -250,7 +260,7 @@ module _ (laws : Laws) where
       places_in format limits is.looked one other is.output_is
       (subst (λ (l : Looked). IsPlacesIn format limits l other) looked again.output_is)))
 
-  pub reasons_once : (format : Format) (tolerances : Tolerances) (nearest : ℕ)
+  reasons_once : (format : Format) (tolerances : Tolerances) (nearest : ℕ)
       (reference : Reference) (road : RoadMap)
       → IsSingle (AreReasons format tolerances nearest reference road)
   reasons_once format tolerances nearest reference road = no_fault_once _ (λ one other is again.
@@ -260,6 +270,20 @@ module _ (laws : Laws) where
       again.output_is)
 
   -- ---- the answer
+
+  pub on_map_once : (marks : Bool) (request : Request) (accepted : Accepted) (road : RoadMap)
+      → Accepts request (Ok accepted) → IsSoundMap road
+      → IsSingle (IsAnswerOn marks request accepted road)
+  on_map_once marks (Show text format) accepted road is sound =
+      no_fault_once _ (reference_in format accepted.reference)
+  on_map_once marks (Candidates text tolerances format) accepted road is sound =
+      listed_once format tolerances accepted.reference road
+  on_map_once marks (Match asked) accepted road is sound =
+      matchings_once marks asked road sound accepted is.1
+  on_map_once marks (Places asked) accepted road is sound =
+      places_once asked.format asked.tolerances asked.limits accepted.reference road sound
+  on_map_once marks (Why asked) accepted road is sound =
+      reasons_once asked.format asked.tolerances asked.nearest accepted.reference road
 
   module _ (nodes lines bans : List ℕ) where
     map_once : IsSingle (IsMapOfFiles (known nodes lines bans))
@@ -272,24 +296,12 @@ module _ (laws : Laws) where
         let why = laws.map_fault nodes lines bans is.0 again.0 (is.1, is.2) (again.1, again.2) in
         ap Err (is.3 ∙ ap fault_of_map why ∙ sym again.3)
 
-    on_map_once : (request : Request) (accepted : Accepted) → Accepts request (Ok accepted)
-        → (road : RoadMap) → IsSoundMap road → IsSingle (IsAnswerOn request accepted road)
-    on_map_once (Show text format) accepted is road sound =
-        no_fault_once _ (reference_in format accepted.reference)
-    on_map_once (Candidates text tolerances format) accepted is road sound =
-        listed_once format tolerances accepted.reference road
-    on_map_once (Match asked) accepted is road sound = matchings_once asked road sound accepted is.1
-    on_map_once (Places asked) accepted is road sound = places_once asked.format asked.tolerances
-        asked.limits accepted.reference road sound
-    on_map_once (Why asked) accepted is road sound = reasons_once asked.format asked.tolerances
-        asked.nearest accepted.reference road
-
     of_files_once : (request : Request) (accepted : Accepted) → Accepts request (Ok accepted)
         → IsSingle (IsAnswerOf (known nodes lines bans) request accepted)
     of_files_once (Show text format) accepted is =
         no_fault_once _ (reference_in format accepted.reference)
-    of_files_once request accepted is = first_then _ (IsAnswerOn request accepted) map_once
-        (λ road its. on_map_once request accepted is road its.sound)
+    of_files_once request accepted is = first_then _ (IsAnswerOn true request accepted) map_once
+        (λ road its. on_map_once true request accepted road is its.sound)
 
     pub answer_once : (request : Request) → IsSingle (IsAnswer (known nodes lines bans) request)
     answer_once request = first_then _ (IsAnswerOf (known nodes lines bans) request)

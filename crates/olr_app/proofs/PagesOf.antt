@@ -136,9 +136,9 @@ zip_values R f _ _ they = absurd they
 
 -- ---- the texts so far
 
-module _ (format : Format) (road : RoadMap) (layers : LayersValue) (mark : Mark) where
+module _ (format : Format) (road : RoadMap) (layers : LayersValue) (mark : Option Mark) where
   abbrev IsText : Page → List ℕ → Type 0
-  IsText page text = IsTextOfPage format road layers (Some mark) (page_of page) text
+  IsText page text = IsTextOfPage format road layers mark (page_of page) text
 
   abbrev pub ShowsPages : List Page → List ℕ → Type 0
   ShowsPages pages output =
@@ -147,7 +147,7 @@ module _ (format : Format) (road : RoadMap) (layers : LayersValue) (mark : Mark)
   pub one_more : (pages : List Page) (index : ℕ) (page : Page) (output text : List ℕ)
       → index < length pages → page ≡ slice_index_or pages index page
       → ShowsPages (take index pages) output
-      → IsTextOfPage format road layers (Some mark) (page_of page) text
+      → IsTextOfPage format road layers mark (page_of page) text
       → ShowsPages (take (index + 1) pages) (output ++ text)
   one_more pages index page output text inside is so_far shown =
       let longer : take index pages ++ page ∷ [] ≡ take (index + 1) pages = simp add-one
@@ -165,7 +165,7 @@ module _ (format : Format) (road : RoadMap) (layers : LayersValue) (mark : Mark)
       → AreTextsOfPages format road layers mark (values_of pages) output
   all_pages_shown pages index output past shows = record {
     texts = shows.0;
-    each = zip_values (IsTextOfPage format road layers (Some mark)) page_of pages shows.0
+    each = zip_values (IsTextOfPage format road layers mark) page_of pages shows.0
         (subst (λ l. AllZip IsText l shows.0) (take_all index pages past) shows.1);
     whole = shows.2;
   }

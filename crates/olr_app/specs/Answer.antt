@@ -1,5 +1,5 @@
 -- The answer of a request: what is written for it, or the fault that comes in place of that.
-use Rattle.std.specs.Prelude.{◌≡◌, ℕ, List, Option, Result, Ok, Err}
+use Rattle.std.specs.Prelude.{◌≡◌, ℕ, ◌⊎◌, Bool, true, false, List, Option, Result, Ok, Err}
 use Rattle.std.specs.Io.KnownBytes.{Appends}
 use Rattle.olr_app.specs.Common.{Failed, Reference, RoadMap, MapFault}
 use Rattle.olr_binary.specs.Json.{IsReferenceJson}
@@ -37,16 +37,30 @@ IsReferenceIn Json reference text = IsReferenceJson reference text
 abbrev pub IsShown : Format → Reference → Result (List ℕ) Fault → Type 0
 IsShown format reference = NoFault (IsReferenceIn format reference)
 
--- the answer on a map; that of `Show` is the same on each
-abbrev pub IsAnswerOn : Request → Accepted → RoadMap → Result (List ℕ) Fault → Type 0
-IsAnswerOn (Show text format) accepted road answer = IsShown format accepted.reference answer
-IsAnswerOn (Candidates text tolerances format) accepted road answer =
+-- The answer on a map, with marks in the cursors at the ends of pages or without. That of `Show` is
+-- the same on each map.
+abbrev pub IsAnswerOn : Bool → Request → Accepted → RoadMap → Result (List ℕ) Fault → Type 0
+IsAnswerOn marks (Show text format) accepted road answer = IsShown format accepted.reference answer
+IsAnswerOn marks (Candidates text tolerances format) accepted road answer =
     IsListed format tolerances accepted.reference road answer
-IsAnswerOn (Match asked) accepted road answer = AreMatchings asked accepted road answer
-IsAnswerOn (Places asked) accepted road answer =
+IsAnswerOn marks (Match asked) accepted road answer = AreMatchings marks asked accepted road answer
+IsAnswerOn marks (Places asked) accepted road answer =
     ArePlaces asked.format asked.tolerances asked.limits accepted.reference road answer
-IsAnswerOn (Why asked) accepted road answer =
+IsAnswerOn marks (Why asked) accepted road answer =
     AreReasons asked.format asked.tolerances asked.nearest accepted.reference road answer
+
+-- The answer of one of many requests on a map that was read for all of them: the bytes of its
+-- output without marks, or the fault of the first stage that has one. (A mark names the whole map,
+-- and so takes time in proportion to it.)
+abbrev pub IsAnswerOfMany : RoadMap → Request → Result (List ℕ) Fault → Type 0
+IsAnswerOfMany road request =
+    AndThen (Accepts request) (λ (accepted : Accepted). IsAnswerOn false request accepted road)
+
+-- The fault that comes in place of that answer: the one of the texts; or memory was refused, which
+-- befalls a request that is accepted alone.
+abbrev pub IsFaultOfMany : RoadMap → Request → Fault → Type 0
+IsFaultOfMany road request fault = IsAnswerOfMany road request (Err fault)
+    ⊎ ((fault ≡ NoMemory) × IsAccepted request)
 
 module _ (texts : Texts) where
   -- the map of the files, or the fault that lies in their texts
@@ -59,7 +73,7 @@ module _ (texts : Texts) where
   abbrev pub IsAnswerOf : Request → Accepted → Result (List ℕ) Fault → Type 0
   IsAnswerOf (Show text format) accepted answer = IsShown format accepted.reference answer
   IsAnswerOf request accepted answer =
-      AndThen IsMapOfFiles (IsAnswerOn request accepted) answer
+      AndThen IsMapOfFiles (IsAnswerOn true request accepted) answer
 
   -- The answer of a request by the texts alone, its own and those of the files of a map: the bytes
   -- of the output, or the fault of the first stage that has one.

@@ -1,6 +1,6 @@
 -- The answer of a request for matchings on a map, by the texts alone: stage by stage, in the order
 -- in which the stages may end it with a fault.
-use Rattle.std.specs.Prelude.{◌≡◌, ℕ, true, List, [], ◌∷◌, map, Option, None, Some, IfSome}
+use Rattle.std.specs.Prelude.{◌≡◌, ℕ, Bool, true, false, List, [], ◌∷◌, map, Option, None, Some, IfSome}
 use Rattle.std.specs.Prelude.{Contains, option_map, Result, Ok, Err}
 use Rattle.std.specs.List.{AllZip, concat}
 use Rattle.olr_app.specs.Common.{Reference, Tolerances, IsFingerprint, AreAnswers, KeyValue, CursorRead, Mark, RoadMap, LayersValue, AreLayersOn, IsMatchedBy, Matched}
@@ -85,42 +85,50 @@ pub record IsTextOfPage (format : Format) (road : RoadMap) (layers : LayersValue
   pub text_is : IsPageIn format road layers.reference page matched mark text
 
 -- the texts of pages one after the other
-pub record AreTextsOfPages (format : Format) (road : RoadMap) (layers : LayersValue) (mark : Mark)
-    (pages : List PageValue) (output : List ℕ) : Type 0 where
+pub record AreTextsOfPages (format : Format) (road : RoadMap) (layers : LayersValue)
+    (mark : Option Mark) (pages : List PageValue) (output : List ℕ) : Type 0 where
   pub texts : List (List ℕ)
-  pub each : AllZip (IsTextOfPage format road layers (Some mark)) pages texts
+  pub each : AllZip (IsTextOfPage format road layers mark) pages texts
   pub whole : output ≡ concat texts
 
--- The output: the texts of the pages. Where a page has more, the mark in the cursor at its end is
--- the fingerprint of the inputs.
-pub record IsPagesText (asked : MatchRequest) (road : RoadMap) (layers : LayersValue)
-    (pages : List PageValue) (output : List ℕ) : Type 0 where
-  pub mark : Mark
-  pub marked : (page : PageValue) → Contains pages page → page.more ≡ true
-      → IsFingerprint asked.text.now asked.tolerances road mark
-  pub texts : AreTextsOfPages asked.format road layers mark pages output
+-- The mark in the cursors at the ends of these pages. With marks it is the fingerprint of the
+-- inputs, where a page has more; without marks there is none.
+abbrev pub IsMarkOf :
+    Bool → List ℕ → Tolerances → RoadMap → List PageValue → Option Mark → Type 0
+IsMarkOf true text tolerances road pages mark = (its : Mark) × (mark ≡ Some its)
+    × ((page : PageValue) → Contains pages page → page.more ≡ true
+    → IsFingerprint text tolerances road its)
+IsMarkOf false text tolerances road pages mark = mark ≡ None
+
+-- the output: the texts of the pages, with such a mark
+pub record IsPagesText (format : Format) (road : RoadMap) (layers : LayersValue)
+    (IsMark : Option Mark → Type 0) (pages : List PageValue) (output : List ℕ) : Type 0 where
+  pub mark : Option Mark
+  pub is_mark : IsMark mark
+  pub texts : AreTextsOfPages format road layers mark pages output
 
 -- the same as a stage, which has no fault
 abbrev pub IsPrinted :
-    MatchRequest → RoadMap → LayersValue → List PageValue → Result (List ℕ) Fault → Type 0
-IsPrinted asked road layers pages = NoFault (IsPagesText asked road layers pages)
+    Bool → MatchRequest → RoadMap → LayersValue → List PageValue → Result (List ℕ) Fault → Type 0
+IsPrinted marks asked road layers pages = NoFault (IsPagesText asked.format road layers
+    (IsMarkOf marks asked.text.now asked.tolerances road pages) pages)
 
--- ---- all stages after the map
+-- ---- all stages after the map, with marks or without
 
 -- the stages after the layers
-abbrev pub OnLayers : MatchRequest → Option CursorRead → RoadMap → LayersValue
+abbrev pub OnLayers : Bool → MatchRequest → Option CursorRead → RoadMap → LayersValue
     → Result (List ℕ) Fault → Type 0
-OnLayers asked start road layers =
-    AndThen (ArePages asked layers start) (IsPrinted asked road layers)
+OnLayers marks asked start road layers =
+    AndThen (ArePages asked layers start) (IsPrinted marks asked road layers)
 
 -- the stages after the cursor is found to be of the inputs
-abbrev pub OnStart : MatchRequest → Reference → RoadMap → Option CursorRead
+abbrev pub OnStart : Bool → MatchRequest → Reference → RoadMap → Option CursorRead
     → Result (List ℕ) Fault → Type 0
-OnStart asked reference road start =
-    AndThen (AreLayers asked.tolerances reference road) (OnLayers asked start road)
+OnStart marks asked reference road start =
+    AndThen (AreLayers asked.tolerances reference road) (OnLayers marks asked start road)
 
 -- the output of a request for matchings on a map, or the fault of the first stage that has one
 abbrev pub AreMatchings :
-    MatchRequest → Accepted → RoadMap → Result (List ℕ) Fault → Type 0
-AreMatchings asked accepted road = AndThen (IsStartHere asked road accepted.start)
-    (OnStart asked accepted.reference road)
+    Bool → MatchRequest → Accepted → RoadMap → Result (List ℕ) Fault → Type 0
+AreMatchings marks asked accepted road = AndThen (IsStartHere asked road accepted.start)
+    (OnStart marks asked accepted.reference road)

@@ -23,6 +23,10 @@ text_of (Why asked) = asked.text.now
 abbrev pub bytes_of : Option (Bor (List ℕ)) → Option (List ℕ)
 bytes_of text = option_map (λ (bytes : Bor (List ℕ)). bytes.now) text
 
+-- a text of these bytes, wherever it lies
+abbrev pub at_bytes : List ℕ → Bor (List ℕ)
+at_bytes bytes = record { ref_ptr = (0, 0); now = bytes }
+
 -- the text of the cursor after which the pages begin, or none
 abbrev pub cursor_in : Pages → Option (List ℕ)
 cursor_in All = None

@@ -1,21 +1,23 @@
 //! From a request to the bytes of its output.
 
-ghost use Rattle.std.specs.Prelude.{IfErr, IfOk, Ok, OnOk, string_bytes};
+ghost use Rattle.std.specs.Prelude.{IfErr, IfOk, Ok, OnOk, string_bytes, true};
 ghost use Rattle.olr_binary.specs.Reference.{IsReference};
 ghost use Rattle.olr_map.specs.Files.{IsReadInOrder, texts_of};
 ghost use Rattle.olr_app.specs.Accepting.{Accepts, ReportsRefusal};
 ghost use Rattle.olr_app.specs.Answer.{IsAnswerOn, IsAnswered, IsFault, IsOutput, IsReason, IsReferenceIn};
 ghost use Rattle.olr_app.specs.Sources.{AnswerLeaves};
 ghost use Rattle.olr_app.specs.Stages.{IsStageFault};
+ghost use Rattle.olr_app.specs.Why.{IsUnbannedFor};
 
 use crate::accepting::{Accepted, accept};
+use crate::asked_map::AskedMap;
 use crate::fault::Fault;
 use crate::listing::listing_of;
 use crate::matching::matchings_of;
 use crate::places::places_listing;
 use crate::request::{Format, Request};
 use crate::sink::Sink;
-use crate::why::reasons_of;
+use crate::why::{reasons_of, unbanned_for};
 use crate::writing::write_whole;
 use olr_binary::{Reference, show_json, show_text};
 use olr_map::{File, Map, Source, read_map_with_bans};
@@ -41,19 +43,28 @@ fn printed_reference(
 }
 
 /// The whole output of a request that is accepted, on a map. That of [`Request::Show`] is the same
-/// on each map.
-fn output_on_map(
+/// on each map. Where reasons are asked for, the map without its bans has to be at hand.
+///
+/// # Errors
+///
+/// For a request that asks for matchings, [`Fault::CursorOfOther`] where the cursor has the mark of
+/// other inputs; else, but for [`Request::Why`], [`Fault::TooManyCandidates`] with the first point
+/// that has more than 64; else [`Fault::CursorNotHere`] where the cursor isn't that of a matching;
+/// [`Fault::NoMemory`] where the allocator refused memory.
+pub(crate) fn answer_on(
     alloc: Global,
+    on: &AskedMap<'_>,
     request: &Request<'_>,
     accepted: &Accepted,
-    map: &Map,
 ) -> Result<String, Fault>
-    requires { IsReference accepted.now.reference }
-    ensures output { IfOk result (λ output.
-        IsAnswerOn request.now accepted.now map.now (Ok (string_bytes output))) }
-    ensures fault { IfErr result (IsStageFault (IsAnswerOn request.now accepted.now map.now)) }
+    requires reference { IsReference accepted.now.reference }
+    requires unbanned { IsUnbannedFor request.now on.now.map.now on.now.unbanned }
+    ensures output { IfOk result (λ output. IsAnswerOn on.now.marks request.now accepted.now
+        on.now.map.now (Ok (string_bytes output))) }
+    ensures fault { IfErr result (IsStageFault
+        (IsAnswerOn on.now.marks request.now accepted.now on.now.map.now)) }
 {
-    let reference = &accepted.reference;
+    let (map, reference) = (on.map, &accepted.reference);
     match request {
         Request::Show { text: _, format } => {
             let output = printed_reference(alloc, reference, *format)?;
@@ -64,17 +75,31 @@ fn output_on_map(
             tolerances,
             format,
         } => listing_of(alloc, map, reference, tolerances, *format),
-        Request::Match(asked) => matchings_of(alloc, map, asked, accepted),
-        Request::Places(asked) => places_listing(
-            alloc,
-            map,
-            reference,
-            &asked.tolerances,
-            &asked.limits,
-            asked.format,
-        ),
-        Request::Why(asked) => reasons_of(alloc, map, asked, reference),
+        Request::Match(asked) => matchings_of(alloc, on, asked, accepted),
+        Request::Places(asked) => places_listing(alloc, map, asked, reference),
+        Request::Why(asked) => reasons_of(alloc, map, on.unbanned.as_ref(), asked, reference),
     }
+}
+
+/// The whole output of a run for a request that is accepted, on a map.
+fn output_on_map(
+    alloc: Global,
+    request: &Request<'_>,
+    accepted: &Accepted,
+    map: &Map,
+) -> Result<String, Fault>
+    requires { IsReference accepted.now.reference }
+    ensures output { IfOk result (λ output.
+        IsAnswerOn true request.now accepted.now map.now (Ok (string_bytes output))) }
+    ensures fault { IfErr result (IsStageFault (IsAnswerOn true request.now accepted.now map.now)) }
+{
+    let unbanned = unbanned_for(alloc, map, request)?;
+    let on = AskedMap {
+        map,
+        unbanned,
+        marks: true,
+    };
+    answer_on(alloc, &on, request, accepted)
 }
 
 /// The whole output of a request that is accepted. It reads the files of the map, if the request

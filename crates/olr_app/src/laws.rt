@@ -10,8 +10,7 @@
 ghost use Rattle.std.specs.Prelude.{ℕ, List};
 ghost use Rattle.olr_map.specs.Files.{known};
 ghost use Rattle.olr_app.specs.Answer.{IsAnswer};
-ghost use Rattle.olr_app.specs.FirstPageLaws.{FirstFaultIsOfRun, FirstPageIsOfRun, OneFirstPage};
-ghost use Rattle.olr_app.specs.FirstPageLaws.{OneListing, OnePlaces, OneReasons};
+ghost use Rattle.olr_app.specs.AnswerLaws.{FaultIsOfRun, OneAnswerOfMany, OutputIsOfRun};
 ghost use Rattle.olr_app.specs.Laws.{Laws};
 ghost use Rattle.olr_app.specs.Stages.{IsSingle};
 ghost use Rattle.olr_app.specs.declared.request.Request.{Request};
@@ -68,17 +67,14 @@ pub fn one_answer()
     laws_below();
 }
 
-/// The first page for one of many references is the one that a run for it alone prints as JSON, but
-/// for the mark in the cursor at its end; a fault in place of the one is a fault in place of the
-/// other. There is one first page or one fault, and so it is with the list of candidates, with the
-/// places and with the reasons.
-pub fn first_pages_are_of_runs()
-    ensures page { FirstPageIsOfRun }
-    ensures fault { FirstFaultIsOfRun }
-    ensures one { OneFirstPage }
-    ensures listing { OneListing }
-    ensures places { OnePlaces }
-    ensures reasons { OneReasons }
+/// The answer of one of many requests on a map is what a run for it alone prints on the same files:
+/// the same bytes for candidates, places and reasons, and for a page of matchings as JSON the same
+/// page, but for the mark in the cursor at its end. It has a fault exactly where that run ends with
+/// this fault of the texts. So it has one answer or one fault, and not both.
+pub fn answers_of_many()
+    ensures output { OutputIsOfRun }
+    ensures fault { FaultIsOfRun }
+    ensures one { OneAnswerOfMany }
 {
     laws_below();
 }

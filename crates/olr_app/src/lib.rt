@@ -3,48 +3,50 @@
 //!
 //! A request goes through these modules in order:
 //!
-//! - [`request`]: what is asked for.
+//! - [`request`]: what is asked for; [`question`]: the same of any reference.
 //! - [`accepting`]: the reference and the cursor of its own texts, before any file is read.
 //! - [`answering`]: [`run`], which reads the map that the request asks for, makes the whole output
 //!   and only then writes it.
 //! - [`listing`]: the text of candidates, by [`listing_json`] where it is JSON; [`matching`]: the
-//!   pages of matchings; [`first_matchings`]: the first one, for one of many references;
-//!   [`places`]: its places, and whether the match is unique; [`why`]: why it has no matching.
+//!   pages of matchings; [`places`]: the places, and whether the match is unique; [`why`]: why
+//!   there is no matching.
 //! - [`sink`]: where the output goes, and [`writing`], the loops that hand it over.
 //! - [`fault`]: what `run` can fail with, and the line of text for each fault.
 //!
-//! Beside them, [`laws`] says that a request has one answer at most by known texts, and that the
-//! first page for one of many references is that of a run for it.
+//! Of many texts on one map each is answered by [`one_of_many`], by the same calls on a map that
+//! was read before ([`asked_map`]). Beside these modules, [`laws`] says that a request has one
+//! answer at most, by known texts and on a map.
 #![tactic(auto)]
 
 mod accepting;
 mod answering;
+mod asked_map;
 mod fault;
-mod first_matchings;
 mod headline;
 mod laws;
 mod listing;
 mod listing_json;
 mod matching;
+mod one_of_many;
 mod places;
+mod question;
 mod request;
 mod sink;
 mod why;
 mod writing;
 
 pub use answering::run;
+pub use asked_map::AskedMap;
 pub use fault::Fault;
-pub use first_matchings::first_page;
 pub use headline::{all_pages_follow, cursors_go_on, outputs_agree, outputs_join};
-pub use laws::{first_pages_are_of_runs, one_answer};
-pub use listing::listing_of;
+pub use laws::{answers_of_many, one_answer};
 pub use olr_candidates::{Name, Tolerances};
 pub use olr_map::{File, In, Source};
 pub use olr_matching::PageSize;
 pub use olr_places::{Number, PlaceLimits};
 pub use olr_why::NearestCount;
-pub use places::places_listing;
+pub use one_of_many::answer_text;
+pub use question::{Question, What};
 pub use request::{Format, MatchRequest, Pages, PlacesRequest, Request, WhyRequest};
 pub use sink::{Out, Sink};
-pub use why::why_listing;
 pub use writing::put_whole;

@@ -111,7 +111,7 @@ fn printed_lists(
 ///
 /// [`Fault::TooManyCandidates`] with the first point that has more than 64; [`Fault::NoMemory`]
 /// where the allocator refused memory.
-pub fn listing_of(
+pub(crate) fn listing_of(
     alloc: Global,
     map: &Map,
     reference: &Reference,

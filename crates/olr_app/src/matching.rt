@@ -12,10 +12,11 @@ ghost use Rattle.olr_matching.specs.Matched.{IsMatchedBy};
 ghost use Rattle.olr_matching.specs.Searches.{AreSearchesOn};
 ghost use Rattle.olr_report.specs.Entries.{CanBeShown};
 ghost use Rattle.olr_app.specs.Matching.{AreLayers, AreMatchings, ArePages, AreTextsOfPages};
-ghost use Rattle.olr_app.specs.Matching.{IsStartHere, IsTextOfPage, key_of, values_of};
+ghost use Rattle.olr_app.specs.Matching.{IsMarkOf, IsStartHere, IsTextOfPage, key_of, values_of};
 ghost use Rattle.olr_app.specs.Stages.{IsStageFault};
 
 use crate::accepting::Accepted;
+use crate::asked_map::AskedMap;
 use crate::fault::Fault;
 use crate::request::{Format, MatchRequest, Pages};
 use olr_binary::Reference;
@@ -135,7 +136,7 @@ fn have_no_more(pages: &[Page]) -> bool
 /// # Errors
 ///
 /// [`NoMemory`] where the allocator refused memory.
-fn mark_of(
+fn fingerprint_for(
     alloc: Global,
     map: &Map,
     asked: &MatchRequest<'_>,
@@ -154,6 +155,30 @@ fn mark_of(
     }
     let mark = fingerprint(alloc, map, asked.text, &asked.tolerances)?;
     Ok(mark)
+}
+
+/// The mark for the cursors at the ends of these pages, where they have marks.
+///
+/// # Errors
+///
+/// [`NoMemory`] where the allocator refused memory.
+fn mark_of(
+    alloc: Global,
+    on: &AskedMap<'_>,
+    asked: &MatchRequest<'_>,
+    known: Option<Mark>,
+    pages: &[Page],
+) -> Result<Option<Mark>, NoMemory>
+    requires { IfSome known
+        (IsFingerprint asked.now.text.now asked.now.tolerances on.now.map.now) }
+    ensures { IfOk result (IsMarkOf on.now.marks asked.now.text.now asked.now.tolerances
+        on.now.map.now (values_of pages.now)) }
+{
+    if !on.marks {
+        return Ok(None);
+    }
+    let mark = fingerprint_for(alloc, on.map, asked, known, pages)?;
+    Ok(Some(mark))
 }
 
 /// The parts of the matchings of a page.
@@ -190,7 +215,7 @@ fn matched_on_page(
 /// # Errors
 ///
 /// [`NoMemory`] where the allocator refused memory.
-pub(crate) fn text_of_page(
+fn text_of_page(
     alloc: Global,
     routes: &mut Routes<'_>,
     page: &Page,
@@ -227,7 +252,7 @@ fn text_of_pages(
     alloc: Global,
     routes: &mut Routes<'_>,
     pages: &[Page],
-    mark: &Mark,
+    mark: &Option<Mark>,
     format: Format,
 ) -> Result<String, NoMemory>
     requires { All (λ page. All (IsKey routes.old.layers.penalties) page.keys.items) pages.now }
@@ -236,7 +261,7 @@ fn text_of_pages(
 {
     let mut output = String::new(alloc);
     for page in pages {
-        let text = text_of_page(alloc, routes, page, Some(mark), format)?;
+        let text = text_of_page(alloc, routes, page, mark.as_ref(), format)?;
         output.push_str(&text)?;
     }
     Ok(output)
@@ -252,21 +277,22 @@ fn text_of_pages(
 /// the allocator refused memory.
 pub(crate) fn matchings_of(
     alloc: Global,
-    map: &Map,
+    on: &AskedMap<'_>,
     asked: &MatchRequest<'_>,
     accepted: &Accepted,
 ) -> Result<String, Fault>
     requires { IsReference accepted.now.reference }
-    ensures text { IfOk result (λ output.
-        AreMatchings asked.now accepted.now map.now (Ok (string_bytes output))) }
-    ensures fault { IfErr result (IsStageFault (AreMatchings asked.now accepted.now map.now)) }
+    ensures text { IfOk result (λ output. AreMatchings on.now.marks asked.now accepted.now
+        on.now.map.now (Ok (string_bytes output))) }
+    ensures fault { IfErr result (IsStageFault
+        (AreMatchings on.now.marks asked.now accepted.now on.now.map.now)) }
 {
     let Accepted { reference, start } = accepted;
-    let known = check_inputs(alloc, map, asked, start)?;
-    let (layers, searches) = layers_of(alloc, map, reference, &asked.tolerances)?;
+    let known = check_inputs(alloc, on.map, asked, start)?;
+    let (layers, searches) = layers_of(alloc, on.map, reference, &asked.tolerances)?;
     let pages = pages_asked(alloc, &layers, asked, start)?;
-    let mark = mark_of(alloc, map, asked, known, &pages)?;
-    let mut routes = Routes::with_searches(alloc, map, &layers, searches);
+    let mark = mark_of(alloc, on, asked, known, &pages)?;
+    let mut routes = Routes::with_searches(alloc, on.map, &layers, searches);
     let output = text_of_pages(alloc, &mut routes, &pages, &mark, asked.format)?;
     Ok(output)
 }

@@ -10,12 +10,11 @@ ghost use Rattle.olr_app.specs.Stages.{IsStageFault};
 
 use crate::fault::Fault;
 use crate::matching::layers_of;
-use crate::request::Format;
+use crate::request::{Format, PlacesRequest};
 use olr_binary::Reference;
-use olr_candidates::Tolerances;
 use olr_map::Map;
 use olr_metric::NoMemory;
-use olr_places::{PlaceLimits, Places, places_json, places_of, places_text};
+use olr_places::{Places, places_json, places_of, places_text};
 use std::alloc::Global;
 
 /// Places in a format.
@@ -40,29 +39,27 @@ fn printed_places(
     }
 }
 
-/// The places of a reference on a map, in a format. The cursors in it have no mark of the inputs,
-/// so no fingerprint of the map is taken.
+/// What a request for the places of a reference asks for, on a map. The cursors in it have no mark
+/// of the inputs, so no fingerprint of the map is taken.
 ///
 /// # Errors
 ///
 /// [`Fault::TooManyCandidates`] with the first point that has more than 64; [`Fault::NoMemory`]
 /// where the allocator refused memory.
-pub fn places_listing(
+pub(crate) fn places_listing(
     alloc: Global,
     map: &Map,
+    asked: &PlacesRequest<'_>,
     reference: &Reference,
-    tolerances: &Tolerances,
-    limits: &PlaceLimits,
-    format: Format,
 ) -> Result<String, Fault>
     requires { IsReference reference.now }
-    ensures places { IfOk result (λ output. ArePlaces format tolerances.now limits.now
-        reference.now map.now (Ok (string_bytes output))) }
-    ensures fault { IfErr result (IsStageFault
-        (ArePlaces format tolerances.now limits.now reference.now map.now)) }
+    ensures places { IfOk result (λ output. ArePlaces asked.now.format asked.now.tolerances
+        asked.now.limits reference.now map.now (Ok (string_bytes output))) }
+    ensures fault { IfErr result (IsStageFault (ArePlaces asked.now.format asked.now.tolerances
+        asked.now.limits reference.now map.now)) }
 {
-    let (layers, searches) = layers_of(alloc, map, reference, tolerances)?;
-    let places = places_of(alloc, map, &layers, searches, reference, limits)?;
-    let output = printed_places(alloc, map, places, format)?;
+    let (layers, searches) = layers_of(alloc, map, reference, &asked.tolerances)?;
+    let places = places_of(alloc, map, &layers, searches, &asked.limits)?;
+    let output = printed_places(alloc, map, places, asked.format)?;
     Ok(output)
 }

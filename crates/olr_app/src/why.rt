@@ -4,16 +4,15 @@ ghost use Rattle.std.specs.Prelude.{◌≡◌, [], IfErr, IfOk, MatchOption, Ok,
 ghost use Rattle.olr_binary.specs.Reference.{IsReference};
 ghost use Rattle.olr_why.specs.Reasons.{AreOnMap};
 ghost use Rattle.olr_why.specs.Remedies.{IsUnbanned};
-ghost use Rattle.olr_app.specs.Why.{AreReasons, IsWhyIn};
+ghost use Rattle.olr_app.specs.Why.{AreReasons, IsUnbannedFor, IsWhyIn};
 ghost use Rattle.olr_app.specs.Stages.{IsStageFault};
 
 use crate::fault::Fault;
-use crate::request::{Format, WhyRequest};
+use crate::request::{Format, Request, WhyRequest};
 use olr_binary::Reference;
-use olr_candidates::Tolerances;
 use olr_map::Map;
 use olr_metric::NoMemory;
-use olr_why::{NearestCount, Why, unbanned_of, why_json, why_of, why_text};
+use olr_why::{Why, unbanned_of, why_json, why_of, why_text};
 use std::alloc::Global;
 
 /// Reasons in a format.
@@ -31,36 +30,28 @@ fn printed_why(alloc: Global, map: &Map, why: &Why, format: Format) -> Result<St
     }
 }
 
-/// Why a reference has no matching on a map, or that it has one, in a format. The cursors in it
-/// have no mark of the inputs. `unbanned` is the map without its bans, where the map has bans: that
-/// of [`unbanned_of`].
+/// The map without its bans, where a request needs it: where reasons are asked for and the map has
+/// bans.
 ///
 /// # Errors
 ///
-/// [`Fault::NoMemory`] where the allocator refused memory, and no other.
-pub fn why_listing(
+/// [`NoMemory`] where the allocator refused memory.
+pub(crate) fn unbanned_for(
     alloc: Global,
     map: &Map,
-    unbanned: Option<&Map>,
-    reference: &Reference,
-    tolerances: &Tolerances,
-    nearest: NearestCount,
-    format: Format,
-) -> Result<String, Fault>
-    requires reference { IsReference reference.now }
-    requires unbanned { MatchOption unbanned (map.now.bans ≡ [])
-        (λ other. IsUnbanned map.now other.now) }
-    ensures reasons { IfOk result (λ output. AreReasons format tolerances.now nearest
-        reference.now map.now (Ok (string_bytes output))) }
-    ensures fault { IfErr result (IsStageFault
-        (AreReasons format tolerances.now nearest reference.now map.now)) }
+    request: &Request<'_>,
+) -> Result<Option<Map>, NoMemory>
+    ensures { IfOk result (IsUnbannedFor request.now map.now) }
 {
-    let why = why_of(alloc, map, unbanned, reference, tolerances, nearest)?;
-    let output = printed_why(alloc, map, &why, format)?;
-    Ok(output)
+    let Request::Why(_) = request else {
+        return Ok(None);
+    };
+    unbanned_of(alloc, map)
 }
 
-/// What a request for the reasons of a reference asks for, on a map.
+/// What a request for the reasons of a reference asks for, on a map. The cursors in it have no mark
+/// of the inputs. `unbanned` is the map without its bans, where the map has bans: that of
+/// [`unbanned_of`].
 ///
 /// # Errors
 ///
@@ -68,23 +59,25 @@ pub fn why_listing(
 pub(crate) fn reasons_of(
     alloc: Global,
     map: &Map,
+    unbanned: Option<&Map>,
     asked: &WhyRequest<'_>,
     reference: &Reference,
 ) -> Result<String, Fault>
     requires reference { IsReference reference.now }
+    requires unbanned { MatchOption unbanned (map.now.bans ≡ [])
+        (λ other. IsUnbanned map.now other.now) }
     ensures reasons { IfOk result (λ output. AreReasons asked.now.format asked.now.tolerances
         asked.now.nearest reference.now map.now (Ok (string_bytes output))) }
     ensures fault { IfErr result (IsStageFault (AreReasons asked.now.format asked.now.tolerances
         asked.now.nearest reference.now map.now)) }
 {
-    let unbanned = unbanned_of(alloc, map)?;
-    why_listing(
-        alloc,
-        map,
-        unbanned.as_ref(),
-        reference,
-        &asked.tolerances,
-        asked.nearest,
-        asked.format,
-    )
+    let WhyRequest {
+        tolerances,
+        nearest,
+        format,
+        ..
+    } = asked;
+    let why = why_of(alloc, map, unbanned, reference, tolerances, *nearest)?;
+    let output = printed_why(alloc, map, &why, *format)?;
+    Ok(output)
 }

@@ -11,13 +11,13 @@ use Rattle.olr_app.specs.declared.fault.Fault.{Fault}
 use Rattle.olr_app.specs.declared.fault.Fault.TheVariants.{InputNotRead, NoMemory, WriteFailed}
 use Rattle.olr_app.proofs.AnswerOf.{unfailed}
 use Rattle.olr_batch.specs.Run.{IsStopped}
-use Rattle.olr_batch.specs.declared.asked.BatchRequest.{BatchRequest}
+use Rattle.olr_app.specs.declared.question.Question.{Question}
 
 module _ {S I O : Type 0} (left : S → Option (List ℕ)) (failed : S → ℕ) (in_left : I
     → Option (List ℕ)) (in_failed : I → ℕ)
     (taken : O → Option (List ℕ)) (out_failed : O → ℕ) (put_gives : O → List ℕ → Result ℕ Failed → O
     → Type 0)
-    (flush_gives : O → Result (Unit {0}) Failed → O → Type 0) (asked : BatchRequest)
+    (flush_gives : O → Result (Unit {0}) Failed → O → Type 0) (asked : Question)
     (road : RoadMap)
     (old_in new_in : I) (old_out new_out : O) (old new : S) (file : File)
     (whole : IsReadWhole left failed old new) where

@@ -1,5 +1,4 @@
 mod Tokens
-mod Faults
 mod Lines
 mod Stepping
 mod Written

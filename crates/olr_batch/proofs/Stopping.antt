@@ -14,12 +14,12 @@ use Rattle.olr_app.specs.declared.fault.Fault.TheVariants.{InputNotRead, NoMemor
 use Rattle.olr_batch.specs.Records.{AreWrittenFor, IsWrittenFor}
 use Rattle.olr_batch.specs.Run.{AreAnswered, AreBegun, IsNextOutput, IsStopped, IsWrittenTo}
 use Rattle.olr_batch.specs.Steps.{IsLast, IsOutputOfNext, IsSame, IsStepStopped}
-use Rattle.olr_batch.specs.declared.asked.BatchRequest.{BatchRequest}
+use Rattle.olr_app.specs.declared.question.Question.{Question}
 use Rattle.olr_batch.proofs.Stepping.{takes_none}
 use Rattle.olr_batch.proofs.Written.{all_done, cut_of, lines_left, next_of, split_of}
 
 module _ {O : Type 0} (taken : O → Option (List ℕ)) (failed : O → ℕ)
-    (flush_gives : O → Result (Unit {0}) Failed → O → Type 0) (asked : BatchRequest)
+    (flush_gives : O → Result (Unit {0}) Failed → O → Type 0) (asked : Question)
     (road : RoadMap)
     (number : ℕ) (input left : Option (List ℕ)) (old now : O)
     (so_far : IsWrittenTo asked road number input left (taken old) (taken now))
@@ -87,7 +87,7 @@ module _ {O : Type 0} (taken : O → Option (List ℕ)) (failed : O → ℕ)
 module _ {S O : Type 0} (left : S → Option (List ℕ)) (in_failed : S → ℕ) (taken : O
     → Option (List ℕ)) (failed : O → ℕ)
     (put_gives : O → List ℕ → Result ℕ Failed → O → Type 0)
-    (flush_gives : O → Result (Unit {0}) Failed → O → Type 0) (asked : BatchRequest)
+    (flush_gives : O → Result (Unit {0}) Failed → O → Type 0) (asked : Question)
     (road : RoadMap) (number : ℕ)
     (old_in in_now : S) (old now : O) (left_now : Option (List ℕ))
     (so_far : IsWrittenTo asked road number (left old_in) left_now (taken old) (taken now))
@@ -145,7 +145,7 @@ none_split (Some text) = refl
 
 -- before the first record
 pub none_begun : {O : Type 0} (taken : O → Option (List ℕ)) (failed : O → ℕ)
-    (flush_gives : O → Result (Unit {0}) Failed → O → Type 0) (asked : BatchRequest)
+    (flush_gives : O → Result (Unit {0}) Failed → O → Type 0) (asked : Question)
     (road : RoadMap) (input : Option (List ℕ)) (sink : O)
     → AreBegun taken failed flush_gives asked road input sink sink
 none_begun taken failed flush_gives asked road input sink = record {

@@ -13,7 +13,7 @@ use Rattle.olr_messages.specs.Messages.{IsNext, IsOver}
 use Rattle.olr_batch.specs.Records.{AreWrittenFor, IsWrittenFor}
 use Rattle.olr_batch.specs.Run.{IsLeft, IsWrittenTo}
 use Rattle.olr_batch.specs.Steps.{IsOutputOfNext}
-use Rattle.olr_batch.specs.declared.asked.BatchRequest.{BatchRequest}
+use Rattle.olr_app.specs.declared.question.Question.{Question}
 
 length_more : (done : List (List ℕ)) (line : List ℕ) → length (done ++ line ∷ []) ≡ length done + 1
 length_more done line = length-append done (line ∷ [])
@@ -34,7 +34,7 @@ one_line_more done line (Some text) (Some more) (Some after) is next =
     is ∙ ap (λ (lines : List (List ℕ)). done ++ lines) next
     ∙ sym (append_assoc done (line ∷ []) (lines_of after))
 
-module _ (asked : BatchRequest) (road : RoadMap) where
+module _ (asked : Question) (road : RoadMap) where
   -- what is written for one record more
   pub one_output_more : (number at : ℕ) (done outputs : List (List ℕ)) (line output : List ℕ)
       (said : Message)
@@ -106,7 +106,7 @@ hand_of done at_hand None rest is = tt
 hand_of done at_hand (Some text) None is = tt
 hand_of done at_hand (Some text) (Some after) is = refl
 
-module _ {asked : BatchRequest} {road : RoadMap} where
+module _ {asked : Question} {road : RoadMap} where
   pub one_more : {number next : ℕ} {input left rest old between new : Option (List ℕ)}
       {output : List ℕ} → IsWrittenTo asked road number input left old between
       → IsOutputOfNext asked road number left rest output → Appends between new output

@@ -1,5 +1,4 @@
 pub mod Line
-pub mod Asked
 pub mod Answers
 pub mod Records
 pub mod Steps

@@ -9,13 +9,13 @@ use Rattle.olr_app.specs.Fault.{fault_text}
 use Rattle.olr_app.specs.declared.fault.Fault.{Fault}
 use Rattle.olr_batch.specs.Answers.{IsAnswer, IsFaultFor}
 use Rattle.olr_batch.specs.Line.{line_text}
-use Rattle.olr_batch.specs.declared.asked.BatchRequest.{BatchRequest}
+use Rattle.olr_app.specs.declared.question.Question.{Question}
 
 -- the line of a record that has a fault in place of an answer
 abbrev pub fault_line : List ℕ → Option (List ℕ) → ℕ → List ℕ
 fault_line name key number = line_text null (Some name) key number
 
-module _ (asked : BatchRequest) (road : RoadMap) where
+module _ (asked : Question) (road : RoadMap) where
   -- The line of a record with a text: it has the answer to the text, or the fault in place of it.
   abbrev pub IsLineOfText : ℕ → Option (List ℕ) → List ℕ → List ℕ → Type 0
   IsLineOfText number key text line =

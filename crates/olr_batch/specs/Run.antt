@@ -16,7 +16,7 @@ use Rattle.olr_app.specs.declared.fault.Fault.{Fault}
 use Rattle.olr_app.specs.declared.fault.Fault.TheVariants.{InputNotRead, NoMemory, WriteFailed}
 use Rattle.olr_batch.specs.Records.{AreWrittenFor, IsWrittenFor}
 use Rattle.olr_batch.specs.Steps.{HasPassedOn}
-use Rattle.olr_batch.specs.declared.asked.BatchRequest.{BatchRequest}
+use Rattle.olr_app.specs.declared.question.Question.{Question}
 
 -- these are the first lines of an input, if its bytes are known, and the lines of the other bytes
 -- are left
@@ -25,7 +25,7 @@ IsLeft done None new = Unit {0}
 IsLeft done (Some old) None = ⊥
 IsLeft done (Some old) (Some new) = lines_of old ≡ done ++ lines_of new
 
-module _ (asked : BatchRequest) (road : RoadMap) where
+module _ (asked : Question) (road : RoadMap) where
   -- What is written for the first records of an input has been written, of which the first that is
   -- left has this number.
   pub record IsWrittenTo (number : ℕ) (input left : Option (List ℕ)) (old new : Option (List ℕ))
@@ -38,7 +38,7 @@ module _ (asked : BatchRequest) (road : RoadMap) where
     pub took : Appends old new (concat outputs)
 
 module _ {O : Type 0} (taken : O → Option (List ℕ)) (failed : O → ℕ)
-    (flush_gives : O → Result (Unit {0}) Failed → O → Type 0) (asked : BatchRequest)
+    (flush_gives : O → Result (Unit {0}) Failed → O → Type 0) (asked : Question)
     (road : RoadMap)
   where
     -- What is written for the records of an input, whose bytes are these if they are known, has
@@ -76,7 +76,7 @@ module _ {O : Type 0} (taken : O → Option (List ℕ)) (failed : O → ℕ)
 module _ {S O : Type 0} (left : S → Option (List ℕ)) (in_failed : S → ℕ) (taken : O
     → Option (List ℕ))
     (failed : O → ℕ) (put_gives : O → List ℕ → Result ℕ Failed → O → Type 0)
-    (flush_gives : O → Result (Unit {0}) Failed → O → Type 0) (asked : BatchRequest)
+    (flush_gives : O → Result (Unit {0}) Failed → O → Type 0) (asked : Question)
     (road : RoadMap)
     (old_in new_in : S) (old new : O) where
   -- The input was cut off, at the first of the lines that are left: these bytes of them were read.

@@ -9,7 +9,7 @@ use Rattle.olr_app.specs.Writing.{HasStopped}
 use Rattle.olr_app.specs.declared.fault.Fault.{Fault}
 use Rattle.olr_app.specs.declared.fault.Fault.TheVariants.{InputNotRead, NoMemory, WriteFailed}
 use Rattle.olr_batch.specs.Records.{IsWrittenFor}
-use Rattle.olr_batch.specs.declared.asked.BatchRequest.{BatchRequest}
+use Rattle.olr_app.specs.declared.question.Question.{Question}
 
 module _ {O : Type 0} (flush_gives : O → Result (Unit {0}) Failed → O → Type 0) where
   -- the last call on the sink passed on what it had taken
@@ -43,7 +43,7 @@ module _ {O : Type 0} (taken : O → Option (List ℕ)) (failed : O → ℕ)
     pub flushed : flush_gives before_last (Ok tt) new
 
 -- this is written for the next record, of this number: the next line of what was left of an input
-pub record IsOutputOfNext (asked : BatchRequest) (road : RoadMap) (number : ℕ)
+pub record IsOutputOfNext (asked : Question) (road : RoadMap) (number : ℕ)
     (left_old left_new : Option (List ℕ)) (output : List ℕ) : Type 0 where
   pub line : List ℕ
   pub said : Message
@@ -51,7 +51,7 @@ pub record IsOutputOfNext (asked : BatchRequest) (road : RoadMap) (number : ℕ)
   pub says : IsMessageOfLine line said
   pub written : IsWrittenFor asked road number said output
 
-module _ {O : Type 0} (taken : O → Option (List ℕ)) (failed : O → ℕ) (asked : BatchRequest)
+module _ {O : Type 0} (taken : O → Option (List ℕ)) (failed : O → ℕ) (asked : Question)
     (road : RoadMap) (number : ℕ) (left_old left_new : Option (List ℕ)) (old new : O) where
   -- the sink took what is written for the next record
   pub record IsWrittenNext : Type 0 where
@@ -62,7 +62,7 @@ module _ {O : Type 0} (taken : O → Option (List ℕ)) (failed : O → ℕ) (as
 
 module _ {O : Type 0} (taken : O → Option (List ℕ)) (failed : O → ℕ)
     (put_gives : O → List ℕ → Result ℕ Failed → O → Type 0)
-    (flush_gives : O → Result (Unit {0}) Failed → O → Type 0) (asked : BatchRequest)
+    (flush_gives : O → Result (Unit {0}) Failed → O → Type 0) (asked : Question)
     (road : RoadMap) (number : ℕ) (left_old left_new : Option (List ℕ)) (at_hand : List ℕ)
     (old_failed new_failed : ℕ) (old new : O) where
   -- Why the next record wasn't answered, or not wholly written: memory was refused; or the input

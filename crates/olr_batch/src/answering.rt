@@ -9,9 +9,9 @@ ghost use Rattle.olr_batch.specs.Run.{AreAnswered, IsStopped};
 ghost use Rattle.olr_batch.specs.Steps.{IsLast, IsPassedOn, IsStepStopped, IsWrittenNext};
 ghost use Rattle.olr_batch.specs.Steps.{MayAsk};
 
-use crate::asked::{AskedOnMap, BatchRequest, unbanned_for};
+use crate::asked::{AskedOnMap, unbanned_for};
 use crate::record::write_record;
-use olr_app::{Fault, Sink, Source, put_whole};
+use olr_app::{AskedMap, Fault, Question, Sink, Source, put_whole};
 use olr_map::Map;
 use olr_messages::Messages;
 use olr_metric::{Failed, NoMemory};
@@ -97,7 +97,7 @@ impl Answering {
         out: &mut O,
     ) -> Result<bool, Fault>
         ensures moves { IfOk result (λ found. MatchBool found
-            (IsWrittenNext O.taken O.failed on.now.asked.now on.now.map.now number
+            (IsWrittenNext O.taken O.failed on.now.asked.now on.now.map.map.now number
             (left_of self.old.messages (S.left input.old))
             (left_of self.new.messages (S.left input.new)) out.old out.new)
             (IsLast O.taken O.failed O.flush_gives
@@ -105,7 +105,7 @@ impl Answering {
             (left_of self.new.messages (S.left input.new)) out.old out.new)) }
         ensures none_failed { OnOk result (S.failed input.new ≡ S.failed input.old) }
         ensures fault { IfErr result (IsStepStopped O.taken O.failed O.put_gives O.flush_gives
-            on.now.asked.now on.now.map.now number
+            on.now.asked.now on.now.map.map.now number
             (left_of self.old.messages (S.left input.old))
             (left_of self.new.messages (S.left input.new)) self.new.messages.at_hand
             (S.failed input.old) (S.failed input.new) out.old out.new) }
@@ -135,11 +135,11 @@ impl Answering {
     ) -> Result<(), Fault>
         requires none_at_hand { self.old.messages.at_hand ≡ [] }
         ensures answered { OnOk result (AreAnswered O.taken O.failed O.flush_gives
-            on.now.asked.now on.now.map.now (S.left input.old) out.old out.new) }
+            on.now.asked.now on.now.map.map.now (S.left input.old) out.old out.new) }
         ensures input_source { OnOk result
             (IsAtEnd (S.left input.new) × (S.failed input.new ≡ S.failed input.old)) }
         ensures fault { IfErr result (IsStopped S.left S.failed O.taken O.failed O.put_gives
-            O.flush_gives on.now.asked.now on.now.map.now input.old input.new out.old out.new) }
+            O.flush_gives on.now.asked.now on.now.map.map.now input.old input.new out.old out.new) }
     {
         for number in 1..u64::MAX {
             if !self.next(on, number, input, out)? {
@@ -160,7 +160,7 @@ impl Answering {
 pub(crate) fn answer_records<S: Source, O: Sink>(
     alloc: Global,
     map: &Map,
-    asked: &BatchRequest,
+    asked: &Question,
     input: &mut S,
     out: &mut O,
 ) -> Result<(), Fault>
@@ -172,11 +172,12 @@ pub(crate) fn answer_records<S: Source, O: Sink>(
         O.flush_gives asked.now map.now input.old input.new out.old out.new) }
 {
     let unbanned = unbanned_for(alloc, map, asked.what)?;
-    let on = AskedOnMap {
+    let map = AskedMap {
         map,
-        asked,
         unbanned,
+        marks: false,
     };
+    let on = AskedOnMap { asked, map };
     Answering::new(alloc)?.all(&on, input, out)?;
     Ok(())
 }

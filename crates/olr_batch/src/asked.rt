@@ -1,47 +1,24 @@
 //! What is asked of each record.
 
-ghost use Rattle.std.specs.Prelude.{IfOk};
-ghost use Rattle.olr_batch.specs.Asked.{IsUnbannedFor, IsUnbannedFor-prop};
+ghost use Rattle.std.proofs.Props.{props};
+ghost use Rattle.std.specs.Prelude.{◌≡◌, IfOk, false};
+ghost use Rattle.olr_app.specs.Question.{IsUnbannedWhere, IsUnbannedWhere-prop};
 
-use olr_app::{NearestCount, PageSize, PlaceLimits, Tolerances};
+use olr_app::{AskedMap, Question, What};
 use olr_map::Map;
 use olr_metric::NoMemory;
 use olr_why::unbanned_of;
 use std::alloc::Global;
 
-/// What is asked of the reference of each record.
-#[derive(Clone, Copy, Debug, PartialEq, Eq)]
-pub enum What {
-    /// The candidates of each of its points.
-    Candidates,
-    /// The first page of its matchings, which has at most so many.
-    Match(PageSize),
-    /// Its places, told apart and looked for by these numbers, and whether its match is unique.
-    Places(PlaceLimits),
-    /// Why it has no matching and what would help, with so many of the lines nearest to each point
-    /// at most.
-    Why(NearestCount),
-}
-
-/// A request for the answers of many records on one map.
-#[derive(Clone, Copy, Debug, PartialEq, Eq)]
-pub struct BatchRequest {
-    /// What is asked of each reference.
-    pub what: What,
-    /// How far a line may differ from what a point says, and a route from its leg.
-    pub tolerances: Tolerances,
-}
-
-/// A request for many records, with the map that it is answered on.
+/// What is asked of each record, with the map that it is answered on.
 #[derive(Drop)]
 pub(crate) struct AskedOnMap<'a> {
-    /// The map.
-    pub map: &'a Map,
     /// What is asked.
-    pub asked: &'a BatchRequest,
-    /// The map without its bans, where reasons are asked for and the map has bans.
-    pub unbanned: Option<Map>,
-    pub ghost fits: { IsUnbannedFor asked.now.what map.now unbanned } by { IsUnbannedFor-prop asked.now.what map.now unbanned },
+    pub asked: &'a Question,
+    /// The map, whose cursors have no marks.
+    pub map: AskedMap<'a>,
+    pub ghost fits: { IsUnbannedWhere asked.now.what map.map.now map.unbanned } by { IsUnbannedWhere-prop asked.now.what map.map.now map.unbanned },
+    pub ghost unmarked: { map.marks ≡ false } by { Prim.hlevel props },
 }
 
 /// The map without its bans, where it is needed: where reasons are asked for and the map has bans.
@@ -50,7 +27,7 @@ pub(crate) struct AskedOnMap<'a> {
 ///
 /// [`NoMemory`] where the allocator refused memory.
 pub(crate) fn unbanned_for(alloc: Global, map: &Map, what: What) -> Result<Option<Map>, NoMemory>
-    ensures { IfOk result (IsUnbannedFor what map.now) }
+    ensures { IfOk result (IsUnbannedWhere what map.now) }
 {
     match what {
         What::Candidates | What::Match(_) | What::Places(_) => Ok(None),

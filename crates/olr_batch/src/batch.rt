@@ -8,8 +8,7 @@ ghost use Rattle.olr_app.specs.Sources.{LeavesFile};
 ghost use Rattle.olr_batch.specs.Run.{AreAnswered, IsMapFault, IsStopped};
 
 use crate::answering::answer_records;
-use crate::asked::BatchRequest;
-use olr_app::{Fault, File, Sink, Source};
+use olr_app::{Fault, File, Question, Sink, Source};
 use olr_map::read_map_with_bans;
 use std::alloc::Global;
 
@@ -29,7 +28,7 @@ use std::alloc::Global;
 /// where the allocator refused memory for the map or before the first record.
 pub fn run_batch<S1: Source, S2: Source, S3: Source, S4: Source, O: Sink>(
     alloc: Global,
-    asked: &BatchRequest,
+    asked: &Question,
     nodes: &mut S1,
     lines: &mut S2,
     bans: &mut S3,

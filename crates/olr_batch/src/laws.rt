@@ -2,18 +2,13 @@
 
 ghost use Rattle.olr_batch.specs.Laws.{AnswersAreOfRuns, FaultsAreOfRuns, LawsBelow, OneAnswer};
 
-use olr_app::first_pages_are_of_runs;
-use olr_binary::one_outcome;
-use olr_map::{no_map_and_fault, one_map};
+use olr_app::answers_of_many;
 
-/// The laws of the crates below.
+/// The laws of the crate below.
 fn laws_below()
     ensures { LawsBelow }
 {
-    one_outcome();
-    one_map();
-    no_map_and_fault();
-    first_pages_are_of_runs();
+    answers_of_many();
 }
 
 /// The answer to a record is what [`run`](olr_app::run) prints for its text alone on the same

@@ -3,8 +3,7 @@
 //!
 //! The map is read once, and then a record goes through these modules in order:
 //!
-//! - [`asked`]: what is asked of each record.
-//! - [`answer`]: the answer to the text of a record.
+//! - [`asked`]: what is asked of each record, and the map that it is asked on.
 //! - [`line`]: the line of a record; [`record`]: what is written for it.
 //! - [`answering`]: the loop over the records, which come from `olr_messages`.
 //! - [`batch`]: [`run_batch`], all of this from the files of a map to the output.
@@ -13,7 +12,6 @@
 //! alone.
 #![tactic(auto)]
 
-mod answer;
 mod answering;
 mod asked;
 mod batch;
@@ -21,6 +19,5 @@ mod laws;
 mod line;
 mod record;
 
-pub use asked::{BatchRequest, What};
 pub use batch::run_batch;
 pub use laws::answers_are_of_runs;

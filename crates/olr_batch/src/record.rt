@@ -9,11 +9,10 @@ ghost use Rattle.olr_batch.specs.Answers.{IsFaultFor};
 ghost use Rattle.olr_batch.specs.Line.{bytes_of, line_text};
 ghost use Rattle.olr_batch.specs.Records.{IsLineOfText, IsWrittenFor, fault_line};
 
-use crate::answer::answer_of;
 use crate::asked::AskedOnMap;
 use crate::line::{Line, write_line};
 use arrayvec::ArrayString;
-use olr_app::Fault;
+use olr_app::{Fault, answer_text};
 use olr_messages::Content;
 use olr_metric::NoMemory;
 use std::alloc::Global;
@@ -74,7 +73,7 @@ fn write_found<'a>(
 ///
 /// # Errors
 ///
-/// Those of [`answer_of`], and [`Fault::NoMemory`] where the allocator refused memory for the line.
+/// Those of [`answer_text`], and [`Fault::NoMemory`] where the allocator refused memory for the line.
 fn write_answer(
     alloc: Global,
     on: &AskedOnMap<'_>,
@@ -84,10 +83,10 @@ fn write_answer(
     line: &mut Vec<u8>,
 ) -> Result<(), Fault>
     ensures line { OnOk result
-        (IsLineOfText on.now.asked.now on.now.map.now number (bytes_of key.entry) text.now line.new.items) }
-    ensures fault { IfErr result (IsFaultFor on.now.asked.now on.now.map.now text.now) }
+        (IsLineOfText on.now.asked.now on.now.map.map.now number (bytes_of key.entry) text.now line.new.items) }
+    ensures fault { IfErr result (IsFaultFor on.now.asked.now on.now.map.map.now text.now) }
 {
-    let answer = answer_of(alloc, on, text)?;
+    let answer = answer_text(alloc, &on.map, on.asked, text)?;
     write_found(alloc, number, key, &answer, line)?;
     Ok(())
 }
@@ -117,7 +116,7 @@ fn write_text(
     line: &mut Vec<u8>,
 ) -> Result<(), NoMemory>
     ensures { OnOk result
-        (IsLineOfText on.now.asked.now on.now.map.now number (bytes_of key.entry) text.now line.new.items) }
+        (IsLineOfText on.now.asked.now on.now.map.map.now number (bytes_of key.entry) text.now line.new.items) }
 {
     let Err(fault) = write_answer(alloc, on, number, key, text, line) else {
         return Ok(());
@@ -142,7 +141,7 @@ pub(crate) fn write_record(
     line: &mut Vec<u8>,
 ) -> Result<(), NoMemory>
     ensures { OnOk result
-        (IsWrittenFor on.now.asked.now on.now.map.now number (message_of content.entry) line.new.items) }
+        (IsWrittenFor on.now.asked.now on.now.map.map.now number (message_of content.entry) line.new.items) }
 {
     match content {
         Content::Empty => line.clear(),

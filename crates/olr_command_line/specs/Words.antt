@@ -1,13 +1,13 @@
 -- What the words of a command line ask for.
 use Rattle.std.specs.Prelude.{◌≡◌, ℕ, ◌≤◌, None, Some, IsSome, get_or, unwrap_or, true, if◌then◌else◌}
+use Rattle.olr_app.specs.Question.{request_for}
 use Rattle.olr_app.specs.declared.fault.Fault.{Fault}
 use Rattle.olr_app.specs.declared.fault.Fault.TheVariants.{AfterWithAll, BadNearest, BadNumber, BadPage, BadTolerance}
-use Rattle.olr_app.specs.declared.request.MatchRequest.{MatchRequest}
+use Rattle.olr_app.specs.declared.question.Question.{Question}
+use Rattle.olr_app.specs.declared.question.What.{What}
+use Rattle.olr_app.specs.declared.question.What.TheVariants.{Candidates, Match, Places, Why}
 use Rattle.olr_app.specs.declared.request.Pages.{Pages}
 use Rattle.olr_app.specs.declared.request.Pages.TheVariants as pages
-use Rattle.olr_app.specs.declared.request.PlacesRequest.{PlacesRequest}
-use Rattle.olr_app.specs.declared.request.Request.TheVariants.{Candidates, Match, Places, Why}
-use Rattle.olr_app.specs.declared.request.WhyRequest.{WhyRequest}
 use Rattle.olr_candidates.specs.Tolerances.{IsFirstOutOfRange, default_of, order_of}
 use Rattle.olr_candidates.specs.Values as tolerance
 use Rattle.olr_candidates.specs.declared.tolerances.Name.{Name}
@@ -16,14 +16,14 @@ use Rattle.olr_places.specs.Limits.{IsFirstOutOfRange as IsFirstNumberOutOfRange
 use Rattle.olr_places.specs.declared.limits.Number.{Number}
 use Rattle.olr_places.specs.declared.limits.Number.TheVariants.{Apart, Look, Most, Within}
 use Rattle.olr_places.specs.declared.limits.PlaceLimits.{PlaceLimits}
-use Rattle.olr_batch.specs.declared.asked.What.{What}
-use Rattle.olr_batch.specs.declared.asked.What.TheVariants as each
 use Rattle.olr_command_line.specs.declared.words.Asked.{Asked}
 use Rattle.olr_command_line.specs.declared.words.Asked.TheVariants.{Many, One}
 use Rattle.olr_command_line.specs.declared.words.Files.{Files}
 use Rattle.olr_command_line.specs.declared.words.Given.{Given}
 use Rattle.olr_command_line.specs.declared.words.GivenNumbers.{GivenNumbers}
 use Rattle.olr_command_line.specs.declared.words.Input.{Input}
+use Rattle.olr_command_line.specs.declared.words.Subcommand.{Subcommand}
+use Rattle.olr_command_line.specs.declared.words.Subcommand.TheVariants as each
 
 -- ---- tolerances
 
@@ -93,101 +93,54 @@ IsNearest count = count ≤ 64
 
 -- ---- subcommands
 
--- what `candidates` asks for
-pub record AsksCandidates (given : Given) (files : Files) (asked : Asked) : Type 0 where
-  pub tolerances : Tolerances
-  pub are : AreTolerances given tolerances
-  pub asks : asked ≡ One (Candidates given.text tolerances given.format) (Some files)
+-- what a subcommand asks of a reference, with what is given
+abbrev pub IsWhat : Given → Subcommand → What → Type 0
+IsWhat given each.Candidates what = what ≡ Candidates
+IsWhat given each.Match what = (what ≡ Match (size_of given)) × IsSize (size_of given)
+IsWhat given each.Places what =
+    (limits : PlaceLimits) × AreLimits given.numbers limits × (what ≡ Places limits)
+IsWhat given each.Why what = (what ≡ Why (nearest_of given)) × IsNearest (nearest_of given)
 
--- a request for matchings with what is given
-pub record IsMatchRequest (given : Given) (request : MatchRequest) : Type 0 where
-  pub text : request.text ≡ given.text
-  pub tolerances : AreTolerances given request.tolerances
-  pub size : request.size ≡ size_of given
-  pub in_range : IsSize request.size
-  pub pages : request.pages ≡ pages_of given
+-- why that is refused: the page size, the first number for places, or the number of lines
+abbrev pub IsRefusedWhat : Given → Subcommand → Fault → Type 0
+IsRefusedWhat given each.Match (BadPage size) =
+    (size ≡ size_of given) × (IsSize size → ⊥)
+IsRefusedWhat given each.Places (BadNumber number) =
+    IsFirstNumberOutOfRange (number_of given.numbers) number
+IsRefusedWhat given each.Why BadNearest = IsNearest (nearest_of given) → ⊥
+IsRefusedWhat given other why = ⊥
+
+-- the question of a subcommand
+pub record IsQuestion (given : Given) (subcommand : Subcommand) (question : Question) : Type 0
+  where
+    pub tolerances : AreTolerances given question.tolerances
+    pub what : IsWhat given subcommand question.what
+
+-- why it is refused: the first tolerance that is out of its range; else what is asked
+abbrev pub IsRefusedQuestion : Given → Subcommand → Fault → Type 0
+IsRefusedQuestion given subcommand (BadTolerance name) = IsFirstOutOfRange (value_of given) name
+IsRefusedQuestion given subcommand other =
+    ((tolerances : Tolerances) × AreTolerances given tolerances)
+    × IsRefusedWhat given subcommand other
+
+-- what a subcommand asks for on the map of files
+pub record AsksOne (given : Given) (subcommand : Subcommand) (files : Files) (asked : Asked)
+    : Type 0 where
+  pub question : Question
+  pub is : IsQuestion given subcommand question
   pub one_of_both : AreBoth given → ⊥
-  pub format : request.format ≡ given.format
+  pub asks : asked ≡ One (request_for question.what question.tolerances given.text
+      (pages_of given) given.format) (Some files)
 
--- what `match` asks for
-pub record AsksMatch (given : Given) (files : Files) (asked : Asked) : Type 0 where
-  pub match_request : MatchRequest
-  pub is : IsMatchRequest given match_request
-  pub asks : asked ≡ One (Match match_request) (Some files)
+-- why it is refused: a cursor with all pages; else its question
+abbrev pub IsRefusedOne : Given → Subcommand → Fault → Type 0
+IsRefusedOne given subcommand AfterWithAll = AreBoth given
+IsRefusedOne given subcommand other =
+    (AreBoth given → ⊥) × IsRefusedQuestion given subcommand other
 
--- why `match` is refused: a cursor with all pages; else the first tolerance that is out of its
--- range; else the page size
-abbrev pub IsRefusedMatch : Given → Fault → Type 0
-IsRefusedMatch given AfterWithAll = AreBoth given
-IsRefusedMatch given (BadTolerance name) =
-    (AreBoth given → ⊥) × IsFirstOutOfRange (value_of given) name
-IsRefusedMatch given (BadPage size) =
-    (AreBoth given → ⊥) × ((tolerances : Tolerances) × AreTolerances given tolerances)
-    × (size ≡ size_of given) × (IsSize size → ⊥)
-IsRefusedMatch given other = ⊥
-
--- what `batch` asks of each record
-pub record AsksMany (given : Given) (what : What) (files : Files) (input : Input) (asked : Asked)
-    : Type 0 where
-  pub tolerances : Tolerances
-  pub are : AreTolerances given tolerances
-  pub asks : asked ≡ Many (record { what = what; tolerances = tolerances }) files input
-
--- why `batch match` is refused: the first tolerance that is out of its range; else the page size
-abbrev pub IsRefusedBatch : Given → Fault → Type 0
-IsRefusedBatch given (BadTolerance name) = IsFirstOutOfRange (value_of given) name
-IsRefusedBatch given (BadPage size) =
-    ((tolerances : Tolerances) × AreTolerances given tolerances)
-    × (size ≡ size_of given) × (IsSize size → ⊥)
-IsRefusedBatch given other = ⊥
-
--- a request for places with what is given
-pub record IsPlacesRequest (given : Given) (request : PlacesRequest) : Type 0 where
-  pub text : request.text ≡ given.text
-  pub tolerances : AreTolerances given request.tolerances
-  pub limits : AreLimits given.numbers request.limits
-  pub format : request.format ≡ given.format
-
--- what `places` asks for
-pub record AsksPlaces (given : Given) (files : Files) (asked : Asked) : Type 0 where
-  pub places_request : PlacesRequest
-  pub is : IsPlacesRequest given places_request
-  pub asks : asked ≡ One (Places places_request) (Some files)
-
--- what `batch places` asks for
-pub record AsksManyPlaces (given : Given) (files : Files) (input : Input) (asked : Asked)
-    : Type 0 where
-  pub limits : PlaceLimits
-  pub are : AreLimits given.numbers limits
-  pub asks : AsksMany given (each.Places limits) files input asked
-
--- why both are refused: the first tolerance that is out of its range; else the first number
-abbrev pub IsRefusedPlaces : Given → Fault → Type 0
-IsRefusedPlaces given (BadTolerance name) = IsFirstOutOfRange (value_of given) name
-IsRefusedPlaces given (BadNumber number) =
-    ((tolerances : Tolerances) × AreTolerances given tolerances)
-    × IsFirstNumberOutOfRange (number_of given.numbers) number
-IsRefusedPlaces given other = ⊥
-
--- a request for reasons with what is given
-pub record IsWhyRequest (given : Given) (request : WhyRequest) : Type 0 where
-  pub text : request.text ≡ given.text
-  pub tolerances : AreTolerances given request.tolerances
-  pub nearest : request.nearest ≡ nearest_of given
-  pub in_range : IsNearest request.nearest
-  pub format : request.format ≡ given.format
-
--- what `why` asks for
-pub record AsksWhy (given : Given) (files : Files) (asked : Asked) : Type 0 where
-  pub why_request : WhyRequest
-  pub is : IsWhyRequest given why_request
-  pub asks : asked ≡ One (Why why_request) (Some files)
-
--- why it and `batch why` are refused: the first tolerance that is out of its range; else the number
--- of lines
-abbrev pub IsRefusedWhy : Given → Fault → Type 0
-IsRefusedWhy given (BadTolerance name) = IsFirstOutOfRange (value_of given) name
-IsRefusedWhy given BadNearest =
-    ((tolerances : Tolerances) × AreTolerances given tolerances)
-    × (IsNearest (nearest_of given) → ⊥)
-IsRefusedWhy given other = ⊥
+-- what a subcommand of `batch` asks for
+pub record AsksMany (given : Given) (subcommand : Subcommand) (files : Files) (input : Input)
+    (asked : Asked) : Type 0 where
+  pub question : Question
+  pub is : IsQuestion given subcommand question
+  pub asks : asked ≡ Many question files input

@@ -2,8 +2,8 @@
 
 use crate::rejected::Rejected;
 use crate::words::{Asked, Files, Input, asked_of};
-use olr_app::{Fault, File, In, Request, Sink, Source, run};
-use olr_batch::{BatchRequest, run_batch};
+use olr_app::{Fault, File, In, Question, Request, Sink, Source, run};
+use olr_batch::run_batch;
 use std::alloc::Global;
 
 /// Why a file isn't open.
@@ -139,7 +139,7 @@ fn answer_one<D: Disk, O: Sink>(
 /// Answers the records of an input on the map of these files.
 fn answer_input<F: Source + Drop, I: Source, O: Sink>(
     alloc: Global,
-    asked: &BatchRequest,
+    asked: &Question,
     files: MapFiles<F>,
     input: &mut I,
     out: &mut O,
@@ -167,7 +167,7 @@ fn answer_input<F: Source + Drop, I: Source, O: Sink>(
 /// Answers many records on the map of these files, which are opened before the file of the records.
 fn answer_many<D: Disk, O: Sink>(
     alloc: Global,
-    asked: &BatchRequest,
+    asked: &Question,
     files: &Files<'_>,
     input: Input<'_>,
     disk: &mut D,

@@ -3,24 +3,19 @@
 ghost use Rattle.std.specs.Prelude.{◌≡◌, IfErr, IfOk, None};
 ghost use Rattle.olr_app.specs.declared.fault.Fault.TheVariants as fault;
 ghost use Rattle.olr_app.specs.declared.request.Request.TheVariants.{Show};
-ghost use Rattle.olr_batch.specs.declared.asked.What.TheVariants.{Candidates, Match, Why};
 ghost use Rattle.olr_command_line.specs.declared.words.Asked.TheVariants.{One};
-ghost use Rattle.olr_command_line.specs.Words.{AreBoth, AreLimits, AreTolerances, AsksCandidates};
-ghost use Rattle.olr_command_line.specs.Words.{AsksMany, AsksManyPlaces, AsksMatch, AsksPlaces};
-ghost use Rattle.olr_command_line.specs.Words.{AsksWhy, IsNearest, IsRefusedWhy, nearest_of};
-ghost use Rattle.olr_command_line.specs.Words.{IsRefusedBatch, IsRefusedMatch, IsRefusedNumber};
-ghost use Rattle.olr_command_line.specs.Words.{IsRefusedPlaces, IsRefusedTolerance, IsSize};
-ghost use Rattle.olr_command_line.specs.Words.{pages_of, size_of};
+ghost use Rattle.olr_command_line.specs.Words.{AreBoth, AreLimits, AreTolerances, AsksMany, AsksOne};
+ghost use Rattle.olr_command_line.specs.Words.{IsNearest, IsQuestion, IsRefusedNumber, IsRefusedOne};
+ghost use Rattle.olr_command_line.specs.Words.{IsRefusedQuestion, IsRefusedTolerance, IsRefusedWhat};
+ghost use Rattle.olr_command_line.specs.Words.{IsSize, IsWhat, nearest_of, pages_of, size_of};
 
 use crate::command::whole_command;
 use crate::rejected::Rejected;
 use clap::error::ErrorKind;
 use clap::{ArgMatches, Command};
 use olr_app::{
-    Fault, Format, MatchRequest, NearestCount, PageSize, Pages, PlaceLimits, PlacesRequest,
-    Request, Tolerances, WhyRequest,
+    Fault, Format, NearestCount, PageSize, Pages, PlaceLimits, Question, Request, Tolerances, What,
 };
-use olr_batch::{BatchRequest, What};
 use olr_candidates::Name;
 use std::alloc::{AllocError, Global};
 
@@ -53,7 +48,7 @@ pub enum Asked<'a> {
     /// The answer to one request, on the map of these files if it reads one.
     One(Request<'a>, Option<Files<'a>>),
     /// The answers to many records, on the map of these files.
-    Many(BatchRequest, Files<'a>, Input<'a>),
+    Many(Question, Files<'a>, Input<'a>),
 }
 
 /// Where the records of a batch come from.
@@ -63,6 +58,28 @@ pub enum Input<'a> {
     File(&'a str),
     /// Standard input.
     Standard,
+}
+
+/// A subcommand that asks of a reference on a map.
+#[derive(Clone, Copy, Debug, PartialEq, Eq)]
+enum Subcommand {
+    Candidates,
+    Match,
+    Places,
+    Why,
+}
+
+impl Subcommand {
+    /// The one of this name, if there is one.
+    fn named(name: &str) -> Option<Subcommand> {
+        match name {
+            "candidates" => Some(Subcommand::Candidates),
+            "match" => Some(Subcommand::Match),
+            "places" => Some(Subcommand::Places),
+            "why" => Some(Subcommand::Why),
+            _ => None,
+        }
+    }
 }
 
 /// The numbers that the words give for places, in range or not: apart in decimetres, within in
@@ -200,77 +217,18 @@ impl<'a> Given<'a> {
         Asked::One(request, None)
     }
 
-    /// What `candidates` asks for, on the map of these files.
+    /// How many matchings a page has.
     ///
     /// # Errors
     ///
-    /// That of [`Given::tolerances`].
-    fn candidates(&self, files: Files<'a>) -> Result<Asked<'a>, Fault>
-        ensures accepted { IfOk result (AsksCandidates self.now files.entry) }
-        ensures refused { IfErr result (IsRefusedTolerance self.now) }
+    /// [`Fault::BadPage`] with a page size that is out of its range.
+    fn size(&self) -> Result<PageSize, Fault>
+        ensures accepted { IfOk result (λ size. (size ≡ size_of self.now) × IsSize size) }
+        ensures refused { IfErr result (λ why.
+            (why ≡ fault.BadPage (size_of self.now)) × (IsSize (size_of self.now) → ⊥)) }
     {
-        let tolerances = self.tolerances()?;
-        let request = Request::Candidates {
-            text: self.text,
-            tolerances,
-            format: self.format,
-        };
-        Ok(Asked::One(request, Some(files)))
-    }
-
-    /// What `match` asks for, on the map of these files.
-    ///
-    /// # Errors
-    ///
-    /// That of [`Given::pages`]; else that of [`Given::tolerances`]; else [`Fault::BadPage`] with a
-    /// page size that is out of its range.
-    fn matchings(&self, files: Files<'a>) -> Result<Asked<'a>, Fault>
-        ensures accepted { IfOk result (AsksMatch self.now files.entry) }
-        ensures refused { IfErr result (IsRefusedMatch self.now) }
-    {
-        let pages = self.pages()?;
-        let tolerances = self.tolerances()?;
-        let size = self.size()?;
-        let request = MatchRequest {
-            text: self.text,
-            tolerances,
-            size,
-            pages,
-            format: self.format,
-        };
-        Ok(Asked::One(Request::Match(request), Some(files)))
-    }
-
-    /// The tolerances and the numbers for places, as given, and the default for each that isn't.
-    ///
-    /// # Errors
-    ///
-    /// That of [`Given::tolerances`]; else that of [`GivenNumbers::limits`].
-    fn tolerances_and_limits(&self) -> Result<(Tolerances, PlaceLimits), Fault>
-        ensures accepted { IfOk result (λ both.
-            AreTolerances self.now both.0 × AreLimits self.now.numbers both.1) }
-        ensures refused { IfErr result (IsRefusedPlaces self.now) }
-    {
-        Ok((self.tolerances()?, self.numbers.limits()?))
-    }
-
-    /// What `places` asks for, on the map of these files.
-    ///
-    /// # Errors
-    ///
-    /// That of [`Given::tolerances_and_limits`].
-    fn places(&self, files: Files<'a>) -> Result<Asked<'a>, Fault>
-        ensures accepted { IfOk result (AsksPlaces self.now files.entry) }
-        ensures refused { IfErr result (IsRefusedPlaces self.now) }
-    {
-        let (tolerances, limits) = self.tolerances_and_limits()?;
-        let request = PlacesRequest {
-            text: self.text,
-            tolerances,
-            limits,
-            format: self.format,
-        };
-        Ok(Asked::One(Request::Places(request), Some(files)))
+        let size = PageSize::new(self.page.unwrap_or(DEFAULT_PAGE))?;
+        Ok(size)
     }
 
     /// How many of the lines nearest to each point are printed.
@@ -287,109 +245,69 @@ impl<'a> Given<'a> {
         Ok(count)
     }
 
-    /// What `why` asks for, on the map of these files.
+    /// What a subcommand asks of a reference.
     ///
     /// # Errors
     ///
-    /// That of [`Given::tolerances`]; else that of [`Given::nearest_count`].
-    fn reasons(&self, files: Files<'a>) -> Result<Asked<'a>, Fault>
-        ensures accepted { IfOk result (AsksWhy self.now files.entry) }
-        ensures refused { IfErr result (IsRefusedWhy self.now) }
+    /// For its subcommand that of [`Given::size`], [`GivenNumbers::limits`] or
+    /// [`Given::nearest_count`].
+    fn what(&self, subcommand: Subcommand) -> Result<What, Fault>
+        ensures accepted { IfOk result (IsWhat self.now subcommand) }
+        ensures refused { IfErr result (IsRefusedWhat self.now subcommand) }
+    {
+        match subcommand {
+            Subcommand::Candidates => Ok(What::Candidates),
+            Subcommand::Match => Ok(What::Match(self.size()?)),
+            Subcommand::Places => Ok(What::Places(self.numbers.limits()?)),
+            Subcommand::Why => Ok(What::Why(self.nearest_count()?)),
+        }
+    }
+
+    /// The question of a subcommand.
+    ///
+    /// # Errors
+    ///
+    /// That of [`Given::tolerances`]; else that of [`Given::what`].
+    fn question(&self, subcommand: Subcommand) -> Result<Question, Fault>
+        ensures accepted { IfOk result (IsQuestion self.now subcommand) }
+        ensures refused { IfErr result (IsRefusedQuestion self.now subcommand) }
     {
         let tolerances = self.tolerances()?;
-        let nearest = self.nearest_count()?;
-        let request = WhyRequest {
-            text: self.text,
-            tolerances,
-            nearest,
-            format: self.format,
-        };
-        Ok(Asked::One(Request::Why(request), Some(files)))
+        let what = self.what(subcommand)?;
+        Ok(Question { what, tolerances })
     }
 
-    /// How many matchings a page has.
+    /// What a subcommand asks for, on the map of these files.
     ///
     /// # Errors
     ///
-    /// [`Fault::BadPage`] with a page size that is out of its range.
-    fn size(&self) -> Result<PageSize, Fault>
-        ensures accepted { IfOk result (λ size. (size ≡ size_of self.now) × IsSize size) }
-        ensures refused { IfErr result (λ why.
-            (why ≡ fault.BadPage (size_of self.now)) × (IsSize (size_of self.now) → ⊥)) }
+    /// That of [`Given::pages`]; else that of [`Given::question`].
+    fn one(&self, subcommand: Subcommand, files: Files<'a>) -> Result<Asked<'a>, Fault>
+        ensures accepted { IfOk result (AsksOne self.now subcommand files.entry) }
+        ensures refused { IfErr result (IsRefusedOne self.now subcommand) }
     {
-        let size = PageSize::new(self.page.unwrap_or(DEFAULT_PAGE))?;
-        Ok(size)
+        let pages = self.pages()?;
+        let question = self.question(subcommand)?;
+        let request = question.request(self.text, pages, self.format);
+        Ok(Asked::One(request, Some(files)))
     }
 
-    /// What `batch candidates` asks for, on the map of these files.
+    /// What a subcommand of `batch` asks for, on the map of these files.
     ///
     /// # Errors
     ///
-    /// That of [`Given::tolerances`].
-    fn many_candidates(&self, files: Files<'a>, input: Input<'a>) -> Result<Asked<'a>, Fault>
-        ensures accepted { IfOk result (AsksMany self.now Candidates files.entry input.entry) }
-        ensures refused { IfErr result (IsRefusedTolerance self.now) }
+    /// That of [`Given::question`].
+    fn many(
+        &self,
+        subcommand: Subcommand,
+        files: Files<'a>,
+        input: Input<'a>,
+    ) -> Result<Asked<'a>, Fault>
+        ensures accepted { IfOk result (AsksMany self.now subcommand files.entry input.entry) }
+        ensures refused { IfErr result (IsRefusedQuestion self.now subcommand) }
     {
-        let asked = BatchRequest {
-            what: What::Candidates,
-            tolerances: self.tolerances()?,
-        };
-        Ok(Asked::Many(asked, files, input))
-    }
-
-    /// What `batch match` asks for, on the map of these files.
-    ///
-    /// # Errors
-    ///
-    /// That of [`Given::tolerances`]; else that of [`Given::size`].
-    fn many_matchings(&self, files: Files<'a>, input: Input<'a>) -> Result<Asked<'a>, Fault>
-        ensures accepted { IfOk result (λ asked. IsSize (size_of self.now)
-            × AsksMany self.now (Match (size_of self.now)) files.entry input.entry asked) }
-        ensures refused { IfErr result (IsRefusedBatch self.now) }
-    {
-        let tolerances = self.tolerances()?;
-        let size = self.size()?;
-        let asked = BatchRequest {
-            what: What::Match(size),
-            tolerances,
-        };
-        Ok(Asked::Many(asked, files, input))
-    }
-
-    /// What `batch places` asks for, on the map of these files.
-    ///
-    /// # Errors
-    ///
-    /// That of [`Given::tolerances_and_limits`].
-    fn many_places(&self, files: Files<'a>, input: Input<'a>) -> Result<Asked<'a>, Fault>
-        ensures accepted { IfOk result (AsksManyPlaces self.now files.entry input.entry) }
-        ensures refused { IfErr result (IsRefusedPlaces self.now) }
-    {
-        let (tolerances, limits) = self.tolerances_and_limits()?;
-        let asked = BatchRequest {
-            what: What::Places(limits),
-            tolerances,
-        };
-        Ok(Asked::Many(asked, files, input))
-    }
-
-    /// What `batch why` asks for, on the map of these files.
-    ///
-    /// # Errors
-    ///
-    /// That of [`Given::tolerances`]; else that of [`Given::nearest_count`].
-    fn many_reasons(&self, files: Files<'a>, input: Input<'a>) -> Result<Asked<'a>, Fault>
-        ensures accepted { IfOk result (λ asked. IsNearest (nearest_of self.now)
-            × AsksMany self.now (Why (nearest_of self.now)) files.entry input.entry asked) }
-        ensures refused { IfErr result (IsRefusedWhy self.now) }
-    {
-        let tolerances = self.tolerances()?;
-        let nearest = self.nearest_count()?;
-        let asked = BatchRequest {
-            what: What::Why(nearest),
-            tolerances,
-        };
-        Ok(Asked::Many(asked, files, input))
+        let question = self.question(subcommand)?;
+        Ok(Asked::Many(question, files, input))
     }
 }
 
@@ -408,38 +326,13 @@ fn files_of<'a>(found: &ArgMatches<'a>) -> Option<Files<'a>> {
 /// What the subcommand of `batch` found among the words asks for, if there is one.
 fn many_in<'a>(matches: &ArgMatches<'a>) -> Option<Result<Asked<'a>, Fault>> {
     let (name, found) = matches.subcommand()?;
-    let given = Given::read(found, "");
+    let subcommand = Subcommand::named(name)?;
     let files = files_of(found)?;
     let input = match found.get_str("input") {
         Some(path) => Input::File(path),
         None => Input::Standard,
     };
-    match name {
-        "candidates" => Some(given.many_candidates(files, input)),
-        "match" => Some(given.many_matchings(files, input)),
-        "places" => Some(given.many_places(files, input)),
-        "why" => Some(given.many_reasons(files, input)),
-        _ => None,
-    }
-}
-
-/// What a subcommand for one reference asks for, if its name is that of one.
-fn one_asked<'a>(
-    name: &str,
-    found: &ArgMatches<'a>,
-    given: &Given<'a>,
-) -> Option<Result<Asked<'a>, Fault>> {
-    if name == "show" {
-        return Some(Ok(given.show()));
-    }
-    let files = files_of(found)?;
-    match name {
-        "candidates" => Some(given.candidates(files)),
-        "match" => Some(given.matchings(files)),
-        "places" => Some(given.places(files)),
-        "why" => Some(given.reasons(files)),
-        _ => None,
-    }
+    Some(Given::read(found, "").many(subcommand, files, input))
 }
 
 /// What the subcommand found among the words asks for, if there is one.
@@ -448,7 +341,12 @@ fn asked_in<'a>(matches: &ArgMatches<'a>) -> Option<Result<Asked<'a>, Fault>> {
     if name == "batch" {
         return many_in(found);
     }
-    one_asked(name, found, &Given::read(found, found.get_str("REF")?))
+    let given = Given::read(found, found.get_str("REF")?);
+    if name == "show" {
+        return Some(Ok(given.show()));
+    }
+    let subcommand = Subcommand::named(name)?;
+    Some(given.one(subcommand, files_of(found)?))
 }
 
 /// Why words that name no subcommand are rejected.

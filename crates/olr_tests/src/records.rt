@@ -3,8 +3,8 @@
 
 use crate::devices::{Given, NEVER, Taken};
 use crate::samples::STREET;
-use olr_app::{Fault, In, PageSize, Sink, Tolerances};
-use olr_batch::{BatchRequest, What, run_batch};
+use olr_app::{Fault, In, PageSize, Question, Sink, Tolerances, What};
+use olr_batch::run_batch;
 use olr_keys::BadPage;
 use std::alloc::Global;
 
@@ -71,7 +71,7 @@ fn answer(
 ) -> Result<Result<(), Fault>, BadPage> {
     let [nodes, lines, bans] = STREET;
     let (mut nodes, mut lines, mut bans) = (In::new(nodes), In::new(lines), In::new(bans));
-    let asked = BatchRequest {
+    let asked = Question {
         what: What::Match(PageSize::new(10)?),
         tolerances: Tolerances::default(),
     };

@@ -11,6 +11,6 @@ returns-clause-places c =
         looked = found.1;
         all = found.2;
         is_looked = found.3;
-        output_is = c.in_ok-output.ensures c.args.limits.now found.1 found.4;
+        output_is = c.in_ok-output.ensures c.args.asked.now.limits found.1 found.4;
       },
     )

@@ -1,5 +1,5 @@
 use Rattle.olr_app.proofs.PagesOf.{no_mark_needed}
-use Rattle.olr_app.proofs.matching.mark_of.Goals as goal
+use Rattle.olr_app.proofs.matching.fingerprint_for.Goals as goal
 
 pub returns-then-have_no_more : goal.returns-then-have_no_more
 returns-then-have_no_more c = λ page there more.
