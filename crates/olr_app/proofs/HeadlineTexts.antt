@@ -41,9 +41,11 @@ pub last_cut : (front later front' later' : List ℕ) → LacksFeed later → La
     → front ++ 10 ∷ later ≡ front' ++ 10 ∷ later' → (front ≡ front') × (later ≡ later')
 last_cut [] later [] later' lacks lacks' same = (refl, cc)
 last_cut [] later (first ∷ front') later' lacks lacks' same =
-    let rest : later ≡ front' ++ 10 ∷ later' = cc in absurd (not_cut 10 later front' later' (record { each = lacks }) rest)
+    let rest : later ≡ front' ++ 10 ∷ later' = cc in
+    absurd (not_cut 10 later front' later' (record { each = lacks }) rest)
 last_cut (first ∷ front) later [] later' lacks lacks' same =
-    let rest : later' ≡ front ++ 10 ∷ later = cc in absurd (not_cut 10 later' front later (record { each = lacks' }) rest)
+    let rest : later' ≡ front ++ 10 ∷ later = cc in
+    absurd (not_cut 10 later' front later (record { each = lacks' }) rest)
 last_cut (first ∷ front) later (first' ∷ front') later' lacks lacks' same =
     let one : first ≡ first' = cc in
     let others : front ++ 10 ∷ later ≡ front' ++ 10 ∷ later' = cc in

@@ -1,5 +1,4 @@
--- Laws on the answer of one of many requests on a map: it is the one that a run prints, but for the
--- mark in a cursor at the end of a page.
+-- Laws on the answer of one of many requests on a map, beside the one that a run for it prints.
 use Rattle.std.specs.Prelude.{◌≡◌, ℕ, List, Option, None, Some, Ok, Err}
 use Rattle.std.specs.Borrow.{Bor}
 use Rattle.olr_app.specs.Common.{Mark, RoadMap}
@@ -15,18 +14,20 @@ use Rattle.olr_app.specs.declared.request.Pages.TheVariants.{One}
 use Rattle.olr_app.specs.declared.request.Request.{Request}
 use Rattle.olr_app.specs.declared.request.Request.TheVariants.{Match}
 
--- two outputs show the same page; the cursor at the end of the first one has a mark
+-- two outputs are the JSON of the same page, but for the cursor at its end: in the first one it has
+-- a mark, in the second one none
 abbrev pub ShowsSame : RoadMap → List ℕ → List ℕ → Type 0
 ShowsSame road output page = (mark : Mark) × IsSamePage road (Some mark) None output page
 
--- The output of a run, and that without marks: they are the same, but that a page of matchings as
--- JSON shows the same.
+-- The output of a run, and that without marks, are the same bytes; where one page of matchings is
+-- asked for as JSON, they show the same page. Of pages as text, and of all pages, nothing is stated:
+-- no answer of many has these.
 abbrev pub IsSameOutput : Request → RoadMap → List ℕ → List ℕ → Type 0
 IsSameOutput (Match asked) road output answer = (begins : Option (Bor (List ℕ)))
     → asked.pages ≡ One begins → asked.format ≡ Json → ShowsSame road output answer
 IsSameOutput other road output answer = answer ≡ output
 
--- the answer of one of many requests is the output of a run on the same files
+-- the answer of one of many requests is such an output of a run on the same files
 abbrev pub OutputIsOfRun : Type 0
 OutputIsOfRun = (nodes lines bans : List ℕ) (road : RoadMap) (request : Request)
     (output answer : List ℕ) → IsMapOf nodes lines bans road → ReadsMap request
@@ -42,7 +43,7 @@ FaultIsOfRun = (nodes lines bans : List ℕ) (road : RoadMap) (request : Request
     × (IsAnswerOfMany road request (Err fault)
     → IsAnswer (known nodes lines bans) request (Err fault))
 
--- it has one answer on a map, or one fault in place of it, and not both
+-- it has one answer on a map at most, or one fault in place of it, and not both
 abbrev pub OneAnswerOfMany : Type 0
 OneAnswerOfMany = (road : RoadMap) (request : Request) → IsSoundMap road
     → IsSingle (IsAnswerOfMany road request)

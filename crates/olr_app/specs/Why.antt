@@ -1,23 +1,15 @@
 -- Why a reference has no matching on a map, or that it has one, by the texts alone: as text or as
 -- JSON.
-use Rattle.std.specs.Prelude.{◌≡◌, ℕ, ⊤, List, Option, Result}
+use Rattle.std.specs.Prelude.{◌≡◌, ℕ, List, Result}
 use Rattle.olr_app.specs.Common.{IsJsonLine, Reference, Tolerances, RoadMap}
 use Rattle.olr_why.specs.Json.{why_object}
 use Rattle.olr_why.specs.Reasons.{IsWhy}
-use Rattle.olr_why.specs.Remedies.{AreUnbanned}
 use Rattle.olr_why.specs.Text.{why_text}
 use Rattle.olr_why.specs.declared.why.Why.{Why}
 use Rattle.olr_app.specs.Stages.{NoFault}
 use Rattle.olr_app.specs.declared.fault.Fault.{Fault}
 use Rattle.olr_app.specs.declared.request.Format.{Format}
 use Rattle.olr_app.specs.declared.request.Format.TheVariants.{Json, Text}
-use Rattle.olr_app.specs.declared.request.Request.{Request}
-use Rattle.olr_app.specs.declared.request.Request.TheVariants.{Why as Asked}
-
--- this is the map without its bans, where reasons are asked for and the map has bans
-abbrev pub IsUnbannedFor : Request → RoadMap → Option RoadMap → Type 0
-IsUnbannedFor (Asked asked) road unbanned = AreUnbanned road unbanned
-IsUnbannedFor other road unbanned = ⊤
 
 -- reasons in a format
 abbrev pub IsWhyIn : Format → RoadMap → Why → List ℕ → Type 0

@@ -7,17 +7,15 @@ ghost use Rattle.olr_app.specs.Accepting.{Accepts, ReportsRefusal};
 ghost use Rattle.olr_app.specs.Answer.{IsAnswerOn, IsAnswered, IsFault, IsOutput, IsReason, IsReferenceIn};
 ghost use Rattle.olr_app.specs.Sources.{AnswerLeaves};
 ghost use Rattle.olr_app.specs.Stages.{IsStageFault};
-ghost use Rattle.olr_app.specs.Why.{IsUnbannedFor};
 
 use crate::accepting::{Accepted, accept};
-use crate::asked_map::AskedMap;
 use crate::fault::Fault;
 use crate::listing::listing_of;
 use crate::matching::matchings_of;
 use crate::places::places_listing;
 use crate::request::{Format, Request};
 use crate::sink::Sink;
-use crate::why::{reasons_of, unbanned_for};
+use crate::why::reasons_of;
 use crate::writing::write_whole;
 use olr_binary::{Reference, show_json, show_text};
 use olr_map::{File, Map, Source, read_map_with_bans};
@@ -43,7 +41,7 @@ fn printed_reference(
 }
 
 /// The whole output of a request that is accepted, on a map. That of [`Request::Show`] is the same
-/// on each map. Where reasons are asked for, the map without its bans has to be at hand.
+/// on each map.
 ///
 /// # Errors
 ///
@@ -51,37 +49,6 @@ fn printed_reference(
 /// other inputs; else, but for [`Request::Why`], [`Fault::TooManyCandidates`] with the first point
 /// that has more than 64; else [`Fault::CursorNotHere`] where the cursor isn't that of a matching;
 /// [`Fault::NoMemory`] where the allocator refused memory.
-pub(crate) fn answer_on(
-    alloc: Global,
-    on: &AskedMap<'_>,
-    request: &Request<'_>,
-    accepted: &Accepted,
-) -> Result<String, Fault>
-    requires reference { IsReference accepted.now.reference }
-    requires unbanned { IsUnbannedFor request.now on.now.map.now on.now.unbanned }
-    ensures output { IfOk result (λ output. IsAnswerOn on.now.marks request.now accepted.now
-        on.now.map.now (Ok (string_bytes output))) }
-    ensures fault { IfErr result (IsStageFault
-        (IsAnswerOn on.now.marks request.now accepted.now on.now.map.now)) }
-{
-    let (map, reference) = (on.map, &accepted.reference);
-    match request {
-        Request::Show { text: _, format } => {
-            let output = printed_reference(alloc, reference, *format)?;
-            Ok(output)
-        }
-        Request::Candidates {
-            text: _,
-            tolerances,
-            format,
-        } => listing_of(alloc, map, reference, tolerances, *format),
-        Request::Match(asked) => matchings_of(alloc, on, asked, accepted),
-        Request::Places(asked) => places_listing(alloc, map, asked, reference),
-        Request::Why(asked) => reasons_of(alloc, map, on.unbanned.as_ref(), asked, reference),
-    }
-}
-
-/// The whole output of a run for a request that is accepted, on a map.
 fn output_on_map(
     alloc: Global,
     request: &Request<'_>,
@@ -93,13 +60,21 @@ fn output_on_map(
         IsAnswerOn true request.now accepted.now map.now (Ok (string_bytes output))) }
     ensures fault { IfErr result (IsStageFault (IsAnswerOn true request.now accepted.now map.now)) }
 {
-    let unbanned = unbanned_for(alloc, map, request)?;
-    let on = AskedMap {
-        map,
-        unbanned,
-        marks: true,
-    };
-    answer_on(alloc, &on, request, accepted)
+    let reference = &accepted.reference;
+    match request {
+        Request::Show { text: _, format } => {
+            let output = printed_reference(alloc, reference, *format)?;
+            Ok(output)
+        }
+        Request::Candidates {
+            text: _,
+            tolerances,
+            format,
+        } => listing_of(alloc, map, reference, tolerances, *format),
+        Request::Match(asked) => matchings_of(alloc, map, true, asked, accepted),
+        Request::Places(asked) => places_listing(alloc, map, asked, reference),
+        Request::Why(asked) => reasons_of(alloc, map, asked, reference),
+    }
 }
 
 /// The whole output of a request that is accepted. It reads the files of the map, if the request

@@ -3,7 +3,7 @@
 //!
 //! A request goes through these modules in order:
 //!
-//! - [`request`]: what is asked for; [`question`]: the same of any reference.
+//! - [`request`]: what is asked for.
 //! - [`accepting`]: the reference and the cursor of its own texts, before any file is read.
 //! - [`answering`]: [`run`], which reads the map that the request asks for, makes the whole output
 //!   and only then writes it.
@@ -13,14 +13,13 @@
 //! - [`sink`]: where the output goes, and [`writing`], the loops that hand it over.
 //! - [`fault`]: what `run` can fail with, and the line of text for each fault.
 //!
-//! Of many texts on one map each is answered by [`one_of_many`], by the same calls on a map that
-//! was read before ([`asked_map`]). Beside these modules, [`laws`] says that a request has one
-//! answer at most, by known texts and on a map.
+//! Of many texts each is answered by [`one_of_many`]: to the same [`question`], on a map that was
+//! read before ([`question_on_map`]), by the same calls. Beside these modules, [`laws`] says that a
+//! request has one answer at most, and that the answer to one of many texts is that of a run.
 #![tactic(auto)]
 
 mod accepting;
 mod answering;
-mod asked_map;
 mod fault;
 mod headline;
 mod laws;
@@ -30,13 +29,13 @@ mod matching;
 mod one_of_many;
 mod places;
 mod question;
+mod question_on_map;
 mod request;
 mod sink;
 mod why;
 mod writing;
 
 pub use answering::run;
-pub use asked_map::AskedMap;
 pub use fault::Fault;
 pub use headline::{all_pages_follow, cursors_go_on, outputs_agree, outputs_join};
 pub use laws::{answers_of_many, one_answer};
@@ -47,6 +46,7 @@ pub use olr_places::{Number, PlaceLimits};
 pub use olr_why::NearestCount;
 pub use one_of_many::answer_text;
 pub use question::{Question, What};
+pub use question_on_map::{QuestionOnMap, unbanned_for};
 pub use request::{Format, MatchRequest, Pages, PlacesRequest, Request, WhyRequest};
 pub use sink::{Out, Sink};
 pub use writing::put_whole;

@@ -25,7 +25,8 @@ struct Listing<'a> {
 /// The object of the candidates of each point.
 impl ToJson<OnMap<'_>> for Listing<'_> {
     ghost value = { λ on listing. object (member (codes "points")
-        (array_of (λ list. candidates_array on.map.now list.items) listing.points.now) no_members) };
+        (array_of (λ list. candidates_array on.map.now list.items) listing.points.now)
+        no_members) };
 
     fn send<S: Serializer>(&self, on: &OnMap<'_>, out: &mut S) -> Result<(), S::Error> {
         send_object!(on, out, { "points": self.points })

@@ -16,7 +16,6 @@ ghost use Rattle.olr_app.specs.Matching.{IsMarkOf, IsStartHere, IsTextOfPage, ke
 ghost use Rattle.olr_app.specs.Stages.{IsStageFault};
 
 use crate::accepting::Accepted;
-use crate::asked_map::AskedMap;
 use crate::fault::Fault;
 use crate::request::{Format, MatchRequest, Pages};
 use olr_binary::Reference;
@@ -164,20 +163,20 @@ fn fingerprint_for(
 /// [`NoMemory`] where the allocator refused memory.
 fn mark_of(
     alloc: Global,
-    on: &AskedMap<'_>,
+    map: &Map,
+    marks: bool,
     asked: &MatchRequest<'_>,
     known: Option<Mark>,
     pages: &[Page],
 ) -> Result<Option<Mark>, NoMemory>
-    requires { IfSome known
-        (IsFingerprint asked.now.text.now asked.now.tolerances on.now.map.now) }
-    ensures { IfOk result (IsMarkOf on.now.marks asked.now.text.now asked.now.tolerances
-        on.now.map.now (values_of pages.now)) }
+    requires { IfSome known (IsFingerprint asked.now.text.now asked.now.tolerances map.now) }
+    ensures { IfOk result (IsMarkOf marks asked.now.text.now asked.now.tolerances map.now
+        (values_of pages.now)) }
 {
-    if !on.marks {
+    if !marks {
         return Ok(None);
     }
-    let mark = fingerprint_for(alloc, on.map, asked, known, pages)?;
+    let mark = fingerprint_for(alloc, map, asked, known, pages)?;
     Ok(Some(mark))
 }
 
@@ -267,7 +266,8 @@ fn text_of_pages(
     Ok(output)
 }
 
-/// The text of the pages of matchings that are asked for.
+/// The text of the pages of matchings that are asked for. Where `marks` is false, the cursors at
+/// their ends have no mark: a mark names the whole map, and so takes time in proportion to it.
 ///
 /// # Errors
 ///
@@ -277,22 +277,23 @@ fn text_of_pages(
 /// the allocator refused memory.
 pub(crate) fn matchings_of(
     alloc: Global,
-    on: &AskedMap<'_>,
+    map: &Map,
+    marks: bool,
     asked: &MatchRequest<'_>,
     accepted: &Accepted,
 ) -> Result<String, Fault>
     requires { IsReference accepted.now.reference }
-    ensures text { IfOk result (λ output. AreMatchings on.now.marks asked.now accepted.now
-        on.now.map.now (Ok (string_bytes output))) }
+    ensures text { IfOk result (λ output.
+        AreMatchings marks asked.now accepted.now map.now (Ok (string_bytes output))) }
     ensures fault { IfErr result (IsStageFault
-        (AreMatchings on.now.marks asked.now accepted.now on.now.map.now)) }
+        (AreMatchings marks asked.now accepted.now map.now)) }
 {
     let Accepted { reference, start } = accepted;
-    let known = check_inputs(alloc, on.map, asked, start)?;
-    let (layers, searches) = layers_of(alloc, on.map, reference, &asked.tolerances)?;
+    let known = check_inputs(alloc, map, asked, start)?;
+    let (layers, searches) = layers_of(alloc, map, reference, &asked.tolerances)?;
     let pages = pages_asked(alloc, &layers, asked, start)?;
-    let mark = mark_of(alloc, on, asked, known, &pages)?;
-    let mut routes = Routes::with_searches(alloc, on.map, &layers, searches);
+    let mark = mark_of(alloc, map, marks, asked, known, &pages)?;
+    let mut routes = Routes::with_searches(alloc, map, &layers, searches);
     let output = text_of_pages(alloc, &mut routes, &pages, &mark, asked.format)?;
     Ok(output)
 }

@@ -1,22 +1,22 @@
 //! The answer to one of many texts on a map.
 
-ghost use Rattle.std.specs.Prelude.{◌≡◌, IfErr, IfOk, Ok, false, string_bytes};
+ghost use Rattle.std.specs.Prelude.{IfErr, IfOk, Ok, false, string_bytes};
 ghost use Rattle.olr_binary.specs.Reference.{IsReference};
 ghost use Rattle.olr_app.specs.Accepting.{IsReferenceOf};
 ghost use Rattle.olr_app.specs.Answer.{IsAnswerOfMany, IsAnswerOn, IsFaultOfMany};
-ghost use Rattle.olr_app.specs.Question.{IsUnbannedWhere, asked_alone};
+ghost use Rattle.olr_app.specs.Question.{asked_alone};
 ghost use Rattle.olr_app.specs.Request.{at_bytes};
 ghost use Rattle.olr_app.specs.Stages.{IsStageFault};
 
 use crate::accepting::Accepted;
-use crate::asked_map::AskedMap;
 use crate::fault::Fault;
 use crate::listing::listing_of;
 use crate::matching::matchings_of;
 use crate::places::places_listing;
-use crate::question::{Question, What};
+use crate::question::What;
+use crate::question_on_map::QuestionOnMap;
 use crate::request::{Format, MatchRequest, Pages, PlacesRequest, WhyRequest};
-use crate::why::reasons_of;
+use crate::why::reasons_with;
 use olr_binary::{Reference, decode};
 use std::alloc::Global;
 
@@ -36,23 +36,22 @@ fn reference_of(text: &str) -> Result<Reference, Fault>
 /// The answer to a text that is accepted.
 fn answer_accepted(
     alloc: Global,
-    on: &AskedMap<'_>,
-    question: &Question,
+    on: &QuestionOnMap<'_>,
     text: &str,
     accepted: &Accepted,
 ) -> Result<String, Fault>
-    requires reference { IsReference accepted.now.reference }
-    requires unmarked { on.now.marks ≡ false }
-    requires unbanned { IsUnbannedWhere question.now.what on.now.map.now on.now.unbanned }
-    ensures answer { let request = asked_alone question.now.what question.now.tolerances text.entry
-        in IfOk result (λ answer.
+    requires { IsReference accepted.now.reference }
+    ensures answer { let question = on.now.question.now in
+        let request = asked_alone question.what question.tolerances text.entry in
+        IfOk result (λ answer.
         IsAnswerOn false request accepted.now on.now.map.now (Ok (string_bytes answer))) }
-    ensures fault { let request = asked_alone question.now.what question.now.tolerances text.entry
-        in IfErr result (IsStageFault (IsAnswerOn false request accepted.now on.now.map.now)) }
+    ensures fault { let question = on.now.question.now in
+        let request = asked_alone question.what question.tolerances text.entry in
+        IfErr result (IsStageFault (IsAnswerOn false request accepted.now on.now.map.now)) }
 {
     let (map, reference) = (on.map, &accepted.reference);
-    let (tolerances, format) = (question.tolerances, Format::Json);
-    match question.what {
+    let (tolerances, format) = (on.question.tolerances, Format::Json);
+    match on.question.what {
         What::Candidates => listing_of(alloc, map, reference, &tolerances, format),
         What::Match(size) => {
             let asked = MatchRequest {
@@ -62,7 +61,7 @@ fn answer_accepted(
                 pages: Pages::One(None),
                 format,
             };
-            matchings_of(alloc, on, &asked, accepted)
+            matchings_of(alloc, map, false, &asked, accepted)
         }
         What::Places(limits) => {
             let asked = PlacesRequest {
@@ -80,14 +79,13 @@ fn answer_accepted(
                 nearest,
                 format,
             };
-            reasons_of(alloc, map, on.unbanned.as_ref(), &asked, reference)
+            reasons_with(alloc, map, on.unbanned.as_ref(), &asked, reference)
         }
     }
 }
 
 /// The JSON that answers a question about the reference of a text, and a line feed: of its
-/// matchings the first page. The map has no marks, and where reasons are asked for, the one without
-/// its bans is at hand.
+/// matchings the first page, whose cursor has no mark.
 ///
 /// # Errors
 ///
@@ -96,23 +94,22 @@ fn answer_accepted(
 /// where the allocator refused memory.
 pub fn answer_text(
     alloc: Global,
-    on: &AskedMap<'_>,
-    question: &Question,
+    on: &QuestionOnMap<'_>,
     text: &str,
 ) -> Result<String, Fault>
-    requires unmarked { on.now.marks ≡ false }
-    requires unbanned { IsUnbannedWhere question.now.what on.now.map.now on.now.unbanned }
-    ensures answer { let request = asked_alone question.now.what question.now.tolerances
-        (at_bytes text.now) in IfOk result (λ answer.
+    ensures answer { let question = on.now.question.now in
+        let request = asked_alone question.what question.tolerances (at_bytes text.now) in
+        IfOk result (λ answer.
         IsAnswerOfMany on.now.map.now request (Ok (string_bytes answer))) }
-    ensures fault { let request = asked_alone question.now.what question.now.tolerances
-        (at_bytes text.now) in IfErr result (IsFaultOfMany on.now.map.now request) }
+    ensures fault { let question = on.now.question.now in
+        let request = asked_alone question.what question.tolerances (at_bytes text.now) in
+        IfErr result (IsFaultOfMany on.now.map.now request) }
 {
     let reference = reference_of(text)?;
     let accepted = Accepted {
         reference,
         start: None,
     };
-    let answer = answer_accepted(alloc, on, question, text, &accepted)?;
+    let answer = answer_accepted(alloc, on, text, &accepted)?;
     Ok(answer)
 }

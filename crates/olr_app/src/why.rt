@@ -4,11 +4,11 @@ ghost use Rattle.std.specs.Prelude.{◌≡◌, [], IfErr, IfOk, MatchOption, Ok,
 ghost use Rattle.olr_binary.specs.Reference.{IsReference};
 ghost use Rattle.olr_why.specs.Reasons.{AreOnMap};
 ghost use Rattle.olr_why.specs.Remedies.{IsUnbanned};
-ghost use Rattle.olr_app.specs.Why.{AreReasons, IsUnbannedFor, IsWhyIn};
+ghost use Rattle.olr_app.specs.Why.{AreReasons, IsWhyIn};
 ghost use Rattle.olr_app.specs.Stages.{IsStageFault};
 
 use crate::fault::Fault;
-use crate::request::{Format, Request, WhyRequest};
+use crate::request::{Format, WhyRequest};
 use olr_binary::Reference;
 use olr_map::Map;
 use olr_metric::NoMemory;
@@ -30,25 +30,6 @@ fn printed_why(alloc: Global, map: &Map, why: &Why, format: Format) -> Result<St
     }
 }
 
-/// The map without its bans, where a request needs it: where reasons are asked for and the map has
-/// bans.
-///
-/// # Errors
-///
-/// [`NoMemory`] where the allocator refused memory.
-pub(crate) fn unbanned_for(
-    alloc: Global,
-    map: &Map,
-    request: &Request<'_>,
-) -> Result<Option<Map>, NoMemory>
-    ensures { IfOk result (IsUnbannedFor request.now map.now) }
-{
-    let Request::Why(_) = request else {
-        return Ok(None);
-    };
-    unbanned_of(alloc, map)
-}
-
 /// What a request for the reasons of a reference asks for, on a map. The cursors in it have no mark
 /// of the inputs. `unbanned` is the map without its bans, where the map has bans: that of
 /// [`unbanned_of`].
@@ -56,7 +37,7 @@ pub(crate) fn unbanned_for(
 /// # Errors
 ///
 /// [`Fault::NoMemory`] where the allocator refused memory, and no other.
-pub(crate) fn reasons_of(
+pub(crate) fn reasons_with(
     alloc: Global,
     map: &Map,
     unbanned: Option<&Map>,
@@ -80,4 +61,26 @@ pub(crate) fn reasons_of(
     let why = why_of(alloc, map, unbanned, reference, tolerances, *nearest)?;
     let output = printed_why(alloc, map, &why, *format)?;
     Ok(output)
+}
+
+/// What a request for the reasons of a reference asks for, on a map: [`reasons_with`] the map
+/// without its bans, which it makes.
+///
+/// # Errors
+///
+/// [`Fault::NoMemory`] where the allocator refused memory, and no other.
+pub(crate) fn reasons_of(
+    alloc: Global,
+    map: &Map,
+    asked: &WhyRequest<'_>,
+    reference: &Reference,
+) -> Result<String, Fault>
+    requires { IsReference reference.now }
+    ensures reasons { IfOk result (λ output. AreReasons asked.now.format asked.now.tolerances
+        asked.now.nearest reference.now map.now (Ok (string_bytes output))) }
+    ensures fault { IfErr result (IsStageFault (AreReasons asked.now.format asked.now.tolerances
+        asked.now.nearest reference.now map.now)) }
+{
+    let unbanned = unbanned_of(alloc, map)?;
+    reasons_with(alloc, map, unbanned.as_ref(), asked, reference)
 }

@@ -9,9 +9,8 @@ ghost use Rattle.olr_batch.specs.Run.{AreAnswered, IsStopped};
 ghost use Rattle.olr_batch.specs.Steps.{IsLast, IsPassedOn, IsStepStopped, IsWrittenNext};
 ghost use Rattle.olr_batch.specs.Steps.{MayAsk};
 
-use crate::asked::{AskedOnMap, unbanned_for};
 use crate::record::write_record;
-use olr_app::{AskedMap, Fault, Question, Sink, Source, put_whole};
+use olr_app::{Fault, Question, QuestionOnMap, Sink, Source, put_whole, unbanned_for};
 use olr_map::Map;
 use olr_messages::Messages;
 use olr_metric::{Failed, NoMemory};
@@ -91,13 +90,13 @@ impl Answering {
     /// was one. Before more input is asked for, the sink passes on what it took.
     fn next<S: Source, O: Sink>(
         &mut self,
-        on: &AskedOnMap<'_>,
+        on: &QuestionOnMap<'_>,
         number: u64,
         input: &mut S,
         out: &mut O,
     ) -> Result<bool, Fault>
         ensures moves { IfOk result (λ found. MatchBool found
-            (IsWrittenNext O.taken O.failed on.now.asked.now on.now.map.map.now number
+            (IsWrittenNext O.taken O.failed on.now.question.now on.now.map.now number
             (left_of self.old.messages (S.left input.old))
             (left_of self.new.messages (S.left input.new)) out.old out.new)
             (IsLast O.taken O.failed O.flush_gives
@@ -105,7 +104,7 @@ impl Answering {
             (left_of self.new.messages (S.left input.new)) out.old out.new)) }
         ensures none_failed { OnOk result (S.failed input.new ≡ S.failed input.old) }
         ensures fault { IfErr result (IsStepStopped O.taken O.failed O.put_gives O.flush_gives
-            on.now.asked.now on.now.map.map.now number
+            on.now.question.now on.now.map.now number
             (left_of self.old.messages (S.left input.old))
             (left_of self.new.messages (S.left input.new)) self.new.messages.at_hand
             (S.failed input.old) (S.failed input.new) out.old out.new) }
@@ -129,17 +128,17 @@ impl Answering {
     /// Writes what is written for all records.
     fn all<S: Source, O: Sink>(
         &mut self,
-        on: &AskedOnMap<'_>,
+        on: &QuestionOnMap<'_>,
         input: &mut S,
         out: &mut O,
     ) -> Result<(), Fault>
         requires none_at_hand { self.old.messages.at_hand ≡ [] }
         ensures answered { OnOk result (AreAnswered O.taken O.failed O.flush_gives
-            on.now.asked.now on.now.map.map.now (S.left input.old) out.old out.new) }
+            on.now.question.now on.now.map.now (S.left input.old) out.old out.new) }
         ensures input_source { OnOk result
             (IsAtEnd (S.left input.new) × (S.failed input.new ≡ S.failed input.old)) }
         ensures fault { IfErr result (IsStopped S.left S.failed O.taken O.failed O.put_gives
-            O.flush_gives on.now.asked.now on.now.map.map.now input.old input.new out.old out.new) }
+            O.flush_gives on.now.question.now on.now.map.now input.old input.new out.old out.new) }
     {
         for number in 1..u64::MAX {
             if !self.next(on, number, input, out)? {
@@ -172,12 +171,11 @@ pub(crate) fn answer_records<S: Source, O: Sink>(
         O.flush_gives asked.now map.now input.old input.new out.old out.new) }
 {
     let unbanned = unbanned_for(alloc, map, asked.what)?;
-    let map = AskedMap {
+    let on = QuestionOnMap {
+        question: asked,
         map,
         unbanned,
-        marks: false,
     };
-    let on = AskedOnMap { asked, map };
     Answering::new(alloc)?.all(&on, input, out)?;
     Ok(())
 }

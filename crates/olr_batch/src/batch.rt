@@ -37,7 +37,8 @@ pub fn run_batch<S1: Source, S2: Source, S3: Source, S4: Source, O: Sink>(
 ) -> Result<(), Fault>
     ensures answered { OnOk result ((road : RoadMap)
         × IsMapLeft (texts_of (S1.left nodes.old) (S2.left lines.old) (S3.left bans.old)) road
-        × AreAnswered O.taken O.failed O.flush_gives asked.now road (S4.left input.old) out.old out.new) }
+        × AreAnswered O.taken O.failed O.flush_gives asked.now road (S4.left input.old)
+        out.old out.new) }
     ensures fault { IfErr result (λ fault.
         IsMapFault (texts_of (S1.left nodes.old) (S2.left lines.old) (S3.left bans.old))
         input.old input.new out.old out.new fault

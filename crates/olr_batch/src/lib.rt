@@ -3,7 +3,6 @@
 //!
 //! The map is read once, and then a record goes through these modules in order:
 //!
-//! - [`asked`]: what is asked of each record, and the map that it is asked on.
 //! - [`line`]: the line of a record; [`record`]: what is written for it.
 //! - [`answering`]: the loop over the records, which come from `olr_messages`.
 //! - [`batch`]: [`run_batch`], all of this from the files of a map to the output.
@@ -13,7 +12,6 @@
 #![tactic(auto)]
 
 mod answering;
-mod asked;
 mod batch;
 mod laws;
 mod line;

@@ -9,10 +9,9 @@ ghost use Rattle.olr_batch.specs.Answers.{IsFaultFor};
 ghost use Rattle.olr_batch.specs.Line.{bytes_of, line_text};
 ghost use Rattle.olr_batch.specs.Records.{IsLineOfText, IsWrittenFor, fault_line};
 
-use crate::asked::AskedOnMap;
 use crate::line::{Line, write_line};
 use arrayvec::ArrayString;
-use olr_app::{Fault, answer_text};
+use olr_app::{Fault, QuestionOnMap, answer_text};
 use olr_messages::Content;
 use olr_metric::NoMemory;
 use std::alloc::Global;
@@ -73,20 +72,22 @@ fn write_found<'a>(
 ///
 /// # Errors
 ///
-/// Those of [`answer_text`], and [`Fault::NoMemory`] where the allocator refused memory for the line.
+/// Those of [`answer_text`], and [`Fault::NoMemory`] where the allocator refused memory for the
+/// line.
 fn write_answer(
     alloc: Global,
-    on: &AskedOnMap<'_>,
+    on: &QuestionOnMap<'_>,
     number: u64,
     key: Option<&str>,
     text: &str,
     line: &mut Vec<u8>,
 ) -> Result<(), Fault>
     ensures line { OnOk result
-        (IsLineOfText on.now.asked.now on.now.map.map.now number (bytes_of key.entry) text.now line.new.items) }
-    ensures fault { IfErr result (IsFaultFor on.now.asked.now on.now.map.map.now text.now) }
+        (IsLineOfText on.now.question.now on.now.map.now number (bytes_of key.entry) text.now
+        line.new.items) }
+    ensures fault { IfErr result (IsFaultFor on.now.question.now on.now.map.now text.now) }
 {
-    let answer = answer_text(alloc, &on.map, on.asked, text)?;
+    let answer = answer_text(alloc, on, text)?;
     write_found(alloc, number, key, &answer, line)?;
     Ok(())
 }
@@ -109,14 +110,15 @@ fn text_of(fault: &Fault) -> Result<ArrayString<64>, NoMemory>
 /// [`NoMemory`] where the allocator refused memory for the line of a fault.
 fn write_text(
     alloc: Global,
-    on: &AskedOnMap<'_>,
+    on: &QuestionOnMap<'_>,
     number: u64,
     key: Option<&str>,
     text: &str,
     line: &mut Vec<u8>,
 ) -> Result<(), NoMemory>
     ensures { OnOk result
-        (IsLineOfText on.now.asked.now on.now.map.map.now number (bytes_of key.entry) text.now line.new.items) }
+        (IsLineOfText on.now.question.now on.now.map.now number (bytes_of key.entry) text.now
+        line.new.items) }
 {
     let Err(fault) = write_answer(alloc, on, number, key, text, line) else {
         return Ok(());
@@ -135,13 +137,14 @@ fn write_text(
 /// in a `line` of [`ROOM`](crate::answering) bytes.
 pub(crate) fn write_record(
     alloc: Global,
-    on: &AskedOnMap<'_>,
+    on: &QuestionOnMap<'_>,
     number: u64,
     content: Content<'_>,
     line: &mut Vec<u8>,
 ) -> Result<(), NoMemory>
     ensures { OnOk result
-        (IsWrittenFor on.now.asked.now on.now.map.map.now number (message_of content.entry) line.new.items) }
+        (IsWrittenFor on.now.question.now on.now.map.now number (message_of content.entry)
+        line.new.items) }
 {
     match content {
         Content::Empty => line.clear(),

@@ -10,8 +10,8 @@ pub returns-in_err-known-clause-fault : goal.returns-in_err-known-clause-fault
 returns-in_err-known-clause-fault c =
     let asked = c.args.asked.now in
     let accepted = c.args.accepted.now in
-    let marks = c.args.on.now.marks in
-    let road = c.args.on.now.map.now in
+    let marks = c.args.marks in
+    let road = c.args.map.now in
     rw (exit c.from_residual.ensures.1)
     (fault_here (IsStartHere asked road accepted.start)
     (OnStart marks asked accepted.reference road) c.in_err-known.field-0.0
@@ -21,8 +21,8 @@ pub returns-in_err-layers-clause-fault : goal.returns-in_err-layers-clause-fault
 returns-in_err-layers-clause-fault c =
     let asked = c.args.asked.now in
     let accepted = c.args.accepted.now in
-    let marks = c.args.on.now.marks in
-    let road = c.args.on.now.map.now in
+    let marks = c.args.marks in
+    let road = c.args.map.now in
     let why = c.in_err-layers.field-0.0 in
     rw (exit c.from_residual-in_err-layers.ensures.1)
     (fault_after (IsStartHere asked road accepted.start)
@@ -34,8 +34,8 @@ pub returns-in_err-pages-clause-fault : goal.returns-in_err-pages-clause-fault
 returns-in_err-pages-clause-fault c =
     let asked = c.args.asked.now in
     let accepted = c.args.accepted.now in
-    let marks = c.args.on.now.marks in
-    let road = c.args.on.now.map.now in
+    let marks = c.args.marks in
+    let road = c.args.map.now in
     let layers = c.in_ok-layers.layers in
     let why = c.in_err-pages.field-0.0 in
     rw (exit c.from_residual-in_err-pages.ensures.1)
@@ -55,8 +55,8 @@ text_of_pages-requires c =
 pub returns-clause-text : goal.returns-clause-text
 returns-clause-text c =
     let asked = c.args.asked.now in
-    let marks = c.args.on.now.marks in
-    let road = c.args.on.now.map.now in
+    let marks = c.args.marks in
+    let road = c.args.map.now in
     let layers = c.in_ok-layers.layers in
     let output = string_bytes c.in_ok-output.output in
     let pages = c.in_ok-pages.pages.items in

@@ -6,7 +6,7 @@ use Rattle.olr_batch.proofs.answering.Answering.all.Given as goal
 -- what is written for the records so far has been written, and no device failed
 abbrev pub invariant-loop-number : goal.invariant-loop-number
 invariant-loop-number g l = record {
-  so_far : IsWrittenTo l.on.asked.now l.on.map.map.now l.number
+  so_far : IsWrittenTo l.on.question.now l.on.map.now l.number
       (g.S.Source.left l.initial.input)
       (left_of l.self.messages (g.S.Source.left l.input)) (g.O.Sink.taken l.initial.out)
       (g.O.Sink.taken l.out);

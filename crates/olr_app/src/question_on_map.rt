@@ -1,0 +1,36 @@
+//! A question with the map that it is asked on, for many texts.
+
+ghost use Rattle.std.specs.Prelude.{IfOk};
+ghost use Rattle.olr_app.specs.Question.{IsUnbannedWhere, IsUnbannedWhere-prop};
+
+use crate::question::{Question, What};
+use olr_map::Map;
+use olr_metric::NoMemory;
+use olr_why::unbanned_of;
+use std::alloc::Global;
+
+/// A question with the map that it is asked on.
+#[derive(Drop)]
+pub struct QuestionOnMap<'a> {
+    /// What is asked.
+    pub question: &'a Question,
+    /// The map.
+    pub map: &'a Map,
+    /// The map without its bans, where it is needed: that of [`unbanned_for`].
+    pub unbanned: Option<Map>,
+    pub ghost fits: { IsUnbannedWhere question.now.what map.now unbanned } by { IsUnbannedWhere-prop question.now.what map.now unbanned },
+}
+
+/// The map without its bans, where it is needed: where reasons are asked for and the map has bans.
+///
+/// # Errors
+///
+/// [`NoMemory`] where the allocator refused memory.
+pub fn unbanned_for(alloc: Global, map: &Map, what: What) -> Result<Option<Map>, NoMemory>
+    ensures { IfOk result (IsUnbannedWhere what map.now) }
+{
+    match what {
+        What::Candidates | What::Match(_) | What::Places(_) => Ok(None),
+        What::Why(_) => unbanned_of(alloc, map),
+    }
+}
