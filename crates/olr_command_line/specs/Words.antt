@@ -22,8 +22,8 @@ use Rattle.olr_command_line.specs.declared.words.Files.{Files}
 use Rattle.olr_command_line.specs.declared.words.Given.{Given}
 use Rattle.olr_command_line.specs.declared.words.GivenNumbers.{GivenNumbers}
 use Rattle.olr_command_line.specs.declared.words.Input.{Input}
-use Rattle.olr_command_line.specs.declared.words.Subcommand.{Subcommand}
-use Rattle.olr_command_line.specs.declared.words.Subcommand.TheVariants as each
+use Rattle.olr_command_line.specs.declared.words.MapSubcommand.{MapSubcommand}
+use Rattle.olr_command_line.specs.declared.words.MapSubcommand.TheVariants as each
 
 -- ---- tolerances
 
@@ -94,7 +94,7 @@ IsNearest count = count ≤ 64
 -- ---- subcommands
 
 -- what a subcommand asks of a reference, with what is given
-abbrev pub IsWhat : Given → Subcommand → What → Type 0
+abbrev pub IsWhat : Given → MapSubcommand → What → Type 0
 IsWhat given each.Candidates what = what ≡ Candidates
 IsWhat given each.Match what = (what ≡ Match (size_of given)) × IsSize (size_of given)
 IsWhat given each.Places what =
@@ -102,29 +102,29 @@ IsWhat given each.Places what =
 IsWhat given each.Why what = (what ≡ Why (nearest_of given)) × IsNearest (nearest_of given)
 
 -- why that is refused: the page size, the first number for places, or the number of lines
-abbrev pub IsRefusedWhat : Given → Subcommand → Fault → Type 0
+abbrev pub IsRefusedWhat : Given → MapSubcommand → Fault → Type 0
 IsRefusedWhat given each.Match (BadPage size) =
     (size ≡ size_of given) × (IsSize size → ⊥)
-IsRefusedWhat given each.Places (BadNumber number) =
-    IsFirstNumberOutOfRange (number_of given.numbers) number
+IsRefusedWhat given each.Places why = IsRefusedNumber given.numbers why
 IsRefusedWhat given each.Why BadNearest = IsNearest (nearest_of given) → ⊥
 IsRefusedWhat given other why = ⊥
 
 -- the question of a subcommand
-pub record IsQuestion (given : Given) (subcommand : Subcommand) (question : Question) : Type 0
+pub record IsQuestion (given : Given) (subcommand : MapSubcommand) (question : Question) : Type 0
   where
     pub tolerances : AreTolerances given question.tolerances
     pub what : IsWhat given subcommand question.what
 
 -- why it is refused: the first tolerance that is out of its range; else what is asked
-abbrev pub IsRefusedQuestion : Given → Subcommand → Fault → Type 0
-IsRefusedQuestion given subcommand (BadTolerance name) = IsFirstOutOfRange (value_of given) name
+abbrev pub IsRefusedQuestion : Given → MapSubcommand → Fault → Type 0
+IsRefusedQuestion given subcommand (BadTolerance name) =
+    IsRefusedTolerance given (BadTolerance name)
 IsRefusedQuestion given subcommand other =
     ((tolerances : Tolerances) × AreTolerances given tolerances)
     × IsRefusedWhat given subcommand other
 
 -- what a subcommand asks for on the map of files
-pub record AsksOne (given : Given) (subcommand : Subcommand) (files : Files) (asked : Asked)
+pub record AsksOne (given : Given) (subcommand : MapSubcommand) (files : Files) (asked : Asked)
     : Type 0 where
   pub question : Question
   pub is : IsQuestion given subcommand question
@@ -133,13 +133,13 @@ pub record AsksOne (given : Given) (subcommand : Subcommand) (files : Files) (as
       (pages_of given) given.format) (Some files)
 
 -- why it is refused: a cursor with all pages; else its question
-abbrev pub IsRefusedOne : Given → Subcommand → Fault → Type 0
+abbrev pub IsRefusedOne : Given → MapSubcommand → Fault → Type 0
 IsRefusedOne given subcommand AfterWithAll = AreBoth given
 IsRefusedOne given subcommand other =
     (AreBoth given → ⊥) × IsRefusedQuestion given subcommand other
 
 -- what a subcommand of `batch` asks for
-pub record AsksMany (given : Given) (subcommand : Subcommand) (files : Files) (input : Input)
+pub record AsksMany (given : Given) (subcommand : MapSubcommand) (files : Files) (input : Input)
     (asked : Asked) : Type 0 where
   pub question : Question
   pub is : IsQuestion given subcommand question

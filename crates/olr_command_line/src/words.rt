@@ -62,21 +62,21 @@ pub enum Input<'a> {
 
 /// A subcommand that asks of a reference on a map.
 #[derive(Clone, Copy, Debug, PartialEq, Eq)]
-enum Subcommand {
+enum MapSubcommand {
     Candidates,
     Match,
     Places,
     Why,
 }
 
-impl Subcommand {
+impl MapSubcommand {
     /// The one of this name, if there is one.
-    fn named(name: &str) -> Option<Subcommand> {
+    fn named(name: &str) -> Option<MapSubcommand> {
         match name {
-            "candidates" => Some(Subcommand::Candidates),
-            "match" => Some(Subcommand::Match),
-            "places" => Some(Subcommand::Places),
-            "why" => Some(Subcommand::Why),
+            "candidates" => Some(MapSubcommand::Candidates),
+            "match" => Some(MapSubcommand::Match),
+            "places" => Some(MapSubcommand::Places),
+            "why" => Some(MapSubcommand::Why),
             _ => None,
         }
     }
@@ -251,15 +251,15 @@ impl<'a> Given<'a> {
     ///
     /// For its subcommand that of [`Given::size`], [`GivenNumbers::limits`] or
     /// [`Given::nearest_count`].
-    fn what(&self, subcommand: Subcommand) -> Result<What, Fault>
+    fn what(&self, subcommand: MapSubcommand) -> Result<What, Fault>
         ensures accepted { IfOk result (IsWhat self.now subcommand) }
         ensures refused { IfErr result (IsRefusedWhat self.now subcommand) }
     {
         match subcommand {
-            Subcommand::Candidates => Ok(What::Candidates),
-            Subcommand::Match => Ok(What::Match(self.size()?)),
-            Subcommand::Places => Ok(What::Places(self.numbers.limits()?)),
-            Subcommand::Why => Ok(What::Why(self.nearest_count()?)),
+            MapSubcommand::Candidates => Ok(What::Candidates),
+            MapSubcommand::Match => Ok(What::Match(self.size()?)),
+            MapSubcommand::Places => Ok(What::Places(self.numbers.limits()?)),
+            MapSubcommand::Why => Ok(What::Why(self.nearest_count()?)),
         }
     }
 
@@ -268,7 +268,7 @@ impl<'a> Given<'a> {
     /// # Errors
     ///
     /// That of [`Given::tolerances`]; else that of [`Given::what`].
-    fn question(&self, subcommand: Subcommand) -> Result<Question, Fault>
+    fn question(&self, subcommand: MapSubcommand) -> Result<Question, Fault>
         ensures accepted { IfOk result (IsQuestion self.now subcommand) }
         ensures refused { IfErr result (IsRefusedQuestion self.now subcommand) }
     {
@@ -282,7 +282,7 @@ impl<'a> Given<'a> {
     /// # Errors
     ///
     /// That of [`Given::pages`]; else that of [`Given::question`].
-    fn one(&self, subcommand: Subcommand, files: Files<'a>) -> Result<Asked<'a>, Fault>
+    fn one(&self, subcommand: MapSubcommand, files: Files<'a>) -> Result<Asked<'a>, Fault>
         ensures accepted { IfOk result (AsksOne self.now subcommand files.entry) }
         ensures refused { IfErr result (IsRefusedOne self.now subcommand) }
     {
@@ -299,7 +299,7 @@ impl<'a> Given<'a> {
     /// That of [`Given::question`].
     fn many(
         &self,
-        subcommand: Subcommand,
+        subcommand: MapSubcommand,
         files: Files<'a>,
         input: Input<'a>,
     ) -> Result<Asked<'a>, Fault>
@@ -326,7 +326,7 @@ fn files_of<'a>(found: &ArgMatches<'a>) -> Option<Files<'a>> {
 /// What the subcommand of `batch` found among the words asks for, if there is one.
 fn many_in<'a>(matches: &ArgMatches<'a>) -> Option<Result<Asked<'a>, Fault>> {
     let (name, found) = matches.subcommand()?;
-    let subcommand = Subcommand::named(name)?;
+    let subcommand = MapSubcommand::named(name)?;
     let files = files_of(found)?;
     let input = match found.get_str("input") {
         Some(path) => Input::File(path),
@@ -345,7 +345,7 @@ fn asked_in<'a>(matches: &ArgMatches<'a>) -> Option<Result<Asked<'a>, Fault>> {
     if name == "show" {
         return Some(Ok(given.show()));
     }
-    let subcommand = Subcommand::named(name)?;
+    let subcommand = MapSubcommand::named(name)?;
     Some(given.one(subcommand, files_of(found)?))
 }
 

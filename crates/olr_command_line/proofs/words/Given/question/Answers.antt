@@ -4,12 +4,12 @@ use Rattle.olr_app.specs.declared.fault.Fault.TheVariants.{BadTolerance}
 use Rattle.olr_candidates.specs.declared.tolerances.Tolerances.{Tolerances}
 use Rattle.olr_command_line.specs.Words.{AreTolerances, IsRefusedQuestion, IsRefusedWhat}
 use Rattle.olr_command_line.specs.declared.words.Given.{Given}
-use Rattle.olr_command_line.specs.declared.words.Subcommand.{Subcommand}
-use Rattle.olr_command_line.specs.declared.words.Subcommand.TheVariants.{Candidates, Match, Places, Why}
+use Rattle.olr_command_line.specs.declared.words.MapSubcommand.{MapSubcommand}
+use Rattle.olr_command_line.specs.declared.words.MapSubcommand.TheVariants.{Candidates, Match, Places, Why}
 use Rattle.olr_command_line.proofs.words.Given.question.Goals as goal
 
 -- the tolerances are in range, and then what is asked is refused
-by_what : (given : Given) (subcommand : Subcommand) (tolerances : Tolerances) (why : Fault)
+by_what : (given : Given) (subcommand : MapSubcommand) (tolerances : Tolerances) (why : Fault)
     → AreTolerances given tolerances → IsRefusedWhat given subcommand why
     → IsRefusedQuestion given subcommand why
 by_what given Candidates tolerances why are is = absurd is
