@@ -12,7 +12,8 @@ use olr_metric::NoMemory;
 use serde::{Described, Serialize, Serializer};
 use std::alloc::Global;
 
-/// What is written as JSON, by means of `On`: what is on a map has the ids of its lines, for one.
+/// What is written as JSON with an `On` at hand. Where lines of a map are written it is the map,
+/// which has their ids.
 pub trait ToJson<On> {
     // The value that is written.
     ghost value: { On → Self → Data };
@@ -208,8 +209,8 @@ pub fn send_counted<On, M: ToMembers<On>, S: Serializer>(
     members.send_members(on, out)
 }
 
-/// Sends an object, as `send_object!(map, out, { "at": at, "line": line })`, with its members in
-/// the order of their names.
+/// Sends an object, as `send_object!(on, out, { "at": at, "line": line })`, with its members in the
+/// order of their names.
 #[macro_export]
 macro_rules! send_object {
     ($on:expr, $out:expr, { $($name:literal: $value:expr),+ $(,)? }) => {

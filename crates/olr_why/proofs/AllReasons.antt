@@ -33,9 +33,6 @@ module _ (not_both : NoListsAndTooMany) {road : RoadMap} {layers : LayersValue}
       on.lists first.holds)
   legs_in _ legs is are = record {
     layers = layers;
-    on = on;
-    reference_is = refl;
-    tolerances_is =
-        refl;
+    layers_are = record { on = on; reference_is = refl; tolerances_is = refl };
     are = are;
   }

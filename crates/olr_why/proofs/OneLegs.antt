@@ -126,9 +126,11 @@ module _ (one_layers : OneLayers) (road : RoadMap) (tolerances : Tolerances) (re
     one_legs_by_layers : {a b : List LegReason} → AreLegs road tolerances reference a
         → AreLegs road tolerances reference b → a ≡ b
     one_legs_by_layers one other =
-        let same = one_layers road one.layers other.layers one.on other.on (one.reference_is
-        ∙ sym other.reference_is)
-        (one.tolerances_is ∙ sym other.tolerances_is) in
+        let its = one.layers_are in
+        let others = other.layers_are in
+        let same = one_layers road one.layers other.layers its.on others.on
+        (its.reference_is ∙ sym others.reference_is) (its.tolerances_is ∙ sym others.tolerances_is)
+        in
         one_legs_of (rw same at one.are) other.are
 
     pub one_legs : (verdict : Verdict) (a b : List LegReason)

@@ -41,9 +41,7 @@ module _ (road : RoadMap) (tolerances : Tolerances) (reference : Reference) wher
   -- the legs, by the layers of the reference
   pub record AreLegs (legs : List LegReason) : Type 0 where
     pub layers : LayersValue
-    pub on : AreLayersOn road layers
-    pub reference_is : layers.reference ≡ reference
-    pub tolerances_is : layers.tolerances ≡ tolerances
+    pub layers_are : AreLayersOf layers
     pub are : AreLegReasons road layers legs
 
   -- the legs by the verdict: none where a point has too many candidates
