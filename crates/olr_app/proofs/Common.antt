@@ -22,7 +22,8 @@ pub use Rattle.olr_matching.specs.Layers.{LayersValue}
 pub use Rattle.olr_matching.specs.Matched.{IsMatchedBy}
 pub use Rattle.olr_matching.specs.declared.matched.Matched.{Matched}
 pub use Rattle.olr_records.specs.declared.file.File.TheVariants.{Bans, Lines, Nodes}
-pub use Rattle.olr_report.specs.Text.{IsPageText, entries_rows, next_after}
+pub use Rattle.olr_report.specs.Entries.{AreEntriesAt, Entry}
+pub use Rattle.olr_report.specs.Text.{entries_rows, next_after}
 pub use Rattle.serde_json.specs.View.{items_of}
 pub use Rattle.olr_app.specs.Accepting.{Accepts, IsStart}
 pub use Rattle.olr_app.specs.Answer.{IsAnswer, IsAnswerOf, IsAnswerOn, IsMapOfFiles, IsOutput}

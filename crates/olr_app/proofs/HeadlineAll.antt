@@ -14,7 +14,7 @@ use Rattle.olr_app.specs.Headline.{Run, files_of, joined_outputs, request_of}
 use Rattle.olr_app.specs.HeadlineOutputs.{Shows, parts_of}
 use Rattle.olr_app.specs.Request.{at_bytes}
 use Rattle.olr_app.specs.declared.request.Pages.TheVariants.{All as EveryPage}
-use Rattle.olr_app.proofs.HeadlineOutputs.{ShowsPage, next_cursor, page_shows}
+use Rattle.olr_app.proofs.HeadlineOutputs.{next_cursor, page_shows}
 use Rattle.olr_app.proofs.HeadlineRests.{next_exists, next_in_range}
 
 -- a run before others
@@ -61,14 +61,15 @@ module _ (laws : Laws) (format : Format) (inputs : Inputs) (size : ℕ) (at_leas
     in_range : (key : KeyValue) → next_after page ≡ Some key → IsInRange key
     in_range = next_in_range _ _ _ _ is_page _ laws.in_range are_layers.0.table are_keys
 
-    shows : ShowsPage format road layers.reference page is_text.matched mark output
-    shows = page_shows laws.json_reads format _ _ _ _ _ _ in_range is_text.text_is
+    shows : Shows format (parts_of format road is_text.entries)
+        (next_cursor (next_after page) mark) output
+    shows = page_shows laws.json_reads format _ _ _ _ _ in_range is_text.text_is
 
     run : Run format
     run = record {
       request = Match (request_of inputs text size (One begins) format);
       output = output;
-      shown = parts_of format road shows.entries;
+      shown = parts_of format road is_text.entries;
     }
 
     is_run : AreMarked (page ∷ []) → IsRunAt inputs (bytes_of begins) run
@@ -117,7 +118,7 @@ module _ (laws : Laws) (format : Format) (inputs : Inputs) (size : ℕ) (at_leas
     shows_next : (after : Option KeyValue) → next_after page ≡ after
         → Shows format run.shown (next_cursor after mark) run.output
     unfolding run
-    shows_next after same = rw (sym same) shows.shows
+    shows_next after same = rw (sym same) shows
 
     last_run : AreMarked (page ∷ []) → page.more ≡ false → AreRuns (bytes_of begins) (output ++ [])
     unfolding run

@@ -1,57 +1,45 @@
 -- Runs that follow each other show exactly the matchings after the cursor at which the first one
 -- begins; those have one text, and such runs come to an end.
 use Rattle.std.proofs.Common.{◌≡◌, ℕ, List, [], ◌∷◌, ◌++◌, Option, None, Some, sym, ap, ◌∙◌}
-use Rattle.std.proofs.Common.{subst, false, ◌<◌, ◌≤◌, length, drop, refl, length-append, arith}
-use Rattle.std.proofs.lemmas.List.{append-nil, map-append, append_cancel_right, length-drop}
+use Rattle.std.proofs.Common.{subst, ◌<◌, ◌≤◌, length, drop, refl, length-append, arith}
+use Rattle.std.proofs.lemmas.List.{append-nil, map-append, length-drop}
 use Rattle.std.proofs.lemmas.List.Elements.{All-append}
-use Rattle.std.specs.List.{AllZip}
-use Rattle.std.specs.Prelude.{codes}
-use Rattle.olr_app.proofs.Common.{RoadMap, IsSoundMap, OneCursor, IsInRange, KeyValue, IsRestAfter, PageValue, IsFingerprint, LayersValue, IsMatchedBy, next_after, IsPageText, Laws, Format, Text}
+use Rattle.olr_app.proofs.Common.{AreEntriesAt, RoadMap, IsSoundMap, OneCursor, IsInRange, KeyValue, IsRestAfter, IsFingerprint, LayersValue, next_after, Laws, Format, Text}
 use Rattle.olr_keys.specs.Cursor.{IsCursorOf}
 use Rattle.olr_keys.proofs.Chains.{one_rest}
-use Rattle.olr_report.specs.Entries.{Entry, IsEntryOf}
+use Rattle.olr_report.specs.Entries.{Entry, IsEntryAt}
 use Rattle.olr_app.specs.Headline.{AreShown, FollowEachOther, Headline, Inputs}
 use Rattle.olr_app.specs.Headline.{Matchings, Names, Run, joined, SizesAgree}
 use Rattle.olr_app.specs.Headline.{GoOn, RunsEnd}
 use Rattle.olr_app.specs.HeadlineOutputs.{Part, Shows, parts_of}
-use Rattle.olr_app.proofs.HeadlineOutputs.{ShowsPage, key_next, next_cursor, none_next, one_shown}
+use Rattle.olr_app.proofs.HeadlineOutputs.{key_next, next_cursor, none_next, one_shown}
 use Rattle.olr_app.proofs.HeadlineOutputs.{page_shows, parts_append}
 use Rattle.olr_app.proofs.HeadlineRests.{next_in_range, next_more, page_and_rest, page_is_rest}
 use Rattle.olr_app.proofs.HeadlineRests.{left_after}
 use Rattle.olr_app.proofs.HeadlineRuns.{Facts, PrintsPage, facts_of, matchings_of_run, run_prints}
-use Rattle.olr_app.proofs.OneAnswer.{parts_once}
 
 -- ---- keys in two parts
 
-zip_append : {X Y : Type 0} (R : X → Y → Type 0) (xs : List X) (ys : List Y) (xs' : List X)
-    (ys' : List Y) → AllZip R xs ys → AllZip R xs' ys' → AllZip R (xs ++ xs') (ys ++ ys')
-zip_append R [] [] xs' ys' they others = others
-zip_append R (x ∷ xs) (y ∷ ys) xs' ys' they others =
-    (they.0, zip_append R xs ys xs' ys' they.1 others)
-zip_append R _ _ xs' ys' they others = absurd they
+entries_append : {road : RoadMap} {layers : LayersValue} (keys keys' : List KeyValue)
+    (entries entries' : List Entry) → AreEntriesAt road layers keys entries
+    → AreEntriesAt road layers keys' entries'
+    → AreEntriesAt road layers (keys ++ keys') (entries ++ entries')
+entries_append {road} {layers} keys keys' entries entries' is is' = record {
+  keys_are = rw (
+    map-append (λ (entry : Entry). entry.key) entries entries',
+    is.keys_are,
+    is'.keys_are,
+  ) refl;
+  each = All-append (IsEntryAt road layers) entries entries' is.each is'.each;
+}
 
 shown_append : (format : Format) (road : RoadMap) (layers : LayersValue)
     (keys keys' : List KeyValue) (parts parts' : List (Part format))
     → AreShown format road layers keys parts → AreShown format road layers keys' parts'
     → AreShown format road layers (keys ++ keys') (parts ++ parts')
 shown_append format road layers keys keys' parts parts' is is' = record {
-  matched = is.matched ++ is'.matched;
   entries = is.entries ++ is'.entries;
-  each = zip_append (IsMatchedBy road layers) keys is.matched keys' is'.matched is.each is'.each;
-  are_entries = record {
-    keys_are = rw (
-      map-append (λ (entry : Entry). entry.key) is.entries is'.entries,
-      is.are_entries.keys_are,
-      is'.are_entries.keys_are,
-    ) refl;
-    matched_are = rw (
-      map-append (λ (entry : Entry). entry.matched) is.entries is'.entries,
-      is.are_entries.matched_are,
-      is'.are_entries.matched_are,
-    ) refl;
-    each = All-append (IsEntryOf layers.reference) is.entries is'.entries is.are_entries.each
-        is'.are_entries.each;
-  };
+  are = entries_append keys keys' is.entries is'.entries is.are is'.are;
   parts_are = rw (is.parts_are, is'.parts_are)
       (sym (parts_append format road is.entries is'.entries));
 }
@@ -82,22 +70,20 @@ module _ (laws : Laws) {format : Format} {inputs : Inputs} (all : Matchings inpu
     in_range = next_in_range _ _ _ _ prints.is_page _ laws.in_range all.are_layers.table
         all.are_keys
 
-    shows_page : ShowsPage format all.road all.layers.reference prints.page
-        prints.is_text.matched prints.mark run.output
-    shows_page = page_shows laws.json_reads format _ _ _ _ _ _ in_range prints.is_text.text_is
+    shows_page : Shows format (parts_of format all.road prints.is_text.entries)
+        (next_cursor (next_after prints.page) prints.mark) run.output
+    shows_page = page_shows laws.json_reads format _ _ _ _ _ in_range prints.is_text.text_is
 
     module _ (next : Option (List ℕ)) (is : Shows format run.shown next run.output) where
-      same_parts : (run.shown ≡ parts_of format all.road shows_page.entries)
+      same_parts : (run.shown ≡ parts_of format all.road prints.is_text.entries)
           × (next ≡ next_cursor (next_after prints.page) prints.mark)
-      same_parts = one_shown format _ _ _ _ run.output is shows_page.shows
+      same_parts = one_shown format _ _ _ _ run.output is shows_page
 
       -- what the run shows is the keys of its page
       page_shown : AreShown format all.road all.layers prints.page.keys run.shown
       page_shown = record {
-        matched = prints.is_text.matched;
-        entries = shows_page.entries;
-        each = prints.is_text.each;
-        are_entries = shows_page.are_entries;
+        entries = prints.is_text.entries;
+        are = prints.is_text.are;
         parts_are = same_parts.0;
       }
 
@@ -185,27 +171,13 @@ runs_join laws format inputs cursor runs follow =
 module _ (laws : Laws) where
   -- ---- keys have one text
 
-  module _ (road : RoadMap) (sound : IsSoundMap road) (layers : LayersValue) where
-    -- the page of all these keys
-    abbrev last_page : List KeyValue → PageValue
-    last_page keys = record { keys = keys; more = false }
-
-    as_page : (keys : List KeyValue) (text : List ℕ) (is : AreShown Text road layers keys text)
-        → IsPageText road layers.reference (last_page keys) is.matched None
-        (text ++ codes "end\n")
-    as_page keys text is = record {
-      entries = is.entries;
-      are_entries = is.are_entries;
-      text_is = ap (λ l. l ++ codes "end\n") is.parts_are;
-    }
-
-    text_once : (keys : List KeyValue) (a b : List ℕ) → AreShown Text road layers keys a
-        → AreShown Text road layers keys b → a ≡ b
-    text_once keys a b is is' =
-        append_cancel_right a b (codes "end\n") (laws.text _ _ _ _ _ _ _
-        (subst (λ matched. IsPageText road layers.reference (last_page keys) matched None
-        (a ++ codes "end\n")) (parts_once laws road layers sound keys is.matched is'.matched
-        is.each is'.each) (as_page keys a is)) (as_page keys b is'))
+  text_once : (road : RoadMap) (sound : IsSoundMap road) (layers : LayersValue)
+      (keys : List KeyValue) (a b : List ℕ) → AreShown Text road layers keys a
+      → AreShown Text road layers keys b → a ≡ b
+  text_once road sound layers keys a b is is' =
+      is.parts_are ∙ ap (parts_of Text road)
+      (laws.entries road layers sound keys is.entries is'.entries is.are is'.are)
+      ∙ sym is'.parts_are
 
   -- ---- the matchings after a cursor have one text
 

@@ -7,8 +7,8 @@ use Rattle.std.proofs.lemmas.Option.{same_Some}
 use Rattle.serde_json.specs.Data.{Data, Items, array}
 use Rattle.serde_json.specs.Find.{get}
 use Rattle.serde_json.specs.Read.{read}
-use Rattle.olr_app.proofs.Common.{items_of, Reference, cursor_text, KeyValue, PageValue, Mark, RoadMap, Matched, entries_rows, next_after, IsPageIn, Format, Json, Text}
-use Rattle.olr_report.specs.Entries.{AreEntriesOf, Entry}
+use Rattle.olr_app.proofs.Common.{items_of, cursor_text, KeyValue, Mark, RoadMap, entries_rows, IsPageIn, Format, Json, Text}
+use Rattle.olr_report.specs.Entries.{Entry}
 use Rattle.olr_report.specs.Json.{entry_object, next_value}
 use Rattle.olr_report.specs.JsonLaws.{JsonReadsAsPage}
 use Rattle.olr_report.specs.TextRows.{end_row, entry_rows}
@@ -36,14 +36,6 @@ key_next (Some key) mark cursor same =
 
 -- ---- a page shows its entries
 
--- an output shows entries of a page, and where the page says that it goes on
-pub record ShowsPage (format : Format) (road : RoadMap) (reference : Reference) (page : PageValue)
-    (matched : List Matched) (mark : Mark) (output : List ℕ) : Type 0 where
-  pub entries : List Entry
-  pub are_entries : AreEntriesOf reference page.keys matched entries
-  pub shows :
-      Shows format (parts_of format road entries) (next_cursor (next_after page) mark) output
-
 text_shows : (rows output : List ℕ) (next : Option KeyValue) (mark : Mark) → AreRows rows
     → IsInRangeIfAny next → output ≡ rows ++ end_row next (Some mark)
     → IsLastRow rows (last_row_of (next_cursor next mark)) output
@@ -57,30 +49,23 @@ json_next : (next : Option KeyValue) (mark : Mark)
 json_next None mark = refl
 json_next (Some key) mark = refl
 
-pub page_shows : JsonReadsAsPage → (format : Format) (road : RoadMap) (reference : Reference)
-    (page : PageValue) (matched : List Matched) (mark : Mark) (output : List ℕ)
-    → IsInRangeIfAny (next_after page)
-    → IsPageIn format road reference page matched (Some mark) output
-    → ShowsPage format road reference page matched mark output
-page_shows reads Text road reference page matched mark output in_range is = record {
-  entries = is.entries;
-  are_entries = is.are_entries;
-  shows = text_shows (entries_rows road is.entries) output (next_after page) mark
-      (entries_are_rows road is.entries) in_range is.text_is;
-}
-page_shows reads Json road reference page matched mark output in_range is =
-    let page_read = reads road reference page matched (Some mark) output is in
+-- a page shows its entries, and where it goes on
+pub page_shows : JsonReadsAsPage → (format : Format) (road : RoadMap) (entries : List Entry)
+    (next : Option KeyValue) (mark : Mark) (output : List ℕ) → IsInRangeIfAny next
+    → IsPageIn format road entries next (Some mark) output
+    → Shows format (parts_of format road entries) (next_cursor next mark) output
+page_shows reads Text road entries next mark output in_range is =
+    text_shows (entries_rows road entries) output next mark (entries_are_rows road entries) in_range
+    is
+page_shows reads Json road entries next mark output in_range is =
+    let page_read = reads road entries next (Some mark) output is in
     record {
-      entries = page_read.entries;
-      are_entries = page_read.are_entries;
-      shows = record {
-        json = page_read.json;
-        output_is = page_read.text_is;
-        value = page_read.value;
-        reads_as = page_read.reads_as;
-        matchings = page_read.matchings;
-        next_is = page_read.next ∙ ap (λ d. Some d) (json_next (next_after page) mark);
-      };
+      json = page_read.json;
+      output_is = page_read.text_is;
+      value = page_read.value;
+      reads_as = page_read.reads_as;
+      matchings = page_read.matchings;
+      next_is = page_read.next_is ∙ ap (λ d. Some d) (json_next next mark);
     }
 
 -- ---- an output shows one thing

@@ -11,7 +11,6 @@ use Rattle.std.proofs.lemmas.List.Elements.{All-append, All-cons, All-head, All-
 use Rattle.std.proofs.lemmas.List.Elements.{All-weaker}
 use Rattle.std.proofs.lemmas.List.Sums.{AllPass-from_list_all}
 use Rattle.std.specs.Fmt.{digit_glyph}
-use Rattle.std.specs.Global.{Vec}
 use Rattle.std.specs.List.{list_all}
 use Rattle.std.specs.Prelude.{◌≢◌, All, codes, decimal, eqb, not, true}
 use Rattle.olr_app.proofs.Common.{RoadMap, cursor_text, IsInRange, KeyValue, Mark, entries_rows}
@@ -20,10 +19,9 @@ use Rattle.olr_keys.specs.Cursor.{hexadecimal, key_text, ranks_text}
 use Rattle.olr_keys.specs.Key.{IsRank}
 use Rattle.olr_keys.proofs.Lacking.{Lacks, lacks_decimal, not_cut}
 use Rattle.olr_report.specs.Entries.{Entry}
+use Rattle.olr_report.specs.Location.{LocatedLine, LocatedPoint, LocatedValue}
 use Rattle.olr_report.specs.TextRows.{end_row, entry_rows, leg_rows, location_rows, part_row}
 use Rattle.olr_report.specs.TextRows.{pieces_row, place_row, point_rows}
-use Rattle.olr_report.specs.declared.locating.Located.{Located}
-use Rattle.olr_report.specs.declared.locating.Located.TheVariants.{Line, Point}
 use Rattle.olr_app.specs.HeadlineOutputs.{AreRows, IsLastRow, IsRow}
 
 -- another byte than a line feed
@@ -176,7 +174,7 @@ rows_after front text are are' = elim are' [
 feed_ends : (front : List ℕ) → EndsRow (front ++ codes "\n")
 feed_ends front = (front, refl)
 
-part_ends : (road : RoadMap) (name : List ℕ) (part : Option (Vec _))
+part_ends : (road : RoadMap) (name : List ℕ) (part : Option (List _))
     → EndsRow (part_row road name part)
 part_ends road name None = (
   name
@@ -188,11 +186,11 @@ part_ends road name (Some part) = feed_ends _
 place_ends : (road : RoadMap) (name : List ℕ) (place : Place) → EndsRow (place_row road name place)
 place_ends road name place = feed_ends _
 
-location_ends : (road : RoadMap) (located : Located) → EndsRow (location_rows road located)
-location_ends road (Line outer inner) =
+location_ends : (road : RoadMap) (located : LocatedValue) → EndsRow (location_rows road located)
+location_ends road (LocatedLine outer inner) =
     ends_after (part_row road (codes "outer") outer) (part_row road (codes "inner") inner)
     (part_ends road (codes "inner") inner)
-location_ends road (Point earliest latest) =
+location_ends road (LocatedPoint earliest latest) =
     ends_after (place_row road (codes "earliest") earliest) (place_row road (codes "latest") latest)
     (place_ends road (codes "latest") latest)
 

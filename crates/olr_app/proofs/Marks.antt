@@ -1,7 +1,7 @@
 -- The answer of one of many requests is that of a run, but for its marks.
 use Rattle.std.proofs.Common.{◌≡◌, ℕ, true, false, List, Option, None, Some, Ok, Err, Bor, refl, sym, subst, ◌∙◌, inl, inr}
 use Rattle.std.specs.Prelude.{Result}
-use Rattle.olr_app.proofs.Common.{RoadMap, IsSoundMap, LayersValue, Accepted, Fault, Accepts, IsAnswerOf, IsAnswerOn, IsMapOfFiles, IsPageIn, IsTextOfPage, AreAnswers, IsPageAfter, key_of, AreMatchings, AndThen, Laws, MatchRequest, Format, Json, One, Request, Candidates, Match, Places, Show}
+use Rattle.olr_app.proofs.Common.{RoadMap, IsSoundMap, Accepted, Fault, Accepts, IsAnswerOf, IsAnswerOn, IsMapOfFiles, IsPageIn, IsTextOfPage, AreAnswers, IsPageAfter, next_after, key_of, AreMatchings, AndThen, Laws, MatchRequest, Json, One, Request, Candidates, Match, Places, Show}
 use Rattle.olr_map.specs.Files.{IsMapOf, Texts, known}
 use Rattle.olr_app.specs.AnswerLaws.{FaultIsOfRun, IsSameOutput, OneAnswerOfMany, OutputIsOfRun, ShowsSame}
 use Rattle.olr_app.specs.Request.{ReadsMap}
@@ -9,8 +9,8 @@ use Rattle.olr_app.specs.declared.request.Request.TheVariants.{Why}
 use Rattle.olr_app.proofs.Accepts.{accepted_once}
 use Rattle.olr_app.proofs.AnswerOf.{answer_of_files}
 use Rattle.olr_app.proofs.HeadlineRuns.{on_map}
-use Rattle.olr_app.proofs.OneAnswer.{on_map_once, parts_once}
-use Rattle.olr_app.proofs.Single.{IsSingle, first_then, same_ok}
+use Rattle.olr_app.proofs.OneAnswer.{on_map_once}
+use Rattle.olr_app.proofs.Single.{first_then, same_ok}
 
 -- a fault comes before any mark
 same_fault : (request : Request) (accepted : Accepted) (road : RoadMap) (fault : Fault)
@@ -56,12 +56,17 @@ module _ (laws : Laws) (road : RoadMap) (sound : IsSoundMap road) where
       (subst (λ m. IsTextOfPage Json road other.layers m other.page answer) other.is_mark
       (subst (λ f. IsTextOfPage f road other.layers other.mark other.page answer) json
       other.is_text))) in
-      let parts = parts_once laws road on.layers sound on.page.keys shown.matched bare.matched
-      shown.each bare.each in (
+      let entries = laws.entries road on.layers sound on.page.keys shown.entries bare.entries
+      shown.are bare.are in
+      let next = next_after on.page in
+      let mark = Some on.is_mark.0 in (
         on.is_mark.0,
-        laws.only_mark _ _ _ _ _ _ _ _ (subst (λ matched.
-            IsPageIn Json road on.layers.reference on.page matched (Some on.is_mark.0) output)
-            parts shown.text_is) bare.text_is,
+        record {
+          entries = bare.entries;
+          next = next;
+          text_is = subst (λ list. IsPageIn Json road list next mark output) entries shown.text_is;
+          again_is = bare.text_is;
+        },
       )
 
   same_output : (request : Request) (accepted : Accepted) (output answer : List ℕ)

@@ -1,21 +1,20 @@
 -- A request has one answer by known texts, from the laws of the crates below.
-use Rattle.std.proofs.Common.{◌≡◌, ℕ, ◌+◌, zero, suc, Bool, true, false, List, [], ◌∷◌, Option}
+use Rattle.std.proofs.Common.{◌≡◌, ℕ, ◌+◌, zero, suc, Bool, true, false, List, [], ◌∷◌, None, Option}
 use Rattle.std.proofs.Common.{Some, Ok, Err, refl, ap, sym, subst, ◌∙◌, arith, ◌++◌, codes, inl, inr}
 use Rattle.std.proofs.lemmas.List.Elements.{All-contains}
 use Rattle.std.proofs.lemmas.Option.{none-some}
 use Rattle.std.specs.List.{AllZip, concat}
-use Rattle.std.specs.Prelude.{Contains, IfSome}
+use Rattle.std.specs.Prelude.{Contains, IfSome, if◌then◌else◌}
 use Rattle.serde_json.specs.Data.{Data}
 use Rattle.serde_json.specs.Written.{compact_text}
 use Rattle.olr_text.specs.JsonValues.{IsJsonLine}
-use Rattle.olr_app.proofs.Common.{Reference, IsSoundMap, RoadMap, AreLists, Candidate, Tolerances, AreAnswers, KeyValue, IsKey, IsPageAfter, PageValue, Penalties, CursorRead, Mark, LayersValue, IsMatchedBy, Matched, IsPageText, IsStart, Accepts, IsAnswer, IsAnswerOf, IsAnswerOn, IsMapOfFiles, fault_of_map, fault_of, Laws, OneOutcome, AreLayers, AreMatchings, ArePages, ArePagesAsked, IsOfInputs, IsPageIn, IsPrinted, IsStartHere, IsTextOfPage, OnLayers, OnStart, key_of, text_of, Accepted, TooManyCandidates, Format, Json, Text, MatchRequest, Pages, One, Request, Candidates, Match, Places, Show}
+use Rattle.olr_app.proofs.Common.{Reference, IsSoundMap, RoadMap, AreLists, Entry, Candidate, Tolerances, AreAnswers, KeyValue, IsKey, IsPageAfter, PageValue, last_of, Penalties, CursorRead, Mark, LayersValue, next_after, IsStart, Accepts, IsAnswer, IsAnswerOf, IsAnswerOn, IsMapOfFiles, fault_of_map, fault_of, Laws, OneOutcome, AreLayers, AreMatchings, ArePages, ArePagesAsked, IsOfInputs, IsPageIn, IsPrinted, IsStartHere, IsTextOfPage, OnLayers, OnStart, key_of, text_of, Accepted, TooManyCandidates, Format, Json, Text, MatchRequest, Pages, One, Request, Candidates, Match, Places, Show}
 use Rattle.olr_map.specs.Files.{known}
 use Rattle.olr_places.specs.Looking.{IsLooked, Looked}
 use Rattle.olr_places.specs.declared.limits.PlaceLimits.{PlaceLimits}
-use Rattle.olr_report.specs.Json.{IsPageJson}
-use Rattle.olr_why.specs.Json.{why_object}
-use Rattle.olr_why.specs.Text.{why_text}
-use Rattle.olr_why.specs.declared.why.Why.{Why as Reasons}
+use Rattle.olr_report.specs.Json.{page_object}
+use Rattle.olr_report.specs.Text.{page_text}
+use Rattle.olr_why.specs.Reasons.{WhyValue}
 use Rattle.olr_app.specs.Answer.{IsReferenceIn}
 use Rattle.olr_app.specs.Headline.{RefusedByName}
 use Rattle.olr_app.specs.Listing.{IsListed, IsListingIn}
@@ -62,16 +61,16 @@ listing_in : (format : Format) (road : RoadMap) (lists : List (List Candidate))
 listing_in Text road lists text other is again = is ∙ sym again
 listing_in Json road lists text other is again = same_line refl is again
 
-places_in : (format : Format) (limits : PlaceLimits) (looked : Looked) (text again : List ℕ)
-    → IsPlacesIn format limits looked text → IsPlacesIn format limits looked again → text ≡ again
-places_in Text limits looked text again is its = is ∙ sym its
-places_in Json limits looked text again is its = same_line refl is its
+places_in : (format : Format) (road : RoadMap) (limits : PlaceLimits) (looked : Looked)
+    (text again : List ℕ) → IsPlacesIn format road limits looked text
+    → IsPlacesIn format road limits looked again → text ≡ again
+places_in Text road limits looked text again is its = is ∙ sym its
+places_in Json road limits looked text again is its = same_line refl is its
 
-reasons_in : (format : Format) (road : RoadMap) (why other : Reasons) (text again : List ℕ)
-    → why_text road why ≡ why_text road other → why_object road why ≡ why_object road other
-    → IsWhyIn format road why text → IsWhyIn format road other again → text ≡ again
-reasons_in Text road why other text again texts values is its = is ∙ texts ∙ sym its
-reasons_in Json road why other text again texts values is its = same_line values is its
+reasons_in : (format : Format) (road : RoadMap) (why : WhyValue) (text again : List ℕ)
+    → IsWhyIn format road why text → IsWhyIn format road why again → text ≡ again
+reasons_in Text road why text again is its = is ∙ sym its
+reasons_in Json road why text again is its = same_line refl is its
 
 -- where more follow, pages have one mark
 mark_once : (marks : Bool) (text : List ℕ) (tolerances : Tolerances) (road : RoadMap)
@@ -157,43 +156,38 @@ module _ (laws : Laws) where
 
   -- ---- a page in either format
 
-  -- where more follow the mark is the same, and else it makes no difference
-  with_mark : (P : Option Mark → Type 0) (page : PageValue) (mark other : Option Mark) (more : Bool)
-      → page.more ≡ more → (page.more ≡ true → mark ≡ other) → (page.more ≡ false → P other)
-      → P mark → P other
-  with_mark P page mark other true more same ends is = subst P (same more) is
-  with_mark P page mark other false more same ends is = ends more
+  -- what ends with a page is the same for two marks that are the same where more follow
+  ends_alike : {A : Type 0} (ending : Option KeyValue → Option Mark → A) (last : Option KeyValue)
+      (more : Bool) (mark other : Option Mark)
+      → ((one another : Option Mark) → ending None one ≡ ending None another)
+      → (more ≡ true → mark ≡ other)
+      → ending (if more then last else None) mark ≡ ending (if more then last else None) other
+  ends_alike ending last true mark other none same = ap (ending last) (same refl)
+  ends_alike ending last false mark other none same = none mark other
 
   -- the text of a page is one, where more follow by the same mark
-  one_in : (format : Format) (road : RoadMap) (reference : Reference) (page : PageValue)
-      (matched : List Matched) (mark other : Option Mark) (text again : List ℕ)
-      → (page.more ≡ true → mark ≡ other) → IsPageIn format road reference page matched mark text
-      → IsPageIn format road reference page matched other again → text ≡ again
-  one_in Text road reference page matched mark other text again same is its =
-      laws.text _ _ _ _ _ _ _ (with_mark (λ (m : Option Mark).
-      IsPageText road reference page matched m text) page mark other page.more refl same
-      (λ ends. laws.text_ends _ _ _ _ _ _ _ ends is) is) its
-  one_in Json road reference page matched mark other text again same is its =
-      laws.json _ _ _ _ _ _ _ (with_mark (λ (m : Option Mark).
-      IsPageJson road reference page matched m text) page mark other page.more refl same
-      (λ ends. laws.json_ends _ _ _ _ _ _ _ ends is) is) its
+  one_in : (format : Format) (road : RoadMap) (entries : List Entry) (page : PageValue)
+      (mark other : Option Mark) (text again : List ℕ) → (page.more ≡ true → mark ≡ other)
+      → IsPageIn format road entries (next_after page) mark text
+      → IsPageIn format road entries (next_after page) other again → text ≡ again
+  one_in Text road entries page mark other text again same is its =
+      is ∙ ends_alike (page_text road entries) (last_of None page.keys) page.more mark other
+      (λ one another. refl) same ∙ sym its
+  one_in Json road entries page mark other text again same is its =
+      same_line (ends_alike (page_object road entries) (last_of None page.keys) page.more mark other
+      (λ one another. refl) same) is its
 
   module _ (road : RoadMap) (layers : LayersValue) (sound : IsSoundMap road) where
-    -- each key has one value of parts
-    pub parts_once : (keys : List KeyValue) (one other : List Matched)
-        → AllZip (IsMatchedBy road layers) keys one → AllZip (IsMatchedBy road layers) keys other
-        → one ≡ other
-    parts_once keys one other = zip_once (IsMatchedBy road layers) (IsMatchedBy road layers) keys
-        one other (λ key a b has is again. laws.matched _ _ _ _ _ sound is again)
-
     pub page_once : (format : Format) (mark other : Option Mark) (page : PageValue)
         (text again : List ℕ) → (page.more ≡ true → mark ≡ other)
         → IsTextOfPage format road layers mark page text
         → IsTextOfPage format road layers other page again → text ≡ again
     page_once format mark other page text again same is its =
-        one_in format road layers.reference page is.matched mark other text again same is.text_is
-        (subst (λ parts. IsPageIn format road layers.reference page parts other again)
-        (parts_once page.keys its.matched is.matched its.each is.each) its.text_is)
+        let entries = laws.entries road layers sound page.keys is.entries its.entries is.are its.are
+        in
+        one_in format road its.entries page mark other text again same
+        (subst (λ list. IsPageIn format road list (next_after page) mark text) entries is.text_is)
+        its.text_is
 
     texts_once : (format : Format) (mark other : Option Mark) (pages : List PageValue)
         (texts again : List (List ℕ))
@@ -257,17 +251,17 @@ module _ (laws : Laws) where
       (laws.list _ _ _ again.all is.all) again.is_looked in
       let looked = laws.looking limits road layers is.answers again.looked is.looked sound its
       is.is_looked in
-      places_in format limits is.looked one other is.output_is
-      (subst (λ (l : Looked). IsPlacesIn format limits l other) looked again.output_is)))
+      places_in format road limits is.looked one other is.output_is
+      (subst (λ (l : Looked). IsPlacesIn format road limits l other) looked again.output_is)))
 
   reasons_once : (format : Format) (tolerances : Tolerances) (nearest : ℕ)
       (reference : Reference) (road : RoadMap)
       → IsSingle (AreReasons format tolerances nearest reference road)
   reasons_once format tolerances nearest reference road = no_fault_once _ (λ one other is again.
-      let shown = laws.why road tolerances reference nearest is.why again.why is.is_why
-      again.is_why in
-      reasons_in format road is.why again.why one other shown.0 shown.1 is.output_is
-      again.output_is)
+      let why = laws.why road tolerances reference nearest again.why is.why again.is_why is.is_why
+      in
+      reasons_in format road is.why one other is.output_is
+      (subst (λ w. IsWhyIn format road w other) why again.output_is))
 
   -- ---- the answer
 

@@ -9,12 +9,13 @@ use Rattle.std.proofs.lemmas.List.Elements.{All-contains, All-map}
 use Rattle.std.proofs.lemmas.List.Folds.{concat-append}
 use Rattle.std.specs.List.{AllZip, concat}
 use Rattle.std.specs.Prelude.{Result, slice_index_or}
-use Rattle.olr_app.proofs.Common.{RoadMap, AreAnswers, IsPosition, KeyValue, IsKey, PageValue, IsPageAfter, IsRestAfter, Penalties, CursorRead, Mark, Page, LayersValue, key_of, ArePages, ArePagesAsked, values_of, AreTextsOfPages, IsTextOfPage, AndThen, IsStageFault, Fault, Format, MatchRequest, Pages, One}
+use Rattle.olr_app.proofs.Common.{RoadMap, AreEntriesAt, Entry, IsMatchedBy, Matched, AreAnswers, IsPosition, KeyValue, IsKey, PageValue, IsPageAfter, IsRestAfter, Penalties, CursorRead, Mark, Page, LayersValue, key_of, ArePages, ArePagesAsked, values_of, AreTextsOfPages, IsTextOfPage, AndThen, IsStageFault, Fault, Format, MatchRequest, Pages, One}
 use Rattle.olr_keys.specs.Headline.{joined}
 use Rattle.olr_keys.specs.Page.{page_of}
 use Rattle.olr_keys.specs.declared.pages.PageFault.{PageFault}
 use Rattle.olr_keys.specs.declared.pages.PageFault.TheVariants.{CursorNotHere, NoMemory}
 use Rattle.olr_map.proofs.Zips.{zip_push}
+use Rattle.olr_report.specs.Entries.{AreEntriesOf, IsEntryAt, IsEntryOf, keys_of}
 use Rattle.olr_app.specs.Fault.{fault_of_page}
 use Rattle.olr_app.specs.declared.request.Pages.TheVariants.{All as AllPages}
 use Rattle.olr_app.specs.declared.fault.Fault.TheVariants as fault
@@ -134,6 +135,30 @@ zip_values R f [] [] they = tt
 zip_values R f (z ∷ zs) (y ∷ ys) they = (they.0, zip_values R f zs ys they.1)
 zip_values R f _ _ they = absurd they
 
+-- ---- the matchings of a page
+
+-- the entries of keys and of the parts of each are the matchings of the keys
+module _ (road : RoadMap) (layers : LayersValue) where
+  each_at : (entries : List Entry)
+      → AllZip (IsMatchedBy road layers) (keys_of entries) (map (λ entry. entry.matched) entries)
+      → All (IsEntryOf layers.reference) entries → All (IsEntryAt road layers) entries
+  each_at [] zip are = All-nil (IsEntryAt road layers)
+  each_at (entry ∷ entries) zip are =
+      All-cons (IsEntryAt road layers) entry entries
+      (record { parts = zip.0; is_entry = All-head (IsEntryOf layers.reference) entry entries are })
+      (each_at entries zip.1 (All-tail (IsEntryOf layers.reference) entry entries are))
+
+  pub entries_at : {keys : List KeyValue} {matched : List Matched} {entries : List Entry}
+      → AllZip (IsMatchedBy road layers) keys matched
+      → AreEntriesOf layers.reference keys matched entries → AreEntriesAt road layers keys entries
+  entries_at {keys} {matched} {entries} zip are = record {
+    keys_are = are.keys_are;
+    each = each_at entries (subst (λ k.
+        AllZip (IsMatchedBy road layers) k (map (λ entry. entry.matched) entries))
+        (sym are.keys_are) (subst (λ m. AllZip (IsMatchedBy road layers) keys m)
+        (sym are.matched_are) zip)) are.each;
+  }
+
 -- ---- the texts so far
 
 module _ (format : Format) (road : RoadMap) (layers : LayersValue) (mark : Option Mark) where
@@ -144,18 +169,18 @@ module _ (format : Format) (road : RoadMap) (layers : LayersValue) (mark : Optio
   ShowsPages pages output =
       (texts : List (List ℕ)) × AllZip IsText pages texts × (output ≡ concat texts)
 
-  pub one_more : (pages : List Page) (index : ℕ) (page : Page) (output text : List ℕ)
+  pub one_more : (pages : List Page) (index : ℕ) (page : Page) (output text longer : List ℕ)
       → index < length pages → page ≡ slice_index_or pages index page
       → ShowsPages (take index pages) output
-      → IsTextOfPage format road layers mark (page_of page) text
-      → ShowsPages (take (index + 1) pages) (output ++ text)
-  one_more pages index page output text inside is so_far shown =
-      let longer : take index pages ++ page ∷ [] ≡ take (index + 1) pages = simp add-one
+      → IsTextOfPage format road layers mark (page_of page) text → longer ≡ output ++ text
+      → ShowsPages (take (index + 1) pages) longer
+  one_more pages index page output text longer inside is so_far shown grown =
+      let next : take index pages ++ page ∷ [] ≡ take (index + 1) pages = simp add-one
       (ap (λ e. take index pages ++ e ∷ []) is ∙ sym (take-suc pages index page inside)) in (
         so_far.0 ++ text ∷ [],
-        subst (λ l. AllZip IsText l (so_far.0 ++ text ∷ [])) longer
+        subst (λ l. AllZip IsText l (so_far.0 ++ text ∷ [])) next
             (zip_push IsText (take index pages) so_far.0 page text so_far.1 shown),
-        ap (λ l. l ++ text) so_far.2
+        grown ∙ ap (λ l. l ++ text) so_far.2
             ∙ ap (λ l. concat so_far.0 ++ l) (sym (append-nil text))
             ∙ sym (concat-append so_far.0 (text ∷ [])),
       )

@@ -19,9 +19,9 @@ use Rattle.olr_app.specs.declared.request.Request.TheVariants.{Match}
 abbrev pub ShowsSame : RoadMap → List ℕ → List ℕ → Type 0
 ShowsSame road output page = (mark : Mark) × IsSamePage road (Some mark) None output page
 
--- The output of a run, and that without marks, are the same bytes; where one page of matchings is
--- asked for as JSON, they show the same page. Of pages as text, and of all pages, nothing is stated:
--- no answer of many has these.
+-- The output of a run, and that without marks, are the same bytes, but where matchings are asked
+-- for: then one page as JSON is the same page. Of pages as text, and of all pages, nothing is
+-- stated here, since no question of many texts asks for them.
 abbrev pub IsSameOutput : Request → RoadMap → List ℕ → List ℕ → Type 0
 IsSameOutput (Match asked) road output answer = (begins : Option (Bor (List ℕ)))
     → asked.pages ≡ One begins → asked.format ≡ Json → ShowsSame road output answer

@@ -12,8 +12,6 @@ pub use Rattle.olr_map.specs.RoadMap.{RoadMap}
 pub use Rattle.olr_map.specs.declared.fault.MapFault.{MapFault}
 pub use Rattle.olr_matching.specs.Fingerprint.{IsFingerprint}
 pub use Rattle.olr_matching.specs.Layers.{AreLayersOn, LayersValue}
-pub use Rattle.olr_matching.specs.Matched.{IsMatchedBy}
-pub use Rattle.olr_matching.specs.declared.matched.Matched.{Matched}
 pub use Rattle.olr_metric.specs.declared.failure.Failed.{Failed}
 pub use Rattle.olr_places.specs.declared.limits.PlaceLimits.{PlaceLimits}
 pub use Rattle.olr_records.specs.declared.file.File.{File}

@@ -6,12 +6,11 @@
 use Rattle.std.specs.Prelude.{◌≡◌, ℕ, ◌≤◌, List, [], ◌∷◌, ◌++◌, Option, None, Some, length, All, ⊤}
 use Rattle.std.specs.Prelude.{Contains, IfSome, Result, Ok, Err}
 use Rattle.std.specs.Borrow.{Bor}
-use Rattle.std.specs.List.{AllZip}
-use Rattle.olr_app.specs.Common.{IsOutcome, Refused, Tolerances, IsFingerprint, AreAnswers, KeyValue, CursorRead, Mark, RoadMap, AreLayersOn, LayersValue, IsMatchedBy, Matched}
+use Rattle.olr_app.specs.Common.{IsOutcome, Refused, Tolerances, IsFingerprint, AreAnswers, KeyValue, CursorRead, Mark, RoadMap, AreLayersOn, LayersValue}
 use Rattle.olr_keys.specs.Cursor.{IsCursorOf, cursor_text}
 use Rattle.olr_keys.specs.Page.{IsRestAfter}
 use Rattle.olr_map.specs.Files.{IsMapOf, Texts, known}
-use Rattle.olr_report.specs.Entries.{AreEntriesOf, Entry}
+use Rattle.olr_report.specs.Entries.{AreEntriesAt, Entry}
 use Rattle.olr_app.specs.Answer.{IsAnswer, IsOutput}
 use Rattle.olr_app.specs.Fault.{fault_of}
 use Rattle.olr_app.specs.HeadlineOutputs.{Part, Shows, parts_of}
@@ -129,10 +128,8 @@ Names (Some cursor) key =
 -- route and the location on it
 pub record AreShown (format : Format) (road : RoadMap) (layers : LayersValue) (keys : List KeyValue)
     (parts : List (Part format)) : Type 0 where
-  pub matched : List Matched
   pub entries : List Entry
-  pub each : AllZip (IsMatchedBy road layers) keys matched
-  pub are_entries : AreEntriesOf layers.reference keys matched entries
+  pub are : AreEntriesAt road layers keys entries
   pub parts_are : parts ≡ parts_of format road entries
 
 -- the parts that show exactly the matchings of the inputs that come after the one that a cursor

@@ -7,10 +7,9 @@ use Rattle.olr_keys.specs.CursorLaws.{OneCursor}
 use Rattle.olr_keys.specs.Laws.{KeysAreInRange, NoPageBehindOthers, OneChain, OneList, OnePage}
 use Rattle.olr_map.specs.Files.{IsFaultOf, IsMapOf}
 use Rattle.olr_matching.specs.LayersLaws.{OneLayers}
-use Rattle.olr_matching.specs.Matched.{OneMatched}
 use Rattle.olr_places.specs.VerdictLaws.{OneLooking}
-use Rattle.olr_report.specs.JsonLaws.{JsonEndsWithoutMark, JsonReadsAsPage, OneJson, OnlyMarkDiffers}
-use Rattle.olr_report.specs.TextLaws.{EndsWithoutMark, OneText}
+use Rattle.olr_report.specs.EntryLaws.{OneEntries}
+use Rattle.olr_report.specs.JsonLaws.{JsonReadsAsPage}
 use Rattle.olr_why.specs.Laws.{OneWhy}
 
 -- a text has one outcome at most
@@ -49,12 +48,7 @@ pub record Laws : Type 0 where
   pub no_page_after_others : NoPageBehindOthers
   pub cursor : OneCursor
   pub is_mark : FingerprintIsMark
-  pub matched : OneMatched
-  pub text : OneText
-  pub text_ends : EndsWithoutMark
-  pub json : OneJson
-  pub json_ends : JsonEndsWithoutMark
-  pub only_mark : OnlyMarkDiffers
+  pub entries : OneEntries
   pub json_reads : JsonReadsAsPage
   pub looking : OneLooking
   pub why : OneWhy

@@ -3,13 +3,14 @@
 use Rattle.std.specs.Prelude.{◌≡◌, ℕ, Bool, true, false, List, [], ◌∷◌, map, Option, None, Some, IfSome}
 use Rattle.std.specs.Prelude.{Contains, option_map, Result, Ok, Err}
 use Rattle.std.specs.List.{AllZip, concat}
-use Rattle.olr_app.specs.Common.{Reference, Tolerances, IsFingerprint, AreAnswers, KeyValue, CursorRead, Mark, RoadMap, LayersValue, AreLayersOn, IsMatchedBy, Matched}
+use Rattle.olr_app.specs.Common.{IsJsonLine, Reference, Tolerances, IsFingerprint, AreAnswers, KeyValue, CursorRead, Mark, RoadMap, LayersValue, AreLayersOn}
 use Rattle.olr_keys.specs.Headline.{AreAllPages}
 use Rattle.olr_keys.specs.Matching.{IsKey}
 use Rattle.olr_keys.specs.Page.{PageValue, IsPageAfter, page_of}
 use Rattle.olr_keys.specs.declared.pages.Page.{Page}
-use Rattle.olr_report.specs.Json.{IsPageJson}
-use Rattle.olr_report.specs.Text.{IsPageText}
+use Rattle.olr_report.specs.Entries.{AreEntriesAt, Entry}
+use Rattle.olr_report.specs.Json.{page_object}
+use Rattle.olr_report.specs.Text.{next_after, page_text}
 use Rattle.olr_app.specs.Stages.{AndThen, NoFault, OrTooMany}
 use Rattle.olr_app.specs.declared.accepting.Accepted.{Accepted}
 use Rattle.olr_app.specs.declared.fault.Fault.{Fault}
@@ -68,21 +69,18 @@ ArePages asked layers start (Err fault) = (fault ≡ CursorNotHere)
 abbrev pub values_of : List Page → List PageValue
 values_of pages = map page_of pages
 
--- the text of a page in a format
+-- the text of a page in a format, by its entries and where the next page begins
 abbrev pub IsPageIn :
-    Format → RoadMap → Reference → PageValue → List Matched → Option Mark → List ℕ → Type 0
-IsPageIn Text road reference page matched mark text =
-    IsPageText road reference page matched mark text
-IsPageIn Json road reference page matched mark text =
-    IsPageJson road reference page matched mark text
+    Format → RoadMap → List Entry → Option KeyValue → Option Mark → List ℕ → Type 0
+IsPageIn Text road entries next mark text = text ≡ page_text road entries next mark
+IsPageIn Json road entries next mark text = IsJsonLine (page_object road entries next mark) text
 
--- the text of a page: its keys, the parts of the matching of each, and the mark in the cursor at
--- its end, or no mark
+-- the text of a page: the matchings of its keys, and the mark in the cursor at its end, or no mark
 pub record IsTextOfPage (format : Format) (road : RoadMap) (layers : LayersValue)
     (mark : Option Mark) (page : PageValue) (text : List ℕ) : Type 0 where
-  pub matched : List Matched
-  pub each : AllZip (IsMatchedBy road layers) page.keys matched
-  pub text_is : IsPageIn format road layers.reference page matched mark text
+  pub entries : List Entry
+  pub are : AreEntriesAt road layers page.keys entries
+  pub text_is : IsPageIn format road entries (next_after page) mark text
 
 -- the texts of pages one after the other
 pub record AreTextsOfPages (format : Format) (road : RoadMap) (layers : LayersValue)

@@ -12,9 +12,9 @@ use Rattle.olr_app.specs.declared.request.Format.{Format}
 use Rattle.olr_app.specs.declared.request.Format.TheVariants.{Json, Text}
 
 -- the places of the matchings that were looked at, in a format
-abbrev pub IsPlacesIn : Format → PlaceLimits → Looked → List ℕ → Type 0
-IsPlacesIn Text limits looked text = text ≡ places_text limits looked
-IsPlacesIn Json limits looked text = IsJsonLine (places_object limits looked) text
+abbrev pub IsPlacesIn : Format → RoadMap → PlaceLimits → Looked → List ℕ → Type 0
+IsPlacesIn Text road limits looked text = text ≡ places_text road limits looked
+IsPlacesIn Json road limits looked text = IsJsonLine (places_object road limits looked) text
 
 -- The places of all matchings of these layers, which are looked at in their order as far as is
 -- asked for, in a format.
@@ -24,7 +24,7 @@ pub record IsPlacesListing (format : Format) (limits : PlaceLimits) (road : Road
   pub looked : Looked
   pub all : AreAnswers layers.penalties answers
   pub is_looked : IsLooked limits road layers answers looked
-  pub output_is : IsPlacesIn format limits looked output
+  pub output_is : IsPlacesIn format road limits looked output
 
 -- the same as a stage, which has no fault
 abbrev pub ArePlacesOn : Format → PlaceLimits → RoadMap → LayersValue → Result (List ℕ) Fault

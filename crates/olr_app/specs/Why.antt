@@ -3,16 +3,15 @@
 use Rattle.std.specs.Prelude.{◌≡◌, ℕ, List, Result}
 use Rattle.olr_app.specs.Common.{IsJsonLine, Reference, Tolerances, RoadMap}
 use Rattle.olr_why.specs.Json.{why_object}
-use Rattle.olr_why.specs.Reasons.{IsWhy}
+use Rattle.olr_why.specs.Reasons.{IsWhy, WhyValue}
 use Rattle.olr_why.specs.Text.{why_text}
-use Rattle.olr_why.specs.declared.why.Why.{Why}
 use Rattle.olr_app.specs.Stages.{NoFault}
 use Rattle.olr_app.specs.declared.fault.Fault.{Fault}
 use Rattle.olr_app.specs.declared.request.Format.{Format}
 use Rattle.olr_app.specs.declared.request.Format.TheVariants.{Json, Text}
 
 -- reasons in a format
-abbrev pub IsWhyIn : Format → RoadMap → Why → List ℕ → Type 0
+abbrev pub IsWhyIn : Format → RoadMap → WhyValue → List ℕ → Type 0
 IsWhyIn Text road why text = text ≡ why_text road why
 IsWhyIn Json road why text = IsJsonLine (why_object road why) text
 
@@ -20,7 +19,7 @@ IsWhyIn Json road why text = IsJsonLine (why_object road why) text
 pub record IsWhyListing (format : Format) (tolerances : Tolerances) (nearest : ℕ)
     (reference : Reference) (road : RoadMap) (output : List ℕ)
     : Type 0 where
-  pub why : Why
+  pub why : WhyValue
   pub is_why : IsWhy road tolerances reference nearest why
   pub output_is : IsWhyIn format road why output
 

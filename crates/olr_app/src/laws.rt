@@ -21,12 +21,9 @@ use olr_keys::{
     keys_are_in_range, no_page_behind_others, one_chain, one_cursor, one_list, one_page,
 };
 use olr_map::{no_map_and_fault, one_fault, one_map};
-use olr_matching::{fingerprint_is_mark, one_layers, one_matched};
+use olr_matching::{fingerprint_is_mark, one_layers};
 use olr_places::one_looking;
-use olr_report::{
-    ends_without_mark, json_ends_without_mark, json_reads_as_page, one_json, one_text,
-    only_mark_differs,
-};
+use olr_report::{json_reads_as_page, one_entry};
 use olr_why::one_why;
 
 /// The laws of the crates below.
@@ -48,12 +45,7 @@ pub(crate) fn laws_below()
     no_page_behind_others();
     one_cursor();
     fingerprint_is_mark();
-    one_matched();
-    one_text();
-    ends_without_mark();
-    one_json();
-    json_ends_without_mark();
-    only_mark_differs();
+    one_entry();
     json_reads_as_page();
     one_looking();
     one_why();

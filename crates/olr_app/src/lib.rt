@@ -15,7 +15,8 @@
 //!
 //! Of many texts each is answered by [`one_of_many`]: to the same [`question`], on a map that was
 //! read before ([`question_on_map`]), by the same calls. Beside these modules, [`laws`] says that a
-//! request has one answer at most, and that the answer to one of many texts is that of a run.
+//! request has one answer at most, and that the answer to one of many texts is that of a run, but
+//! for its mark.
 #![tactic(auto)]
 
 mod accepting;

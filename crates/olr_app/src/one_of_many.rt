@@ -92,11 +92,7 @@ fn answer_accepted(
 /// The refusal of the text, whatever memory does; else, but for reasons,
 /// [`Fault::TooManyCandidates`] with the first point that has more than 64; [`Fault::NoMemory`]
 /// where the allocator refused memory.
-pub fn answer_text(
-    alloc: Global,
-    on: &QuestionOnMap<'_>,
-    text: &str,
-) -> Result<String, Fault>
+pub fn answer_text(alloc: Global, on: &QuestionOnMap<'_>, text: &str) -> Result<String, Fault>
     ensures answer { let question = on.now.question.now in
         let request = asked_alone question.what question.tolerances (at_bytes text.now) in
         IfOk result (λ answer.

@@ -30,8 +30,8 @@ fn printed_places(
 ) -> Result<String, NoMemory>
     requires { AreOnMap map.now places }
     ensures { IfOk result (λ text. (limits : Limits) (looked : Looked)
-        → ArePlacesOf limits map.now looked places
-        → IsPlacesIn format limits looked (string_bytes text)) }
+        → ArePlacesOf limits looked places
+        → IsPlacesIn format map.now limits looked (string_bytes text)) }
 {
     match format {
         Format::Text => places_text(alloc, map, &places),

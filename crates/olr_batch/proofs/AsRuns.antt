@@ -1,5 +1,5 @@
 -- The answer to a text on a map is what a run prints for it.
-use Rattle.std.proofs.Common.{◌≡◌, ℕ, List, None, Ok, Err, Bor, refl}
+use Rattle.std.proofs.Common.{ℕ, List, None, Ok, Err, Bor, refl}
 use Rattle.olr_candidates.specs.declared.tolerances.Tolerances.{Tolerances}
 use Rattle.olr_map.specs.RoadMap.{RoadMap}
 use Rattle.olr_app.specs.AnswerLaws.{IsSameOutput}

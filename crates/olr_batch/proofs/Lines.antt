@@ -40,10 +40,9 @@ value_of (Match size) tolerances text road accepted output is =
       format = Json;
     } in
     let on = on_map false asked None accepted road output refl is in
-    let page = on.is_text.text_is in
-    (page_object road page.entries (next_after on.page) on.mark, page.json.line_is)
+    (page_object road on.is_text.entries (next_after on.page) on.mark, on.is_text.text_is.line_is)
 value_of (Places limits) tolerances text road accepted output is =
-    (places_object limits is.2.looked, is.2.output_is.line_is)
+    (places_object road limits is.2.looked, is.2.output_is.line_is)
 value_of (Why nearest) tolerances text road accepted output is =
     (why_object road is.why, is.output_is.line_is)
 

@@ -2,12 +2,12 @@
 use Rattle.std.proofs.Common.{zero, suc, ◌≤◌, List, [], ◌∷◌, ◌++◌, get_or, All, inl, inr, arith}
 use Rattle.std.specs.Prelude.{AllPairs}
 use Rattle.std.proofs.lemmas.List.Elements.{All-cons, All-head, All-nil, All-tail}
-use Rattle.olr_places.proofs.Common.{IsBefore, KeyValue, Shown, keys_of}
+use Rattle.olr_places.proofs.Common.{IsBefore, KeyValue, Entry, keys_of}
 
 -- matchings by rising totals
-abbrev pub Rise : List Shown → Type 0
+abbrev pub Rise : List Entry → Type 0
 Rise [] = Unit {0}
-Rise (entry ∷ entries) = All (λ (one : Shown). entry.key.total ≤ one.key.total) entries
+Rise (entry ∷ entries) = All (λ (one : Entry). entry.key.total ≤ one.key.total) entries
     × Rise entries
 
 -- ---- keys of matchings, and of those that are left
@@ -28,22 +28,22 @@ behind : (key : KeyValue) (keys : List KeyValue) → AllPairs IsBefore (key ∷ 
 behind key keys pairs = λ i j d less inside. pairs (suc i) (suc j) d (omega arith)
     (omega arith)
 
-all_front : (P : KeyValue → Type 0) (entries : List Shown) (left : List KeyValue)
+all_front : (P : KeyValue → Type 0) (entries : List Entry) (left : List KeyValue)
     → All P (keys_of entries ++ left)
-    → All (λ (entry : Shown). P entry.key) entries
-all_front P [] left all = All-nil (λ (entry : Shown). P entry.key)
+    → All (λ (entry : Entry). P entry.key) entries
+all_front P [] left all = All-nil (λ (entry : Entry). P entry.key)
 all_front P (entry ∷ entries) left all =
-    All-cons (λ (one : Shown). P one.key) entry entries
+    All-cons (λ (one : Entry). P one.key) entry entries
     (All-head P entry.key (keys_of entries ++ left) all)
     (all_front P entries left (All-tail P entry.key (keys_of entries ++ left) all))
 
-all_left : (P : KeyValue → Type 0) (entries : List Shown) (left : List KeyValue)
+all_left : (P : KeyValue → Type 0) (entries : List Entry) (left : List KeyValue)
     → All P (keys_of entries ++ left) → All P left
 all_left P [] left all = all
 all_left P (entry ∷ entries) left all =
     all_left P entries left (All-tail P entry.key (keys_of entries ++ left) all)
 
-pub rise_of : (entries : List Shown) (left : List KeyValue)
+pub rise_of : (entries : List Entry) (left : List KeyValue)
     → AllPairs IsBefore (keys_of entries ++ left) → Rise entries
 rise_of [] left pairs = tt
 rise_of (entry ∷ entries) left pairs =
@@ -54,10 +54,10 @@ rise_of (entry ∷ entries) left pairs =
     )
 
 -- no key that is left has a lesser total than a matching
-abbrev pub NotBelow : List KeyValue → Shown → Type 0
+abbrev pub NotBelow : List KeyValue → Entry → Type 0
 NotBelow left entry = All (λ (key : KeyValue). entry.key.total ≤ key.total) left
 
-pub left_not_below : (entries : List Shown) (left : List KeyValue)
+pub left_not_below : (entries : List Entry) (left : List KeyValue)
     → AllPairs IsBefore (keys_of entries ++ left) → All (NotBelow left) entries
 left_not_below [] left pairs = All-nil (NotBelow left)
 left_not_below (entry ∷ entries) left pairs =

@@ -3,7 +3,7 @@ use Rattle.std.proofs.Common.{◌≡◌, ◌≢◌, ℕ, zero, suc, ◌+◌, ◌
 use Rattle.std.proofs.lemmas.Bool.{cases_Bool, lt-leb}
 use Rattle.std.proofs.lemmas.List.{append-nil, length-map, map-append}
 use Rattle.std.proofs.lemmas.List.Elements.{All-cons, All-head, All-push, All-tail, filter-append}
-use Rattle.olr_places.proofs.Common.{KeyValue, last_of, RoadMap, Looked, belongs, gap_of, is_within, listed_of, looking, looking_on, openers_of, place_of, AreCounted, ArePlacesOf, shown_by, Shown, keys_of, margin_of, Ending, Beyond, Cut, PlaceLimits, Looking, Opener}
+use Rattle.olr_places.proofs.Common.{KeyValue, last_of, Looked, belongs, gap_of, is_within, listed_of, looking, looking_on, openers_of, place_of, AreCounted, ArePlacesOf, entry_of, Entry, keys_of, margin_of, Ending, Beyond, Cut, PlaceLimits, Looking, Opener}
 use Rattle.olr_places.specs.Looking.{members_of}
 use Rattle.olr_places.specs.Places.{IsCounted}
 use Rattle.olr_places.specs.Steps.{HasEnded, Stands, gap_behind, gap_in, margin_in, one_more_at, places_in}
@@ -13,18 +13,18 @@ use Rattle.olr_places.proofs.Opening.{all_placed, close_itself, first_behind, fi
 
 -- ---- lists of openers
 
-last_with : (start : Option KeyValue) (before : List Shown) (one : Shown)
+last_with : (start : Option KeyValue) (before : List Entry) (one : Entry)
     → last_of start (keys_of (before ++ one ∷ [])) ≡ Some one.key
 last_with start [] one = refl
 last_with start (first ∷ others) one = last_with (Some first.key) others one
 
--- one more member changes nothing that is shown
-same_shown : (road : RoadMap) (index : ℕ) (items : List Opener)
-    → map (shown_by road) (one_more_at index items) ≡ map (shown_by road) items
-same_shown road index [] = refl
-same_shown road zero (opener ∷ items) = refl
-same_shown road (suc index) (opener ∷ items) =
-    ap (λ (l : List Shown). shown_by road opener ∷ l) (same_shown road index items)
+-- one more member changes no entry
+same_entries : (index : ℕ) (items : List Opener)
+    → map entry_of (one_more_at index items) ≡ map entry_of items
+same_entries index [] = refl
+same_entries zero (opener ∷ items) = refl
+same_entries (suc index) (opener ∷ items) =
+    ap (λ (l : List Entry). entry_of opener ∷ l) (same_entries index items)
 
 -- nor what holds of each opener
 pub more_kept : (P : Opener → Type 0)
@@ -45,14 +45,14 @@ all_pass p (x ∷ xs) all =
     let rest = all_pass p xs (All-tail (λ x. p x ≡ true) x xs all) in
     rw (here, rest) refl
 
-module _ (limits : PlaceLimits) (road : RoadMap) where
-  some_openers : (before : List Shown) → 1 ≤ length (openers_of limits before) → 1 ≤ length before
+module _ (limits : PlaceLimits) where
+  some_openers : (before : List Entry) → 1 ≤ length (openers_of limits before) → 1 ≤ length before
   some_openers [] some = some
   some_openers (first ∷ others) some = omega arith
 
   -- the gap of the next matching, by the first opener that is kept
-  pub gap_at_first : (before : List Shown) (items : List Opener) (key : KeyValue)
-      → map (shown_by road) items ≡ openers_of limits before
+  pub gap_at_first : (before : List Entry) (items : List Opener) (key : KeyValue)
+      → map entry_of items ≡ openers_of limits before
       → gap_behind items key ≡ gap_of before key
   gap_at_first [] [] key same = refl
   gap_at_first [] (one ∷ items) key same = absurd (cc)
@@ -60,32 +60,32 @@ module _ (limits : PlaceLimits) (road : RoadMap) where
       absurd (cc)
   gap_at_first (first ∷ others) (one ∷ items) key same =
       let opens = first_opens limits first others in
-      let heads : shown_by road one ≡ first =
-      ap (λ (l : List Shown). get_or l 0 first) (same ∙ opens.1) in
-      ap (λ (one : Shown). key.total - one.key.total) heads
+      let heads : entry_of one ≡ first =
+      ap (λ (l : List Entry). get_or l 0 first) (same ∙ opens.1) in
+      ap (λ (one : Entry). key.total - one.key.total) heads
 
   -- the gap of the second opener that is kept is that of the second place
-  margin_is : (matchings : List Shown) (first second : Opener) (others : List Opener)
-      (behind : List Shown)
+  margin_is : (matchings : List Entry) (first second : Opener) (others : List Opener)
+      (behind : List Entry)
       → AreCounted limits matchings 0 (first ∷ second ∷ others)
-      → openers_of limits matchings ≡ map (shown_by road) (first ∷ second ∷ others) ++ behind
+      → openers_of limits matchings ≡ map entry_of (first ∷ second ∷ others) ++ behind
       → Some second.gap ≡ margin_of limits matchings
   margin_is matchings first second others behind counted are =
       rw are (ap (λ (n : ℕ). Some n) counted.1.0.gap)
 
 -- where looking ends before the next matching, or where none is left
-module _ {limits : PlaceLimits} {road : RoadMap} {before : List Shown} {kept : Looking}
-    (stands : Stands limits road before kept) (ending : Ending)
+module _ {limits : PlaceLimits} {before : List Entry} {kept : Looking}
+    (stands : Stands limits before kept) (ending : Ending)
     (none : gap_in ending ≡ None) where
   margin_here : (items : List Opener) → AreCounted limits before 0 items
-      → map (shown_by road) items ≡ openers_of limits before
+      → map entry_of items ≡ openers_of limits before
       → margin_in items ending ≡ margin_of limits before
   margin_here [] counted are = rw (← are) none
   margin_here (first ∷ []) counted are = rw (← are) none
   margin_here (first ∷ second ∷ others) counted are =
-      margin_is limits road before first second others [] counted (sym are ∙ sym (append-nil _))
+      margin_is limits before first second others [] counted (sym are ∙ sym (append-nil _))
 
-  pub ends_here : ArePlacesOf limits road (record { matchings = before; ending = ending })
+  pub ends_here : ArePlacesOf limits (record { matchings = before; ending = ending })
       (places_in kept ending)
   ends_here = record {
     openers = stands.openers
@@ -99,16 +99,16 @@ module _ {limits : PlaceLimits} {road : RoadMap} {before : List Shown} {kept : L
 
 -- ---- the next matching
 
-module _ {limits : PlaceLimits} {road : RoadMap} {before : List Shown} {old : Looking}
-    (stands : Stands limits road before old) (one : Shown)
+module _ {limits : PlaceLimits} {before : List Entry} {old : Looking}
+    (stands : Stands limits before old) (one : Entry)
     (more_left : (length before == limits.look) ≡ false) where
   abbrev items : List Opener
   items = old.openers.items
 
-  abbrev with : List Shown
+  abbrev with : List Entry
   with = before ++ one ∷ []
 
-  abbrev openers : List Shown
+  abbrev openers : List Entry
   openers = openers_of limits before
 
   -- the index of its place
@@ -116,19 +116,19 @@ module _ {limits : PlaceLimits} {road : RoadMap} {before : List Shown} {old : Lo
   own = place_of limits (openers_of limits with) one
 
   same_length : length items ≡ length openers
-  same_length = sym (length-map items (shown_by road))
-      ∙ ap (λ (l : List Shown). length l) stands.openers
+  same_length = sym (length-map items entry_of)
+      ∙ ap (λ (l : List Entry). length l) stands.openers
 
   gap_still : (key : KeyValue) → 1 ≤ length openers → gap_of with key ≡ gap_of before key
-  gap_still key some = gap_stays before one key (some_openers limits road before some)
+  gap_still key some = gap_stays before one key (some_openers limits before some)
 
-  within_still : All (λ (opener : Shown). is_within limits with opener ≡ true) openers
+  within_still : All (λ (opener : Entry). is_within limits with opener ≡ true) openers
   within_still = λ k d inside.
       ap (λ (n : ℕ). nat_le n limits.within)
       (gap_still (get_or openers k d).key (omega arith)) ∙ stands.within k d inside
 
   -- what it leaves, by what looking gives at it and others behind it
-  looks_on : (looked : Looked) (left : List Shown) → looking_on limits before (one ∷ left) ≡ looked
+  looks_on : (looked : Looked) (left : List Entry) → looking_on limits before (one ∷ left) ≡ looked
       → looking limits (with ++ left) ≡ looked
   looks_on looked left is = ap (looking limits) (append_assoc before (one ∷ []) left)
       ∙ stands.goes_on (one ∷ left) ∙ is
@@ -136,13 +136,13 @@ module _ {limits : PlaceLimits} {road : RoadMap} {before : List Shown} {old : Lo
   -- ---- members
 
   -- those before it keep their places
-  places_stay : All (λ (other : Shown). place_of limits (openers_of limits with) other
+  places_stay : All (λ (other : Entry). place_of limits (openers_of limits with) other
       ≡ place_of limits openers other) before
   places_stay = elim (cases_Bool (belongs limits openers one)) [
-    | inl here ↦ λ k d inside. ap (λ (l : List Shown). place_of limits l (get_or before k d))
+    | inl here ↦ λ k d inside. ap (λ (l : List Entry). place_of limits l (get_or before k d))
         (openers_same limits before one here)
     | inr new ↦ λ k d inside.
-        ap (λ (l : List Shown). place_of limits l (get_or before k d))
+        ap (λ (l : List Entry). place_of limits l (get_or before k d))
         (openers_more limits before one new)
         ∙ first_stays _ openers one (all_placed limits before k d inside)
   ]
@@ -217,11 +217,11 @@ module _ {limits : PlaceLimits} {road : RoadMap} {before : List Shown} {old : Lo
 
     pub stands_with_member : (new : Looking) (index : ℕ) → place_of limits openers one ≡ index
         → new.openers.items ≡ one_more_at index items
-        → new.looked ≡ old.looked + 1 → new.last ≡ Some one.key → Stands limits road with new
+        → new.looked ≡ old.looked + 1 → new.last ≡ Some one.key → Stands limits with new
     stands_with_member new index at has more last =
         let same = openers_same limits before one here in
         let at_own : 0 + index ≡ own = rw same (omega arith) in record {
-          openers = ap (map (shown_by road)) has ∙ same_shown road index items ∙ stands.openers
+          openers = ap (map entry_of) has ∙ same_entries index items ∙ stands.openers
               ∙ sym same;
           within = rw same within_still;
           counted = rw has (counted_more 0 index items at_own (omega (arith, same_length))
@@ -238,7 +238,7 @@ module _ {limits : PlaceLimits} {road : RoadMap} {before : List Shown} {old : Lo
     opens = openers_more limits before one new_one
 
     own_is : own ≡ length openers
-    own_is = ap (λ (l : List Shown). place_of limits l one) opens
+    own_is = ap (λ (l : List Entry). place_of limits l one) opens
         ∙ first_behind _ openers one new_one (close_itself limits one)
 
     counted : AreCounted limits with 0 items
@@ -246,12 +246,12 @@ module _ {limits : PlaceLimits} {road : RoadMap} {before : List Shown} {old : Lo
         all_counted 0 items (λ index from to is. omega (arith, own_is, same_length))
         (omega (arith, same_length)) stands.counted
 
-    module _ (opener : Opener) (shown : shown_by road opener ≡ one)
+    module _ (opener : Opener) (shown : entry_of opener ≡ one)
         (gap : opener.gap ≡ gap_of before one.key) (alone : opener.members ≡ 1) where
       counted_itself : IsCounted limits with (length items) opener
       counted_itself = record {
         gap = gap ∙ sym (gap_of_next before one)
-            ∙ ap (λ (s : Shown). gap_of with s.key) (sym shown);
+            ∙ ap (λ (s : Entry). gap_of with s.key) (sym shown);
         members =
             let none_before = none_past (place_of limits openers) before (length items)
             (rw same_length (all_placed limits before)) in
@@ -273,14 +273,14 @@ module _ {limits : PlaceLimits} {road : RoadMap} {before : List Shown} {old : Lo
           → nat_le (gap_of before one.key) limits.within ≡ true
           → (length openers == limits.most) ≡ false → new.openers.items ≡ items ++ opener ∷ []
           → new.looked ≡ old.looked + 1 → new.last ≡ Some one.key
-          → Stands limits road with new
+          → Stands limits with new
       stands_with_opener new near close room pushed more last = record {
         openers =
-            ap (map (shown_by road)) pushed ∙ map-append (shown_by road) items (opener ∷ [])
-            ∙ ap (λ (l : List Shown). l ++ shown_by road opener ∷ []) stands.openers
-            ∙ ap (λ (s : Shown). openers ++ s ∷ []) shown ∙ sym opens;
+            ap (map entry_of) pushed ∙ map-append entry_of items (opener ∷ [])
+            ∙ ap (λ (l : List Entry). l ++ entry_of opener ∷ []) stands.openers
+            ∙ ap (λ (s : Entry). openers ++ s ∷ []) shown ∙ sym opens;
         within =
-            rw opens (All-push (λ (opener : Shown). is_within limits with opener ≡ true) openers one
+            rw opens (All-push (λ (opener : Entry). is_within limits with opener ≡ true) openers one
             within_still (ap (λ (n : ℕ). nat_le n limits.within) (gap_of_next before one)
             ∙ close));
         counted = rw pushed (counted_with 0 items (omega arith) counted);
@@ -293,7 +293,7 @@ module _ {limits : PlaceLimits} {road : RoadMap} {before : List Shown} {old : Lo
 
     pub full_ends : nat_lt limits.within (gap_of before one.key) ≡ false
         → (length openers == limits.most) ≡ true
-        → HasEnded limits road with old Cut
+        → HasEnded limits with old Cut
     full_ends near full = record {
       looked = record { matchings = before; ending = Cut };
       places = ends_here stands Cut refl;
@@ -312,24 +312,24 @@ module _ {limits : PlaceLimits} {road : RoadMap} {before : List Shown} {old : Lo
           let none : filter (is_within limits with) (one ∷ []) ≡ [] = rw beyond refl in
           ap (filter (is_within limits with)) opens
           ∙ filter-append (is_within limits with) openers (one ∷ [])
-          ∙ ap (λ (l : List Shown). filter (is_within limits with) openers ++ l) none ∙ append-nil _
+          ∙ ap (λ (l : List Entry). filter (is_within limits with) openers ++ l) none ∙ append-nil _
           ∙ all_pass (is_within limits with) openers within_still
 
       margin_beyond : (l : List Opener) → AreCounted limits with 0 l
-          → map (shown_by road) l ≡ openers
+          → map entry_of l ≡ openers
           → margin_in l (Beyond (gap_of before one.key)) ≡ margin_of limits with
       margin_beyond [] counted are =
-          let none = gap_at_first limits road before [] one.key are in
+          let none = gap_at_first limits before [] one.key are in
           absurd (omega arith)
       margin_beyond (first ∷ []) counted are =
           rw (opens, ← are) (ap (λ (n : ℕ). Some n) (sym (gap_of_next before one)))
       margin_beyond (first ∷ second ∷ others) counted are =
-          margin_is limits road with first second others (one ∷ []) counted (opens
-          ∙ ap (λ (l : List Shown). l ++ one ∷ []) (sym are))
+          margin_is limits with first second others (one ∷ []) counted (opens
+          ∙ ap (λ (l : List Entry). l ++ one ∷ []) (sym are))
 
       pub beyond_ends : (new : Looking) → nat_lt limits.within (gap_of before one.key) ≡ true
           → new.openers ≡ old.openers → new.looked ≡ old.looked + 1
-          → new.last ≡ Some one.key → HasEnded limits road with new (Beyond (gap_of before one.key))
+          → new.last ≡ Some one.key → HasEnded limits with new (Beyond (gap_of before one.key))
       beyond_ends new beyond same more last = record {
         looked = record { matchings = with; ending = Beyond (gap_of before one.key) };
         places = record {

@@ -1,14 +1,13 @@
 -- What looking gives: the first of the matchings, in order; those that are left; and why it ended.
-use Rattle.std.proofs.Common.{◌≡◌, ◌≢◌, ◌<◌, ◌≤◌, Bool, false, List, [], ◌∷◌, ◌++◌, length, filter, All, refl, sym, ap, ◌∙◌, inl, inr, arith, append_assoc, ◌==◌, nat_lt}
+use Rattle.std.proofs.Common.{◌≡◌, ◌≢◌, ◌<◌, ◌≤◌, Bool, false, List, [], ◌∷◌, ◌++◌, length, filter, All, None, refl, sym, ap, ◌∙◌, inl, inr, arith, append_assoc, ◌==◌, nat_lt}
 use Rattle.std.specs.Prelude.{Contains}
 use Rattle.std.proofs.lemmas.Bool.{cases_Bool, eqb-false, le-ltb, lt-leb, ltb-true, ne_eqb}
 use Rattle.std.proofs.lemmas.List.{append-nil, length-append, map-append}
 use Rattle.std.proofs.lemmas.List.Elements.{All-take, Contains-push, filter-append}
 use Rattle.std.proofs.Math.Seq.{take-append_seam}
 use Rattle.std.proofs.lemmas.List.Sums.{count_by-le-length, length-filter}
-use Rattle.serde_json.specs.Data.{null}
-use Rattle.olr_places.proofs.Common.{KeyValue, RoadMap, LayersValue, IsLooked, Looked, belongs, gap_of, is_within, listed_of, looking, looking_on, openers_of, IsShownAt, Shown, keys_of, Ending, Beyond, Cut, NoMore, PlaceLimits}
-use Rattle.olr_places.specs.Closeness.{line}
+use Rattle.olr_places.proofs.Common.{KeyValue, RoadMap, LayersValue, IsLooked, Looked, belongs, gap_of, is_within, listed_of, looking, looking_on, openers_of, IsEntryAt, Entry, keys_of, Ending, Beyond, Cut, NoMore, PlaceLimits}
+use Rattle.olr_report.specs.Location.{LocatedLine}
 use Rattle.olr_places.specs.VerdictLaws.{IsAtMost, LooksAtMost}
 use Rattle.olr_places.proofs.Gaps.{gap_of_next}
 use Rattle.olr_places.proofs.Opening.{openers_more, openers_same}
@@ -21,29 +20,29 @@ filter_at_most p xs = rw (length-filter p xs) (count_by-le-length p xs)
 
 -- why looking ended: none was left, or the gap of a matching that was looked at is beyond what is
 -- asked for
-abbrev pub EndsFor : PlaceLimits → List Shown → List Shown → Ending → Type 0
+abbrev pub EndsFor : PlaceLimits → List Entry → List Entry → Ending → Type 0
 EndsFor limits matchings left NoMore = left ≡ []
-EndsFor limits matchings left (Beyond gap) = (last : Shown) × Contains matchings last
+EndsFor limits matchings left (Beyond gap) = (last : Entry) × Contains matchings last
     × (limits.within < gap_of matchings last.key)
 EndsFor limits matchings left Cut = Unit {0}
 
 module _ (limits : PlaceLimits) where
   -- what was looked at so far is within what is asked for
-  record IsRoomy (before : List Shown) : Type 0 where
+  record IsRoomy (before : List Entry) : Type 0 where
     looked : length before ≤ limits.look
     openers : length (openers_of limits before) ≤ limits.most
 
   -- the matchings that were looked at, at least these, are the first of all of them, as many as are
   -- asked for at most; then come those that are left
-  pub record Splits (before all : List Shown) (looked : Looked) : Type 0 where
-    pub more : List Shown
+  pub record Splits (before all : List Entry) (looked : Looked) : Type 0 where
+    pub more : List Entry
     pub matchings_are : looked.matchings ≡ before ++ more
-    pub left : List Shown
+    pub left : List Entry
     pub all_are : all ≡ looked.matchings ++ left
     pub at_most : IsAtMost limits looked
     pub ends : EndsFor limits looked.matchings left looked.ending
 
-  ends_here : (before left : List Shown) (ending : Ending) → IsRoomy before
+  ends_here : (before left : List Entry) (ending : Ending) → IsRoomy before
       → EndsFor limits before left ending
       → Splits before (before ++ left) (record { matchings = before; ending = ending })
   ends_here before left ending roomy ends = record {
@@ -58,11 +57,11 @@ module _ (limits : PlaceLimits) where
     ends = ends;
   }
 
-  module _ (before left : List Shown) (one : Shown) (roomy : IsRoomy before) where
-    abbrev with : List Shown
+  module _ (before left : List Entry) (one : Entry) (roomy : IsRoomy before) where
+    abbrev with : List Entry
     with = before ++ one ∷ []
 
-    abbrev openers : List Shown
+    abbrev openers : List Entry
     openers = openers_of limits before
 
     same_all : with ++ left ≡ before ++ one ∷ left
@@ -95,7 +94,7 @@ module _ (limits : PlaceLimits) where
         let listed : listed_of limits with ≡ filter (is_within limits with) openers =
         ap (filter (is_within limits with)) (openers_more limits before one new)
         ∙ filter-append (is_within limits with) openers (one ∷ [])
-        ∙ ap (λ (l : List Shown). filter (is_within limits with) openers ++ l) none
+        ∙ ap (λ (l : List Entry). filter (is_within limits with) openers ++ l) none
         ∙ append-nil _ in
         record {
           more = [];
@@ -149,7 +148,7 @@ module _ (limits : PlaceLimits) where
           ]
         ]
 
-  splits : (before left : List Shown) → IsRoomy before
+  splits : (before left : List Entry) → IsRoomy before
       → Splits before (before ++ left) (looking_on limits before left)
   splits before [] roomy = ends_here before [] NoMore roomy refl
   splits before (one ∷ left) roomy = elim (cases_Bool (length before == limits.look)) [
@@ -160,7 +159,7 @@ module _ (limits : PlaceLimits) where
   ]
 
   -- there is a first matching
-  pub first_looked_at : (first : Shown) (left : List Shown) → (others : List Shown)
+  pub first_looked_at : (first : Entry) (left : List Entry) → (others : List Entry)
       × ((looking limits (first ∷ left)).matchings ≡ first ∷ others)
   first_looked_at first left =
       let look : (0 == limits.look) ≡ false =
@@ -181,9 +180,14 @@ module _ (limits : PlaceLimits) where
 -- ---- all matchings of a reference
 
 -- matchings of these keys, whatever they are
-abbrev pub any_of : List KeyValue → List Shown
+abbrev pub any_of : List KeyValue → List Entry
 any_of [] = []
-any_of (key ∷ keys) = record { key = key; ground = line []; rows = []; object = null } ∷ any_of keys
+any_of (key ∷ keys) = record {
+  key = key;
+  matched = record { candidates = []; legs = [] };
+  route = [];
+  located = LocatedLine None None;
+} ∷ any_of keys
 
 pub keys_of_any : (keys : List KeyValue) → keys_of (any_of keys) ≡ keys
 keys_of_any [] = refl
@@ -193,7 +197,7 @@ module _ {limits : PlaceLimits} {road : RoadMap} {layers : LayersValue} {answers
     {looked : Looked}
     (is : IsLooked limits road layers answers looked) where
   -- those that were seen, and any of the keys that are left
-  abbrev pub all_of : List Shown
+  abbrev pub all_of : List Entry
   all_of = is.seen ++ any_of is.left
 
   pub all_looked : looking limits all_of ≡ looked
@@ -201,15 +205,15 @@ module _ {limits : PlaceLimits} {road : RoadMap} {layers : LayersValue} {answers
 
   pub keys_are : answers ≡ keys_of all_of
   keys_are = is.keys ∙ ap (λ (l : List KeyValue). keys_of is.seen ++ l) (sym (keys_of_any is.left))
-      ∙ sym (map-append (λ (one : Shown). one.key) is.seen (any_of is.left))
+      ∙ sym (map-append (λ (one : Entry). one.key) is.seen (any_of is.left))
 
   pub seen : Splits limits [] all_of looked
   seen = rw (← all_looked) (splits limits [] all_of
       (record { looked = omega arith; openers = omega arith }))
 
-  pub each : All (IsShownAt road layers) looked.matchings
+  pub each : All (IsEntryAt road layers) looked.matchings
   each =
-      let all = All-take (IsShownAt road layers) (length looked.matchings) is.seen is.each in
+      let all = All-take (IsEntryAt road layers) (length looked.matchings) is.seen is.each in
       rw (is.looked_at.1, take-append_seam looked.matchings is.looked_at.0) at all
 
 pub looks_at_most : LooksAtMost

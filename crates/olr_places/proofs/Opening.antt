@@ -5,7 +5,8 @@ use Rattle.std.proofs.lemmas.Bool.{cases_Bool, false≢true, ne_eqb}
 use Rattle.std.proofs.lemmas.List.{append-nil}
 use Rattle.std.proofs.lemmas.List.Elements.{All-nil, All-cons, All-weaker}
 use Rattle.std.proofs.lemmas.List.Folds.{list_any-append, position_or_len_push}
-use Rattle.olr_places.proofs.Common.{belongs, is_close_to, openers_of, openers_on, place_of, Shown, PlaceLimits}
+use Rattle.olr_places.proofs.Common.{belongs, is_close_to, openers_of, openers_on, place_of, Entry, PlaceLimits}
+use Rattle.olr_places.specs.Closeness.{ground_of}
 use Rattle.olr_places.proofs.CloseLaws.{reflexive, tests}
 
 -- whether one passes, by the place of the first one
@@ -37,17 +38,17 @@ module _ {X : Type 0} (p : X → Bool) where
   ]
 
 module _ (limits : PlaceLimits) where
-  pub close_itself : (entry : Shown) → is_close_to limits entry entry ≡ true
-  close_itself entry = (tests limits.apart entry.ground entry.ground).1
-      (reflexive limits.apart entry.ground)
+  pub close_itself : (entry : Entry) → is_close_to limits entry entry ≡ true
+  close_itself entry = (tests limits.apart (ground_of entry.located) (ground_of entry.located)).1
+      (reflexive limits.apart (ground_of entry.located))
 
   -- ---- one matching more
 
   -- openers with the next matching
-  abbrev pub opened : List Shown → Shown → List Shown
+  abbrev pub opened : List Entry → Entry → List Entry
   opened openers entry = if belongs limits openers entry then openers else openers ++ entry ∷ []
 
-  opened_on : (openers entries : List Shown) (entry : Shown)
+  opened_on : (openers entries : List Entry) (entry : Entry)
       → openers_on limits openers (entries ++ entry ∷ [])
       ≡ opened (openers_on limits openers entries) entry
   opened_on openers [] entry = elim (cases_Bool (belongs limits openers entry)) [
@@ -59,12 +60,12 @@ module _ (limits : PlaceLimits) where
     | inr new ↦ let rest = opened_on (openers ++ first ∷ []) entries entry in rw (new, rest) refl
   ]
 
-  pub openers_same : (before : List Shown) (entry : Shown)
+  pub openers_same : (before : List Entry) (entry : Entry)
       → belongs limits (openers_of limits before) entry ≡ true
       → openers_of limits (before ++ entry ∷ []) ≡ openers_of limits before
   openers_same before entry old = opened_on [] before entry ∙ (rw old refl)
 
-  pub openers_more : (before : List Shown) (entry : Shown)
+  pub openers_more : (before : List Entry) (entry : Entry)
       → belongs limits (openers_of limits before) entry ≡ false
       → openers_of limits (before ++ entry ∷ []) ≡ openers_of limits before ++ entry ∷ []
   openers_more before entry new = opened_on [] before entry ∙ (rw new refl)
@@ -72,7 +73,7 @@ module _ (limits : PlaceLimits) where
   -- ---- openers stay
 
   -- openers before others
-  pub openers_begin : (openers entries : List Shown) → (more : List Shown)
+  pub openers_begin : (openers entries : List Entry) → (more : List Entry)
       × (openers_on limits openers entries ≡ openers ++ more)
   openers_begin openers [] = ([], sym (append-nil openers))
   openers_begin openers (entry ∷ entries) = elim (cases_Bool (belongs limits openers entry)) [
@@ -86,32 +87,32 @@ module _ (limits : PlaceLimits) where
   ]
 
   -- the first matching opens the first place
-  pub first_opens : (first : Shown) (others : List Shown) → (more : List Shown)
+  pub first_opens : (first : Entry) (others : List Entry) → (more : List Entry)
       × (openers_of limits (first ∷ others) ≡ first ∷ more)
   first_opens first others = openers_begin (first ∷ []) others
 
   -- a matching that belongs to a place still does with more openers
-  belongs_still : (openers more : List Shown) (entry : Shown) → belongs limits openers entry ≡ true
+  belongs_still : (openers more : List Entry) (entry : Entry) → belongs limits openers entry ≡ true
       → belongs limits (openers ++ more) entry ≡ true
   belongs_still openers more entry old =
       let parts = list_any-append (is_close_to limits entry) openers more in
       parts ∙ (rw old refl)
 
   -- each matching belongs to a place
-  pub all_belong_on : (openers entries : List Shown)
-      → All (λ (entry : Shown). belongs limits (openers_on limits openers entries) entry ≡ true)
+  pub all_belong_on : (openers entries : List Entry)
+      → All (λ (entry : Entry). belongs limits (openers_on limits openers entries) entry ≡ true)
       entries
-  all_belong_on openers [] = All-nil (λ (entry : Shown). belongs limits openers entry ≡ true)
+  all_belong_on openers [] = All-nil (λ (entry : Entry). belongs limits openers entry ≡ true)
   all_belong_on openers (entry ∷ entries) = elim (cases_Bool (belongs limits openers entry)) [
     | inl old ↦
         let begin = openers_begin openers entries in
         let itself : belongs limits (openers_on limits openers entries) entry ≡ true =
         rw begin.1 (belongs_still openers begin.0 entry old) in
         rw old
-        (All-cons (λ (one : Shown). belongs limits (openers_on limits openers entries) one ≡ true)
+        (All-cons (λ (one : Entry). belongs limits (openers_on limits openers entries) one ≡ true)
         entry entries itself (all_belong_on openers entries))
     | inr new ↦
-        let with : List Shown = openers ++ entry ∷ [] in
+        let with : List Entry = openers ++ entry ∷ [] in
         let begin = openers_begin with entries in
         let close = close_itself entry in
         let last : belongs limits (entry ∷ []) entry ≡ true = rw close refl in
@@ -120,21 +121,21 @@ module _ (limits : PlaceLimits) where
         let itself : belongs limits (openers_on limits with entries) entry ≡ true =
         rw begin.1 (belongs_still with begin.0 entry here) in
         rw new
-        (All-cons (λ (one : Shown). belongs limits (openers_on limits with entries) one ≡ true)
+        (All-cons (λ (one : Entry). belongs limits (openers_on limits with entries) one ≡ true)
         entry entries itself (all_belong_on with entries))
   ]
 
-  pub all_belong : (entries : List Shown)
-      → All (λ (entry : Shown). belongs limits (openers_of limits entries) entry ≡ true) entries
+  pub all_belong : (entries : List Entry)
+      → All (λ (entry : Entry). belongs limits (openers_of limits entries) entry ≡ true) entries
   all_belong entries = all_belong_on [] entries
 
   -- the place of each matching is one of those that are opened
-  pub all_placed : (entries : List Shown)
-      → All (λ (entry : Shown). place_of limits (openers_of limits entries) entry
+  pub all_placed : (entries : List Entry)
+      → All (λ (entry : Entry). place_of limits (openers_of limits entries) entry
       < length (openers_of limits entries)) entries
   all_placed entries =
-      All-weaker (λ (entry : Shown). belongs limits (openers_of limits entries) entry ≡ true)
-      (λ (entry : Shown). place_of limits (openers_of limits entries) entry
+      All-weaker (λ (entry : Entry). belongs limits (openers_of limits entries) entry ≡ true)
+      (λ (entry : Entry). place_of limits (openers_of limits entries) entry
       < length (openers_of limits entries))
       (λ entry is. first_within (is_close_to limits entry) (openers_of limits entries) is) entries
       (all_belong entries)

@@ -1,16 +1,16 @@
 -- What is shown of places, by what is kept of the matchings that were looked at.
 use Rattle.std.proofs.Common.{◌≡◌, ℕ, ◌+◌, List, [], ◌∷◌, ◌++◌, length, map, None, refl, sym, ap, ◌∙◌}
 use Rattle.std.proofs.lemmas.List.{length-map}
-use Rattle.olr_places.proofs.Common.{RoadMap, Looked, listed_of, AreCounted, ArePlacesOf, object_of, opener_object, openers_rows, shown_by, Shown, verdict_of, PlaceLimits, Opener, Places}
+use Rattle.olr_places.proofs.Common.{RoadMap, Looked, listed_of, AreCounted, ArePlacesOf, object_of, opener_object, openers_rows, entry_of, Entry, verdict_of, PlaceLimits, Opener, Places}
 use Rattle.olr_report.specs.TextRows.{end_row}
 use Rattle.olr_places.specs.Json.{place_objects, places_object}
 use Rattle.olr_places.specs.Places.{verdict_in}
 use Rattle.olr_places.specs.Text.{all_place_rows, next_after, next_of, places_text, summary_rows}
 
-module _ (road : RoadMap) (limits : PlaceLimits) (matchings : List Shown) where
+module _ (road : RoadMap) (limits : PlaceLimits) (matchings : List Entry) where
   rows_same : (start : ℕ) (openers : List Opener) → AreCounted limits matchings start openers
       → openers_rows road start openers
-      ≡ all_place_rows limits matchings start (map (shown_by road) openers)
+      ≡ all_place_rows road limits matchings start (map entry_of openers)
   rows_same start [] counted = refl
   rows_same start (opener ∷ openers) counted =
       let rest = rows_same (start + 1) openers counted.1 in
@@ -18,38 +18,39 @@ module _ (road : RoadMap) (limits : PlaceLimits) (matchings : List Shown) where
 
   objects_same : (start : ℕ) (openers : List Opener) → AreCounted limits matchings start openers
       → map (opener_object road) openers
-      ≡ place_objects limits matchings start (map (shown_by road) openers)
+      ≡ place_objects road limits matchings start (map entry_of openers)
   objects_same start [] counted = refl
   objects_same start (opener ∷ openers) counted =
       let rest = objects_same (start + 1) openers counted.1 in
       rw (counted.0.gap, counted.0.members, rest) refl
 
-module _ {limits : PlaceLimits} {road : RoadMap} {looked : Looked} {places : Places}
-    (are : ArePlacesOf limits road looked places) where
+module _ {limits : PlaceLimits} {looked : Looked} {places : Places}
+    (are : ArePlacesOf limits looked places) where
   pub verdict_is : verdict_in places ≡ verdict_of limits looked
   verdict_is =
       let listed : length places.openers.items ≡ length (listed_of limits looked.matchings) =
-      sym (length-map places.openers.items (shown_by road))
-      ∙ ap (λ (l : List Shown). length l) are.openers in
+      sym (length-map places.openers.items entry_of)
+      ∙ ap (λ (l : List Entry). length l) are.openers in
       rw (are.count, listed, are.ending) refl
 
   pub next_is : next_after places.ending places.last ≡ next_of looked
   next_is = rw (are.ending, are.last) refl
 
-  rows_are : openers_rows road 0 places.openers.items
-      ≡ all_place_rows limits looked.matchings 0 (listed_of limits looked.matchings)
-  rows_are = rows_same road limits looked.matchings 0 places.openers.items are.counted
-      ∙ ap (all_place_rows limits looked.matchings 0) are.openers
+  module _ (road : RoadMap) where
+    rows_are : openers_rows road 0 places.openers.items
+        ≡ all_place_rows road limits looked.matchings 0 (listed_of limits looked.matchings)
+    rows_are = rows_same road limits looked.matchings 0 places.openers.items are.counted
+        ∙ ap (all_place_rows road limits looked.matchings 0) are.openers
 
-  objects_are : map (opener_object road) places.openers.items
-      ≡ place_objects limits looked.matchings 0 (listed_of limits looked.matchings)
-  objects_are = objects_same road limits looked.matchings 0 places.openers.items are.counted
-      ∙ ap (place_objects limits looked.matchings 0) are.openers
+    objects_are : map (opener_object road) places.openers.items
+        ≡ place_objects road limits looked.matchings 0 (listed_of limits looked.matchings)
+    objects_are = objects_same road limits looked.matchings 0 places.openers.items are.counted
+        ∙ ap (place_objects road limits looked.matchings 0) are.openers
 
-  pub text_is : openers_rows road 0 places.openers.items
-      ++ summary_rows places.looked places.margin (verdict_in places)
-      ++ end_row (next_after places.ending places.last) None ≡ places_text limits looked
-  text_is = rw (verdict_is, next_is, rows_are, are.count, are.margin) refl
+    pub text_is : openers_rows road 0 places.openers.items
+        ++ summary_rows places.looked places.margin (verdict_in places)
+        ++ end_row (next_after places.ending places.last) None ≡ places_text road limits looked
+    text_is = rw (verdict_is, next_is, rows_are, are.count, are.margin) refl
 
-  pub object_is : object_of road places ≡ places_object limits looked
-  object_is = rw (verdict_is, next_is, objects_are, are.count, are.margin) refl
+    pub object_is : object_of road places ≡ places_object road limits looked
+    object_is = rw (verdict_is, next_is, objects_are, are.count, are.margin) refl

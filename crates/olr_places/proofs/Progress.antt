@@ -6,7 +6,7 @@ use Rattle.std.proofs.lemmas.List.{append-nil, map-append}
 use Rattle.std.proofs.lemmas.List.Elements.{All-nil, All-push}
 use Rattle.olr_keys.proofs.PageLists.{after_keys, first_and_others, next_is, position_within}
 use Rattle.olr_keys.specs.Finder.{IsNext, IsPosition}
-use Rattle.olr_places.proofs.Common.{KeyValue, IsBefore, IsRestAfter, RoadMap, LayersValue, ArePlacesOf, IsLooked, IsOpenerAt, Looked, entry_of, looking_on, shown_by, IsShownAt, Shown, keys_of, Ending, Cut, NoMore, PlaceLimits, Looking, Opener}
+use Rattle.olr_places.proofs.Common.{KeyValue, IsBefore, IsRestAfter, RoadMap, LayersValue, ArePlacesOf, IsLooked, IsOpenerAt, Looked, entry_of, looking_on, IsEntryAt, Entry, keys_of, Ending, Cut, NoMore, PlaceLimits, Looking, Opener}
 use Rattle.olr_places.specs.Steps.{LooksAt, Stands, gap_in, places_in}
 use Rattle.olr_places.proofs.LookSteps.{ends_here}
 
@@ -14,19 +14,19 @@ module _ (limits : PlaceLimits) (road : RoadMap) (layers : LayersValue) (answers
   where
     -- the matchings of the first keys were looked at, and these keys are left
     pub record Progress (kept : Looking) : Type 0 where
-      pub seen : List Shown
+      pub seen : List Entry
       pub left : List KeyValue
       pub keys_are : answers ≡ keys_of seen ++ left
-      pub each : All (IsShownAt road layers) seen
-      pub stands : Stands limits road seen kept
+      pub each : All (IsEntryAt road layers) seen
+      pub stands : Stands limits seen kept
 
     -- looking has ended, for this reason
     abbrev pub IsFound : Looking → Ending → Type 0
     IsFound kept ending = (looked : Looked) × IsLooked limits road layers answers looked
-        × ArePlacesOf limits road looked (places_in kept ending)
+        × ArePlacesOf limits looked (places_in kept ending)
 
 pub at_start : {limits : PlaceLimits} {road : RoadMap} {layers : LayersValue}
-    (answers : List KeyValue) {kept : Looking} → Stands limits road [] kept
+    (answers : List KeyValue) {kept : Looking} → Stands limits [] kept
     → Progress limits road layers answers kept
 at_start answers stands = record {
   seen = [];
@@ -47,7 +47,7 @@ module _ {limits : PlaceLimits} {road : RoadMap} {layers : LayersValue} {answers
 
   -- looking ends behind the matchings that were looked at
   ends : (ending : Ending) → gap_in ending ≡ None
-      → ((others : List Shown) → keys_of others ≡ progress.left
+      → ((others : List Entry) → keys_of others ≡ progress.left
       → looking_on limits progress.seen others
       ≡ record { matchings = progress.seen; ending = ending })
       → IsFound limits road layers answers old ending
@@ -74,7 +74,7 @@ module _ {limits : PlaceLimits} {road : RoadMap} {layers : LayersValue} {answers
     no_more none = ends NoMore refl (λ others same. no_others progress.left others
         (sym none ∙ first_left) same)
       where
-        no_others : (left : List KeyValue) (others : List Shown) → None ≡ slice_get left 0
+        no_others : (left : List KeyValue) (others : List Entry) → None ≡ slice_get left 0
             → keys_of others ≡ left
             → looking_on limits progress.seen others
             ≡ record { matchings = progress.seen; ending = NoMore }
@@ -90,7 +90,7 @@ module _ {limits : PlaceLimits} {road : RoadMap} {layers : LayersValue} {answers
       pub enough : old.looked ≡ limits.look → IsFound limits road layers answers old Cut
       enough all = ends Cut refl (λ others same. cut_here others (same ∙ left_is))
         where
-          cut_here : (others : List Shown) → keys_of others ≡ key ∷ drop 1 progress.left
+          cut_here : (others : List Entry) → keys_of others ≡ key ∷ drop 1 progress.left
               → looking_on limits progress.seen others
               ≡ record { matchings = progress.seen; ending = Cut }
           cut_here [] same = absurd cc
@@ -99,17 +99,16 @@ module _ {limits : PlaceLimits} {road : RoadMap} {layers : LayersValue} {answers
               (omega (arith, progress.stands.count)) in rw full refl
 
       module _ {opener : Opener} (at : opener.key ≡ key) (is : IsOpenerAt road layers opener) where
-        abbrev with : List Shown
-        with = progress.seen ++ shown_by road opener ∷ []
+        abbrev with : List Entry
+        with = progress.seen ++ entry_of opener ∷ []
 
         keys_with : answers ≡ keys_of with ++ drop 1 progress.left
         keys_with =
             rw map-append (rw append_assoc (rw at (rw (← left_is) progress.keys_are)))
 
-        each_with : All (IsShownAt road layers) with
-        each_with = All-push (IsShownAt road layers) progress.seen (shown_by road opener)
-            progress.each
-            (record { entry = entry_of opener; is_entry = is.is_entry; shown_is = refl })
+        each_with : All (IsEntryAt road layers) with
+        each_with = All-push (IsEntryAt road layers) progress.seen (entry_of opener)
+            progress.each is.is_entry
 
         pub goes_on : {new : Looking} → LooksAt limits old new opener None
             → Progress limits road layers answers new
@@ -118,13 +117,13 @@ module _ {limits : PlaceLimits} {road : RoadMap} {layers : LayersValue} {answers
           left = drop 1 progress.left;
           keys_are = keys_with;
           each = each_with;
-          stands = step road progress.seen progress.stands;
+          stands = step progress.seen progress.stands;
         }
 
         pub ended : {new : Looking} (why : Ending) → LooksAt limits old new opener (Some why)
             → IsFound limits road layers answers new why
         ended why step =
-            let behind = step road progress.seen progress.stands in (
+            let behind = step progress.seen progress.stands in (
               behind.looked,
               record {
                 seen = with;

@@ -1,12 +1,10 @@
 -- Which matchings are close: those that cover the same stretch of road, but for parts of a given
 -- length. Lengths and positions are in decimetres.
-use Rattle.std.specs.Prelude.{◌≡◌, ℕ, ◌+◌, ◌≤◌, Bool, false, ◌&&◌, ◌==◌, nat_le, List, [], Option, None, Some}
-use Rattle.std.specs.Global.{Vec}
+use Rattle.std.specs.Prelude.{◌≡◌, ℕ, ◌+◌, ◌≤◌, Bool, false, ◌&&◌, ◌==◌, nat_le, List, [], Option, unwrap_or}
 use Rattle.olr_map.specs.declared.place.Place.{Place}
 use Rattle.olr_route.specs.declared.piece.Piece.{Piece}
+use Rattle.olr_report.specs.Location.{LocatedLine, LocatedPoint, LocatedValue}
 use Rattle.olr_report.specs.Steps.{steps_of}
-use Rattle.olr_report.specs.declared.locating.Located.{Located}
-use Rattle.olr_report.specs.declared.locating.Located.TheVariants.{Line, Point}
 use Rattle.olr_places.specs.Missing.{MissesAtMost, missing_of}
 
 -- the ground that a matching covers: the pieces of the outer part of a line, or the earliest and
@@ -15,15 +13,14 @@ pub data Ground : Type 0 where
   line : List Piece → Ground
   point : Place → Place → Ground
 
--- the pieces of a part of a route; one that is none has no pieces
-abbrev pub pieces_of : Option (Vec Piece) → List Piece
-pieces_of None = []
-pieces_of (Some part) = part.items
+-- the pieces of a part of a route; no pieces where there is no part
+abbrev pub pieces_of : Option (List Piece) → List Piece
+pieces_of part = unwrap_or part []
 
 -- the ground of a location
-abbrev pub ground_of : Located → Ground
-ground_of (Line outer inner) = line (pieces_of outer)
-ground_of (Point earliest latest) = point earliest latest
+abbrev pub ground_of : LocatedValue → Ground
+ground_of (LocatedLine outer inner) = line (pieces_of outer)
+ground_of (LocatedPoint earliest latest) = point earliest latest
 
 -- two places lie on one line, and are at most so far apart
 pub record IsNear (apart : ℕ) (one other : Place) : Type 0 where

@@ -3,7 +3,6 @@ pub mod Missing
 pub mod Closeness
 pub mod Extents
 pub mod Laws
-pub mod Shown
 pub mod Looking
 pub mod Verdict
 pub mod Text

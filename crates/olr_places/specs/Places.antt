@@ -5,11 +5,11 @@ use Rattle.olr_text.specs.JsonValues.{array_of, whole, whole_or_null}
 use Rattle.olr_keys.specs.Page.{last_of}
 use Rattle.olr_map.specs.RoadMap.{RoadMap}
 use Rattle.olr_matching.specs.Layers.{LayersValue}
-use Rattle.olr_report.specs.Entries.{Entry, IsOnMap}
+use Rattle.olr_report.specs.Entries.{Entry, IsEntryAt, IsOnMap, keys_of}
 use Rattle.olr_report.specs.Json.{next_value}
+use Rattle.olr_report.specs.Location.{located_value}
 use Rattle.olr_places.specs.Json.{place_object}
 use Rattle.olr_places.specs.Looking.{Looked, gap_of, listed_of, members_of}
-use Rattle.olr_places.specs.Shown.{IsEntryAt, Shown, keys_of, shown_of}
 use Rattle.olr_places.specs.Text.{next_after, place_rows, verdict_word}
 use Rattle.olr_places.specs.Verdict.{margin_of, verdict_by}
 use Rattle.olr_places.specs.declared.ending.Verdict.{Verdict}
@@ -23,27 +23,23 @@ entry_of opener = record {
   key = opener.key;
   matched = opener.matched;
   route = opener.route.items;
-  located = opener.extent.located;
+  located = located_value opener.extent.located;
 }
-
--- the same as it is shown
-abbrev pub shown_by : RoadMap → Opener → Shown
-shown_by road opener = shown_of road (entry_of opener)
 
 -- it is the matching of its key, and lies on lines of the map
 pub record IsOpenerAt (road : RoadMap) (layers : LayersValue) (opener : Opener) : Type 0 where
-  pub is_entry : IsEntryAt road layers opener.key (entry_of opener)
+  pub is_entry : IsEntryAt road layers (entry_of opener)
   pub on_map : IsOnMap road (entry_of opener)
 
 -- the opener of the place of this index has its gap, and the number of the matchings that belong to
 -- the place
-pub record IsCounted (limits : PlaceLimits) (matchings : List Shown) (index : ℕ) (opener : Opener)
+pub record IsCounted (limits : PlaceLimits) (matchings : List Entry) (index : ℕ) (opener : Opener)
     : Type 0 where
   pub gap : opener.gap ≡ gap_of matchings opener.key
   pub members : opener.members ≡ members_of limits matchings index
 
 -- and so it is for each opener, the first of which has this index
-abbrev pub AreCounted : PlaceLimits → List Shown → ℕ → List Opener → Type 0
+abbrev pub AreCounted : PlaceLimits → List Entry → ℕ → List Opener → Type 0
 AreCounted limits matchings index [] = Unit {0}
 AreCounted limits matchings index (opener ∷ openers) =
     IsCounted limits matchings index opener × AreCounted limits matchings (index + 1) openers
@@ -51,9 +47,8 @@ AreCounted limits matchings index (opener ∷ openers) =
 -- The places of the matchings that were looked at: the openers of those that are listed, with the
 -- gap and the members of each, how many matchings were looked at, the last one of them, the margin,
 -- and why looking ended.
-pub record ArePlacesOf (limits : PlaceLimits) (road : RoadMap) (looked : Looked) (places : Places)
-    : Type 0 where
-  pub openers : map (shown_by road) places.openers.items ≡ listed_of limits looked.matchings
+pub record ArePlacesOf (limits : PlaceLimits) (looked : Looked) (places : Places) : Type 0 where
+  pub openers : map entry_of places.openers.items ≡ listed_of limits looked.matchings
   pub counted : AreCounted limits looked.matchings 0 places.openers.items
   pub count : places.looked ≡ length looked.matchings
   pub last : places.last ≡ last_of None (keys_of looked.matchings)
@@ -75,12 +70,12 @@ verdict_in places = verdict_by places.looked (length places.openers.items) place
 abbrev pub openers_rows : RoadMap → ℕ → List Opener → List ℕ
 openers_rows road index [] = []
 openers_rows road index (opener ∷ openers) =
-    place_rows (index + 1) opener.gap opener.members (shown_by road opener)
+    place_rows road (index + 1) opener.gap opener.members (entry_of opener)
     ++ openers_rows road (index + 1) openers
 
 -- the object of an opener
 abbrev pub opener_object : RoadMap → Opener → Data
-opener_object road opener = place_object opener.gap opener.members (shown_by road opener)
+opener_object road opener = place_object road opener.gap opener.members (entry_of opener)
 
 -- the object of places, with this verdict
 abbrev pub object_of : RoadMap → Places → Data

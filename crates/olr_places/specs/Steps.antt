@@ -2,10 +2,9 @@
 use Rattle.std.specs.Prelude.{◌≡◌, ℕ, zero, suc, ◌+◌, ◌-◌, List, [], ◌∷◌, ◌++◌, length, map, min, All, MatchOption, Option, None, Some, true}
 use Rattle.olr_keys.specs.Key.{KeyValue}
 use Rattle.olr_keys.specs.Page.{last_of}
-use Rattle.olr_map.specs.RoadMap.{RoadMap}
+use Rattle.olr_report.specs.Entries.{Entry, keys_of}
 use Rattle.olr_places.specs.Looking.{Looked, is_within, looking, looking_on, openers_of}
-use Rattle.olr_places.specs.Places.{AreCounted, ArePlacesOf, shown_by}
-use Rattle.olr_places.specs.Shown.{Shown, keys_of}
+use Rattle.olr_places.specs.Places.{AreCounted, ArePlacesOf, entry_of}
 use Rattle.olr_places.specs.declared.ending.Ending.{Ending}
 use Rattle.olr_places.specs.declared.ending.Ending.TheVariants.{Beyond, Cut, NoMore}
 use Rattle.olr_places.specs.declared.limits.PlaceLimits.{PlaceLimits}
@@ -28,14 +27,13 @@ with_gap opener gap = record opener { gap = gap }
 
 -- What is kept of the matchings that were looked at, while looking goes on: each of those that
 -- opened a place.
-pub record Stands (limits : PlaceLimits) (road : RoadMap) (before : List Shown) (kept : Looking)
-    : Type 0 where
-  pub openers : map (shown_by road) kept.openers.items ≡ openers_of limits before
-  pub within : All (λ (one : Shown). is_within limits before one ≡ true) (openers_of limits before)
+pub record Stands (limits : PlaceLimits) (before : List Entry) (kept : Looking) : Type 0 where
+  pub openers : map entry_of kept.openers.items ≡ openers_of limits before
+  pub within : All (λ (one : Entry). is_within limits before one ≡ true) (openers_of limits before)
   pub counted : AreCounted limits before 0 kept.openers.items
   pub count : kept.looked ≡ length before
   pub last : kept.last ≡ last_of None (keys_of before)
-  pub goes_on : (left : List Shown)
+  pub goes_on : (left : List Entry)
       → looking limits (before ++ left) ≡ looking_on limits before left
 
 -- the gap of the next matching: its total less that of the first one, which opened the first place
@@ -68,16 +66,16 @@ places_in kept ending = record {
 -- ---- steps
 
 -- looking ended within these matchings
-pub record HasEnded (limits : PlaceLimits) (road : RoadMap) (seen : List Shown) (kept : Looking)
-    (ending : Ending) : Type 0 where
+pub record HasEnded (limits : PlaceLimits) (seen : List Entry) (kept : Looking) (ending : Ending)
+    : Type 0 where
   pub looked : Looked
-  pub places : ArePlacesOf limits road looked (places_in kept ending)
-  pub looked_at : (behind : List Shown) × (seen ≡ looked.matchings ++ behind)
-  pub looks : (left : List Shown) → looking limits (seen ++ left) ≡ looked
+  pub places : ArePlacesOf limits looked (places_in kept ending)
+  pub looked_at : (behind : List Entry) × (seen ≡ looked.matchings ++ behind)
+  pub looks : (left : List Entry) → looking limits (seen ++ left) ≡ looked
 
 -- one matching was looked at, after others: looking goes on behind it, or has ended
 abbrev pub LooksAt : PlaceLimits → Looking → Looking → Opener → Option Ending → Type 0
 LooksAt limits old new opener ending =
-    (road : RoadMap) (before : List Shown) → Stands limits road before old → MatchOption ending
-    (Stands limits road (before ++ shown_by road opener ∷ []) new)
-    (HasEnded limits road (before ++ shown_by road opener ∷ []) new)
+    (before : List Entry) → Stands limits before old → MatchOption ending
+    (Stands limits (before ++ entry_of opener ∷ []) new)
+    (HasEnded limits (before ++ entry_of opener ∷ []) new)

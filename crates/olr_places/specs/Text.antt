@@ -5,9 +5,11 @@ use Rattle.std.specs.Prelude.{ℕ, ◌+◌, List, [], ◌∷◌, ◌++◌, lengt
 use Rattle.olr_keys.specs.Cursor.{key_text}
 use Rattle.olr_keys.specs.Key.{KeyValue}
 use Rattle.olr_keys.specs.Page.{last_of}
-use Rattle.olr_report.specs.TextRows.{end_row}
+use Rattle.olr_map.specs.RoadMap.{RoadMap}
+use Rattle.olr_report.specs.Entries.{Entry, keys_of}
+use Rattle.olr_report.specs.Location.{LocatedLine, LocatedPoint, LocatedValue}
+use Rattle.olr_report.specs.TextRows.{end_row, part_row, place_row}
 use Rattle.olr_places.specs.Looking.{Looked, gap_of, listed_of, members_of}
-use Rattle.olr_places.specs.Shown.{Shown, keys_of}
 use Rattle.olr_places.specs.Verdict.{margin_of, verdict_of}
 use Rattle.olr_places.specs.declared.ending.Ending.{Ending}
 use Rattle.olr_places.specs.declared.ending.Ending.TheVariants.{Beyond, Cut, NoMore}
@@ -25,16 +27,25 @@ head_row number gap members key =
     ++ decimal gap
     ++ codes " members " ++ decimal members ++ codes "\n"
 
+-- the stretch of road of a matching: the outer part of a line, or the earliest and the latest place
+-- of a point along a line
+abbrev pub extent_rows : RoadMap → LocatedValue → List ℕ
+extent_rows road (LocatedLine outer inner) = part_row road (codes "outer") outer
+extent_rows road (LocatedPoint earliest latest) =
+    place_row road (codes "earliest") earliest ++ place_row road (codes "latest") latest
+
 -- the rows of a place, by its opener: the first one, and the stretch of road
-abbrev pub place_rows : ℕ → ℕ → ℕ → Shown → List ℕ
-place_rows number gap members opener = head_row number gap members opener.key ++ opener.rows
+abbrev pub place_rows : RoadMap → ℕ → ℕ → ℕ → Entry → List ℕ
+place_rows road number gap members opener =
+    head_row number gap members opener.key ++ extent_rows road opener.located
 
 -- the rows of places of these matchings, the first of which has this index
-abbrev pub all_place_rows : PlaceLimits → List Shown → ℕ → List Shown → List ℕ
-all_place_rows limits matchings index [] = []
-all_place_rows limits matchings index (opener ∷ openers) =
-    place_rows (index + 1) (gap_of matchings opener.key) (members_of limits matchings index) opener
-    ++ all_place_rows limits matchings (index + 1) openers
+abbrev pub all_place_rows : RoadMap → PlaceLimits → List Entry → ℕ → List Entry → List ℕ
+all_place_rows road limits matchings index [] = []
+all_place_rows road limits matchings index (opener ∷ openers) =
+    place_rows road (index + 1) (gap_of matchings opener.key) (members_of limits matchings index)
+    opener
+    ++ all_place_rows road limits matchings (index + 1) openers
 
 -- ---- the end
 
@@ -66,8 +77,8 @@ abbrev pub next_of : Looked → Option KeyValue
 next_of looked = next_after looked.ending (last_of None (keys_of looked.matchings))
 
 -- the text of the places of the matchings that were looked at
-abbrev pub places_text : PlaceLimits → Looked → List ℕ
-places_text limits looked =
-    all_place_rows limits looked.matchings 0 (listed_of limits looked.matchings)
+abbrev pub places_text : RoadMap → PlaceLimits → Looked → List ℕ
+places_text road limits looked =
+    all_place_rows road limits looked.matchings 0 (listed_of limits looked.matchings)
     ++ summary_rows (length looked.matchings) (margin_of limits looked.matchings)
     (verdict_of limits looked) ++ end_row (next_of looked) None

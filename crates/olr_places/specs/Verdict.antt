@@ -1,7 +1,7 @@
 -- Whether a match is unique, by the matchings that were looked at. Gaps are in penalty points.
 use Rattle.std.specs.Prelude.{ℕ, List, length, ◌==◌, Option, option_map, slice_get, nat_le, if◌then◌else◌}
+use Rattle.olr_report.specs.Entries.{Entry}
 use Rattle.olr_places.specs.Looking.{Looked, gap_of, listed_of, openers_of}
-use Rattle.olr_places.specs.Shown.{Shown}
 use Rattle.olr_places.specs.declared.ending.Ending.{Ending}
 use Rattle.olr_places.specs.declared.ending.Ending.TheVariants.{Beyond, Cut, NoMore}
 use Rattle.olr_places.specs.declared.ending.Verdict.{Verdict}
@@ -9,9 +9,9 @@ use Rattle.olr_places.specs.declared.ending.Verdict.TheVariants as verdict
 use Rattle.olr_places.specs.declared.limits.PlaceLimits.{PlaceLimits}
 
 -- the gap of the second place, listed or not; none where no second one was looked at
-abbrev pub margin_of : PlaceLimits → List Shown → Option ℕ
+abbrev pub margin_of : PlaceLimits → List Entry → Option ℕ
 margin_of limits matchings =
-    option_map (λ (one : Shown). gap_of matchings one.key)
+    option_map (λ (one : Entry). gap_of matchings one.key)
     (slice_get (openers_of limits matchings) 1)
 
 -- the verdict of one place, by why looking ended: a further one may lie behind where looking was

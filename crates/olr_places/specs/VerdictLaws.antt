@@ -5,9 +5,9 @@ use Rattle.olr_keys.specs.Answers.{AreAnswers}
 use Rattle.olr_keys.specs.Key.{KeyValue}
 use Rattle.olr_map.specs.RoadMap.{IsSoundMap, RoadMap}
 use Rattle.olr_matching.specs.Layers.{LayersValue}
-use Rattle.olr_places.specs.Closeness.{IsClose}
+use Rattle.olr_report.specs.Entries.{Entry, IsEntryAt}
+use Rattle.olr_places.specs.Closeness.{IsClose, ground_of}
 use Rattle.olr_places.specs.Looking.{IsLooked, Looked, listed_of, openers_of}
-use Rattle.olr_places.specs.Shown.{IsShownAt, Shown}
 use Rattle.olr_places.specs.Verdict.{margin_of, verdict_of}
 use Rattle.olr_places.specs.declared.ending.Verdict.TheVariants as verdict
 use Rattle.olr_places.specs.declared.limits.PlaceLimits.{PlaceLimits}
@@ -36,13 +36,14 @@ LooksAtMost = (limits : PlaceLimits) (road : RoadMap) (layers : LayersValue)
 -- ---- places
 
 -- a matching is close to another one
-abbrev pub AreClose : PlaceLimits → Shown → Shown → Type 0
-AreClose limits one other = IsClose limits.apart one.ground other.ground
+abbrev pub AreClose : PlaceLimits → Entry → Entry → Type 0
+AreClose limits one other =
+    IsClose limits.apart (ground_of one.located) (ground_of other.located)
 
 -- no two matchings that open a place are close
 abbrev pub OpenersAreApart : Type 0
-OpenersAreApart = (limits : PlaceLimits) (matchings : List Shown)
-    → AllPairs (λ (earlier later : Shown). ¬ (AreClose limits later earlier))
+OpenersAreApart = (limits : PlaceLimits) (matchings : List Entry)
+    → AllPairs (λ (earlier later : Entry). ¬ (AreClose limits later earlier))
     (openers_of limits matchings)
 
 -- ---- verdicts and margins, by all matchings of a reference
@@ -56,16 +57,16 @@ pub record WereLookedAt (limits : PlaceLimits) (road : RoadMap) (layers : Layers
   pub is_looked : IsLooked limits road layers answers looked
 
 -- one of the matchings: that of one of the keys
-pub record IsOneOf (road : RoadMap) (layers : LayersValue) (answers : List KeyValue) (one : Shown)
+pub record IsOneOf (road : RoadMap) (layers : LayersValue) (answers : List KeyValue) (one : Entry)
     : Type 0 where
   pub among : Contains answers one.key
-  pub is_shown : IsShownAt road layers one
+  pub is_entry : IsEntryAt road layers one
 
 -- the first of the matchings, which has the least total
-pub record IsFirstOf (road : RoadMap) (layers : LayersValue) (answers : List KeyValue) (one : Shown)
+pub record IsFirstOf (road : RoadMap) (layers : LayersValue) (answers : List KeyValue) (one : Entry)
     : Type 0 where
   pub first : slice_get answers 0 ≡ Some one.key
-  pub is_shown : IsShownAt road layers one
+  pub is_entry : IsEntryAt road layers one
 
 -- `none` exactly where there is no matching
 abbrev pub NoneWithoutMatching : Type 0
@@ -77,7 +78,7 @@ NoneWithoutMatching = (limits : PlaceLimits) (road : RoadMap) (layers : LayersVa
 -- one
 abbrev pub UniqueIsClose : Type 0
 UniqueIsClose = (limits : PlaceLimits) (road : RoadMap) (layers : LayersValue)
-    (answers : List KeyValue) (looked : Looked) (first one : Shown)
+    (answers : List KeyValue) (looked : Looked) (first one : Entry)
     → WereLookedAt limits road layers answers looked → verdict_of limits looked ≡ verdict.Unique
     → IsFirstOf road layers answers first → IsOneOf road layers answers one
     → one.key.total ≤ first.key.total + limits.within → AreClose limits one first
@@ -85,7 +86,7 @@ UniqueIsClose = (limits : PlaceLimits) (road : RoadMap) (layers : LayersValue)
 -- a matching whose place is listed, whose gap is at most what is asked for, and which isn't close
 -- to the first one
 pub record IsElsewhere (limits : PlaceLimits) (road : RoadMap) (layers : LayersValue)
-    (answers : List KeyValue) (matchings : List Shown) (first other : Shown) : Type 0 where
+    (answers : List KeyValue) (matchings : List Entry) (first other : Entry) : Type 0 where
   pub is_one : IsOneOf road layers answers other
   pub listed : Contains (listed_of limits matchings) other
   pub within : other.key.total ≤ first.key.total + limits.within
@@ -94,29 +95,29 @@ pub record IsElsewhere (limits : PlaceLimits) (road : RoadMap) (layers : LayersV
 -- `ambiguous` only where there is such a matching
 abbrev pub AmbiguousIsElsewhere : Type 0
 AmbiguousIsElsewhere = (limits : PlaceLimits) (road : RoadMap) (layers : LayersValue)
-    (answers : List KeyValue) (looked : Looked) (first : Shown)
+    (answers : List KeyValue) (looked : Looked) (first : Entry)
     → WereLookedAt limits road layers answers looked → verdict_of limits looked ≡ verdict.Ambiguous
     → IsFirstOf road layers answers first
-    → (other : Shown) × IsElsewhere limits road layers answers looked.matchings first other
+    → (other : Entry) × IsElsewhere limits road layers answers looked.matchings first other
 
 -- The gap of the nearest matching that isn't close to the first one: it was looked at, and each
 -- matching with a lesser gap is close to the first one.
 pub record IsMargin (limits : PlaceLimits) (road : RoadMap) (layers : LayersValue)
-    (answers : List KeyValue) (matchings : List Shown) (first : Shown) (gap : ℕ) : Type 0 where
-  pub nearest : Shown
+    (answers : List KeyValue) (matchings : List Entry) (first : Entry) (gap : ℕ) : Type 0 where
+  pub nearest : Entry
   pub is_one : IsOneOf road layers answers nearest
   pub looked_at : Contains matchings nearest
   pub total_is : nearest.key.total ≡ first.key.total + gap
   pub apart : ¬ (AreClose limits nearest first)
-  pub nearer : (one : Shown) → IsOneOf road layers answers one
+  pub nearer : (one : Entry) → IsOneOf road layers answers one
       → one.key.total < first.key.total + gap → AreClose limits one first
 
 -- The margin is this gap; where there is none, each matching that was looked at is close to the
 -- first one.
 abbrev pub MarginIsOfNearest : Type 0
 MarginIsOfNearest = (limits : PlaceLimits) (road : RoadMap) (layers : LayersValue)
-    (answers : List KeyValue) (looked : Looked) (first : Shown)
+    (answers : List KeyValue) (looked : Looked) (first : Entry)
     → WereLookedAt limits road layers answers looked → IsFirstOf road layers answers first
     → MatchOption (margin_of limits looked.matchings)
-    (All (λ (one : Shown). AreClose limits one first) looked.matchings)
+    (All (λ (one : Entry). AreClose limits one first) looked.matchings)
     (IsMargin limits road layers answers looked.matchings first)

@@ -3,6 +3,7 @@
 ghost use Rattle.std.specs.Prelude.{◌≡◌, Decides, IfOk};
 ghost use Rattle.olr_places.specs.Closeness.{IsClose, are_alike, ground_of, is_close, is_near, pieces_of};
 ghost use Rattle.olr_places.specs.Extents.{IsCoverOf, outer_of};
+ghost use Rattle.olr_report.specs.Location.{located_value, pieces_if_any};
 
 use crate::cover::Cover;
 use crate::laws::closeness_is_tested;
@@ -18,12 +19,12 @@ use std::alloc::Global;
 pub struct Extent {
     pub(crate) located: Located,
     pub(crate) cover: Cover,
-    pub(crate) ghost is_cover: { IsCoverOf (outer_of (ground_of located)) cover },
+    pub(crate) ghost is_cover: { IsCoverOf (outer_of (ground_of (located_value located))) cover },
 }
 
 /// The pieces of a part; no pieces for `None`.
 fn pieces_of(part: &Option<Vec<Piece>>) -> &[Piece]
-    ensures { result.now ≡ pieces_of part.now }
+    ensures { result.now ≡ pieces_of (pieces_if_any part.now) }
 {
     match part {
         Some(pieces) => pieces,
@@ -33,7 +34,7 @@ fn pieces_of(part: &Option<Vec<Piece>>) -> &[Piece]
 
 /// The cover of the outer part of a location.
 fn cover_of(alloc: Global, located: &Located) -> Result<Cover, NoMemory>
-    ensures { IfOk result (IsCoverOf (outer_of (ground_of located.now))) }
+    ensures { IfOk result (IsCoverOf (outer_of (ground_of (located_value located.now)))) }
 {
     match located {
         Located::Line { outer, .. } => Cover::new(alloc, pieces_of(outer)),
@@ -64,7 +65,8 @@ fn is_near(one: Place, other: Place, apart: u32) -> bool
 
 /// Whether two matchings are close.
 fn are_close(one: &Extent, other: &Extent, apart: u32) -> bool
-    ensures { result ≡ is_close apart (ground_of one.now.located) (ground_of other.now.located) }
+    ensures { result ≡ is_close apart (ground_of (located_value one.now.located))
+        (ground_of (located_value other.now.located)) }
 {
     match (&one.located, &other.located) {
         (Located::Line { outer: first, .. }, Located::Line { outer: second, .. }) => {
@@ -102,10 +104,10 @@ impl Extent {
     /// earliest places lie on one line and at most `apart` decimetres from each other, and their
     /// latest places, too.
     pub fn is_close(&self, other: &Extent, apart: u32) -> bool
-        ensures value { result
-            ≡ is_close apart (ground_of self.now.located) (ground_of other.now.located) }
-        ensures close { Decides result
-            (IsClose apart (ground_of self.now.located) (ground_of other.now.located)) }
+        ensures value { result ≡ is_close apart (ground_of (located_value self.now.located))
+            (ground_of (located_value other.now.located)) }
+        ensures close { Decides result (IsClose apart (ground_of (located_value self.now.located))
+            (ground_of (located_value other.now.located))) }
     {
         closeness_is_tested();
         are_close(self, other, apart)

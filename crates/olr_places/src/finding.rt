@@ -73,7 +73,7 @@ pub fn places_of(
     ensures places { IfOk result (λ places. (answers : List KeyValue) × (looked : Looked)
         × AreAnswers layers.now.penalties answers
         × IsLooked limits.now map.now layers.now answers looked
-        × ArePlacesOf limits.now map.now looked places) }
+        × ArePlacesOf limits.now looked places) }
     ensures openers { IfOk result (λ places.
         All (IsOpenerAt map.now layers.now) places.openers.items) }
     ensures on_map { IfOk result (AreOnMap map.now) }

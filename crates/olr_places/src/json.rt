@@ -64,8 +64,8 @@ impl ToJson<OnMap<'_>> for Places {
 /// [`NoMemory`] where the allocator refused memory.
 pub fn places_json(alloc: Global, map: &Map, places: Places) -> Result<String, NoMemory>
     ensures { IfOk result (λ text. (limits : PlaceLimits) (looked : Looked)
-        → ArePlacesOf limits map.now looked places
-        → IsJsonLine (places_object limits looked) (string_bytes text)) }
+        → ArePlacesOf limits looked places
+        → IsJsonLine (places_object map.now limits looked) (string_bytes text)) }
 {
     let text = to_json_line(alloc, &OnMap { map }, &places)?;
     Ok(text)

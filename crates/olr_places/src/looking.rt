@@ -69,7 +69,7 @@ fn margin_in(openers: &[Opener], ending: Ending) -> Option<u32>
 impl Looking {
     /// No matching was looked at yet.
     pub(crate) fn new(alloc: Global) -> Looking
-        ensures { (limits : Limits) (road : RoadMap) → Stands limits road [] result }
+        ensures { (limits : Limits) → Stands limits [] result }
     {
         Looking {
             openers: Vec::new(alloc),

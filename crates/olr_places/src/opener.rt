@@ -1,9 +1,8 @@
 //! A matching that opened a place, and the place that a matching belongs to.
 
 ghost use Rattle.std.specs.Prelude.{◌≡◌, ◌<◌, IfOk, IfSome, MatchOption, false, length, map, true};
-ghost use Rattle.olr_map.specs.RoadMap.{RoadMap};
 ghost use Rattle.olr_places.specs.Looking.{belongs, place_of};
-ghost use Rattle.olr_places.specs.Places.{shown_by};
+ghost use Rattle.olr_places.specs.Places.{entry_of};
 
 use crate::extent::Extent;
 use crate::limits::PlaceLimits;
@@ -40,12 +39,10 @@ pub(crate) fn copy_of(key: &Key) -> Result<Key, NoMemory>
 /// The index of the place that a matching belongs to, the first one whose opener it is close to.
 pub(crate) fn place_of(openers: &[Opener], opener: &Opener, limits: &PlaceLimits) -> Option<usize>
     ensures inside { IfSome result (λ index. index < length openers.now) }
-    ensures place { (road : RoadMap) → MatchOption result
-        (belongs limits.now (map (shown_by road) openers.now) (shown_by road opener.now) ≡ false)
-        (λ index. (belongs limits.now (map (shown_by road) openers.now)
-        (shown_by road opener.now) ≡ true)
-        × (place_of limits.now (map (shown_by road) openers.now) (shown_by road opener.now)
-        ≡ index)) }
+    ensures place { MatchOption result
+        (belongs limits.now (map entry_of openers.now) (entry_of opener.now) ≡ false)
+        (λ index. (belongs limits.now (map entry_of openers.now) (entry_of opener.now) ≡ true)
+        × (place_of limits.now (map entry_of openers.now) (entry_of opener.now) ≡ index)) }
 {
     for (index, one) in openers.iter().enumerate() {
         if opener.extent.is_close(&one.extent, limits.apart) {

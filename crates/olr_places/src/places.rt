@@ -1,7 +1,6 @@
 //! The places of a reference, by the matchings that were looked at.
 
 ghost use Rattle.std.specs.Prelude.{◌≡◌, option_map};
-ghost use Rattle.olr_map.specs.RoadMap.{RoadMap};
 ghost use Rattle.olr_places.specs.Looking.{Looked};
 ghost use Rattle.olr_places.specs.Places.{ArePlacesOf, verdict_in};
 ghost use Rattle.olr_places.specs.Text.{next_after};
@@ -31,8 +30,8 @@ impl Places {
     /// Whether the match is unique.
     pub fn verdict(&self) -> Verdict
         ensures value { result ≡ verdict_in self.now }
-        ensures verdict { (limits : Limits) (road : RoadMap) (looked : Looked)
-            → ArePlacesOf limits road looked self.now → result ≡ verdict_of limits looked }
+        ensures verdict { (limits : Limits) (looked : Looked)
+            → ArePlacesOf limits looked self.now → result ≡ verdict_of limits looked }
     {
         if self.looked == 0 {
             return Verdict::None;

@@ -2,11 +2,11 @@
 
 ghost use Rattle.std.specs.Prelude.{◌≡◌, ◌++◌, ◌+◌, All, IfOk, OnOk, string_bytes};
 ghost use Rattle.olr_places.specs.Looking.{Looked};
-ghost use Rattle.olr_places.specs.Places.{AreOnMap, ArePlacesOf, entry_of, openers_rows, shown_by};
-ghost use Rattle.olr_places.specs.Shown.{extent_rows};
-ghost use Rattle.olr_places.specs.Text.{head_row, place_rows, places_text, summary_rows};
+ghost use Rattle.olr_places.specs.Places.{AreOnMap, ArePlacesOf, entry_of, openers_rows};
+ghost use Rattle.olr_places.specs.Text.{extent_rows, head_row, place_rows, places_text, summary_rows};
 ghost use Rattle.olr_places.specs.declared.limits.PlaceLimits.{PlaceLimits};
 ghost use Rattle.olr_report.specs.Entries.{HasLocation, IsOnMap};
+ghost use Rattle.olr_report.specs.Location.{located_value};
 
 use crate::ending::Verdict;
 use crate::opener::Opener;
@@ -21,9 +21,9 @@ use std::fmt::Write;
 
 /// Adds the rows of the stretch of road that a matching covers.
 fn push_extent(text: &mut String, map: &Map, location: &Located) -> Result<(), NoMemory>
-    requires { HasLocation map.now location.now }
+    requires { HasLocation map.now (located_value location.now) }
     ensures { OnOk result (string_bytes text.new
-        ≡ string_bytes text.old ++ extent_rows map.now location.now) }
+        ≡ string_bytes text.old ++ extent_rows map.now (located_value location.now)) }
 {
     match location {
         Located::Line { outer, .. } => {
@@ -56,7 +56,7 @@ fn push_head(text: &mut String, number: usize, opener: &Opener) -> Result<(), No
 fn push_opener(text: &mut String, map: &Map, number: usize, opener: &Opener) -> Result<(), NoMemory>
     requires { IsOnMap map.now (entry_of opener.now) }
     ensures { OnOk result (string_bytes text.new ≡ string_bytes text.old
-        ++ place_rows number opener.now.gap opener.now.members (shown_by map.now opener.now)) }
+        ++ place_rows map.now number opener.now.gap opener.now.members (entry_of opener.now)) }
 {
     push_head(text, number, opener)?;
     push_extent(text, map, &opener.extent.located)?;
@@ -108,8 +108,8 @@ fn push_summary(
 pub fn places_text(alloc: Global, map: &Map, places: &Places) -> Result<String, NoMemory>
     requires { AreOnMap map.now places.now }
     ensures { IfOk result (λ text. (limits : PlaceLimits) (looked : Looked)
-        → ArePlacesOf limits map.now looked places.now
-        → string_bytes text ≡ places_text limits looked) }
+        → ArePlacesOf limits looked places.now
+        → string_bytes text ≡ places_text map.now limits looked) }
 {
     let mut text = String::new(alloc);
     push_openers(&mut text, map, &places.openers)?;

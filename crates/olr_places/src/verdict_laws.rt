@@ -5,15 +5,14 @@ ghost use Rattle.olr_places.specs.VerdictLaws.{AmbiguousIsElsewhere, LooksAtMost
 ghost use Rattle.olr_places.specs.VerdictLaws.{NoneWithoutMatching, OneLooking, OpenersAreApart};
 ghost use Rattle.olr_places.specs.VerdictLaws.{UniqueIsClose};
 
-use olr_matching::one_matched;
-use olr_report::one_route_of_steps;
+use olr_report::one_entry;
 
-/// The places of a reference on a map have one text and one JSON at most.
+/// Looking at the matchings of a reference on a map gives one value at most. So its places have one
+/// text and one JSON at most.
 pub fn one_looking()
     ensures { OneLooking }
 {
-    one_matched();
-    one_route_of_steps();
+    one_entry();
 }
 
 /// At most as many matchings are looked at as are asked for, and at most as many places are listed.
@@ -34,8 +33,7 @@ pub fn verdict_of_matchings()
     ensures unique { UniqueIsClose }
     ensures ambiguous { AmbiguousIsElsewhere }
 {
-    one_matched();
-    one_route_of_steps();
+    one_entry();
 }
 
 /// The margin is the gap of the nearest matching that isn't close to the first one: each matching
@@ -43,6 +41,5 @@ pub fn verdict_of_matchings()
 pub fn margin_of_matchings()
     ensures { MarginIsOfNearest }
 {
-    one_matched();
-    one_route_of_steps();
+    one_entry();
 }

@@ -1,17 +1,17 @@
 -- The value of an entry nests three deep.
 use Rattle.std.proofs.Common.{◌≤◌, ℕ, List, arith, rules}
-use Rattle.olr_report.proofs.Common.{Entry, KeyValue, Located, Matched, Piece, RoadMap}
+use Rattle.olr_report.proofs.Common.{Entry, KeyValue, Matched, Piece, RoadMap}
 use Rattle.olr_report.specs.Json.{entry_object, matching_object}
-use Rattle.olr_report.specs.declared.locating.Located.TheVariants.{Line, Point}
+use Rattle.olr_report.specs.Location.{LocatedLine, LocatedPoint, LocatedValue}
 use Rattle.olr_text.specs.JsonValues.{NestsWithin}
 use Rattle.olr_text.proofs.Nesting.{items_nest, option_nests}
 
 module _ (road : RoadMap) (most : ℕ) (enough : 3 ≤ most) where
-  matching_nests : (key : KeyValue) (matched : Matched) (route : List Piece) (located : Located)
-      → NestsWithin most (matching_object road key matched route located)
-  matching_nests key matched route (Line outer inner) =
+  matching_nests : (key : KeyValue) (matched : Matched) (route : List Piece)
+      (located : LocatedValue) → NestsWithin most (matching_object road key matched route located)
+  matching_nests key matched route (LocatedLine outer inner) =
       search (rules, arith, items_nest, option_nests)
-  matching_nests key matched route (Point earliest latest) =
+  matching_nests key matched route (LocatedPoint earliest latest) =
       search (rules, arith, items_nest, option_nests)
 
   pub entry_nests : (entry : Entry) → NestsWithin most (entry_object road entry)

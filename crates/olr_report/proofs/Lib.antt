@@ -12,6 +12,6 @@ mod Lines
 mod Shown
 mod PageEntries
 mod PiecesText
-mod OneShown
+mod OneEntry
 pub mod JsonShape
 pub mod ShownPage

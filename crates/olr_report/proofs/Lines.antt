@@ -1,14 +1,12 @@
 -- The lines of joined routes, trimmed parts and places are those of the pieces of the legs.
 use Rattle.std.proofs.Common.{◌≡◌, ℕ, zero, suc, ◌-◌, ◌<◌, List, [], ◌∷◌, ◌++◌, length, map, drop, slice_get, Option, Some, None, All, option_map, refl, subst, ap, ◌∙◌, arith, slice_range}
-use Rattle.std.specs.Global.{Vec}
 use Rattle.std.specs.List.{range_with_len}
 use Rattle.std.proofs.lemmas.List.Elements.{All-nil, All-cons, All-head, All-tail, All-append, All-same, All-take, All-drop}
 use Rattle.std.proofs.lemmas.Option.{same_Some, none-some}
-use Rattle.olr_report.proofs.Common.{IsJoinedRoute, IsNotEmpty, IsRouteOver, Leg, Line, Located, Piece, Place, PointAlong, Reference, RoadMap}
+use Rattle.olr_report.proofs.Common.{IsJoinedRoute, IsNotEmpty, IsRouteOver, Leg, Line, Piece, Place, PointAlong, Reference, RoadMap}
 use Rattle.olr_report.specs.Entries.{HasLine, HasPieces, HasPart, HasLocation}
-use Rattle.olr_report.specs.Location.{IsLocation, IsPartBetween}
+use Rattle.olr_report.specs.Location.{IsLocation, IsPartBetween, LocatedLine, LocatedPoint, LocatedValue}
 use Rattle.olr_report.specs.Steps.{Step, steps_in, steps_of, steps_of_legs, start_of, end_of, place_at}
-use Rattle.olr_report.specs.declared.locating.Located.TheVariants.{Line as LocatedLine, Point as LocatedPoint}
 
 module _ (road : RoadMap) where
   abbrev IsStepOn : Step → Type 0
@@ -78,13 +76,13 @@ module _ (road : RoadMap) where
 
   -- ---- a part of the steps, and a place on them
 
-  part_of : (steps : List Step) (before behind : ℕ) (part : Option (Vec Piece)) → HasSteps steps
+  part_of : (steps : List Step) (before behind : ℕ) (part : Option (List Piece)) → HasSteps steps
       → IsPartBetween steps before behind part → HasPart road part
   part_of steps before behind None has is = tt
   part_of steps before behind (Some part) has is =
       let dropped = All-drop IsStepOn before steps has in
       let taken = All-take IsStepOn (length steps - behind - before) (drop before steps) dropped in
-      route_over (slice_range steps before (length steps - behind)) part.items taken is.1
+      route_over (slice_range steps before (length steps - behind)) part taken is.1
 
   -- a place of a step lies on the line of that step
   at_step : (of : Step → Place) → ((step : Step) → step.line ≡ (of step).line)
@@ -109,8 +107,8 @@ module _ (road : RoadMap) where
       → IsJoinedRoute legs pieces → HasPieces road pieces
   route_of legs pieces has is = route_over (steps_of_legs legs) pieces (steps_of_all legs has) is
 
-  pub location_of : (legs : List Leg) (reference : Reference) (located : Located) → All IsLegOn legs
-      → IsLocation legs reference located
+  pub location_of : (legs : List Leg) (reference : Reference) (located : LocatedValue)
+      → All IsLegOn legs → IsLocation legs reference located
       → HasLocation road located
   location_of legs (Line points positive negative) (LocatedLine outer inner) has is =
       let steps = steps_of_all legs has in (

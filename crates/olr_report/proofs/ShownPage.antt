@@ -1,12 +1,40 @@
 -- The values that are written of a matching and of a page are their objects.
 use Rattle.std.proofs.Common.{◌≡◌, ℕ, Bor, List, [], ◌∷◌, map, Option, None, Some, option_map, codes, refl, ap, ◌∙◌}
+use Rattle.std.specs.Global.{Vec}
 use Rattle.arrayvec.specs.ArrayString.{ArrayString}
-use Rattle.serde_json.specs.Data.{member, no_members, object, string}
+use Rattle.serde_json.specs.Data.{Data, Members, member, no_members, object, string}
 use Rattle.olr_text.specs.JsonValues.{array_of, or_null, whole}
 use Rattle.olr_keys.specs.Cursor.{cursor_text}
-use Rattle.olr_report.proofs.Common.{entry_of, KeyValue, Located, Mark, Matched, Piece, RoadMap}
-use Rattle.olr_report.specs.Json.{candidate_object, entry_object, located_members, matching_object, next_value, page_object, pieces_array}
+use Rattle.olr_report.proofs.Common.{entry_of, KeyValue, Leg, Located, Mark, Matched, Piece, RoadMap}
+use Rattle.olr_report.specs.Json.{candidate_object, entry_object, leg_object, located_members, matching_object, next_value, page_object, part_value, pieces_array}
+use Rattle.olr_report.specs.Location.{located_value, pieces_if_any}
+use Rattle.olr_report.specs.declared.locating.Located.TheVariants.{Line, Point}
 use Rattle.olr_report.specs.declared.page_entries.Entry.{Entry}
+
+-- what is written of a part that may be there
+abbrev written_part : RoadMap → Option (Vec Piece) → Data
+written_part road part = or_null (λ (part : Vec Piece). pieces_array road part.items) part
+
+same_part : (road : RoadMap) (part : Option (Vec Piece))
+    → written_part road part ≡ part_value road (pieces_if_any part)
+same_part road None = refl
+same_part road (Some part) = refl
+
+-- what is written of a location, with the legs among it
+abbrev written_members : RoadMap → Located → List Leg → Members → Members
+written_members road (Line outer inner) legs others =
+    member (codes "inner") (written_part road inner) (
+    member (codes "legs") (array_of leg_object legs) (
+    member (codes "outer") (written_part road outer) others))
+written_members road (Point earliest latest) legs others =
+    located_members road (located_value (Point earliest latest)) legs others
+
+same_members : (road : RoadMap) (located : Located) (legs : List Leg) (others : Members)
+    → written_members road located legs others
+    ≡ located_members road (located_value located) legs others
+same_members road (Line outer inner) legs others =
+    rw (same_part road outer, same_part road inner) refl
+same_members road (Point earliest latest) legs others = refl
 
 -- the object that is written of a matching is that of its key and its parts
 pub same_matching : (road : RoadMap) (route : List Piece) (text : List ℕ) (written key : KeyValue)
@@ -14,13 +42,15 @@ pub same_matching : (road : RoadMap) (route : List Piece) (text : List ℕ) (wri
     → written ≡ key → parts ≡ matched → located ≡ found
     → object (
     member (codes "cursor") (string text) (
-    located_members road found parts.legs (
+    written_members road found parts.legs (
     member (codes "points") (array_of (candidate_object road) parts.candidates) (
     member (codes "route") (pieces_array road route) (
     member (codes "total") (whole written.total) no_members)))))
-    ≡ matching_object road key matched route located
+    ≡ matching_object road key matched route (located_value located)
 same_matching road route text written key parts matched found located text_is key_is parts_are is =
-    rw (text_is, key_is, parts_are, is) refl
+    rw (text_is, key_is, parts_are, is) (ap (λ members.
+    object (member (codes "cursor") (string (cursor_text key None)) members))
+    (same_members road found matched.legs _))
 
 mapped : {A B C : Type 0} (f : B → C) (g : A → B) (all : List A)
     → map (λ a. f (g a)) all ≡ map f (map g all)

@@ -1,6 +1,5 @@
 -- The inner part of a line lies within the outer one.
 use Rattle.std.proofs.Common.{◌≡◌, ℕ, ◌+◌, ◌-◌, ◌*◌, ◌≤◌, List, ◌++◌, length, take, drop, refl, sym, ap, ◌∙◌, append_assoc, arith, None, Option, Some, slice_range, drop-drop, take-add}
-use Rattle.std.specs.Global.{Vec}
 use Rattle.olr_report.proofs.Common.{Piece, Step, steps_of, steps_of_legs}
 use Rattle.olr_report.specs.PartLaws.{InnerLiesWithinOuter}
 use Rattle.olr_report.specs.Location.{IsPartBetween, earliest_offset, first_length, last_length, latest_offset}
@@ -27,12 +26,12 @@ range_within {X} xs a b c d ab bc cd =
     ∙ ap (λ l. take (b - a) ys ++ (take (c - b) l ++ take (d - c) (drop (c - b) l))) behind
 
 part_within : (steps : List Step) (earliest earliest_behind latest latest_behind : ℕ)
-    (outer : Option (Vec Piece)) (inner : Vec Piece)
+    (outer : Option (List Piece)) (inner : List Piece)
     → earliest ≤ latest → earliest_behind ≤ latest_behind
     → IsPartBetween steps earliest earliest_behind outer
     → IsPartBetween steps latest latest_behind (Some inner)
-    → (part : Vec Piece) × (before : List Step) × (behind : List Step) × (outer ≡ Some part)
-    × (steps_of part.items ≡ before ++ steps_of inner.items ++ behind)
+    → (part : List Piece) × (before : List Step) × (behind : List Step) × (outer ≡ Some part)
+    × (steps_of part ≡ before ++ steps_of inner ++ behind)
 part_within steps e f l m None inner one other out is =
     absurd (omega (arith, one, other, out, is.0))
 part_within steps e f l m (Some part) inner one other out is =
@@ -42,7 +41,7 @@ part_within steps e f l m (Some part) inner one other out is =
     let cut = range_within steps e l (n - m) (n - f) one (omega (arith, is.0))
     (omega (arith, other)) in
     let same = out.1.steps_are ∙ cut ∙ ap (λ steps. before ++ (steps ++ behind)) (cc) in
-    (part, before, behind, refl, same ∙ sym (append_assoc before (steps_of inner.items) behind))
+    (part, before, behind, refl, same ∙ sym (append_assoc before (steps_of inner) behind))
 
 pub inner_within : InnerLiesWithinOuter
 inner_within legs positive negative outer inner is =

@@ -1,11 +1,10 @@
--- The entries of a page: a matching as a page shows it, whatever the format.
+-- The entries of a page: its matchings as values, whatever the format that shows them.
 use Rattle.std.specs.Prelude.{◌≡◌, ℕ, ◌<◌, List, length, map, Option, IfSome, All}
-use Rattle.std.specs.Global.{Vec}
+use Rattle.olr_matching.specs.Layers.{LayersValue}
+use Rattle.olr_matching.specs.Matched.{IsMatchedBy}
 use Rattle.olr_report.specs.Common.{Candidate, KeyValue, Leg, Matched, Piece, Reference, RoadMap}
 use Rattle.olr_report.specs.Joined.{IsJoinedRoute}
-use Rattle.olr_report.specs.Location.{AreLegsOf, IsLocation}
-use Rattle.olr_report.specs.declared.locating.Located.{Located}
-use Rattle.olr_report.specs.declared.locating.Located.TheVariants.{Line, Point}
+use Rattle.olr_report.specs.Location.{AreLegsOf, IsLocation, LocatedLine, LocatedPoint, LocatedValue, located_value}
 use Rattle.olr_report.specs.declared.matching_json.ShownMatching.{ShownMatching}
 use Rattle.olr_report.specs.declared.page_entries.Entry.{Entry as Returned}
 
@@ -15,16 +14,15 @@ pub record Entry : Type 0 where
   pub key : KeyValue
   pub matched : Matched
   pub route : List Piece
-  pub located : Located
+  pub located : LocatedValue
 
 -- the entry that a call returned
 abbrev pub entry_of : Returned → Entry
 entry_of entry = record {
   key = entry.key.now;
   matched = entry.matched.now;
-  route =
-      entry.route.items;
-  located = entry.location;
+  route = entry.route.items;
+  located = located_value entry.location;
 }
 
 -- the entry that a call was given to show
@@ -32,9 +30,8 @@ abbrev pub shown_entry : ShownMatching → Entry
 shown_entry shown = record {
   key = shown.key.now;
   matched = shown.matched.now;
-  route =
-      shown.route.now;
-  located = shown.location.now;
+  route = shown.route.now;
+  located = located_value shown.location.now;
 }
 
 -- the route and the location are those of the legs
@@ -42,12 +39,29 @@ pub record IsEntryOf (reference : Reference) (entry : Entry) : Type 0 where
   pub route : IsJoinedRoute entry.matched.legs entry.route
   pub location : IsLocation entry.matched.legs reference entry.located
 
+-- the keys of entries
+abbrev pub keys_of : List Entry → List KeyValue
+keys_of entries = map (λ (entry : Entry). entry.key) entries
+
 -- the entries of these keys and parts, one for each, in order
 pub record AreEntriesOf (reference : Reference) (keys : List KeyValue) (matched : List Matched)
     (entries : List Entry) : Type 0 where
-  pub keys_are : map (λ (entry : Entry). entry.key) entries ≡ keys
+  pub keys_are : keys_of entries ≡ keys
   pub matched_are : map (λ (entry : Entry). entry.matched) entries ≡ matched
   pub each : All (IsEntryOf reference) entries
+
+-- ---- the matchings of a reference on a map
+
+-- a matching of these layers: its parts are those of its key
+pub record IsEntryAt (road : RoadMap) (layers : LayersValue) (entry : Entry) : Type 0 where
+  pub parts : IsMatchedBy road layers entry.key entry.matched
+  pub is_entry : IsEntryOf layers.reference entry
+
+-- the matchings of these keys, in order
+pub record AreEntriesAt (road : RoadMap) (layers : LayersValue) (keys : List KeyValue)
+    (entries : List Entry) : Type 0 where
+  pub keys_are : keys_of entries ≡ keys
+  pub each : All (IsEntryAt road layers) entries
 
 -- ---- lines of the map
 
@@ -60,13 +74,14 @@ abbrev pub HasPieces : RoadMap → List Piece → Type 0
 HasPieces road pieces = All (λ (piece : Piece). HasLine road piece.line) pieces
 
 -- a part of a route, if there is one, lies on lines of the map
-abbrev pub HasPart : RoadMap → Option (Vec Piece) → Type 0
-HasPart road part = IfSome part (λ (part : Vec Piece). HasPieces road part.items)
+abbrev pub HasPart : RoadMap → Option (List Piece) → Type 0
+HasPart road part = IfSome part (HasPieces road)
 
 -- the location lies on lines of the map
-abbrev pub HasLocation : RoadMap → Located → Type 0
-HasLocation road (Line outer inner) = HasPart road outer × HasPart road inner
-HasLocation road (Point earliest latest) = HasLine road earliest.line × HasLine road latest.line
+abbrev pub HasLocation : RoadMap → LocatedValue → Type 0
+HasLocation road (LocatedLine outer inner) = HasPart road outer × HasPart road inner
+HasLocation road (LocatedPoint earliest latest) =
+    HasLine road earliest.line × HasLine road latest.line
 
 -- the candidates and the routes of the legs of a matching lie on lines of the map
 pub record HasMatched (road : RoadMap) (matched : Matched) : Type 0 where

@@ -1,16 +1,14 @@
 -- The JSON of a page of matchings, as a value: each member of an object under its name, in the
 -- order of the names. All numbers are whole; positions and lengths are in decimetres.
 use Rattle.std.specs.Prelude.{ℕ, List, Option, None, codes}
-use Rattle.std.specs.Global.{Vec}
 use Rattle.serde_json.specs.Data.{Data, Members, string, array, object, no_items, item, no_members, member}
 use Rattle.olr_text.specs.JsonValues.{whole, array_of, or_null, IsJsonLine}
 use Rattle.olr_report.specs.Common.{Candidate, KeyValue, Leg, Mark, Matched, PageValue, Piece, Place, Reference, RoadMap}
 use Rattle.olr_keys.specs.Cursor.{cursor_text}
 use Rattle.olr_route.specs.Route.{id_at}
 use Rattle.olr_report.specs.Entries.{Entry, AreEntriesOf}
+use Rattle.olr_report.specs.Location.{LocatedLine, LocatedPoint, LocatedValue}
 use Rattle.olr_report.specs.Text.{next_after}
-use Rattle.olr_report.specs.declared.locating.Located.{Located}
-use Rattle.olr_report.specs.declared.locating.Located.TheVariants.{Line, Point}
 
 -- ---- candidates and legs
 
@@ -40,8 +38,8 @@ abbrev pub pieces_array : RoadMap → List Piece → Data
 pieces_array road pieces = array_of (piece_array road) pieces
 
 -- a part of the route, null where it is none
-abbrev pub part_value : RoadMap → Option (Vec Piece) → Data
-part_value road part = or_null (λ (part : Vec Piece). pieces_array road part.items) part
+abbrev pub part_value : RoadMap → Option (List Piece) → Data
+part_value road part = or_null (pieces_array road) part
 
 -- a place, as `[id, at]`: the id of its line, and the position on it
 abbrev pub place_array : RoadMap → Place → Data
@@ -52,18 +50,18 @@ place_array road place =
 
 -- the members of a location, with the legs among them, and then others: a line has its inner and
 -- its outer part, and a point along a line its earliest and its latest place
-abbrev pub located_members : RoadMap → Located → List Leg → Members → Members
-located_members road (Line outer inner) legs others =
+abbrev pub located_members : RoadMap → LocatedValue → List Leg → Members → Members
+located_members road (LocatedLine outer inner) legs others =
     member (codes "inner") (part_value road inner) (
     member (codes "legs") (array_of leg_object legs) (
     member (codes "outer") (part_value road outer) others))
-located_members road (Point earliest latest) legs others =
+located_members road (LocatedPoint earliest latest) legs others =
     member (codes "earliest") (place_array road earliest) (
     member (codes "latest") (place_array road latest) (
     member (codes "legs") (array_of leg_object legs) others))
 
 -- a matching: its cursor, its location, its legs, its points, its joined route and its total
-abbrev pub matching_object : RoadMap → KeyValue → Matched → List Piece → Located → Data
+abbrev pub matching_object : RoadMap → KeyValue → Matched → List Piece → LocatedValue → Data
 matching_object road key matched route located = object (
     member (codes "cursor") (string (cursor_text key None)) (
     located_members road located matched.legs (

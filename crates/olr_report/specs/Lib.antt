@@ -4,8 +4,8 @@ pub mod Joined
 pub mod Location
 pub mod PartLaws
 pub mod Entries
+pub mod EntryLaws
 pub mod TextRows
 pub mod Text
-pub mod TextLaws
 pub mod Json
 pub mod JsonLaws

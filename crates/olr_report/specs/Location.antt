@@ -12,7 +12,7 @@ use Rattle.olr_route.specs.Walk.{piece_length}
 use Rattle.olr_report.specs.Joined.{AreForwards, IsTrimmedPart}
 use Rattle.olr_report.specs.Steps.{Step, place_at, steps_of_legs}
 use Rattle.olr_report.specs.declared.locating.Located.{Located}
-use Rattle.olr_report.specs.declared.locating.Located.TheVariants.{Line as LocatedLine, Point as LocatedPoint}
+use Rattle.olr_report.specs.declared.locating.Located.TheVariants as returned
 
 -- ---- legs
 
@@ -52,19 +52,37 @@ abbrev pub latest_offset : Option ℕ → ℕ → ℕ
 latest_offset None length = 0
 latest_offset (Some share) length = div_ceil ((share + 1) * length) 256
 
+-- ---- a location as a value
+
+-- the outer and the inner part of a line, or the earliest and the latest place of a point along a
+-- line
+pub data LocatedValue : Type 0 where
+  LocatedLine : Option (List Piece) → Option (List Piece) → LocatedValue
+  LocatedPoint : Place → Place → LocatedValue
+
+-- the pieces of a part, if there is one
+abbrev pub pieces_if_any : Option (Vec Piece) → Option (List Piece)
+pieces_if_any part = option_map (λ (part : Vec Piece). part.items) part
+
+-- the location that a call returned
+abbrev pub located_value : Located → LocatedValue
+located_value (returned.Line outer inner) =
+    LocatedLine (pieces_if_any outer) (pieces_if_any inner)
+located_value (returned.Point earliest latest) = LocatedPoint earliest latest
+
 -- ---- the location
 
 -- The part of steps that leaves out this many at the beginning and this many at the end. None where
 -- that leaves no step.
-abbrev pub IsPartBetween : List Step → ℕ → ℕ → Option (Vec Piece) → Type 0
+abbrev pub IsPartBetween : List Step → ℕ → ℕ → Option (List Piece) → Type 0
 IsPartBetween steps before behind answer = MatchOption answer (length steps ≤ before + behind)
     (λ part. (before + behind < length steps)
-    × IsTrimmedPart steps before (length steps - behind) part.items)
+    × IsTrimmedPart steps before (length steps - behind) part)
 
 -- The outer part takes the earliest offsets, the inner one the latest. The positive offset is a
 -- share of the first leg, the negative one of the last.
 pub record IsLineLocation (legs : List Leg) (positive negative : Option ℕ)
-    (outer inner : Option (Vec Piece)) : Type 0 where
+    (outer inner : Option (List Piece)) : Type 0 where
   pub outer_part : IsPartBetween (steps_of_legs legs) (earliest_offset positive (first_length legs))
       (earliest_offset negative (last_length legs)) outer
   pub inner_part : IsPartBetween (steps_of_legs legs) (latest_offset positive (first_length legs))
@@ -80,7 +98,7 @@ pub record IsPointLocation (legs : List Leg) (positive : Option ℕ) (earliest l
       ≡ Some latest
 
 -- the location of a reference on the route of these legs
-abbrev pub IsLocation : List Leg → Reference → Located → Type 0
+abbrev pub IsLocation : List Leg → Reference → LocatedValue → Type 0
 IsLocation legs (Line points positive negative) (LocatedLine outer inner) =
     IsLineLocation legs positive negative outer inner
 IsLocation legs (Line points positive negative) (LocatedPoint earliest latest) = ⊥

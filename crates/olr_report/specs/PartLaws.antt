@@ -1,7 +1,6 @@
 -- Laws on joined routes and on the two parts of a line. Each is the contract of a public function
 -- that does nothing at run time.
 use Rattle.std.specs.Prelude.{◌≡◌, ℕ, List, ◌++◌, Option, Some}
-use Rattle.std.specs.Global.{Vec}
 use Rattle.olr_report.specs.Common.{Leg, Piece}
 use Rattle.olr_report.specs.Joined.{IsRouteOver}
 use Rattle.olr_report.specs.Location.{IsLineLocation}
@@ -10,11 +9,11 @@ use Rattle.olr_report.specs.Steps.{Step, steps_of}
 -- The inner part lies within the outer one: where there is an inner part there is an outer one, and
 -- that is the inner one with further steps before it and after it, if any.
 abbrev pub InnerLiesWithinOuter : Type 0
-InnerLiesWithinOuter = (legs : List Leg) (positive negative : Option ℕ) (outer : Option (Vec Piece))
-    (inner : Vec Piece)
+InnerLiesWithinOuter = (legs : List Leg) (positive negative : Option ℕ)
+    (outer : Option (List Piece)) (inner : List Piece)
     → IsLineLocation legs positive negative outer (Some inner)
-    → (part : Vec Piece) × (before : List Step) × (behind : List Step) × (outer ≡ Some part)
-    × (steps_of part.items ≡ before ++ steps_of inner.items ++ behind)
+    → (part : List Piece) × (before : List Step) × (behind : List Step) × (outer ≡ Some part)
+    × (steps_of part ≡ before ++ steps_of inner ++ behind)
 
 -- Each list of steps has joined pieces. So legs always have a joined route, and so has each part of
 -- a route.

@@ -1,14 +1,12 @@
 -- The rows of a matching in the text of a page. Each row ends with a line feed; positions and
 -- lengths are in decimetres.
 use Rattle.std.specs.Prelude.{ℕ, ◌+◌, List, [], ◌∷◌, ◌++◌, map, Option, None, Some, codes, decimal}
-use Rattle.std.specs.Global.{Vec}
 use Rattle.std.specs.List.{join_with_byte}
 use Rattle.olr_report.specs.Common.{Candidate, KeyValue, Leg, Mark, Piece, Place, RoadMap}
 use Rattle.olr_keys.specs.Cursor.{key_text, cursor_text}
 use Rattle.olr_route.specs.Route.{id_at}
 use Rattle.olr_report.specs.Entries.{Entry}
-use Rattle.olr_report.specs.declared.locating.Located.{Located}
-use Rattle.olr_report.specs.declared.locating.Located.TheVariants.{Line, Point}
+use Rattle.olr_report.specs.Location.{LocatedLine, LocatedPoint, LocatedValue}
 
 -- ---- candidates and legs
 
@@ -53,9 +51,9 @@ abbrev pub pieces_row : RoadMap → List ℕ → List Piece → List ℕ
 pieces_row road name pieces = name ++ codes " " ++ pieces_text road pieces ++ codes "\n"
 
 -- the row of a part of the route under a name, which may be none
-abbrev pub part_row : RoadMap → List ℕ → Option (Vec Piece) → List ℕ
+abbrev pub part_row : RoadMap → List ℕ → Option (List Piece) → List ℕ
 part_row road name None = name ++ codes " none\n"
-part_row road name (Some part) = pieces_row road name part.items
+part_row road name (Some part) = pieces_row road name part
 
 -- the row of a place under a name: the id of its line, and the position on it
 abbrev pub place_row : RoadMap → List ℕ → Place → List ℕ
@@ -64,10 +62,10 @@ place_row road name place = name ++ codes " " ++ decimal (id_at road place.line)
 
 -- the two rows of the location: the outer and the inner part of a line, or the earliest and the
 -- latest place of a point along a line
-abbrev pub location_rows : RoadMap → Located → List ℕ
-location_rows road (Line outer inner) =
+abbrev pub location_rows : RoadMap → LocatedValue → List ℕ
+location_rows road (LocatedLine outer inner) =
     part_row road (codes "outer") outer ++ part_row road (codes "inner") inner
-location_rows road (Point earliest latest) =
+location_rows road (LocatedPoint earliest latest) =
     place_row road (codes "earliest") earliest ++ place_row road (codes "latest") latest
 
 -- ---- a matching, and the end of a page

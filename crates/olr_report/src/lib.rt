@@ -19,12 +19,13 @@
 //! - [`page_json`]: the JSON of a page.
 //!
 //! Beside them, [`conditions`] tests what `trim`, `join` and `location` require; [`laws`] states
-//! what holds of all routes, [`text_laws`] what holds of the texts of all pages, and [`json_laws`]
-//! what holds of their JSON.
+//! what holds of all routes, [`entry_laws`] that a matching is one value, and [`json_laws`]
+//! what a reader finds in the JSON of a page.
 #![tactic(auto)]
 
 mod along;
 mod conditions;
+mod entry_laws;
 mod joining;
 mod json_laws;
 mod laws;
@@ -36,13 +37,13 @@ mod page_json;
 mod part_laws;
 mod pieces;
 mod text;
-mod text_laws;
 mod text_rows;
 mod trimming;
 
 pub use conditions::{are_forwards, are_legs_of, is_forwards};
+pub use entry_laws::{one_entry, sound_parts_can_be_shown};
 pub use joining::join;
-pub use json_laws::{json_ends_without_mark, json_reads_as_page, one_json, only_mark_differs};
+pub use json_laws::json_reads_as_page;
 pub use laws::{legs_of_matching, one_route_of_steps, one_trimmed_part};
 pub use locating::{Located, location};
 pub use matching_json::{OnMap, ShownMatching};
@@ -50,6 +51,5 @@ pub use page_entries::{Entry, entries, entry_of};
 pub use page_json::{json_page, next_cursor};
 pub use part_laws::{inner_lies_within_outer, some_route_of_steps};
 pub use text::text_page;
-pub use text_laws::{ends_without_mark, one_text, sound_parts_can_be_shown};
 pub use text_rows::{push_end, push_part, push_place};
 pub use trimming::trim;

@@ -4,6 +4,7 @@ ghost use Rattle.std.specs.Prelude.{◌≡◌, ◌+◌, ◌^◌, ◌<◌, All, I
 ghost use Rattle.olr_binary.specs.Reference.{IsReference};
 ghost use Rattle.olr_report.specs.Joined.{IsJoined, IsJoinedRoute};
 ghost use Rattle.olr_report.specs.Location.{AreLegsOf, IsLocation, IsMeasured, IsPartBetween};
+ghost use Rattle.olr_report.specs.Location.{located_value, pieces_if_any};
 ghost use Rattle.olr_report.specs.Steps.{steps_of, steps_of_legs};
 
 use crate::along::place_on;
@@ -64,7 +65,8 @@ fn part_between(
     requires total { total ≡ length (steps_of route.now) }
     requires left_out { before + behind < 2 ^ 64 }
 
-    ensures { IfOk result (IsPartBetween (steps_of route.now) before behind) }
+    ensures { IfOk result (λ part.
+        IsPartBetween (steps_of route.now) before behind (pieces_if_any part)) }
 {
     if total <= before + behind {
         return Ok(None);
@@ -89,7 +91,8 @@ pub(crate) fn location_on(
     requires legs { AreLegsOf reference.now legs.now }
     requires route { IsJoinedRoute legs.now route.now }
 
-    ensures { IfOk result (IsLocation legs.now reference.now) }
+    ensures { IfOk result (λ located.
+        IsLocation legs.now reference.now (located_value located)) }
 {
     let (first, last) = (&legs[0], &legs[legs.len() - 1]);
     let (first, last) = (first.length, last.length);
@@ -130,7 +133,8 @@ pub fn location(alloc: Global, legs: &[Leg], reference: &Reference) -> Result<Lo
     requires reference { IsReference reference.now }
     requires legs { AreLegsOf reference.now legs.now }
 
-    ensures { IfOk result (IsLocation legs.now reference.now) }
+    ensures { IfOk result (λ located.
+        IsLocation legs.now reference.now (located_value located)) }
 {
     let route = join(alloc, legs)?;
     let located = location_on(alloc, &route, legs, reference)?;

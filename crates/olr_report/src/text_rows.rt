@@ -5,6 +5,7 @@ ghost use Rattle.std.specs.Prelude.{map as map_list};
 ghost use Rattle.olr_route.specs.Route.{id_at};
 ghost use Rattle.olr_report.specs.Entries.{entry_of, IsOnMap};
 ghost use Rattle.olr_report.specs.Entries.{HasLine, HasPieces, HasPart, HasLocation};
+ghost use Rattle.olr_report.specs.Location.{located_value, pieces_if_any};
 ghost use Rattle.olr_report.specs.Text.{entries_rows};
 ghost use Rattle.olr_report.specs.TextRows.{point_row, point_rows, leg_row, leg_rows};
 ghost use Rattle.olr_report.specs.TextRows.{piece_text, pieces_text, pieces_row, part_row};
@@ -141,9 +142,9 @@ pub fn push_part(
     name: &str,
     part: &Option<Vec<Piece>>,
 ) -> Result<(), NoMemory>
-    requires { HasPart map.now part.now }
+    requires { HasPart map.now (pieces_if_any part.now) }
     ensures { OnOk result (string_bytes text.new
-        ≡ string_bytes text.old ++ part_row map.now name.now part.now) }
+        ≡ string_bytes text.old ++ part_row map.now name.now (pieces_if_any part.now)) }
 {
     let Some(pieces) = part else {
         write!(text, "{name} none\n")?;
@@ -171,9 +172,9 @@ pub fn push_place(text: &mut String, map: &Map, name: &str, place: &Place) -> Re
 
 /// Adds the two rows of a location.
 fn push_location(text: &mut String, map: &Map, location: &Located) -> Result<(), NoMemory>
-    requires { HasLocation map.now location.now }
+    requires { HasLocation map.now (located_value location.now) }
     ensures { OnOk result (string_bytes text.new
-        ≡ string_bytes text.old ++ location_rows map.now location.now) }
+        ≡ string_bytes text.old ++ location_rows map.now (located_value location.now)) }
 {
     match location {
         Located::Line { outer, inner } => {

@@ -5,7 +5,7 @@ use Rattle.olr_candidates.proofs.Values.{one_changed}
 use Rattle.olr_keys.specs.Laws.{OneList}
 use Rattle.olr_matching.proofs.Lists.{same_some}
 use Rattle.olr_why.specs.Chain.{HasMatching, IsFirstMatching}
-use Rattle.olr_why.specs.Remedies.{AreNarrower, AreRemedies, AreWider, IsGreatestUncrowded, IsLeastEnough, IsNarrower, IsRemedyWithoutBans, IsWider, by_trust, narrowed, without_bans}
+use Rattle.olr_why.specs.Remedies.{AreRemedies, AreWider, IsGreatestUncrowded, IsLeastEnough, IsNarrower, IsRemedyWithoutBans, IsWider, by_trust, narrowed, without_bans}
 use Rattle.olr_why.specs.declared.remedy.Change.TheVariants.{Tolerance}
 use Rattle.olr_why.specs.declared.remedy.Remedy.{Remedy}
 use Rattle.olr_why.specs.declared.verdict.Verdict.TheVariants.{Crowded, Match}

@@ -1,6 +1,6 @@
 -- The map, the reference, the tolerances and the count of nearest lines determine the points and
--- what is shown of all reasons.
-use Rattle.std.proofs.Common.{◌≡◌, ℕ, List, length, sym, ◌∙◌, ap, Option, refl}
+-- all reasons.
+use Rattle.std.proofs.Common.{◌≡◌, ℕ, List, length, sym, ◌∙◌, ap, Option}
 use Rattle.olr_why.proofs.Common.{PointReason, Reference, RoadMap, Tolerances, OneLayers}
 use Rattle.olr_candidates.specs.Laws.{NoListOfPointAndTooMany, OneListOfNearest, OneListOfPoint}
 use Rattle.olr_why.specs.Reasons.{ArePointReasons, IsCountOf}
@@ -49,10 +49,10 @@ one_why laws road tolerances reference nearest a b one other =
     let verdict = laws.one_verdict _ _ _ a.verdict b.verdict one.verdict other.verdict in
     let points = one_points laws.one_list_of_point laws.no_list_and_too_many
     laws.one_list_of_nearest road tolerances reference one.points other.points in
-    let legs = one_legs laws.one_layers road tolerances reference b.verdict a.legs.items
-    b.legs.items (rw verdict at one.legs) other.legs in
+    let legs = one_legs laws.one_layers road tolerances reference b.verdict a.legs b.legs
+    (rw verdict at one.legs) other.legs in
     let remedies =
     one_remedies laws.one_layers laws.one_list laws.matching_has_key reference road tolerances
-    b.verdict a.remedies.items b.remedies.items
+    b.verdict a.remedies b.remedies
     (rw verdict at one.remedies) other.remedies in
-    (rw (points, legs, verdict, remedies) refl, rw (points, legs, verdict, remedies) refl)
+    λ i. record { points = points i; legs = legs i; verdict = verdict i; remedies = remedies i }

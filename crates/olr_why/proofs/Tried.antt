@@ -1,7 +1,7 @@
 -- What one trial tells of the value that was tried, and of greater and lesser values.
 use Rattle.std.proofs.Common.{◌≢◌, ℕ, ◌<◌, ◌≤◌, subst}
 use Rattle.std.proofs.lemmas.Option.{slice_get_within}
-use Rattle.olr_why.proofs.Common.{all_at, IsTolerance, KeyValue, Lowest, MatchingHasKey, Name, NoListsAndTooMany, OneCandidateALine, order_of, points_of, Reference, RoadMap, Tolerances}
+use Rattle.olr_why.proofs.Common.{all_at, IsTolerance, KeyValue, Lowest, MatchingHasKey, Name, OneCandidateALine, order_of, points_of, Reference, RoadMap, Tolerances}
 use Rattle.olr_candidates.proofs.Values.{in_range}
 use Rattle.olr_keys.specs.Matching.{IsKey}
 use Rattle.olr_why.specs.Chain.{HasMatching, IsFirstMatching, IsUncrowded}

@@ -10,6 +10,7 @@ use Rattle.olr_why.specs.Common.{KeyValue, NearLine, RoadMap}
 use Rattle.olr_keys.specs.Cursor.{key_text}
 use Rattle.olr_route.specs.Route.{id_at}
 use Rattle.olr_why.specs.Text.{class_at, form_at, long_of, number_of, short_of, verdict_word}
+use Rattle.olr_why.specs.Reasons.{WhyValue}
 use Rattle.olr_why.specs.declared.leg.LegReason.{LegReason}
 use Rattle.olr_why.specs.declared.pair.Better.{Better}
 use Rattle.olr_why.specs.declared.pair.PairLength.{PairLength}
@@ -18,7 +19,6 @@ use Rattle.olr_why.specs.declared.remedy.Change.{Change}
 use Rattle.olr_why.specs.declared.remedy.Change.TheVariants.{Tolerance, WithoutBans}
 use Rattle.olr_why.specs.declared.remedy.Remedy.{Remedy}
 use Rattle.olr_why.specs.declared.verdict.Verdict.{Verdict}
-use Rattle.olr_why.specs.declared.why.Why.{Why}
 
 -- ---- points
 
@@ -110,9 +110,9 @@ verdict_object verdict = object (
     member (codes "word") (string (verdict_word verdict)) no_members))
 
 -- all of it
-abbrev pub why_object : RoadMap → Why → Data
+abbrev pub why_object : RoadMap → WhyValue → Data
 why_object road why = object (
-    member (codes "legs") (array_of leg_object why.legs.items) (
-    member (codes "points") (array_of (point_object road) why.points.items) (
-    member (codes "remedies") (array_of remedy_object why.remedies.items) (
+    member (codes "legs") (array_of leg_object why.legs) (
+    member (codes "points") (array_of (point_object road) why.points) (
+    member (codes "remedies") (array_of remedy_object why.remedies) (
     member (codes "verdict") (verdict_object why.verdict) no_members))))

@@ -6,14 +6,11 @@ use Rattle.olr_candidates.specs.declared.tolerances.Name.TheVariants.{Lowest}
 use Rattle.olr_candidates.specs.Tolerances.{order_of}
 use Rattle.olr_keys.specs.Matching.{IsKey}
 use Rattle.olr_why.specs.Chain.{HasMatching}
-use Rattle.olr_why.specs.Json.{why_object}
-use Rattle.olr_why.specs.Reasons.{IsWhy}
+use Rattle.olr_why.specs.Reasons.{IsWhy, WhyValue}
 use Rattle.olr_why.specs.Remedies.{IsChanged}
-use Rattle.olr_why.specs.Text.{why_text}
 use Rattle.olr_why.specs.Verdict.{IsVerdict}
 use Rattle.olr_why.specs.declared.verdict.Verdict.{Verdict}
 use Rattle.olr_why.specs.declared.verdict.Verdict.TheVariants.{Match}
-use Rattle.olr_why.specs.declared.why.Why.{Why}
 
 -- a reference has one verdict at most
 abbrev pub OneVerdict : Type 0
@@ -46,10 +43,9 @@ WiderKeeps = (road : RoadMap) (reference : Reference) (name : Name) (value wider
     × ((index : ℕ) → HasTooMany before reference road.lines index
     → HasTooMany after reference road.lines index)
 
--- The map, the reference, the tolerances and the count of nearest lines determine the text of the
--- reasons and their JSON.
+-- The map, the reference, the tolerances and the count of nearest lines determine the reasons.
 abbrev pub OneWhy : Type 0
 OneWhy = (road : RoadMap) (tolerances : Tolerances) (reference : Reference) (nearest : ℕ)
-    (a b : Why)
+    (a b : WhyValue)
     → IsWhy road tolerances reference nearest a → IsWhy road tolerances reference nearest b
-    → (why_text road a ≡ why_text road b) × (why_object road a ≡ why_object road b)
+    → a ≡ b

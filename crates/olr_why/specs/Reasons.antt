@@ -10,9 +10,27 @@ use Rattle.olr_why.specs.Remedies.{AreRemedies}
 use Rattle.olr_why.specs.Verdict.{IsVerdict}
 use Rattle.olr_why.specs.declared.leg.LegReason.{LegReason}
 use Rattle.olr_why.specs.declared.point.PointReason.{PointReason}
+use Rattle.olr_why.specs.declared.remedy.Remedy.{Remedy}
 use Rattle.olr_why.specs.declared.verdict.Verdict.{Verdict}
 use Rattle.olr_why.specs.declared.verdict.Verdict.TheVariants.{Chain, Crowded, Leg, Match, Point}
 use Rattle.olr_why.specs.declared.why.Why.{Why}
+
+-- the reasons as a value: the points, the legs, the first thing that stands in the way, and what
+-- would help
+pub record WhyValue : Type 0 where
+  pub points : List PointReason
+  pub legs : List LegReason
+  pub verdict : Verdict
+  pub remedies : List Remedy
+
+-- the reasons that a call returned
+abbrev pub why_value : Why → WhyValue
+why_value why = record {
+  points = why.points.items;
+  legs = why.legs.items;
+  verdict = why.verdict;
+  remedies = why.remedies.items;
+}
 
 module _ (road : RoadMap) (tolerances : Tolerances) (reference : Reference) where
   -- how many candidates a point has, none where they are more than 64
@@ -53,11 +71,11 @@ module _ (road : RoadMap) (tolerances : Tolerances) (reference : Reference) wher
   AreLegsFor Match legs = AreLegs legs
 
   -- all of it
-  pub record IsWhy (nearest : ℕ) (why : Why) : Type 0 where
-    pub points : ArePointReasons nearest why.points.items
+  pub record IsWhy (nearest : ℕ) (why : WhyValue) : Type 0 where
+    pub points : ArePointReasons nearest why.points
     pub verdict : IsVerdict road tolerances reference why.verdict
-    pub legs : AreLegsFor why.verdict why.legs.items
-    pub remedies : AreRemedies road tolerances reference why.verdict why.remedies.items
+    pub legs : AreLegsFor why.verdict why.legs
+    pub remedies : AreRemedies road tolerances reference why.verdict why.remedies
 
 -- the lines near these points are lines of the map
 abbrev pub AreOnMap : RoadMap → List PointReason → Type 0

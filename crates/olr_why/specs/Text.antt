@@ -8,6 +8,7 @@ use Rattle.olr_candidates.specs.Tolerances.{tolerance_name}
 use Rattle.olr_keys.specs.Cursor.{key_text}
 use Rattle.olr_map.specs.Rows.{RoadLine}
 use Rattle.olr_route.specs.Route.{id_at}
+use Rattle.olr_why.specs.Reasons.{WhyValue}
 use Rattle.olr_why.specs.declared.leg.LegReason.{LegReason}
 use Rattle.olr_why.specs.declared.pair.Better.{Better}
 use Rattle.olr_why.specs.declared.pair.PairLength.{PairLength}
@@ -17,7 +18,6 @@ use Rattle.olr_why.specs.declared.remedy.Change.TheVariants.{Tolerance, WithoutB
 use Rattle.olr_why.specs.declared.remedy.Remedy.{Remedy}
 use Rattle.olr_why.specs.declared.verdict.Verdict.{Verdict}
 use Rattle.olr_why.specs.declared.verdict.Verdict.TheVariants.{Chain, Crowded, Leg, Match, Point}
-use Rattle.olr_why.specs.declared.why.Why.{Why}
 
 -- ---- points
 
@@ -194,7 +194,7 @@ remedy_rows [] = []
 remedy_rows (remedy ∷ remedies) = remedy_row remedy ++ remedy_rows remedies
 
 -- the whole text
-abbrev pub why_text : RoadMap → Why → List ℕ
-why_text road why = points_rows road 1 why.points.items ++ legs_rows 1 why.legs.items
-    ++ verdict_row why.verdict ++ remedy_rows why.remedies.items
+abbrev pub why_text : RoadMap → WhyValue → List ℕ
+why_text road why = points_rows road 1 why.points ++ legs_rows 1 why.legs
+    ++ verdict_row why.verdict ++ remedy_rows why.remedies
     ++ codes "end\n"

@@ -5,6 +5,7 @@ ghost use Rattle.olr_binary.specs.Reference.{IsReference, points_of};
 ghost use Rattle.olr_candidates.specs.Near.{AreNearestOf};
 ghost use Rattle.olr_matching.specs.Layers.{AreLayersOn};
 ghost use Rattle.olr_why.specs.Reasons.{AreLayersOf, AreLegsFor, AreOnMap, ArePointReasons, IsCountOf, IsWhy};
+ghost use Rattle.olr_why.specs.Reasons.{why_value};
 ghost use Rattle.olr_why.specs.Remedies.{IsUnbanned};
 ghost use Rattle.olr_why.specs.Verdict.{IsVerdict};
 
@@ -164,7 +165,8 @@ pub fn why_of(
     requires reference { IsReference reference.now }
     requires unbanned { MatchOption unbanned (map.now.bans ≡ [])
         (λ other. IsUnbanned map.now other.now) }
-    ensures why { IfOk result (IsWhy map.now tolerances.now reference.now nearest) }
+    ensures why { IfOk result (λ why.
+        IsWhy map.now tolerances.now reference.now nearest (why_value why)) }
     ensures on_map { IfOk result (λ why. AreOnMap map.now why.points.items) }
 {
     let (layers, verdict, legs) = layers_and_legs(alloc, map, reference, tolerances)?;

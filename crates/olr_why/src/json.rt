@@ -6,6 +6,7 @@ ghost use Rattle.olr_keys.specs.Cursor.{key_text};
 ghost use Rattle.olr_route.specs.Route.{id_at};
 ghost use Rattle.olr_text.specs.JsonValues.{IsJsonLine, array_of};
 ghost use Rattle.olr_text.specs.Sent.{Sends};
+ghost use Rattle.olr_why.specs.Reasons.{why_value};
 ghost use Rattle.olr_why.specs.Json.{better_object, failed_conditions, leg_object, near_object, option_of, pair_object};
 ghost use Rattle.olr_why.specs.Json.{point_object, remedy_object, value_in, verdict_object, why_object, words_if};
 ghost use Rattle.olr_why.specs.Text.{class_at, form_at};
@@ -198,7 +199,7 @@ impl ToJson<OnMap<'_>> for Verdict {
 
 /// The object of why a reference has no matching.
 impl ToJson<OnMap<'_>> for Why {
-    ghost value = { λ on. why_object on.map.now };
+    ghost value = { λ on why. why_object on.map.now (why_value why) };
 
     fn send<S: Serializer>(&self, on: &OnMap<'_>, out: &mut S) -> Result<(), S::Error> {
         send_object!(on, out, {
@@ -221,7 +222,8 @@ impl ToJson<OnMap<'_>> for Why {
 ///
 /// [`NoMemory`] where the allocator refused memory.
 pub fn why_json(alloc: Global, map: &Map, why: &Why) -> Result<String, NoMemory>
-    ensures { IfOk result (λ text. IsJsonLine (why_object map.now why.now) (string_bytes text)) }
+    ensures { IfOk result (λ text.
+        IsJsonLine (why_object map.now (why_value why.now)) (string_bytes text)) }
 {
     let text = to_json_line(alloc, &OnMap { map }, why)?;
     Ok(text)

@@ -31,8 +31,8 @@ pub fn match_has_answers()
     no_lists_and_too_many();
 }
 
-/// The map, the reference, the tolerances and the count of nearest lines determine the text of the
-/// reasons and their JSON.
+/// The map, the reference, the tolerances and the count of nearest lines determine the reasons, and
+/// so their text and their JSON.
 pub fn one_why()
     ensures { OneWhy }
 {

@@ -1,7 +1,7 @@
 //! The text of why a reference has no matching.
 
 ghost use Rattle.std.specs.Prelude.{◌≡◌, ◌++◌, ◌+◌, ◌<◌, All, IfOk, OnOk, length, string_bytes};
-ghost use Rattle.olr_why.specs.Reasons.{AreOnMap};
+ghost use Rattle.olr_why.specs.Reasons.{AreOnMap, why_value};
 ghost use Rattle.olr_why.specs.Text.{better_text, change_text, count_text, counts_text, failed_words, leg_rows, leg_text, legs_rows, length_text, matching_text};
 ghost use Rattle.olr_why.specs.Text.{miss_text, near_row, near_rows, number_or, pair_row, pair_rows, point_rows, point_text, points_rows, rating_text};
 ghost use Rattle.olr_why.specs.Text.{remedy_row, remedy_rows, verdict_row, why_text, word_if};
@@ -332,7 +332,7 @@ fn push_remedies(text: &mut String, remedies: &[Remedy]) -> Result<(), NoMemory>
 /// [`NoMemory`] where the allocator refused memory.
 pub fn why_text(alloc: Global, map: &Map, why: &Why) -> Result<String, NoMemory>
     requires { AreOnMap map.now why.now.points.items }
-    ensures { IfOk result (λ text. string_bytes text ≡ why_text map.now why.now) }
+    ensures { IfOk result (λ text. string_bytes text ≡ why_text map.now (why_value why.now)) }
 {
     let mut text = String::new(alloc);
     push_points(&mut text, map, &why.points)?;

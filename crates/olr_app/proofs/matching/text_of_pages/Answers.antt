@@ -5,13 +5,12 @@ use Rattle.olr_app.proofs.matching.text_of_pages.Goals as goal
 pub loop-page-preserved : goal.loop-page-preserved
 loop-page-preserved c =
     let before = c.loop-page.invariant in
-    let shown = one_more _ _ _ _ c.args.pages.now c.loop-page.page-index _
-    (string_bytes c.loop-page.output) _ c.loop-page-test.true c.page-item.is before.1
-    (rw (before.0, c.as_ref.ensures.value) at c.in_ok-text.ensures.text) in
-    let bytes = c.in_ok-push_str.ensures.bytes
+    let grown = c.in_ok-push_str.ensures.bytes
     ∙ ap (λ more. string_bytes c.loop-page.output ++ more) c.deref.ensures in (
       c.text_of_page.ensures.same ∙ before.0,
-      (shown.0, shown.1, bytes ∙ shown.2),
+      one_more _ _ _ _ c.args.pages.now c.loop-page.page-index _ (string_bytes c.loop-page.output) _
+          _ c.loop-page-test.true c.page-item.is before.1
+          (rw (before.0, c.as_ref.ensures.value) at c.in_ok-text.ensures.text) grown,
     )
 
 pub returns : goal.returns

@@ -1,6 +1,7 @@
 use Rattle.std.proofs.Common.{◌≡◌, List, [], ◌∷◌, ◌++◌, length, get_or, rules, sym, ap, subst, length-append, arith}
 use Rattle.std.specs.List.{AllZip}
 use Rattle.olr_report.specs.Entries.{HasLocation}
+use Rattle.olr_report.specs.Location.{located_value}
 use Rattle.olr_places.proofs.Common.{IsMatchedBy, Located}
 use Rattle.olr_places.proofs.finding.opener_of.Goals as goal
 
@@ -32,6 +33,7 @@ returns-clause-entry c =
       on_map = record {
         matched = rw c.matched-2.view_is shown.on_map;
         route = is.route;
-        located = subst (λ (l : Located). HasLocation road l) (sym c.in_ok-new.ensures) is.located;
+        located = subst (λ (l : Located). HasLocation road (located_value l))
+            (sym c.in_ok-new.ensures) is.located;
       };
     }

@@ -1,20 +1,20 @@
 use Rattle.std.proofs.Common.{length, sym, ap, subst, ◌∙◌, arith}
 use Rattle.std.proofs.lemmas.List.{length-map}
 use Rattle.std.proofs.lemmas.List.Elements.{All-contains, All-weaker}
-use Rattle.olr_places.proofs.Common.{answers_of, ArePlacesOf, IsOpenerAt, shown_by}
+use Rattle.olr_places.proofs.Common.{answers_of, ArePlacesOf, IsOpenerAt, entry_of}
 use Rattle.olr_keys.specs.Matching.{IsKey}
 use Rattle.olr_places.proofs.Progress.{at_start, ended, enough, goes_on, no_more, position}
 use Rattle.olr_places.proofs.finding.places_of.Goals as goal
 
 pub loop-looking-init : goal.loop-looking-init
 loop-looking-init c =
-    let stands = c.new-looking.ensures c.args.limits.now c.args.map.now in (
+    let stands = c.new-looking.ensures c.args.limits.now in (
       rw (← c.table.ensures) c.in_ok-finder.ensures.answers,
       at_start _ stands,
       c.with_searches-routes.ensures,
       λ k d inside. absurd (omega (
         arith,
-        length-map c.new-looking.result.openers.items (shown_by c.args.map.now),
+        length-map c.new-looking.result.openers.items entry_of,
         ap length stands.openers,
       )),
       omega arith,
@@ -54,7 +54,7 @@ returns-in-Some-2-clause-places c =
       found.0,
       c.loop-looking.invariant.0,
       found.1,
-      subst (ArePlacesOf c.args.limits.now c.args.map.now found.0)
+      subst (ArePlacesOf c.args.limits.now found.0)
           (sym c.places-in-Some-2.ensures) found.2,
     )
 

@@ -11,5 +11,6 @@ to_json_line-requires c = search (rules, arith, items_nest, option_nests, entry_
 
 pub returns : goal.returns
 returns c = λ limits looked are.
-    subst (λ (value : Data). IsJsonLine value (string_bytes c.in_ok-text.text)) (object_is are)
+    subst (λ (value : Data). IsJsonLine value (string_bytes c.in_ok-text.text))
+    (object_is are c.args.map.now)
     c.in_ok-text.ensures

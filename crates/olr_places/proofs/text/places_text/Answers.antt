@@ -12,4 +12,4 @@ returns c = λ limits looked are.
       c.verdict.ensures.value,
       c.next.ensures,
     )
-    (text_is are)
+    (text_is are c.args.map.now)

@@ -5,8 +5,7 @@ pub returns-clause-none : goal.returns-clause-none
 returns-clause-none c = none_without_matching
 
 pub returns-clause-unique : goal.returns-clause-unique
-returns-clause-unique c = unique_is_close c.one_matched.ensures c.one_route_of_steps.ensures
+returns-clause-unique c = unique_is_close c.one_entry.ensures.entry
 
 pub returns-clause-ambiguous : goal.returns-clause-ambiguous
-returns-clause-ambiguous c = ambiguous_is_elsewhere c.one_matched.ensures
-    c.one_route_of_steps.ensures
+returns-clause-ambiguous c = ambiguous_is_elsewhere c.one_entry.ensures.entry

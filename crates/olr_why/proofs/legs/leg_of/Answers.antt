@@ -1,4 +1,4 @@
-use Rattle.std.proofs.Common.{ℕ, ◌+◌, ◌<◌, List, length, ap, arith, Option, is_some}
+use Rattle.std.proofs.Common.{ℕ, ◌+◌, List, length, ap, arith, Option, is_some}
 use Rattle.std.proofs.lemmas.List.Elements.{All-take}
 use Rattle.std.proofs.lemmas.List.Sums.{count_by-le-length}
 use Rattle.olr_map.specs.Place.{IsDeparture, IsPlace}

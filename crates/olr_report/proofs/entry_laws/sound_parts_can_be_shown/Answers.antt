@@ -6,7 +6,7 @@ use Rattle.olr_matching.specs.Matched.{IsSoundLeg}
 use Rattle.olr_route.specs.Route.{IsPieceOn}
 use Rattle.olr_report.specs.Entries.{HasLine, HasPieces}
 use Rattle.olr_report.proofs.SoundParts.{legs_of}
-use Rattle.olr_report.proofs.text_laws.sound_parts_can_be_shown.Goals as goal
+use Rattle.olr_report.proofs.entry_laws.sound_parts_can_be_shown.Goals as goal
 
 has_pieces : (road : RoadMap) (leg : Leg) → IsSoundLeg road leg → HasPieces road leg.route
 has_pieces road leg is = All-weaker (IsPieceOn road) (λ piece. HasLine road piece.line)
