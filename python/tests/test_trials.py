@@ -16,13 +16,15 @@ from olr.client.answers import ReferencePoint
 from olr.client.pieces import Piece
 from olr.errors import ToolError
 from olr.map_folder import read_map, write_map
-from olr.messages.message import Reading
+from olr.regions.reading import read_reference
 from olr.road_map import MICRODEGREE, Ban, Line, Node, Position, RoadMap
-from olr.trials.changing import changed_points, with_other_classes, without_roads
+from olr.trials.changing import changed_points
+from olr.trials.differing import Difference, differing, without_lines
 from olr.trials.encoder import INTERVAL, Network, points_of_legs, text_of
 from olr.trials.graph import NONE, Graph
 from olr.trials.likeness import LONGEST, SHORTEST, LikeMessages
-from olr.trials.paths import TOLERANCE, Paths
+from olr.trials.neighbourhood import Neighbourhoods
+from olr.trials.paths import TOLERANCE, TURNING_BACK, WITHIN, Paths, Stretch
 from olr.trials.rightness import is_right
 from olr.trials.roads import Roads
 from olr.trials.spreads import Spreads
@@ -58,6 +60,11 @@ def following(graph: Graph, id: int) -> set[int]:
     return {int(other) for other in graph.ids[distances == graph.lengths[first]]}
 
 
+def without_roads(road_map: RoadMap, percent: float, draws: random.Random) -> RoadMap:
+    """A map that lacks so many percent of its roads."""
+    return differing(road_map, Roads(road_map), Difference(missing=percent), draws)
+
+
 def graph_of(road_map: RoadMap) -> Graph:
     """The graph of a map."""
     return Graph(road_map, Roads(road_map))
@@ -91,29 +98,29 @@ def test_traffic_obeys_bans_and_turns_back_where_nothing_else_leads_on() -> None
 
 def test_the_graph_has_the_turns_of_the_encoders_network(tempe: RoadMap) -> None:
     """On a map that lacks roads: what leads on from each line was found there in another way."""
-    lacking = without_roads(tempe, Roads(tempe), 10, random.Random(1))
+    lacking = without_roads(tempe, 10, random.Random(1))
     graph, network = graph_of(lacking), Network(lacking, turning_back=False)
     assert {id: following(graph, id) for id in network.lines} == {
         id: set(others) for id, others in network.following.items()
     }
 
 
-def test_a_path_that_is_as_short_as_another_one_is_none() -> None:
-    """From node 1 to node 4 over node 2 and over node 3."""
+def test_a_shortest_path() -> None:
+    """From node 1 to node 4 over node 2 and over node 3: either of them where both are as short."""
 
-    def path(last: int) -> list[int] | None:
+    def path(last: int) -> list[int]:
         roads = (
             [two_way(10, 0, 1, 500), two_way(20, 1, 2, 1000), two_way(30, 2, 4, 1000)],
             [two_way(40, 1, 3, 800), two_way(50, 3, 4, last), two_way(60, 4, 5, 500)],
         )
         graph = graph_of(map_of(*roads[0], *roads[1]))
         (index,) = np.flatnonzero(graph.ids == 60)
-        found = graph.only_path(graph.reached(0, 1e9), int(index))
-        return None if found is None else graph.ids[found].tolist()
+        found: list[int] = graph.ids[graph.path(graph.reached(0, 1e9), int(index))].tolist()
+        return found
 
-    assert path(1199) == [10, 40, 50, 60]
-    assert path(1200) is None
-    assert path(1201) == [10, 20, 30, 60]
+    one, other = [10, 40, 50, 60], [10, 20, 30, 60]
+    assert (path(1199), path(1201)) == (one, other)
+    assert path(1200) in (one, other)
 
 
 def test_the_directions_of_a_road() -> None:
@@ -127,26 +134,56 @@ def test_the_directions_of_a_road() -> None:
     assert (Graph(road_map, roads).opposite == [1, 0, 3, 2, NONE, NONE, NONE]).all()
 
 
-def test_drawn_paths_are_the_only_shortest_ones(tempe: RoadMap) -> None:
-    """The encoder finds them too, by a search of its own over the whole map."""
+def length_of(path: Sequence[Stretch], network: Network) -> float:
+    """The length of a path, in decimetres."""
+    return sum(network.lines[it.line].length * (it.end - it.start) for it in path)
+
+
+def test_drawn_paths_are_shortest_ones(tempe: RoadMap) -> None:
+    """The encoder finds one as long, by a search of its own over the whole map. Some ends lie within lines, and hardly any path turns
+    back."""
     network = Network(tempe, turning_back=False)
     paths = Paths(network).drawn(graph_of(tempe), random.Random(3))
     sizes: Counter[int] = Counter()
-    for path, points in islice(paths, 150):
-        assert network.shortest(path[0], path[-1]) == (path, True) if len(path) > 1 else path
-        assert not any(other == line ^ 1 for line, other in pairwise(path))
-        length = sum(network.lines[line].length for line in path)
+    within = turns = 0
+    for path, points in islice(paths, 300):
+        lines = [it.line for it in path]
+        turns += any(other == line ^ 1 for line, other in pairwise(lines))
+        if len(lines) > 1:
+            found = network.shortest(lines[0], lines[-1])
+            assert found is not None
+            whole = [sum(network.lines[id].length for id in some) for some in (found[0], lines)]
+            assert whole[0] == whole[1]
+        assert all(it.start == 0 for it in path[1:]) and all(it.end == 1 for it in path[:-1])
+        within += (path[0].start > 0) + (path[-1].end < 1)
+        length = length_of([Stretch(id, 0, 1) for id in lines], network)
         assert SHORTEST * (1 - TOLERANCE) <= length <= LONGEST * (1 + TOLERANCE)
+        length = length_of(path, network)
         intervals = [point.interval for point in points if point.interval is not None]
         assert sum(intervals) * INTERVAL <= length < (sum(intervals) + len(intervals)) * INTERVAL
         sizes[len(points)] += 1
-    assert set(sizes) == {2, 3, 4, 5} and min(sizes.values()) > 15
+    assert set(sizes) == {2, 3, 4, 5} and min(sizes.values()) > 30
+    # Of 600 ends, within four standard deviations.
+    assert abs(within - 600 * WITHIN) < 4 * math.sqrt(600 * WITHIN * (1 - WITHIN))
+    assert turns < 300 * TURNING_BACK
+
+
+def test_a_point_within_a_line(tempe: RoadMap) -> None:
+    """A path from a quarter of a line to three quarters of it: the points lie there, and the leg is half as long."""
+    straight = next(line for line in tempe.lines if not line.shape and line.length > 1000)
+    network = Network(tempe)
+    points = points_of_legs(network, [[straight.id]], (0.25, 0.75))
+    assert points is not None and points[0].interval == int(straight.length / 2) // INTERVAL
+    ends = [network.positions[node] for node in (straight.start, straight.end)]
+    for point, share in zip(points, (0.25, 0.75)):
+        expected = [a + (b - a) * share for a, b in zip(*ends)]
+        assert (point.lon, point.lat) == pytest.approx(expected, abs=1)
 
 
 def test_no_path_is_drawn_twice(tempe: RoadMap) -> None:
     network, graph = Network(tempe), graph_of(tempe)
     drawn = islice(Paths(network).drawn(graph, random.Random(1)), 1000)
-    assert len({tuple(one.path) for one in drawn}) == 1000
+    assert len({tuple(it.line for it in one.path) for one in drawn}) == 1000
 
 
 @pytest.mark.parametrize(
@@ -160,7 +197,7 @@ def test_no_path_is_drawn_twice(tempe: RoadMap) -> None:
 )
 def test_a_map_with_too_few_paths(road_map: RoadMap) -> None:
     paths = Paths(Network(road_map)).drawn(graph_of(road_map), random.Random(1))
-    with pytest.raises(ToolError, match="too few paths .* [0-9] were found, so name a larger map"):
+    with pytest.raises(ToolError, match="too few paths .* [0-9]+ were found, so name a larger map"):
         list(islice(paths, 50))
 
 
@@ -180,7 +217,7 @@ def test_main_roads_are_drawn_as_often_as_it_is_said() -> None:
     assert 0.7 < firsts[1] / 300 < 0.9
 
 
-def test_paths_are_like_messages(tempe: RoadMap, tmp_path: Path) -> None:
+def test_paths_are_like_messages(tempe: RoadMap) -> None:
     """A message of 9 and 8 intervals of 58.6 m, which lie within them evenly: 1055 m. Another one begins on a class that isn't there."""
     texts = []
     for road_class in (5, 3):
@@ -188,17 +225,13 @@ def test_paths_are_like_messages(tempe: RoadMap, tmp_path: Path) -> None:
         texts.append(
             text_of([leg, replace(leg, interval=8), replace(leg, interval=None, lowest=None)])
         )
-    file = tmp_path / "messages"
-    file.write_text("".join(f"{number}\t{text}\n" for number, text in enumerate([*texts, "?"])))
-    like = LikeMessages(file)
-    assert like.messages == 2
+    references = [reference for text in texts if (reference := read_reference(text)) is not None]
+    like = LikeMessages(references)
     network = Network(tempe)
     drawn = Paths(network, like).drawn(graph_of(tempe), random.Random(1))
-    lengths = [sum(network.lines[id].length for id in one.path) for one in islice(drawn, 100)]
+    paths = [[Stretch(it.line, 0, 1) for it in one.path] for one in islice(drawn, 100)]
+    lengths = [length_of(path, network) for path in paths]
     assert all(0.9 * 10_548 <= length <= 1.1 * 10_548 for length in lengths)
-    file.write_text("1\t?\n")
-    with pytest.raises(ToolError, match="has no line reference"):
-        LikeMessages(file, Reading("tab"))
 
 
 POINTS = [
@@ -222,22 +255,30 @@ def test_points_that_are_too_far_from_each_other(degrees: float, fits: bool) -> 
 
 
 def test_references_change_within_the_spreads() -> None:
+    """The lowest class of a leg changes with the class of its point, where that is the lowest one; else it is no more important."""
     spreads = Spreads(position=30, bearing=2, legs=10, class_=50, form=50)
     draws = random.Random(4)
     seen: Counter[str] = Counter()
+    points = [replace(POINTS[0], lowest=0), *POINTS[1:]]
     for _ in range(500):
-        for before, point in zip(POINTS, changed_points(POINTS, spreads, draws), strict=True):
+        for before, point in zip(points, changed_points(points, spreads, draws), strict=True):
             north = (point.lat - before.lat) * MICRODEGREE
             east = (point.lon - before.lon) * MICRODEGREE * math.cos(math.radians(before.lat / 1e6))
             assert max(abs(north), abs(east)) <= 30.1
             seen["far"] += abs(north) > 15
             assert (point.sector - before.sector + 2) % 32 <= 4
             assert abs(point.class_ - before.class_) <= 1 and 0 <= point.class_ <= 7
-            assert 0 <= point.form <= 7 and point.lowest == before.lowest
+            assert 0 <= point.form <= 7
+            if before.lowest == before.class_:
+                assert point.lowest == point.class_
+            elif before.lowest is not None and point.class_ != before.class_:
+                assert point.lowest == max(before.lowest, point.class_)
+            else:
+                assert point.lowest == before.lowest
             seen["class"] += point.class_ != before.class_
             seen["form"] += point.form != before.form
             if before.interval is None:
-                assert point.interval is None
+                assert (point.interval, point.lowest) == (None, None)
             else:
                 assert point.interval is not None and point.interval <= 255
                 assert 0.89 * before.interval <= point.interval <= 1.11 * before.interval
@@ -246,10 +287,9 @@ def test_references_change_within_the_spreads() -> None:
 
 
 def test_without_spreads_nothing_changes(tempe: RoadMap) -> None:
-    roads, draws = Roads(tempe), random.Random(1)
-    assert changed_points(POINTS, Spreads(0, 0, 0, 0, 0, 0, 0), draws) == POINTS
-    assert without_roads(tempe, roads, 0, draws) == replace(tempe, origins=(), kept=())
-    assert with_other_classes(tempe, roads, 0, draws) == tempe
+    assert changed_points(POINTS, Spreads().times(0), random.Random(1)) == POINTS
+    same = differing(tempe, Roads(tempe), Difference(), random.Random(1))
+    assert same == replace(tempe, origins=(), kept=())
 
 
 @pytest.mark.parametrize("percent", [1, 10, 50, 99, 100])
@@ -257,7 +297,7 @@ def test_a_map_without_roads_is_valid(
     percent: float, tempe: RoadMap, program: Program, tmp_path: Path
 ) -> None:
     roads = Roads(tempe)
-    lacking = without_roads(tempe, roads, percent, random.Random(percent))
+    lacking = without_roads(tempe, percent, random.Random(percent))
     write_map(lacking, tmp_path / "map", {})
     assert program.fault(tmp_path / "map") == ""
     left = {line.id for line in lacking.lines}
@@ -278,7 +318,7 @@ def test_a_dead_end_that_a_missing_road_leaves_may_be_left() -> None:
     road_map = map_of(*(two_way(10 * node, node, node + 1, 9) for node in (1, 2, 3)), bans=bans)
     found = set()
     for seed in range(40):
-        lacking = without_roads(road_map, Roads(road_map), 40, random.Random(seed))
+        lacking = without_roads(road_map, 40, random.Random(seed))
         found.add((tuple(line.id for line in lacking.lines), tuple(lacking.bans)))
     assert found == {
         ((10, 11, 20, 21, 30, 31), tuple(bans)),
@@ -288,14 +328,72 @@ def test_a_dead_end_that_a_missing_road_leaves_may_be_left() -> None:
     }
 
 
-def test_both_directions_of_a_road_have_another_class(tempe: RoadMap) -> None:
+def test_dead_ends_that_are_shut_stay_so() -> None:
+    """Roads 10, 20 and 30 in a row. Where turning back is banned at both ends of the row too, it stays banned where a road is missing."""
+    rows = [two_way(10 * node, node, node + 1, 9) for node in (1, 2, 3)]
+    usual = [Ban(10, 11), Ban(21, 20), Ban(20, 21), Ban(31, 30)]
+    one_end, both_ends = [*usual, Ban(11, 10)], [*usual, Ban(11, 10), Ban(30, 31)]
+    for bans, shut in ((usual, False), (one_end, False), (both_ends, True)):
+        road_map = map_of(*rows, bans=bans)
+        for seed in range(20):
+            lacking = without_roads(road_map, 40, random.Random(seed))
+            lines = {line.id for line in lacking.lines}
+            if shut:
+                assert list(lacking.bans) == [ban for ban in bans if lines.issuperset(ban)]
+            elif lines:
+                assert all(Network(lacking).following[id] for id in lines - {11})
+
+
+def test_another_maker_changes_both_directions_of_a_road_alike(
+    tempe: RoadMap, program: Program, tmp_path: Path
+) -> None:
+    """Classes, forms and lengths are those that are said, positions too, and the program reads the map."""
     roads = Roads(tempe)
-    changed = with_other_classes(tempe, roads, 30, random.Random(1))
-    classes = {line.id: line.road_class for line in changed.lines}
-    assert all(len({classes[line] for line in road}) == 1 for road in roads.directions)
-    counts = Counter(classes.values())
-    assert set(counts) == {4, 5, 6} and 0.6 < counts[5] / len(classes) < 0.8
-    assert [line._replace(road_class=5) for line in changed.lines] == list(tempe.lines)
+    difference = Difference(classes=30, lengths=10, positions=5, forms=40)
+    changed = differing(tempe, roads, difference, random.Random(1))
+    write_map(changed, tmp_path / "map", {})
+    assert program.fault(tmp_path / "map") == ""
+    lines = {line.id: line for line in changed.lines}
+    for road in roads.directions:
+        alike = {(lines[id].road_class, lines[id].form, lines[id].length) for id in road}
+        assert len(alike) == 1
+    classes = Counter(line.road_class for line in changed.lines)
+    assert set(classes) == {4, 5, 6} and 0.6 < classes[5] / len(lines) < 0.8
+    assert 0.3 < sum(line.form != 3 for line in changed.lines) / len(lines) < 0.5
+    factors = [lines[line.id].length / line.length for line in tempe.lines]
+    assert 0.89 < min(factors) < 0.92 and 1.08 < max(factors) < 1.11
+    moved = {node.id: node.position for node in changed.nodes}
+    for node in tempe.nodes:
+        north = (moved[node.id].lat - node.position.lat) * MICRODEGREE
+        assert abs(north) <= 5.1
+    as_before = [
+        line._replace(road_class=5, form=3, length=before.length)
+        for line, before in zip(changed.lines, tempe.lines)
+    ]
+    assert as_before == list(tempe.lines)
+
+
+def test_one_way_roads_of_another_maker(tempe: RoadMap) -> None:
+    changed = differing(tempe, Roads(tempe), Difference(one_way=20), random.Random(1))
+    shut = len(tempe.lines) - len(changed.lines)
+    # Of 293 roads, within four standard deviations.
+    assert abs(shut - 0.2 * 293) < 4 * math.sqrt(0.2 * 0.8 * 293)
+    pairs = Counter(
+        id // 2 for id in {line.id for line in tempe.lines if line not in changed.lines}
+    )
+    assert max(pairs.values()) == 1
+
+
+def test_a_part_of_a_large_map(tempe: RoadMap) -> None:
+    """The lines that lie nearest to a node: no line that is left out lies nearer than one that is there."""
+    roads, draws = Roads(tempe), random.Random(2)
+    assert Neighbourhoods(tempe, roads, 1000).drawn(draws) is tempe
+    part = Neighbourhoods(tempe, roads, 100).drawn(draws)
+    assert len(part.lines) == 100 and set(part.lines) < set(tempe.lines)
+    assert {node.id for node in part.nodes} == {
+        node for line in part.lines for node in (line.start, line.end)
+    }
+    assert without_lines(tempe, roads, set()).lines == tempe.lines
 
 
 LENGTHS = {1: 1000, 2: 1000}
@@ -318,4 +416,22 @@ LENGTHS = {1: 1000, 2: 1000}
     ],
 )
 def test_what_is_right(outer: list[tuple[int, int, int]], right: bool) -> None:
-    assert is_right(LENGTHS, [1, 2], [Piece(*one) for one in outer]) is right
+    path = [Stretch(1, 0, 1), Stretch(2, 0, 1)]
+    assert is_right(LENGTHS, path, [Piece(*one) for one in outer]) is right
+
+
+@pytest.mark.parametrize(
+    ("outer", "right"),
+    [
+        ([(1, 500, 1000), (2, 0, 250)], True),
+        ([(1, 440, 1000), (2, 0, 250)], True),
+        ([(1, 400, 1000), (2, 0, 250)], False),
+        ([(1, 580, 1000), (2, 0, 250)], False),
+        # Line 2 twice: it is covered once, and driven twice.
+        ([(1, 500, 1000), (2, 0, 250), (2, 0, 250)], False),
+    ],
+)
+def test_a_true_path_that_ends_within_lines(outer: list[tuple[int, int, int]], right: bool) -> None:
+    """The second half of line 1, and the first quarter of line 2: 750 dm."""
+    path = [Stretch(1, 0.5, 1), Stretch(2, 0, 0.25)]
+    assert is_right(LENGTHS, path, [Piece(*one) for one in outer]) is right

@@ -7,7 +7,8 @@
 | `graph` | bounded searches over the lines of a map |
 | `likeness` | the classes and lengths that are wanted of paths: usual ones, or those of messages |
 | `paths` | true paths, drawn, and references to them |
-| `spreads` | by how much the two maps differ |
-| `changing` | references and maps, changed |
+| `spreads`, `changing` | by how much references are off, and references changed so |
+| `differing` | a map as another maker has it |
+| `neighbourhood` | a part of a large map |
 | `rightness` | whether a place is the right one |
 """

@@ -166,23 +166,30 @@ def points_of(network: Network, path: Sequence[int]) -> Optional[list[ReferenceP
 
 
 def points_of_legs(
-    network: Network, legs: Sequence[Sequence[int]]
+    network: Network, legs: Sequence[Sequence[int]], ends: tuple[float, float] = (0.0, 1.0)
 ) -> Optional[list[ReferencePoint]]:
-    """The points of a reference to a path that is cut into legs, as `legs_of` does. None if they are too many, one is too long, or one
-    leads too far: near a pole a leg may lead over many degrees."""
+    """The points of a reference to a path that is cut into legs, as `legs_of` does. The path begins and ends at shares of the lengths of
+    its first and its last line. None if the points are too many, a leg is too long, or it leads too far: near a pole one may lead over
+    many degrees."""
     if len(legs) > 31:
         return None
+    start, end = ends
     points = []
     for number, leg in enumerate(legs):
         lines = [network.lines[id] for id in leg]
         walked = lines if number == len(legs) - 1 else lines[:-1]
-        interval = sum(line.length for line in walked) // INTERVAL
+        length = float(sum(line.length for line in walked))
+        length -= start * lines[0].length if number == 0 else 0
+        length -= (1 - end) * lines[-1].length if number == len(legs) - 1 else 0
+        interval = int(length) // INTERVAL
         if interval > 255:
             return None
         lowest = max(line.road_class for line in walked)
-        points.append(_point(lines[0], network.points(lines[0]), interval, lowest))
+        along = network.points(lines[0])
+        along = _from(along, start) if number == 0 else along
+        points.append(_point(lines[0], along, interval, lowest))
     last = network.lines[legs[-1][-1]]
-    points.append(_point(last, network.points(last)[::-1]))
+    points.append(_point(last, _from(network.points(last)[::-1], 1 - end)))
     steps = [max(abs(b.lon - a.lon), abs(b.lat - a.lat)) for a, b in pairwise(points)]
     return points if max(steps) <= FARTHEST else None
 
@@ -198,6 +205,23 @@ def _point(
     return ReferencePoint(
         line.road_class, line.form, lat, lon, _sector(points), interval=interval, lowest=lowest
     )
+
+
+def _from(points: Sequence[Position], share: float) -> list[Position]:
+    """A polyline from a share of its length on."""
+    if share <= 0:
+        return list(points)
+    shrink = math.cos(math.radians(points[0].lat / 1e6))
+    steps = [math.hypot((b.lon - a.lon) * shrink, b.lat - a.lat) for a, b in pairwise(points)]
+    left = share * sum(steps)
+    for number, step in enumerate(steps):
+        if left < step:
+            one, other = points[number : number + 2]
+            part = left / step
+            lon, lat = (round(a + (b - a) * part) for a, b in zip(one, other))
+            return [Position(lon, lat), *points[number + 1 :]]
+        left -= step
+    return list(points[-2:])
 
 
 def text_of(points: Sequence[ReferencePoint]) -> str:

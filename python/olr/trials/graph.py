@@ -1,6 +1,8 @@
 """The lines of a map as a graph, for bounded searches by scipy."""
 
-from typing import NamedTuple, Optional
+from collections.abc import Sequence
+from itertools import pairwise
+from typing import NamedTuple
 
 import numpy as np
 from scipy.sparse import csr_matrix
@@ -40,7 +42,6 @@ class Graph:
         weights = self.lengths[first].astype(np.float64)
         # Each line of the matrix has the lengths to the starts of the following lines: whole numbers, which floats add without error.
         self._following = csr_matrix((weights, (first, second)), shape=size)
-        self._preceding = self._following.tocsc()
 
     def _opposite(self, roads: Roads) -> Integers:
         """The index of the other direction of each line's road."""
@@ -65,24 +66,16 @@ class Graph:
         )
         return Reached(distances, before)
 
-    def only_path(self, reached: Reached, last: int) -> Optional[list[int]]:
-        """The lines of the shortest path to a line that was reached, with it and with the first one. None if another path is as short."""
+    def path(self, reached: Reached, last: int) -> list[int]:
+        """The lines of a shortest path to a line that was reached, with it and with the first one."""
         path = [last]
         while reached.before[path[-1]] >= 0:
-            if self._ways_in(reached, path[-1]) > 1:
-                return None
             path.append(int(reached.before[path[-1]]))
         return path[::-1]
 
-    def _ways_in(self, reached: Reached, line: int) -> int:
-        """From how many lines a shortest path goes on to a line."""
-        column = slice(*self._preceding.indptr[line : line + 2])
-        lines, lengths = self._preceding.indices[column], self._preceding.data[column]
-        return int((reached.distances[lines] + lengths == reached.distances[line]).sum())
-
-    def turns_back(self, path: list[int]) -> bool:
-        """Whether a path goes from a line to the other direction of its road."""
-        return any(self.opposite[line] == other for line, other in zip(path, path[1:]))
+    def turns_back(self, path: Sequence[int]) -> bool:
+        """Whether a path, by the indices of its lines, goes from one to the other direction of its road."""
+        return any(self.opposite[line] == other for line, other in pairwise(path))
 
 
 def _pairs_at_nodes(road_map: RoadMap) -> tuple[Integers, Integers]:

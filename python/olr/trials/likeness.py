@@ -3,16 +3,12 @@
 import math
 import random
 from collections import Counter
-from collections.abc import Sequence
+from collections.abc import Iterable, Sequence
 from itertools import accumulate
-from pathlib import Path
 from typing import NamedTuple, Optional, Protocol
 
 from olr.arrays import Integers
-from olr.errors import ToolError
-from olr.messages.message import Reading
-from olr.messages.reading import messages_of
-from olr.regions.reading import read_reference
+from olr.client.answers import Reference
 from olr.trials.encoder import INTERVAL
 
 SHORTEST, LONGEST = 3_000, 100_000
@@ -54,18 +50,12 @@ class Usual:
 class LikeMessages:
     """Classes and lengths of messages: of each line reference the class of its first point, and the length of its legs together."""
 
-    def __init__(self, file: Path, reading: Reading = Reading()) -> None:
-        """Reads a file of messages. Raises `ToolError` if it can't be read, or has no line reference."""
+    def __init__(self, references: Iterable[Reference]) -> None:
+        """Those of line references, of which there is one at least."""
         counts: Counter[tuple[int, float]] = Counter()
-        for message in messages_of(file, reading):
-            reference = read_reference(message.reference)
-            if reference is not None and reference.kind == "line":
-                legs = [point.interval for point in reference.points if point.interval is not None]
-                counts[reference.points[0].class_, (sum(legs) + len(legs) / 2) * INTERVAL] += 1
-        if not counts:
-            raise ToolError(f"{file} has no line reference: name a file that has some")
-        self.messages = counts.total()
-        """How many line references there are."""
+        for one in references:
+            legs = [point.interval for point in one.points if point.interval is not None]
+            counts[one.points[0].class_, (sum(legs) + len(legs) / 2) * INTERVAL] += 1
         self._kinds = list(counts)
         self._behind = list(accumulate(counts.values()))
 

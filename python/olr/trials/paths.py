@@ -1,4 +1,4 @@
-"""True paths: only shortest paths between lines of a map, of wanted classes and lengths."""
+"""True paths: shortest paths between places of a map, of wanted classes and lengths, and references to them."""
 
 import random
 from collections.abc import Iterator, Sequence
@@ -18,15 +18,27 @@ TOLERANCE = 0.1
 """A path is longer or shorter than the length that was drawn by such a share at most."""
 MOST_BETWEEN = 3
 """Points of a reference between its first and its last one: how many is drawn evenly from 0."""
+WITHIN = 0.15
+"""The share of ends of paths that lie within a line, anywhere on it. Senders put points at junctions; but their map has junctions
+that another one lacks."""
+TURNING_BACK = 0.1
+"""The share of paths that turn back at a dead end that are kept of those that are drawn: messages are hardly ever about one."""
 MOST_FAILURES = 1_000
 """After so many draws in a row without a path there are too few of them."""
+
+
+class Stretch(NamedTuple):
+    """A part of a line of a true path. `start` and `end` are shares of the line's length, for maps differ in lengths."""
+
+    line: int
+    start: float
+    end: float
 
 
 class Drawn(NamedTuple):
     """A true path, and a reference to it."""
 
-    path: list[int]
-    """Ids of lines."""
+    path: list[Stretch]
     points: list[ReferencePoint]
 
 
@@ -37,6 +49,7 @@ class Paths:
         """`network` has all lines of the senders' maps. `likeness` says which paths are wanted."""
         self._network, self._likeness = network, likeness
         self._seen: set[tuple[int, ...]] = set()
+        """The lines of the paths that were drawn."""
 
     def drawn(self, graph: Graph, draws: random.Random) -> Iterator[Drawn]:
         """Paths of a sender's map, without end. Raises `ToolError` if there are hardly any that weren't drawn."""
@@ -48,7 +61,7 @@ class Paths:
             if found is not None:
                 yield found
         raise ToolError(
-            "the map has too few paths of the wanted classes and lengths that are the only shortest ones: "
+            "the map has too few paths of the wanted classes and lengths: "
             f"{len(self._seen):,} were found, so name a larger map or fewer references"
         )
 
@@ -60,33 +73,44 @@ class Paths:
         if beginning is None:
             return None
         indices = _path(graph, *beginning, draws)
-        if indices is None:
+        if indices is None or graph.turns_back(indices) and draws.random() >= TURNING_BACK:
             return None
-        path = graph.ids[indices].tolist()
-        if tuple(path) in self._seen:
+        lines = graph.ids[indices].tolist()
+        if tuple(lines) in self._seen:
             return None
-        points = points_of_legs(self._network, _legs(path, draws))
+        path = _stretches(lines, draws)
+        ends = path[0].start, path[-1].end
+        points = points_of_legs(self._network, _legs(lines, draws), ends)
         if points is None:
             return None
-        self._seen.add(tuple(path))
+        self._seen.add(tuple(lines))
         return Drawn(path, points)
 
 
 def _path(graph: Graph, first: int, length: float, draws: random.Random) -> Optional[list[int]]:
-    """The indices of the lines of a path from a line on that is about so long, or None. It is the only shortest one, and turns back
-    nowhere: no message is about a dead end and back."""
+    """The indices of the lines of a shortest path from a line on that is about so long, or None. Where another one is as short it is
+    any of them. It turns back at dead ends alone, where nothing else leads on."""
     reached = graph.reached(first, length * (1 + TOLERANCE))
     lengths = reached.distances + graph.lengths
     lasts = np.flatnonzero(np.abs(lengths - length) <= TOLERANCE * length)
-    if not len(lasts):
-        return None
-    path = graph.only_path(reached, int(draws.choice(lasts)))
-    return None if path is None or graph.turns_back(path) else path
+    return graph.path(reached, int(draws.choice(lasts))) if len(lasts) else None
+
+
+def _stretches(lines: Sequence[int], draws: random.Random) -> list[Stretch]:
+    """A path of lines, with ends of which some are drawn within the first and the last line."""
+    start, end = (
+        draws.uniform(*room) if draws.random() < WITHIN else at
+        for room, at in (((0.1, 0.5), 0.0), ((0.5, 0.9), 1.0))
+    )
+    path = [Stretch(line, 0.0, 1.0) for line in lines]
+    path[0] = path[0]._replace(start=start)
+    path[-1] = path[-1]._replace(end=end)
+    return path
 
 
 def _legs(path: list[int], draws: random.Random) -> list[list[int]]:
     """A path cut into legs before lines that are drawn. Each leg begins with the line before which the one before ends, and has it
-    too. Each part of an only shortest path is one itself."""
+    too. Each part of a shortest path is one itself."""
     between = min(draws.randint(0, MOST_BETWEEN), len(path) - 1)
     starts = [0, *sorted(draws.sample(range(1, len(path)), between))]
     return [*(path[start : end + 1] for start, end in pairwise(starts)), path[starts[-1] :]]

@@ -1,9 +1,10 @@
 """Whether a place is the right one."""
 
-from collections import Counter
+from collections import defaultdict
 from collections.abc import Iterable, Mapping, Sequence
 
 from olr.client.pieces import Piece
+from olr.trials.paths import Stretch
 
 RIGHT = 0.9
 """The share of each other that the true path and a place cover at least, if the place is the right one.
@@ -14,13 +15,29 @@ One that lies on the true path may be a small part of it. The tenth is for the e
 
 
 def is_right(
-    lengths: Mapping[int, int], path: Sequence[int], outer: Iterable[Piece], share: float = RIGHT
+    lengths: Mapping[int, int],
+    path: Sequence[Stretch],
+    outer: Iterable[Piece],
+    share: float = RIGHT,
 ) -> bool:
-    """Whether a true path, of whole lines, and the outer part of a place cover so much of each other. `lengths` has the length of each
-    line of the path in decimetres."""
-    covered: Counter[int] = Counter()
-    for line, start, end in outer:
-        covered[line] += end - start
-    common = sum(min(covered[line], lengths[line]) for line in set(path))
-    longer = max(sum(lengths[line] for line in path), covered.total())
-    return longer > 0 and common >= share * longer
+    """Whether a true path and the outer part of a place cover so much of each other. `lengths` has the length of each line of the path
+    in decimetres, on the map of the place if it is there."""
+    pieces = list(outer)
+    true = sum(lengths[one.line] * (one.end - one.start) for one in path)
+    longer = max(true, sum(end - start for _, start, end in pieces))
+    return longer > 0 and _common(lengths, path, pieces) >= share * longer
+
+
+def _common(lengths: Mapping[int, int], path: Sequence[Stretch], pieces: Sequence[Piece]) -> float:
+    """How much of a path lies in pieces, in decimetres. What is there twice counts once."""
+    of_line: dict[int, list[tuple[int, int]]] = defaultdict(list)
+    for line, start, end in pieces:
+        of_line[line].append((start, end))
+    common = 0.0
+    for line, first, last in path:
+        reached, behind = first * lengths[line], last * lengths[line]
+        for start, end in sorted(of_line[line]):
+            low, high = max(start, reached), min(end, behind)
+            common += max(0.0, high - low)
+            reached = max(reached, high)
+    return common
