@@ -14,8 +14,8 @@ from olr.regions.making import write_store
 from olr.road_map import Ban, RoadMap, within_limits
 from olr.roads import LINE_IDS
 from olr.sources import require_columns
-from olr.u_turns import UTurns, u_turn_bans
-from olr.u_turns_command import u_turns_option
+from olr.u_turns import DeadEnds, UTurns, effective_dead_ends, u_turn_bans
+from olr.u_turns_command import dead_ends_option, u_turns_option
 
 
 def _kept_fields(
@@ -49,6 +49,7 @@ OPTIONS = (
         "S and N from -90 to 90, such as 6.0,49.5,6.2,49.7. By default the whole file is taken.",
     ),
     u_turns_option,
+    dead_ends_option,
     click.option(
         "--keep",
         metavar="FIELD",
@@ -68,19 +69,23 @@ class Imported(NamedTuple):
 
 
 def import_options(command: Callable[..., None]) -> Callable[..., None]:
-    """Gives a command the options of all imports: `folder`, `force`, `box`, `u_turns` and `keep`."""
+    """Gives a command the options of all imports: `folder`, `force`, `box`, `u_turns`, `dead_ends` and `keep`."""
     for option in reversed(OPTIONS):
         command = option(command)
     return command
 
 
 def with_bans(
-    bare: RoadMap, turn_restrictions: Sequence[Ban], u_turns: UTurns, counts: Counts
+    bare: RoadMap,
+    turn_restrictions: Sequence[Ban],
+    u_turns: UTurns,
+    dead_ends: DeadEnds,
+    counts: Counts,
 ) -> tuple[RoadMap, dict[str, Any]]:
     """A map with the bans of turn restrictions, which come without repeats, and those on turning back besides; and what
     `import.json` says about them and the map's size. Bans on turning back for which there is no room are counted.
     """
-    added = u_turn_bans(replace(bare, bans=turn_restrictions), u_turns, counts)
+    added = u_turn_bans(replace(bare, bans=turn_restrictions), u_turns, counts, dead_ends)
     bans = sorted([*turn_restrictions, *added])
     about = {
         "bans": {
@@ -88,6 +93,7 @@ def with_bans(
             "turn_restrictions": len(turn_restrictions),
             "u_turns": len(added),
         },
+        "dead_ends": effective_dead_ends(u_turns, dead_ends),
         "kept": _roads_by_field(bare),
         "lines": len(bare.lines),
         "nodes": len(bare.nodes),

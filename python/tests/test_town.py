@@ -62,6 +62,7 @@ def test_what_is_said_of_the_import(tools: Tools, top: Path, tmp_path: Path) -> 
         "bans": {"all": 23, "turn_restrictions": 2, "u_turns": 21},
         "bbox": None,
         "changed": {},
+        "dead_ends": "allow",
         "file": "town.osm",
         "importer": "osm",
         "left_out": {

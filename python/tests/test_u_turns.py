@@ -17,7 +17,7 @@ from olr.map_folder import read_map
 from olr.osm.importing import Options, import_osm
 from olr.road_map import Ban, Line, Node, Position, RoadMap
 from olr.tools import run
-from olr.u_turns import UTurns, u_turn_bans
+from olr.u_turns import DeadEnds, UTurns, u_turn_bans
 
 Bans = AbstractSet[tuple[int, int]]
 BOTH: list[UTurns] = ["dead-ends", "plain"]
@@ -42,13 +42,17 @@ def two_way(
 
 
 def bans(
-    u_turns: UTurns, *roads: list[Line], there: Bans = frozenset(), nodes: Sequence[Node] = ()
+    u_turns: UTurns,
+    *roads: list[Line],
+    there: Bans = frozenset(),
+    nodes: Sequence[Node] = (),
+    dead_ends: DeadEnds = "allow",
 ) -> Bans:
     """The bans that are added to those of the roads' map."""
     lines = [line for road in roads for line in road]
     road_map = RoadMap(nodes, lines, [Ban(*ban) for ban in there])
     counts = Counts()
-    added = u_turn_bans(road_map, u_turns, counts)
+    added = u_turn_bans(road_map, u_turns, counts, dead_ends)
     assert not counts.left_out
     assert len(set(added)) == len(added)
     return {(ban.first, ban.second) for ban in added}

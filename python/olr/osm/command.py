@@ -10,7 +10,7 @@ from olr.counts import Counts
 from olr.imports import import_options, write_import
 from olr.map_folder import require_free
 from olr.osm.importing import Options, import_osm
-from olr.u_turns import UTurns
+from olr.u_turns import DeadEnds, UTurns
 
 
 @click.command()
@@ -35,6 +35,7 @@ def command(
     service: bool,
     tags: Optional[Path],
     u_turns: UTurns,
+    dead_ends: DeadEnds,
     keep: tuple[str, ...],
 ) -> None:
     """Make a map from an OpenStreetMap file: FILE is .osm, .osm.pbf, .osm.bz2 or .osm.gz.
@@ -42,5 +43,5 @@ def command(
     What was left out or changed is counted on standard error, and in the map's import.json."""
     require_free(folder, force, [file] if tags is None else [file, tags])
     counts = Counts()
-    options = Options(box, service, tags, u_turns, keep)
+    options = Options(box, service, tags, u_turns, keep, dead_ends)
     write_import(import_osm(file, options, counts), folder, force, counts)

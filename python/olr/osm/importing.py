@@ -12,7 +12,7 @@ from olr.osm.reading import Wanted, read_osm
 from olr.osm.restrictions import bans_of
 from olr.osm.tags import read_tag_table
 from olr.roads import cut_roads, junctions_of, lines_of
-from olr.u_turns import UTurns
+from olr.u_turns import DEAD_ENDS, DeadEnds, UTurns
 
 
 @dataclass(frozen=True)
@@ -29,6 +29,8 @@ class Options:
     """Where turning back is banned."""
     keep: tuple[str, ...] = ()
     """The keys of tags that are kept for each line."""
+    dead_ends: DeadEnds = DEAD_ENDS
+    """What becomes of turning back at dead ends, where `u_turns` is dead-ends."""
 
 
 def import_osm(file: Path, options: Options, counts: Counts) -> Imported:
@@ -44,7 +46,7 @@ def import_osm(file: Path, options: Options, counts: Counts) -> Imported:
         counts.report()
         raise ToolError(f"{file} has no roads{'' if options.box is None else ' in the box'}")
     restricted = bans_of(read.restrictions, bare, cut.merged, read.targets, counts)
-    road_map, size = with_bans(bare, restricted, options.u_turns, counts)
+    road_map, size = with_bans(bare, restricted, options.u_turns, options.dead_ends, counts)
     about: dict[str, Any] = {
         **size,
         "bbox": None if options.box is None else [edge / 1e6 for edge in options.box],

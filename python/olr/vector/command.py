@@ -10,7 +10,7 @@ from olr.counts import Counts
 from olr.imports import import_options, write_import
 from olr.map_folder import require_free
 from olr.roads import GREATEST_ROAD_ID
-from olr.u_turns import UTurns
+from olr.u_turns import DeadEnds, UTurns
 from olr.vector.fields import Fields
 from olr.vector.importing import import_vector
 from olr.vector.options import TOLERANCE, Options
@@ -102,6 +102,7 @@ def command(
     tolerance: float,
     join_vertices: bool,
     u_turns: UTurns,
+    dead_ends: DeadEnds,
     keep: tuple[str, ...],
 ) -> None:
     """Make a map from a vector file of roads: FILE is a GeoPackage, a Shapefile, a GeoJSON, or another file that GDAL reads.
@@ -118,5 +119,6 @@ def command(
         tolerance=tolerance,
         join_vertices=join_vertices,
         u_turns=u_turns,
+        dead_ends=dead_ends,
     )
     write_import(import_vector(file, options, counts), folder, force, counts)

@@ -30,7 +30,7 @@ def import_vector(file: Path, options: Options, counts: Counts) -> Imported:
         raise ToolError(f"{file} has no roads for the map: layer {layer.name}{doubt}")
     if layer.doubt:
         counts.hints.append(layer.doubt)
-    road_map, size = with_bans(bare, [], options.u_turns, counts)
+    road_map, size = with_bans(bare, [], options.u_turns, options.dead_ends, counts)
     fields = options.fields
     about: dict[str, Any] = {
         **size,

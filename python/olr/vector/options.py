@@ -5,7 +5,7 @@ from pathlib import Path
 from typing import Optional
 
 from olr.box import Box
-from olr.u_turns import UTurns
+from olr.u_turns import DEAD_ENDS, DeadEnds, UTurns
 from olr.vector.fields import Fields
 
 TOLERANCE = 0.5
@@ -31,3 +31,5 @@ class Options:
     """Whether roads are joined where they have a vertex in common between their ends."""
     u_turns: UTurns = "dead-ends"
     """Where turning back is banned."""
+    dead_ends: DeadEnds = DEAD_ENDS
+    """What becomes of turning back at dead ends, where `u_turns` is dead-ends."""
