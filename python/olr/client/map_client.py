@@ -3,7 +3,7 @@
 import threading
 import weakref
 from collections import deque
-from collections.abc import Callable, Generator, Iterable, Iterator
+from collections.abc import Callable, Generator, Iterable, Iterator, Mapping
 from contextlib import contextmanager
 from itertools import islice
 from pathlib import Path
@@ -33,6 +33,7 @@ from olr.client.questions import (
 from olr.errors import TimedOut, closed_error
 from olr.extras import needed_by
 from olr.map_folder import store_of
+from olr.profiles import PROGRAM, tolerances_of
 
 if TYPE_CHECKING:
     from olr.network import Network
@@ -67,6 +68,7 @@ class Map:
         *,
         program: Optional[PathLike] = None,
         patience: Optional[float] = PATIENCE,
+        profile: str = PROGRAM,
         **tolerances: int,
     ) -> "Map":
         """A map of files, or one behind a store, which is a `Map` too. What help shows of `Map` is the signature here."""
@@ -85,13 +87,16 @@ class Map:
         *,
         program: Optional[PathLike] = None,
         patience: Optional[float] = PATIENCE,
+        profile: str = PROGRAM,
         **tolerances: int,
     ) -> None:
         """A map of these files; or, of one path alone, that of a folder with its `nodes.csv`, its `lines.csv` and, if it is there, its
-        `bans.csv`, or of a store. The tolerances are those of the program's options. `find_program` says which program is run, and
-        `patience` for how many seconds it may answer nothing; with None it is waited for without end.
+        `bans.csv`, or of a store. The tolerances are those of the program's options: those that aren't given are those of the
+        profile, which is the program's own defaults, or another one of `olr.profiles`, such as "feed". `find_program` says which
+        program is run, and `patience` for how many seconds it may answer nothing; with None it is waited for without end. Raises
+        `ValueError` for what is no profile.
         """
-        self._given = all_tolerances(tolerances)
+        self._given = all_tolerances(tolerances, tolerances_of(profile))
         self._patience = require_patience(patience)
         self._files = self._files_of(nodes, lines, bans)
         words = [number_words(name, value) for name, value in self._given.items()]
@@ -119,10 +124,13 @@ class Map:
         *,
         program: Optional[PathLike] = None,
         patience: Optional[float] = PATIENCE,
+        profile: str = PROGRAM,
         **tolerances: int,
     ) -> "Map":
         """The map of a folder, or a store: as `Map` of its path alone."""
-        return cls(folder, None, None, program=program, patience=patience, **tolerances)
+        return cls(
+            folder, None, None, program=program, patience=patience, profile=profile, **tolerances
+        )
 
     def __repr__(self) -> str:
         words = [repr(str(file)) for file in self._files.paths()]
@@ -148,6 +156,16 @@ class Map:
         with self._lock:
             self._closed = True
             self._end()
+
+    @property
+    def tolerances(self) -> Mapping[str, int]:
+        """The tolerances by their names: those that weren't given have their defaults."""
+        return dict(self._given)
+
+    @property
+    def files(self) -> MapFiles:
+        """The files of this map: what is read of them within `files.reading()` is of the version that its answers are of."""
+        return self._files
 
     def network(self) -> "Network":
         """The nodes and lines of this map, to draw its answers: of the same version of its files. They are read once. Raises

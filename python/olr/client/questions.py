@@ -15,7 +15,8 @@ Call = TypeVar("Call", bound=Callable[..., Any])
 
 
 class Number(NamedTuple):
-    """A number of a question: its range, what it is where it is left out, what it counts, and what it is for."""
+    """A number of a question: its range, what it is where it is left out, what it counts, and what it is for. The default of a tolerance
+    is that of the program: `olr.profiles` has others."""
 
     least: int
     greatest: int
@@ -23,9 +24,17 @@ class Number(NamedTuple):
     unit: str
     purpose: str
 
+    def span_text(self) -> str:
+        """Its range, with its unit."""
+        return f"{self.least} to {self.greatest} {self.unit}"
+
     def range_text(self) -> str:
         """Its range, with its unit and its default."""
-        return f"{self.least} to {self.greatest} {self.unit}, by default {self.default}"
+        return f"{self.span_text()}, by default {self.default}"
+
+    def tolerance_text(self) -> str:
+        """The range of a tolerance, with its unit and where its default comes from."""
+        return f"{self.span_text()}, by default that of the profile"
 
 
 TOLERANCES: Mapping[str, Number] = {
@@ -114,20 +123,20 @@ def argument(name: str) -> str:
     return f"{name}_" if iskeyword(name) else name
 
 
-def all_tolerances(given: Mapping[str, int]) -> dict[str, int]:
-    """All tolerances by their names: those that were given as arguments, and the others at their defaults. Raises `TypeError` for
-    what is no tolerance, as a call in Python does."""
+def all_tolerances(given: Mapping[str, int], others: Mapping[str, int]) -> dict[str, int]:
+    """All tolerances by their names: those that were given as arguments, and the `others` by their names. Raises `TypeError` for what is
+    no tolerance, as a call in Python does."""
     names = {argument(name): name for name in TOLERANCES}
     for name in given:
         if name not in names:
             raise TypeError(
                 f"Map() got an unexpected keyword argument {name!r}: the tolerances are {', '.join(names)}"
             )
-    return {name: given.get(key, TOLERANCES[name].default) for key, name in names.items()}
+    return {name: given.get(key, others[name]) for key, name in names.items()}
 
 
 def with_tolerances(call: Call) -> Call:
-    """A call that has tolerances as its `**` arguments: help shows each by its name, with its default, and what it is."""
+    """A call that has tolerances as its `**` arguments: help shows each by its name, with the program's default, and what it is."""
     signature, kind = inspect.signature(call), inspect.Parameter.KEYWORD_ONLY
     others = list(signature.parameters.values())[:-1]
     tolerances = [
@@ -135,7 +144,7 @@ def with_tolerances(call: Call) -> Call:
         for name, number in TOLERANCES.items()
     ]
     lines = [
-        f"`{argument(name)}`: {number.purpose}: {number.range_text()}."
+        f"`{argument(name)}`: {number.purpose}: {number.tolerance_text()}."
         for name, number in TOLERANCES.items()
     ]
     call.__doc__ = "\n".join([f"{inspect.getdoc(call) or ''}\n", *lines])

@@ -1,0 +1,139 @@
+"""References that fit nowhere, and of how many of them another profile or a change of one option would give a place.
+
+Nothing is asked where all fit somewhere.
+"""
+
+from collections import Counter
+from collections.abc import Callable, Iterable, Iterator, Sequence
+from pathlib import Path
+from types import TracebackType
+from typing import NamedTuple, Optional, Union
+
+from olr.client.answers import Page, Why
+from olr.client.fault import Fault
+from olr.client.map_client import Map
+from olr.errors import ToolError
+from olr.matching.options import Asking
+
+CHUNK = 1024
+"""So many references are kept, of which is asked then."""
+
+
+class Other(NamedTuple):
+    """The map with the tolerances of another profile."""
+
+    profile: str
+    open: Callable[[], Map]
+    """Who calls it closes the map."""
+
+    @classmethod
+    def of(cls, asking: Asking, folder: Path, patience: float) -> "Optional[Other]":
+        """That of a question: None if the other profile has the same tolerances, or they were all given."""
+        other = asking.other()
+        if other is None:
+            return None
+        profile, tolerances = other
+        return cls(profile, lambda: Map.of_folder(folder, **tolerances, patience=patience))
+
+
+class Lacking:
+    """References that fit nowhere. It owns the map of another profile, which is opened when that is first asked, and closed by the `with`
+    statement."""
+
+    def __init__(self, asked: Map, other: Optional[Other]) -> None:
+        """They were asked of a map. With `other` they are asked with another profile too."""
+        self._asked, self._other = asked, other
+        self._map: Optional[Map] = None
+        self._kept: list[str] = []
+        self._failure: Optional[ToolError] = None
+        self.count = 0
+        self.by_profile = 0
+        """So many of them have a matching with the other profile."""
+        self.by_option: Counter[str] = Counter()
+        """So many with a change of one option, by the first one of these."""
+
+    def add(self, reference: str) -> None:
+        """Adds a reference."""
+        self._kept.append(reference)
+        if len(self._kept) >= CHUNK:
+            self._ask()
+
+    def add_answered(self, references: Sequence[str], reasons: Iterable[Union[Why, Fault]]) -> None:
+        """Adds references, of each of which it is known why it fits nowhere."""
+        self.count += len(references)
+        self._count_reasons(reasons)
+        self._unless_failed(lambda: self._count_others(references))
+
+    def line(self) -> Optional[str]:
+        """The line of a summary: None if all fit somewhere. Where asking more failed it says how many there are, and why no more is known:
+        what was asked in the first place is answered."""
+        self._ask()
+        if not self.count:
+            return None
+        found = f"fit nowhere: {self.count:,}"
+        if self._failure is not None:
+            return f"{found}; what would help isn't known: {self._failure}"
+        parts = []
+        if self._other is not None:
+            parts.append(f"{self.by_profile:,} with --profile {self._other.profile}")
+        changed = f"{self.by_option.total():,} with one option changed"
+        if self.by_option:
+            (option, most), *_ = self.by_option.most_common(1)
+            changed += f", most often {option_text(option)} ({most:,})"
+        parts.append(changed)
+        return f"{found}; of these {', '.join(parts)}"
+
+    def sentences(self) -> Iterator[str]:
+        """What a page says of the other profile."""
+        if self.count and self._other is not None and self._failure is None:
+            yield f"With --profile {self._other.profile} {self.by_profile:,} of the {self.count:,} that fit nothing have a matching."
+
+    def __enter__(self) -> "Lacking":
+        return self
+
+    def __exit__(
+        self,
+        kind: Optional[type[BaseException]],
+        error: Optional[BaseException],
+        trace: Optional[TracebackType],
+    ) -> None:
+        if self._map is not None:
+            self._map.close()
+
+    def _ask(self) -> None:
+        """Asks about the references that are kept, and forgets them."""
+        kept, self._kept = self._kept, []
+        self.count += len(kept)
+        if kept:
+            self._unless_failed(
+                lambda: self._count_reasons(self._asked.answers("why", kept, nearest=0))
+            )
+            self._unless_failed(lambda: self._count_others(kept))
+
+    def _unless_failed(self, count: Callable[[], None]) -> None:
+        """Counts, unless that failed before."""
+        if self._failure is not None:
+            return
+        try:
+            count()
+        except ToolError as error:
+            self._failure = error
+
+    def _count_reasons(self, reasons: Iterable[Union[Why, Fault]]) -> None:
+        for reason in reasons:
+            helping = [] if isinstance(reason, Fault) else reason.remedies
+            options = [it.option for it in helping if it.matching is not None]
+            self.by_option.update(options[:1])
+
+    def _count_others(self, references: Sequence[str]) -> None:
+        if self._other is None:
+            return
+        if self._map is None:
+            self._map = self._other.open()
+        pages = self._map.answers("match", references, page=1)
+        self.by_profile += sum(isinstance(it, Page) and bool(it.matchings) for it in pages)
+
+
+def option_text(option: str) -> str:
+    """What is changed, by the name of a remedy."""
+    return "without bans" if option == "without-bans" else f"--{option}"

@@ -1,0 +1,207 @@
+"""Profiles in pages, in Python, and in the addresses of a server. No test depends on the numbers of a profile."""
+
+import inspect
+import json
+import os
+import shlex
+from collections.abc import Callable, Iterator
+from pathlib import Path
+from typing import Any
+
+import pytest
+
+import olr
+from asking import as_json, said
+from conftest import REFERENCE, Program
+from feeds import data_of
+from olr.client.questions import TOLERANCES
+from olr.profiles import FEED, PROFILES, PROGRAM, tolerances_of
+from olr.regions.making import make_store_of_folder
+from profiled import DEFAULTS, EXAMPLES, LACKING, MESSAGES, texts_of, tools, words_of
+from servers import Server, expected_of, path_of, serving
+
+CASES: list[tuple[dict[str, Any], dict[str, int]]] = [
+    ({}, DEFAULTS),
+    ({"profile": PROGRAM}, DEFAULTS),
+    ({"profile": FEED}, tolerances_of(FEED)),
+    ({"profile": FEED, "lowest": 0}, {**tolerances_of(FEED), "lowest": 0}),
+]
+"""Options of a call or an address that speaks for the program, and which tolerances hold then."""
+
+
+@pytest.fixture(autouse=True)
+def environment(program: Program, monkeypatch: pytest.MonkeyPatch) -> None:
+    """The commands find the program by its environment."""
+    monkeypatch.setenv("OLR_PROGRAM", os.fspath(program.path))
+
+
+# ---- pages
+
+
+def shown_by(program: Program, command: str, folder: Path, monkeypatch: pytest.MonkeyPatch) -> Any:
+    """What the program says to the command of a page, beside the map."""
+    monkeypatch.chdir(folder.parent)
+    name, *words = shlex.split(command)
+    assert name == "olr"
+    return said(program, *words, "--format", "json")
+
+
+@pytest.mark.parametrize(
+    ("text", "words"),
+    [
+        (REFERENCE, []),
+        (REFERENCE, ["--profile", PROGRAM]),
+        (REFERENCE, ["--radius", 60, "--most", 3]),
+        (LACKING, ["--profile", PROGRAM]),
+    ],
+)
+def test_the_command_of_a_page(
+    text: str,
+    words: list[object],
+    program: Program,
+    tmp_path: Path,
+    monkeypatch: pytest.MonkeyPatch,
+) -> None:
+    """It answers what the page shows."""
+    page = tmp_path / "page.html"
+    assert tools(["view", text, "--map", EXAMPLES, "--out", page, *words]) == 0
+    scene = data_of(page)
+    answer = shown_by(program, scene["command"], EXAMPLES, monkeypatch)
+    if scene["why"] is None:
+        totals = [entry["total"] for entry in scene["entries"] if entry["members"]]
+        assert [place["matching"]["total"] for place in answer["places"]] == totals != []
+    else:
+        remedies = [f"--{it['option']} {it['value']}" for it in answer["remedies"]]
+        assert [it.split(":")[0] for it in scene["why"]["remedies"]] == remedies != []
+    report = tmp_path / "report.html"
+    messages = tmp_path / "messages"
+    messages.write_text(f"m1\t{text}\n")
+    assert tools(["report", messages, "--map", EXAMPLES, "--out", report, *words]) == 0
+    assert data_of(report)["scenes"][0]["command"] == scene["command"]
+
+
+def test_stores_have_no_command(tmp_path: Path) -> None:
+    """The program doesn't read them. Of two maps that are compared each has its own."""
+    store, page = tmp_path / "town.gpkg", tmp_path / "page.html"
+    make_store_of_folder(EXAMPLES, store)
+    assert tools(["view", REFERENCE, "--map", store, "--out", page]) == 0
+    assert data_of(page)["command"] == ""
+    closed = tmp_path / "closed"
+    closed.mkdir()
+    for name in ("nodes.csv", "lines.csv"):
+        lines = (EXAMPLES / name).read_text().splitlines(keepends=True)
+        kept = [line for line in lines if not line.startswith(("501,", "502,"))]
+        (closed / name).write_text("".join(kept))
+    words = ["compare", MESSAGES, "--map", store, "--with", closed, "--out", tmp_path / "out.csv"]
+    assert tools([*words, "--page", page, "--force"]) == 0
+    rows = data_of(page)["rows"]
+    assert rows
+    for row in rows:
+        (command,) = row["commands"]
+        assert shlex.split(command)[3:5] == ["--map", str(closed)]
+
+
+# ---- Python
+
+
+def test_maps(program: Program) -> None:
+    """By default the program's own, and single tolerances win."""
+    for given, tolerances in CASES:
+        words = ["--map", EXAMPLES, *words_of(tolerances), "--format", "json"]
+        for town in (olr.Map(EXAMPLES, **given), olr.Map.of_folder(EXAMPLES, **given)):
+            with town:
+                for text in (REFERENCE, LACKING):
+                    found = as_json(town.places(text))
+                    assert found == said(program, "places", text, *words)
+
+
+def test_a_map_says_what_it_has() -> None:
+    """A map of the same tolerances, as it is written in Python."""
+    assert repr(olr.Map("x", profile=PROGRAM)) == repr(olr.Map("x"))
+    own = ", ".join(
+        f"{name}={value}" for name, value in tolerances_of(FEED).items() if value != DEFAULTS[name]
+    )
+    assert repr(olr.Map("x", profile=FEED)) == repr(olr.Map("x"))[:-1] + f", {own})"
+    calls: list[Callable[..., object]] = [olr.Map, olr.Map.of_folder]
+    for call in calls:
+        assert inspect.signature(call).parameters["profile"].default == PROGRAM
+        assert "`ValueError` for what is no profile" in (inspect.getdoc(olr.Map.__init__) or "")
+        with pytest.raises(ValueError, match="'fed' is no profile: the profiles are program, feed"):
+            call("x", profile="fed")
+
+
+def test_stores_take_a_profile(tmp_path: Path) -> None:
+    store = tmp_path / "town.gpkg"
+    make_store_of_folder(EXAMPLES, store)
+    with olr.Map(EXAMPLES, profile=FEED) as folder, olr.Map(store, profile=FEED) as asked:
+        for text in (REFERENCE, LACKING):
+            assert asked.places(text) == folder.places(text)
+
+
+# ---- the server
+
+
+@pytest.fixture(scope="module")
+def server(program: Program, tmp_path_factory: pytest.TempPathFactory) -> Iterator[Server]:
+    """A server of the examples."""
+    with serving(program.path, EXAMPLES, tmp_path_factory.mktemp("log") / "log") as found:
+        yield found
+
+
+@pytest.mark.parametrize("what", ["candidates", "match", "places", "why"])
+def test_addresses(what: str, server: Server, program: Program) -> None:
+    """By default the program's own. Streams and single answers are the same."""
+    for options, tolerances in CASES:
+        texts = texts_of(MESSAGES)
+        expected = expected_of(program, EXAMPLES, what, texts, *words_of(tolerances))
+        for text, one in zip(texts, expected):
+            assert one.agrees(server.get(path_of(what, text, **options)))
+        query = path_of("", "x", **options).partition("?")[2].partition("ref=x")[2].lstrip("&")
+        body = "".join(f"k\t{text}\n" for text in texts).encode()
+        reply = server.get(f"/batch/{what}?{query}", "POST", body, Content_Type="text/plain")
+        answers = [json.loads(line)["answer"] for line in reply.body.splitlines()]
+        wanted = [None if one.fault else json.loads(one.answer) for one in expected]
+        assert answers == wanted
+
+
+def test_scenes(server: Server, program: Program, monkeypatch: pytest.MonkeyPatch) -> None:
+    """The feed's by default: it is what the page asks."""
+    cases: list[tuple[dict[str, object], str]] = [
+        ({}, FEED),
+        ({"profile": FEED}, FEED),
+        ({"profile": PROGRAM}, PROGRAM),
+    ]
+    for options, profile in cases:
+        scene = json.loads(server.get(path_of("scene", REFERENCE, **options)).body)
+        words = ["--map", EXAMPLES, *words_of(tolerances_of(profile)), "--format", "json"]
+        answer = said(program, "places", REFERENCE, *words)
+        totals = [entry["total"] for entry in scene["entries"] if entry["members"]]
+        assert [place["matching"]["total"] for place in answer["places"]] == totals
+        assert shown_by(program, scene["command"], EXAMPLES, monkeypatch) == answer
+
+
+def test_profiles_that_arent_there(server: Server) -> None:
+    for path in ("match", "places", "why", "candidates", "scene"):
+        status, title, detail = server.get(path_of(path, REFERENCE, profile="fed")).problem()
+        assert (status, title) == (400, "BadRequest")
+        assert detail.startswith("'fed' is no profile: the profiles are program, feed")
+    refused = server.get("/batch/match?profile=", "POST", b"", Content_Type="text/plain")
+    assert refused.problem()[0] == 400
+    assert server.get(path_of("show", REFERENCE, profile=FEED)).problem()[0] == 400
+
+
+def test_what_the_server_says_of_them(server: Server) -> None:
+    """The document has each default; tolerances have none, or clients would send them."""
+    paths = json.loads(server.get("/openapi.json").body)["paths"]
+    for path, about in paths.items():
+        ((_, address),) = about.items()
+        schemas = {one["name"]: one["schema"] for one in address["parameters"]}
+        if "radius" in schemas:
+            assert schemas["profile"]["enum"] == list(PROFILES)
+            assert schemas["profile"]["default"] == (
+                FEED if path in ("/scene", "/rows") else PROGRAM
+            )
+            assert all("default" not in schemas[name] for name in TOLERANCES)
+    page = server.get("/docs").body.decode()
+    assert "<td>profile</td><td>program, feed</td><td>program</td>" in page
+    assert "<td>profile</td><td>program, feed</td><td>feed</td>" in page
