@@ -1,11 +1,12 @@
 """A map as arrays, to draw what is on it: the geometry of pieces of lines, and of places on them.
 
-Coordinates are in degrees (WGS 84), longitude first. Positions on lines are in decimetres.
+Coordinates are in degrees (WGS 84), longitude first. Positions on lines are in decimetres. It needs numpy alone, but for geometries as
+objects: these are shapely's.
 """
 
 from collections.abc import Iterable, Sequence
 from pathlib import Path
-from typing import NamedTuple, Optional, Protocol, Union
+from typing import TYPE_CHECKING, NamedTuple, Optional, Protocol, Union
 
 from olr.client.pieces import Piece, Pieces, Place
 from olr.content import digest_of
@@ -16,10 +17,12 @@ from olr.sources import Sources
 
 with needed_by("olr.Network", "geo"):
     import numpy as np
-    from shapely.geometry import LineString, Point
 
     from olr.arrays import Booleans, Floats, Integers
     from olr.checking.columns import joined_columns, read_columns
+
+if TYPE_CHECKING:
+    from shapely.geometry import LineString, Point
 
 
 class OnLine(Protocol):
@@ -92,6 +95,10 @@ class Network:
         sizes = f"{len(self.node_id):,} nodes, {len(self.line_id):,} lines"
         return f"<Network of {self.folder}: {sizes}>"
 
+    def having(self, lines: Union[Integers, Iterable[int]]) -> "Network":
+        """A network with arrays that has these lines, by their ids, and perhaps others: this one, but for the network of a store."""
+        return self
+
     def _points_of_nodes(self, ids: Integers) -> Floats:
         """The points of nodes. Raises `ToolError` if one isn't on the map."""
         places = np.searchsorted(self.node_id, ids)
@@ -101,11 +108,11 @@ class Network:
         result: Floats = self.node_points[places].reshape(-1, 2)
         return result
 
-    def line(self, id: int) -> LineString:
+    def line(self, id: int) -> "LineString":
         """The whole polyline of a line. Raises `ToolError` if the map hasn't this line."""
-        (index,) = self._indices_of(np.array([id]))
+        (index,) = self.indices_of(np.array([id]))
         first = self.first[index]
-        return LineString(self.points[first : first + self.sizes[index]])
+        return _line_string(self.points[first : first + self.sizes[index]])
 
     def sources(self) -> Sources:
         """Where the lines came from: the `ids.csv` of the map's folder, which is read once; none if there is no such file. Raises
@@ -114,14 +121,13 @@ class Network:
             self._sources = Sources.of_folder(self.folder)
         return self._sources
 
-    def geometry(self, pieces: Union[Pieces, Iterable[Sequence[int]]]) -> LineString:
+    def geometry(self, pieces: Union[Pieces, Iterable[Sequence[int]]]) -> "LineString":
         """The line of pieces, one behind the other; an empty one for no pieces. A piece is a line's id and two positions.
 
         A position is a share of the line's length, and the same share of its polyline, as the program counts. Raises `MapRefused`
         if the pieces are of another version of the map, and `ToolError` if it hasn't such a line.
         """
-        points = self.path(pieces)
-        return LineString(points) if len(points) else LineString()
+        return _line_string(self.path(pieces))
 
     def path(self, pieces: Union[Pieces, Iterable[Sequence[int]]]) -> Floats:
         """The points of what `geometry` makes of pieces; none for no pieces. Raises as `geometry`."""
@@ -135,7 +141,7 @@ class Network:
         polyline has. It is what `geometry` makes of each row of them, hundreds of times as fast. Raises `ToolError` if the map hasn't
         such a line, or it ends before.
         """
-        index = self._indices_of(pieces[:, 0])
+        index = self.indices_of(pieces[:, 0])
         self._require_on(index, pieces[:, 1])
         self._require_on(index, pieces[:, 2])
         low, high = (pieces[:, column] / self.length[index] for column in (1, 2))
@@ -173,18 +179,21 @@ class Network:
                 f"the map in {self.folder} is another version than the answer is of: take the network of the Map that was asked, by network()"
             )
 
-    def point(self, place: Union[OnLine, tuple[int, int]]) -> Point:
+    def point(self, place: Union[OnLine, tuple[int, int]]) -> "Point":
         """The point of a place, or of a candidate. Raises `ToolError` if the map hasn't this line, or it ends before."""
         id, at = place if isinstance(place, tuple) else (place.line, place.at)
-        return Point(self.points_at(np.array([[id, at]]))[0])
+        (point,) = self.points_at(np.array([[id, at]]))
+        with needed_by("olr.Network.point", "geo"):
+            from shapely.geometry import Point
+        return Point(point)
 
     def points_at(self, places: Integers) -> Floats:
         """The points of places, of which each row has a line's id and a position. Raises `ToolError` as `point` does."""
-        index = self._indices_of(places[:, 0])
+        index = self.indices_of(places[:, 0])
         self._require_on(index, places[:, 1])
         return self._at(index, places[:, 1] / self.length[index])
 
-    def _indices_of(self, ids: Integers) -> Integers:
+    def indices_of(self, ids: Integers) -> Integers:
         """The indices of lines. Raises `ToolError` for the first one that isn't there."""
         places = np.minimum(np.searchsorted(self._ids, ids), len(self._ids) - 1)
         lacking = self._ids[places] != ids if len(self._ids) else np.ones(len(ids), dtype=np.bool_)
@@ -264,6 +273,13 @@ def between(route: Pieces, earliest: Place, latest: Place) -> list[Piece]:
             return [*found, Piece(line, start, latest.at)]
         found.append(Piece(line, start, end))
     return found
+
+
+def _line_string(points: Floats) -> "LineString":
+    """The line through points; an empty one for none."""
+    with needed_by("olr.Network.geometry", "geo"):
+        from shapely.geometry import LineString
+    return LineString(points) if len(points) else LineString()
 
 
 def _sums(values: Union[Integers, Booleans], sizes: Integers) -> Integers:

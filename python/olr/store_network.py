@@ -1,12 +1,12 @@
 """A map behind a store, to draw what is on it: its lines are read when they are asked for."""
 
 import threading
-from collections.abc import Iterable
+from collections.abc import Iterable, Iterator
+from contextlib import contextmanager
 from pathlib import Path
-from typing import Optional, Union
+from typing import TYPE_CHECKING, Optional, Union
 
 import numpy as np
-from shapely.geometry import LineString
 
 from olr.arrays import Floats, Integers
 from olr.errors import MapRefused
@@ -18,6 +18,9 @@ from olr.regions.scratch import scratch_map
 from olr.regions.store import Store
 from olr.road_map import MICRODEGREE
 from olr.sources import Sources
+
+if TYPE_CHECKING:
+    from shapely.geometry import LineString
 
 
 class PartOfNetwork(Network):
@@ -56,6 +59,12 @@ class StoreNetwork(Network):
                 f"the store {self.folder} has changed since it was opened: make another Map"
             )
 
+    @contextmanager
+    def reading(self) -> Iterator[Store]:
+        """The open store, while no other thread uses it. Raises `MapRefused` if it changed."""
+        with self._asking, self._store.reading() as store:
+            yield store
+
     def having(self, lines: Union[Integers, Iterable[int]]) -> Network:
         """A network that has these lines, by their ids, and perhaps others. Raises `ToolError` if the map hasn't one of them, and
         `MapRefused` if the store changed."""
@@ -82,7 +91,7 @@ class StoreNetwork(Network):
         with self._asking, self._store.reading() as store:
             return PartOfNetwork(store, store.lines_meeting(discs))
 
-    def line(self, id: int) -> LineString:
+    def line(self, id: int) -> "LineString":
         """The whole polyline of a line. Raises `ToolError` if the map hasn't this line."""
         return self.having([id]).line(id)
 
