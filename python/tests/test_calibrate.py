@@ -1,85 +1,143 @@
-"""`olr-tools calibrate`: what its tables tell of references that weren't counted, and what the command says and refuses."""
+"""`olr-tools calibrate`: what its files tell of references that weren't trials, and what the command says and refuses."""
 
 import json
-import math
 import os
-from collections import defaultdict
+import random
+import re
+import subprocess
 from collections.abc import Sequence
-from dataclasses import replace
-from itertools import pairwise
+from itertools import islice
 from pathlib import Path
+from typing import Any, NamedTuple
 
+import numpy as np
 import pytest
 
-import reliability
 from conftest import TOP, Program
-from olr.client.answers import ReferencePoint
-from olr.confidence.calibrating import Drawing, calibrated
-from olr.confidence.command import _summary
-from olr.confidence.counting import Outcome, counted_table
-from olr.confidence.share import Share
-from olr.confidence.table import ConfidenceTable
+from olr.confidence.calibrating import Wanted, calibrated
+from olr.confidence.confidence import Confidence
+from olr.confidence.contents import text_of as text_of_file
+from olr.confidence.parts import Asking, Drawing, answered_by, right_places
+from olr.confidence.weights import WEIGHTS
+from olr.counts import Counts
+from olr.map_folder import read_map, write_map, write_records
+from olr.osm.importing import Options, import_osm
+from olr.profiles import FEED, tolerances_of
 from olr.tools import run
-from olr.trials.encoder import text_of
+from olr.trials.changing import changed_points
+from olr.trials.differing import Difference, differing
+from olr.trials.encoder import Network, text_of
+from olr.trials.graph import Graph
+from olr.trials.paths import Paths
+from olr.trials.rightness import is_right
+from olr.trials.roads import Roads
 from olr.trials.spreads import Spreads
 from vector_files import write_tempe
 
-NOTHING = Spreads(0, 0, 0, 0, 0, 0, 0)
+TRIALS = 3_000
+"""References of a file: few, so that the tests are quick and their margins wide."""
+COUNT = 150
+KINDS = (Spreads().times(0), Spreads(8, 1, 5, 10, 5), Spreads(25, 2, 15, 20, 10))
+VENDOR = Difference(5, 15, 4, 4, 0, 0)
+ASKING = Asking(tolerances_of(FEED))
 
 
-@pytest.fixture(autouse=True)
-def environment(program: Program, monkeypatch: pytest.MonkeyPatch) -> None:
+@pytest.fixture(scope="module", autouse=True)
+def environment(program: Program) -> Any:
     """The command finds the program by its environment."""
-    monkeypatch.setenv("OLR_PROGRAM", os.fspath(program.path))
+    with pytest.MonkeyPatch.context() as patch:
+        patch.setenv("OLR_PROGRAM", os.fspath(program.path))
+        yield
 
 
 @pytest.fixture(scope="module")
-def folder(tmp_path_factory: pytest.TempPathFactory) -> Path:
+def tempe(tmp_path_factory: pytest.TempPathFactory) -> Path:
     """The streets of Tempe."""
     return write_tempe(tmp_path_factory.mktemp("tempe") / "map")
 
 
-def newcombe(first: Share, second: Share) -> tuple[float, float]:
-    """The interval of 95 percent of the difference of two shares, by Newcombe's formula: that of Wilson of each, put together."""
-    difference = first.share - second.share
-    below = math.hypot(first.share - first.low, second.high - second.share)
-    above = math.hypot(first.high - first.share, second.share - second.low)
-    return difference - below, difference + above
+@pytest.fixture(scope="module")
+def town(tmp_path_factory: pytest.TempPathFactory) -> Path:
+    """A drawn town of some 900 lines."""
+    folder = tmp_path_factory.mktemp("town")
+    file = folder / "town.osm.pbf"
+    words = ["--blocks", "14", "--houses", "1", "--seed", "4", "--out", str(file)]
+    script = str(TOP / "bench/generate_osm.py")
+    subprocess.run(["/usr/bin/python3", script, *words], check=True, capture_output=True)
+    made = import_osm(file, Options(), Counts())
+    write_map(made.road_map, folder / "map", made.about)
+    return folder / "map"
 
 
-def cells_within(table: ConfidenceTable, outcomes: Sequence[Outcome]) -> list[bool]:
-    """For each cell that outcomes lie in, whether their share may be that of the table: 0 lies in the interval of the difference."""
-    seen: dict[Share, list[bool]] = defaultdict(list)
-    for outcome in outcomes:
-        seen[table.cell(outcome.margin, outcome.total)].append(outcome.is_right)
-    found = []
-    for told, right in seen.items():
-        low, high = newcombe(told, Share(sum(right), len(right)))
-        found.append(low <= 0 <= high)
-    return found
+class Feed(NamedTuple):
+    """References of a sender, and whether the likeliest place of each is right."""
+
+    folder: Path
+    """The map that is asked."""
+    texts: Sequence[str]
+    told: Sequence[float]
+    """Of each answer that has a place."""
+    right: Sequence[bool]
+    confidence: Confidence
 
 
-def test_the_default_table_tells_how_others_come_out() -> None:
-    """On references of another seed the share of each cell is that of the table, within the interval of their difference, in nine cells of
-    ten: both are counts of draws, so both have an error. On another town it isn't. The page shows both.
-    """
-    page = (TOP / "docs/CONFIDENCE.md").read_text(encoding="utf-8")
-    words = " ".join(page.split())
-    table = ConfidenceTable.default()
-    shares = []
-    for title, outcomes in reliability.tried_maps():
-        rows = [reliability.row_of(point) for point in reliability.points_of(table, outcomes)]
-        assert "\n".join(rows) in page, title
-        within = cells_within(table, outcomes)
-        assert len(within) >= 15 and f"{sum(within)} of {len(within)}" in words
-        shares.append(sum(within) / len(within))
-    assert shares[0] >= 0.9 > shares[1]
-    told = [table.cell(one.margin, one.total).share for one in outcomes]
-    right = [one.is_right for one in outcomes]
-    means = (
-        f"told {sum(told) / len(told):.3f} on average and {sum(right) / len(right):.3f} were right"
+def feed_of(sender: Path, difference: Difference, folder: Path) -> Feed:
+    """References on a map, asked of the version that another maker has of it, with a file of that version and for these."""
+    road_map = read_map(sender)
+    roads, draws = Roads(road_map), random.Random(f"{difference}")
+    other = differing(road_map, roads, difference, draws)
+    folder.mkdir()
+    write_records(other.nodes, other.lines, other.bans, folder)
+    drawn = list(islice(Paths(Network(road_map)).drawn(Graph(road_map, roads), draws), COUNT))
+    texts = [
+        text_of(changed_points(one.points, KINDS[number % 3], draws))
+        for number, one in enumerate(drawn)
+    ]
+    wanted = Wanted(feed=texts, messages=COUNT)
+    confidence = calibrated(folder, Drawing(TRIALS), ASKING, wanted)
+    with ASKING.map_of(folder) as asked:
+        answered = answered_by(asked, texts, ASKING)
+    found = answered.found
+    lengths = {line.id: line.length for line in (*road_map.lines, *other.lines)}
+    are_right = [
+        is_right(lengths, drawn[owner].path, matching.outer or ())
+        for owner, matching in zip(found.owners().tolist(), found.matchings)
+    ]
+    first = found.first()
+    told = confidence.of(found, answered.evidence)
+    sums = np.add.reduceat(
+        told.of_place, np.cumsum(found.sizes[found.sizes > 0]) - found.sizes[found.sizes > 0]
     )
-    assert means in words
+    assert sums + told.of_none == pytest.approx(1)
+    right = right_places(found, are_right) == first
+    return Feed(folder, texts, told.of_place[first].tolist(), right.tolist(), confidence)
+
+
+@pytest.mark.parametrize("name", ["tempe", "town"])
+@pytest.mark.parametrize("is_vendor", [False, True])
+def test_what_is_told_is_seen(
+    name: str, is_vendor: bool, tmp_path: Path, request: pytest.FixtureRequest
+) -> None:
+    """On the map itself and on another vendor's version of it, by a recipe that no trial has. The margins are wide: 150 references, and a
+    third of the trials that the command has by default."""
+    sender: Path = request.getfixturevalue(name)
+    feed = feed_of(sender, VENDOR if is_vendor else Difference(), tmp_path / "map")
+    told, seen = float(np.mean(feed.told)), float(np.mean(feed.right))
+    print(f"{name}, vendor {is_vendor}: told {told:.3f}, seen {seen:.3f} of {len(feed.told)}")
+    assert abs(told - seen) < 0.2
+    order = np.argsort(feed.told)
+    right = np.array(feed.right)[order]
+    low, high = right[: len(right) // 3], right[-(len(right) // 3) :]
+    assert high.mean() > 0.85
+    differs = feed.confidence.map_differs
+    assert differs is not None
+    if is_vendor:
+        assert seen < 0.9 and differs.value > 0.4 and low.mean() < high.mean() - 0.2
+    else:
+        assert seen > 0.9 and differs.value < 0.5
+    weights = feed.confidence.weights
+    assert all(weights[it] >= 0 for it, weight in WEIGHTS.items() if weight.is_bounded)
+    assert 0 <= feed.confidence.level < 0.15
 
 
 def calibrate(folder: Path, out: Path, *words: object) -> int:
@@ -87,126 +145,180 @@ def calibrate(folder: Path, out: Path, *words: object) -> int:
     return run(["calibrate", "--map", str(folder), "--out", str(out), *map(str, words)])
 
 
-def test_the_same_seed_gives_the_same_bytes(folder: Path, tmp_path: Path) -> None:
+@pytest.fixture(scope="module")
+def messages(tempe: Path, tmp_path_factory: pytest.TempPathFactory) -> Path:
+    """A hundred messages on the streets of Tempe, and a text that is none."""
+    road_map = read_map(tempe)
+    paths = Paths(Network(road_map)).drawn(Graph(road_map, Roads(road_map)), random.Random(9))
+    file = tmp_path_factory.mktemp("messages") / "messages.csv"
+    lines = [f"k{number},{text_of(one.points)}\n" for number, one in enumerate(islice(paths, 100))]
+    file.write_text("".join(["id,code\n", *lines, "x,?\n"]))
+    return file
+
+
+FOR = ("--ref", "code", "--key", "id", "--references", 400)
+
+
+def test_the_same_seed_gives_the_same_bytes(tempe: Path, messages: Path, tmp_path: Path) -> None:
     one, same, other = (tmp_path / name for name in ("one", "same", "other"))
     for file, seed in ((one, 5), (same, 5), (other, 6)):
-        assert calibrate(folder, file, "--references", 300, "--seed", seed) == 0
+        assert calibrate(tempe, file, "--for", messages, *FOR, "--seed", seed) == 0
     assert one.read_bytes() == same.read_bytes()
-    assert json.loads(one.read_text())["by_margin"] != json.loads(other.read_text())["by_margin"]
+    assert json.loads(one.read_text())["weights"] != json.loads(other.read_text())["weights"]
     assert sorted(tmp_path.iterdir()) == [one, other, same]
 
 
 def test_what_the_command_says(
-    folder: Path, tmp_path: Path, capsys: pytest.CaptureFixture[str]
+    tempe: Path, messages: Path, tmp_path: Path, capsys: pytest.CaptureFixture[str]
 ) -> None:
-    file = tmp_path / "new" / "table.json"
-    words = ["--references", 200, "--radius", 50, "--apart", 300, "--form-off", 0, "--slack", 300]
-    assert calibrate(folder, file, *words) == 0
-    table = ConfidenceTable.of_file(file)
-    assert table.fits({"radius": 50}, 300) is None
-    assert table.about["changes"] == Spreads(form=0).content()
+    """Each weight with its unit; and the file has all that it was made from."""
+    file = tmp_path / "new" / "file.json"
+    words = ["--for", messages, *FOR, "--radius", 60, "--apart", 300]
+    assert calibrate(tempe, file, *words) == 0
+    made = Confidence.of_file(file)
     shown = capsys.readouterr().out.splitlines()
-    outcomes = table.about["outcomes"]
-    assert shown[0] == (f"{file}: {outcomes['counted']} answers ({outcomes['none']} fit nowhere)")
-    last = table.by_margin[-1].share
-    low, right, high = (f"{100 * one:.0f}" for one in (last.low, last.share, last.high))
-    assert shown[-1] == (
-        f"no second place: {right} percent of {last.count} right ({low} to {high})"
+    assert shown[0] == f"{file}: 400 trial references"
+    differs = made.map_differs
+    assert differs is not None and shown[1] == (
+        f"map differs: {differs.value:.1f} ({differs.low:.1f} to {differs.high:.1f}), 1 as that of another vendor"
     )
-    assert [line.split(":")[0] for line in shown[1:-1]] == [
-        *(
-            f"margin {start} to below {end}"
-            for start, end in pairwise((0, 10, 20, 30, 40, 60, 100))
-        ),
-        "margin 100 and more",
+    assert shown[2:-1] == [
+        f"weight {name}: {made.weights[name]:.4g} for {weight.unit}"
+        for name, weight in WEIGHTS.items()
     ]
+    assert len(WEIGHTS) == 8 and shown[-1].startswith("asked with: radius 60 m")
+    assert made.others({**tolerances_of(FEED), "radius": 60}, 300) == ""
+    about = made.about
+    assert (about["references"], about["seed"], about["right"]) == (400, 1, 0.9)
+    assert about["map"]["lines"] == 586 and about["feed"]["references"] == 100
+    assert len(about["feed"]["statistics"]) > 15 and about["differ"] is None is about["checked"]
+    assert sum(part["answers"] for part in about["parts"]) <= 400 and len(about["parts"]) == 20
+    assert text_of_file(made) == file.read_text()
 
 
-def test_paths_like_messages(folder: Path, tmp_path: Path) -> None:
-    """The file of messages is an input, and isn't replaced."""
-    line = ReferencePoint(5, 3, 33_000_000, -111_000_000, 0, 20, 5)
-    text = text_of([line, replace(line, interval=None, lowest=None)])
-    messages, out = tmp_path / "messages.csv", tmp_path / "table.json"
-    messages.write_text(f"id,code\n1,{text}\n2,{text}\n")
-    words = ["--references", 60, "--like", messages, "--key", "id"]
-    assert calibrate(folder, out, *words, "--ref", "code") == 0
-    assert ConfidenceTable.of_file(out).about["like_messages"] == 2
-    assert calibrate(folder, messages, *words, "--ref", "code", "--force") == 1
+def test_how_different_maps_are_may_be_stated(tempe: Path, tmp_path: Path) -> None:
+    """Without a statement or a feed all parts count alike."""
+    differs = []
+    cases: dict[str, list[object]] = {
+        "same": ["--differ", 0],
+        "other": ["--differ", 1],
+        "any": [],
+    }
+    for name, words in cases.items():
+        file = tmp_path / name
+        assert calibrate(tempe, file, "--references", 800, *words) == 0
+        made = Confidence.of_file(file)
+        assert made.map_differs is not None
+        differs.append(made.map_differs.value)
+        counts = {part["counts"] for part in made.about["parts"]}
+        assert (len(counts) == 1) == (name == "any")
+    assert differs[0] < 0.2 < 0.35 < differs[2] < 0.85 < differs[1]
 
 
-def test_exact_references_are_right_where_the_margin_is_great(folder: Path) -> None:
-    """Without any change each answer with a margin of 60 points or more is right, and so is each without a second place."""
-    table = calibrated(folder, Drawing(400, 2, NOTHING))
-    assert table.about["outcomes"]["none"] == 0
-    assert table.by_margin[0].share.share < 0.5
-    for row in (*table.by_margin[5:7], table.by_margin[7]):
-        assert row.share.right == row.share.count > 50
+def test_a_pair_of_maps(tempe: Path, messages: Path, tmp_path: Path) -> None:
+    """Of the same map twice hardly a place is wrong, and nothing is said of how different they are. The ids needn't be the same: those of
+    the sender's map are others here."""
+    road_map = read_map(tempe)
+    lines = [line._replace(id=line.id + 7) for line in road_map.lines]
+    bans = [ban._replace(first=ban.first + 7, second=ban.second + 7) for ban in road_map.bans]
+    folder = tmp_path / "sender"
+    folder.mkdir()
+    write_records(road_map.nodes, lines, bans, folder)
+    file = tmp_path / "pair.json"
+    assert calibrate(tempe, file, "--pair", folder, "--for", messages, *FOR) == 0
+    made = Confidence.of_file(file)
+    assert made.map_differs is None and made.about["pair"] == "sender"
+    parts = made.about["parts"]
+    assert sum(part["right"] for part in parts) > 0.93 * sum(part["answers"] for part in parts)
+
+
+def test_checked_answers(
+    tempe: Path, messages: Path, tmp_path: Path, capsys: pytest.CaptureFixture[str]
+) -> None:
+    """Thirty answers that are all said to be wrong make none of these more probable."""
+    checked = tmp_path / "checked.csv"
+    checked.write_text("key,likeliest\n" + "".join(f"k{number},wrong\n" for number in range(30)))
+    made = []
+    cases: dict[str, list[object]] = {"one": [], "other": ["--checked", checked]}
+    for name, words in cases.items():
+        file = tmp_path / name
+        assert calibrate(tempe, file, "--for", messages, *FOR, *words) == 0
+        made.append(Confidence.of_file(file))
+    before, after = made
+    about = after.about["checked"]
+    assert (about["answers"], about["right"]) == (30, 0) and about["shift"] > 1
+    shift = after.weights["none"] - before.weights["none"]
+    assert shift == pytest.approx(about["shift"], abs=1e-5)
+    assert "checked: 0 of 30 right, which shifts none of these by +" in capsys.readouterr().out
 
 
 @pytest.mark.parametrize(
     ("words", "status", "error"),
     [
-        (["--ref", "code"], 2, "--format, --ref and --key are for --like"),
-        (["--like", "none"], 1, "none can't be read"),
+        (["--ref", "code"], 2, "--format, --ref and --key are for --for"),
+        (["--checked", "none"], 2, "--checked is for --for"),
+        (["--for", "none"], 1, "none can't be read"),
+        (["--pair", "none"], 1, "none"),
+        (["--differ", 1, "--pair", "none"], 2, "give one of them"),
+        (["--differ", 1.6], 2, "1.6 is not in the range"),
         (["--references", 0], 2, "0 is not in the range"),
-        (["--legs-off", "nan"], 2, "give a number"),
-        (["--position-off", -1], 2, "-1.0 is not in the range"),
-        (["--bearing-off", 1.5], 2, "not a valid integer"),
-        (["--roads-missing", 101], 2, "101.0 is not in the range"),
         (["--radius", 0], 1, "radius is a whole number of metres"),
         (["--apart", -1], 1, "apart is a whole number of decimetres"),
-        (["--roads-missing", 100], 1, "the map has too few paths"),
+        (["--profile", "other"], 2, "'other' is not one of"),
+        (
+            ["--radius", 1, "--bearing", 0, "--class", 0, "--references", 3, "--seed", 4],
+            1,
+            "no trial reference has a place: give wider tolerances",
+        ),
     ],
 )
 def test_what_is_refused(
     words: list[object],
     status: int,
     error: str,
-    folder: Path,
+    tempe: Path,
     tmp_path: Path,
     capsys: pytest.CaptureFixture[str],
 ) -> None:
-    assert calibrate(folder, tmp_path / "table.json", *words) == status
+    assert calibrate(tempe, tmp_path / "file.json", *words) == status
     shown = capsys.readouterr().err.splitlines()
     assert error in shown[-1] and (status == 2 or len(shown) == 1)
     assert not list(tmp_path.iterdir())
 
 
 @pytest.mark.parametrize(
-    ("right", "count", "text"),
+    ("lines", "checked", "error"),
     [
-        (1009, 1013, "99 percent of 1,013 right (99 to 100)"),
-        (1353, 1353, "100 percent of 1,353 right (99 to 100)"),
-        (1, 1000, "1 percent of 1,000 right (0 to 1)"),
-        (0, 1000, "0 percent of 1,000 right (0 to 1)"),
-        (8, 8, "100 percent of 8 right (68 to 100)"),
+        (79, None, "the feed has 79 line references, and 80 are needed .* say it by --differ"),
+        (100, "k1,maybe\n", "line 1 isn't a key, a comma or a tab, and one of right, wrong"),
+        (100, "k1\n", "line 1 isn't a key"),
+        (100, "nobody,right\n", "no message with a line reference has the key 'nobody'"),
+        (100, "k1,right\nk2,wrong\n", "2 of 2 checked messages have a place, and 20 are needed"),
     ],
 )
-def test_a_share_in_percent(right: int, count: int, text: str) -> None:
-    """All or none are said only of all or none."""
-    outcomes = [Outcome(None, 0, number < right) for number in range(count)]
-    about = {"outcomes": {"counted": count, "none": 0, "open": 0, "fault": 0}}
-    table = counted_table(outcomes, {}, 750, about)
-    assert _summary(Path("table.json"), table).splitlines()[-1] == f"no second place: {text}"
-
-
-def test_maps_and_files_that_are_refused(
-    folder: Path, tmp_path: Path, capsys: pytest.CaptureFixture[str]
+def test_feeds_and_checked_answers_that_say_too_little(
+    lines: int,
+    checked: str | None,
+    error: str,
+    tempe: Path,
+    messages: Path,
+    tmp_path: Path,
+    capsys: pytest.CaptureFixture[str],
 ) -> None:
-    def refused(place: Path, out: Path, *words: object) -> str:
-        before = {path: path.read_bytes() for path in tmp_path.rglob("*") if path.is_file()}
-        assert calibrate(place, out, *words) == 1
-        assert before == {path: path.read_bytes() for path in tmp_path.rglob("*") if path.is_file()}
-        (shown,) = capsys.readouterr().err.splitlines()
-        return shown
+    """A feed that is too small is enough where it is stated how different the maps are."""
+    feed, out = tmp_path / "feed.csv", tmp_path / "file.json"
+    feed.write_text("".join(messages.read_text().splitlines(keepends=True)[: lines + 1]))
+    words: list[object] = ["--for", feed, *FOR]
+    if checked is not None:
+        (tmp_path / "checked").write_text(checked)
+        words += ["--checked", tmp_path / "checked"]
+    assert calibrate(tempe, out, *words) == 1
+    (shown,) = [it for it in capsys.readouterr().err.splitlines() if it.startswith("olr-tools")]
+    assert re.search(error, shown) and not out.exists()
+    if lines < 80:
+        assert calibrate(tempe, out, *words, "--differ", 0.5) == 0
 
-    (tmp_path / "store.gpkg").touch()
-    (tmp_path / "there.json").write_text("kept")
-    out = tmp_path / "table.json"
-    assert refused(tmp_path / "store.gpkg", out) == (
-        f"olr-tools: {tmp_path / 'store.gpkg'} is a store, and calibrate draws on a map in a folder: "
-        "take a part of its file by olr-tools import --bbox"
-    )
-    assert "olr refuses the map" in refused(tmp_path / "none", out)
-    assert "there.json is there" in refused(folder, tmp_path / "there.json")
-    assert "is one of the inputs" in refused(folder, folder / "lines.csv", "--force")
+
+def test_a_file_that_is_read_is_not_replaced(tempe: Path, messages: Path) -> None:
+    assert calibrate(tempe, messages, "--for", messages, *FOR, "--force") == 1
+    assert messages.read_text().startswith("id,code\n")

@@ -1,12 +1,18 @@
-"""How sure an answer of `places` is: the share of references on a map whose first place was the right one, by counts of their own.
+"""How probable it is that a place is the one that the sender meant, and that none is: by trials whose right place is known.
 
 | module | subject |
 |---|---|
-| `share` | how many of some answers were right, and within what the share lies |
-| `table` | a confidence table, which has a share for an answer; the default one |
-| `contents` | what the file of a table has in it, read and written |
-| `counting` | a table of outcomes that were counted |
-| `calibrating`, `command` | `olr-tools calibrate`: a table of one's own map and tolerances |
+| `weights` | how much each difference counts: a conditional logit over the places of an answer and none of these |
+| `confidence` | `olr.Confidence`: weights with the tolerances that they are for; the one that comes with the package |
+| `contents` | what the file of a confidence has in it, read and written |
+| `reasons`, `judged` | answers in the likely order with their probabilities, and why, in a sentence |
+| `parts`, `pair` | trials in parts that differ in how different maps and references are; trials on a pair of maps |
+| `feed`, `likeness` | what the answers to a feed show, and which parts it looks like |
+| `fitting`, `shifting` | weights by answers to trials; their level by answers that somebody checked |
+| `messages` | the messages of a feed, and checked answers |
+| `calibrating`, `command` | `olr-tools calibrate` |
+| `options` | the option `--confidence` |
+| `sentences`, `expected` | what pages and summaries say of probabilities; how many of many answers are expected to be right |
 
-The first four need Python alone.
+The first three lines need numpy alone; what makes a file needs scipy too.
 """

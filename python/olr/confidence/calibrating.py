@@ -1,201 +1,234 @@
-"""A confidence table of one's own map: references to paths that are known, changed and asked."""
+"""A confidence of one's own map, and of a feed: trials in parts, of which those count that the feed looks like."""
 
-import random
-import tempfile
-from collections import Counter
-from collections.abc import Generator, Iterator, Mapping, Sequence
-from contextlib import closing
-from dataclasses import dataclass
-from itertools import islice
+from collections.abc import Mapping, Sequence
 from pathlib import Path
-from typing import Any, NamedTuple, Optional, Union
+from typing import Any, NamedTuple, Optional
 
-from olr.client.answers import Places
-from olr.client.fault import Fault
-from olr.client.map_client import Map
-from olr.client.patience import PATIENCE
-from olr.client.questions import NUMBERS, TOLERANCES
-from olr.confidence.counting import Outcome, counted_table
-from olr.confidence.table import ConfidenceTable
+import numpy as np
+
+from olr.arrays import Floats
+from olr.confidence.confidence import Confidence
+from olr.confidence.feed import LEAST_REFERENCES, STATISTICS, Answered, statistics_of
+from olr.confidence.fitting import Trial, fitted
+from olr.confidence.likeness import (
+    WIDTH_OF_MAPS,
+    WIDTH_OF_REFERENCES,
+    WIDTH_OF_WRONG,
+    Likeness,
+    Range,
+    alike,
+    range_of,
+)
+from olr.confidence.pair import parts_of_pair
+from olr.confidence.parts import Asking, Drawing, Part, answered_by, parts_of
+from olr.confidence.shifting import LEAST_CHECKED, Checked, shift_of, shifted
+from olr.confidence.weights import WEIGHTS, Differences, differences_of, probabilities
 from olr.errors import ToolError
-from olr.map_folder import read_map, store_of, write_records
-from olr.outputs import writing
-from olr.progress import progress
+from olr.map_folder import read_map, store_of
 from olr.road_map import RoadMap
-from olr.trials.changing import changed_points, with_other_classes, without_roads
-from olr.trials.encoder import Network, text_of
-from olr.trials.graph import Graph
-from olr.trials.likeness import LikeMessages, Usual
-from olr.trials.paths import Drawn, Paths
-from olr.trials.rightness import RIGHT, is_right
-from olr.trials.roads import Roads
-from olr.trials.spreads import Spreads
+from olr.trials.rightness import RIGHT
 from olr.version import VERSION
 
-LEAST_PARTS = 10
-"""The references are drawn and asked on several pairs of maps, each with other roads missing, so that no one draw of them decides: on
-so many at least,"""
-REFERENCES_OF_PART = 20
-"""and on one for each so many references,"""
-MOST_LINES_OF_PARTS = 2_000_000
-"""unless all these maps together have more lines than this."""
 SOME_REFERENCE = "CwVF/yN2yRpnBAFUAAgbpwYBAf9kK0Fa"
 """To ask whether the program reads a map."""
-WORDS = ("counted", "fault", "none", "open")
-"""What becomes of a reference: its answer is counted, or it has a fault, no place, or one place before looking was cut off."""
+DECIMALS = 4
+"""Of numbers in a file."""
 
 
-@dataclass(frozen=True)
-class Drawing:
-    """What is drawn."""
+class Wanted(NamedTuple):
+    """What a confidence is for."""
 
-    references: int = 4000
-    seed: int = 1
-    spreads: Spreads = Spreads()
-    like: Optional[LikeMessages] = None
-    """Messages that the paths shall be like: usual paths for None."""
-
-
-class Asking(NamedTuple):
-    """With what is asked."""
-
-    tolerances: Mapping[str, Any] = {}
-    """Those that aren't the program's defaults, with the names of `olr.Map`."""
-    apart: int = NUMBERS["places"]["apart"].default
-    patience: float = PATIENCE
+    feed: Sequence[str] = ()
+    """The references of a feed: parts that look like it count, if there are enough of them."""
+    messages: int = 0
+    """How many line references the feed has."""
+    differ: Optional[float] = None
+    """How different the maps are, where it is stated."""
+    checked: Mapping[str, bool] = {}
+    """Whether the likeliest places of some references are right, by their texts."""
+    pair: Optional[Path] = None
+    """The map of the sender, on which trials are drawn then."""
 
 
-@dataclass(frozen=True)
-class Part:
-    """Some of the references, drawn and asked on a pair of maps of their own."""
+class Chosen(NamedTuple):
+    """Which parts count, and how much."""
 
-    count: int
-    draws: random.Random
-
-
-class Tried(NamedTuple):
-    """What came out of references that were drawn and asked."""
-
-    outcomes: Sequence[Outcome]
-    about: Mapping[str, Any]
-    """How they were drawn, and how many have no outcome."""
+    weights: Floats
+    statistics: Optional[Floats]
+    """Of the feed, if it says something."""
 
 
-def calibrated(
-    folder: Path, drawing: Drawing = Drawing(), asking: Asking = Asking()
-) -> ConfidenceTable:
-    """The confidence table of the map in a folder. It is the same one for the same map and the same numbers. Raises as `tried`."""
-    outcomes, about = tried(folder, drawing, asking)
-    given = {name.removesuffix("_"): value for name, value in asking.tolerances.items()}
-    tolerances = {name: given.get(name, number.default) for name, number in TOLERANCES.items()}
-    return counted_table(outcomes, tolerances, asking.apart, about)
-
-
-def tried(folder: Path, drawing: Drawing = Drawing(), asking: Asking = Asking()) -> Tried:
-    """Draws references on the map in a folder, changes and asks them.
-
-    Raises `ToolError` for a store, a map that can't be read, and one with too few paths, and `Fault` for a number out of its range.
+def calibrated(folder: Path, drawing: Drawing, asking: Asking, wanted: Wanted) -> Confidence:
+    """The confidence of the map in a folder: the same one for the same map, numbers and feed. Raises `ToolError` for a store, a map that
+    can't be read, one with too few paths, and a feed that is too small to say how different the maps are.
     """
-    road_map = _read(folder, asking)
-    trials = _Trials(road_map, drawing, asking)
-    outcomes: list[Outcome] = []
-    words = Counter(dict.fromkeys(WORDS, 0))
-    with progress("references answered", drawing.references) as advance:
-        for part in _parts(drawing, len(road_map.lines)):
-            with closing(trials.answered(part)) as answered:
-                for drawn, answer in answered:
-                    outcome = trials.outcome(drawn, answer)
-                    words[_word(answer, outcome)] += 1
-                    outcomes += [] if outcome is None else [outcome]
-                    advance(1)
-    return Tried(outcomes, _about(road_map, drawing, words))
+    _require_feed(wanted)
+    feed = answered_feed(folder, wanted.feed, asking)
+    road_map = read_map(folder)
+    if wanted.pair is None:
+        parts = list(parts_of(road_map, drawing, asking))
+    else:
+        parts = list(parts_of_pair(folder, wanted.pair, drawing, asking))
+    if not any(len(part.right) for part in parts):
+        raise ToolError("no trial reference has a place: give wider tolerances")
+    chosen = chosen_parts(parts, feed, wanted)
+    weights = fitted(trial_of(parts, chosen.weights))
+    checked = _checked(folder, wanted, asking)
+    shift = 0.0 if checked is None else shift_of(weights, checked)
+    differs = None
+    if wanted.pair is None:
+        found = range_of(np.array([part.maps for part in parts]), chosen.weights)
+        differs = Range(*rounded(np.array(found)))
+    about = _about(road_map, drawing, parts, chosen, wanted)
+    if checked is not None:
+        right = int(checked.right.sum())
+        (shift,) = rounded(np.array([shift]))
+        about["checked"] = {"answers": len(checked.right), "right": right, "shift": shift}
+    return Confidence(
+        tolerances=dict(asking.tolerances),
+        apart=asking.apart,
+        weights=dict(zip(WEIGHTS, rounded(shifted(weights, shift)))),
+        map_differs=differs,
+        about=about,
+        level=rounded(np.array([level_of(parts, chosen.weights, weights)]))[0],
+    )
 
 
-def _read(folder: Path, asking: Asking) -> RoadMap:
-    """The map of a folder, which the program reads. Raises `ToolError` for a store, and for a map that it refuses."""
+def _require_feed(wanted: Wanted) -> None:
+    """Raises `ToolError` for a feed that is too small, where it isn't known how different the maps are."""
+    is_known = wanted.differ is not None or wanted.pair is not None
+    if not is_known and 0 < wanted.messages < LEAST_REFERENCES:
+        raise ToolError(
+            f"the feed has {wanted.messages:,} line references, and {LEAST_REFERENCES} are needed to tell how different the maps are: "
+            "say it by --differ, from 0 for the same map to 1 for that of another maker"
+        )
+
+
+def _checked(folder: Path, wanted: Wanted, asking: Asking) -> Optional[Checked]:
+    """The answers that somebody checked, asked again. None if there are none. Raises `ToolError` if too few of them have a place."""
+    if not wanted.checked:
+        return None
+    texts = list(wanted.checked)
+    with asking.map_of(folder) as asked:
+        answered = answered_by(asked, texts, asking)
+    found = answered.found
+    right = np.array(list(wanted.checked.values()), dtype=np.bool_)[found.sizes > 0]
+    if len(right) < LEAST_CHECKED:
+        raise ToolError(
+            f"{len(right):,} of {len(texts):,} checked messages have a place, and {LEAST_CHECKED} are needed: check more"
+        )
+    first = np.zeros(len(found.matchings), dtype=np.bool_)
+    first[found.first()] = True
+    return Checked(differences_of(found, answered.evidence), first, right)
+
+
+def answered_feed(folder: Path, texts: Sequence[str], asking: Asking) -> Optional[Answered]:
+    """What a map answers to a feed; None for no feed. It is asked about something in any case: raises `ToolError` for a store, and for a
+    map that can't be read."""
     store = store_of(folder)
     if store is not None:
         raise ToolError(
             f"{store} is a store, and calibrate draws on a map in a folder: take a part of its file by olr-tools import --bbox"
         )
-    with _asked(folder, asking) as asked:
-        list(asked.answers("candidates", [SOME_REFERENCE]))
-    return read_map(folder)
+    with asking.map_of(folder) as asked:
+        found = answered_by(asked, texts or [SOME_REFERENCE], asking)
+    return found if texts else None
 
 
-def _asked(folder: Path, asking: Asking) -> Map:
-    """The map of a folder, to ask it."""
-    return Map.of_folder(folder, **asking.tolerances, patience=asking.patience)
+def chosen_parts(parts: Sequence[Part], feed: Optional[Answered], wanted: Wanted) -> Chosen:
+    """How much each part counts: those that look like the feed, and whose maps are as different as is stated. Without either all count
+    alike."""
+    said: list[Floats] = []
+    aims: list[float] = []
+    widths: list[float] = []
+    statistics = None
+    if feed is not None and len(feed.found.sizes) >= LEAST_REFERENCES:
+        usual = fitted(trial_of(parts, np.ones(len(parts))))
+        statistics = statistics_of(feed, usual)
+        known = np.array([(part.wrong(), part.references) for part in parts])
+        of_parts = np.array([statistics_of(part.answered, usual) for part in parts])
+        likeness = Likeness(of_parts, known)
+        said, aims = list(likeness.said.T), likeness.said_of(statistics).tolist()
+        widths = [WIDTH_OF_WRONG, WIDTH_OF_REFERENCES]
+    if wanted.differ is not None:
+        # What is stated holds, and not what the feed says of how many are wrong.
+        said[:1], aims[:1] = [np.array([part.maps for part in parts])], [wanted.differ]
+        widths[:1] = [WIDTH_OF_MAPS]
+    if not said:
+        return Chosen(np.ones(len(parts)), None)
+    weights = alike(np.stack(said, axis=1), np.array(aims), np.array(widths))
+    return Chosen(weights, statistics)
 
 
-def _parts(drawing: Drawing, lines: int) -> Iterator[Part]:
-    """All references on a map of so many lines, in parts, each with draws of its own."""
-    parts = min(drawing.references // REFERENCES_OF_PART, MOST_LINES_OF_PARTS // max(lines, 1))
-    parts = min(max(parts, LEAST_PARTS), drawing.references)
-    for part in range(parts):
-        first, behind = (drawing.references * one // parts for one in (part, part + 1))
-        yield Part(behind - first, random.Random(f"{drawing.seed} {part}"))
+def trial_of(parts: Sequence[Part], weights: Floats) -> Trial:
+    """The trials of parts, which count so much."""
+    each = [differences_of(part.answered.found, part.answered.evidence) for part in parts]
+    before = np.cumsum([0, *(len(one.of_place) for one in each)])
+    right = [
+        np.where(part.right < 0, part.right, part.right + at) for part, at in zip(parts, before)
+    ]
+    return Trial(
+        Differences(*(np.concatenate(column) for column in zip(*each))),
+        np.concatenate(right),
+        np.repeat(weights, [len(part.right) for part in parts]),
+    )
 
 
-class _Trials:
-    """References to known paths of a map, changed and asked."""
-
-    def __init__(self, road_map: RoadMap, drawing: Drawing, asking: Asking) -> None:
-        self._map, self._spreads, self._asking = road_map, drawing.spreads, asking
-        self._roads = Roads(road_map)
-        self._paths = Paths(Network(road_map), drawing.like or Usual())
-        self._lengths = {line.id: line.length for line in road_map.lines}
-
-    def answered(self, part: Part) -> Generator[tuple[Drawn, Union[Places, Fault]], None, None]:
-        """References of a sender whose map lacks some roads, and their answers on a map that lacks others. It ends the program's process
-        when it is closed."""
-        draws = part.draws
-        sender = Graph(self._without_roads(draws), self._roads)
-        drawn = list(islice(self._paths.drawn(sender, draws), part.count))
-        texts = [text_of(changed_points(one.points, self._spreads, draws)) for one in drawn]
-        lacking = self._without_roads(draws)
-        other = with_other_classes(lacking, self._roads, self._spreads.roads_class, draws)
-        with tempfile.TemporaryDirectory(prefix="olr-calibrate-") as place:
-            scratch = Path(place)
-            with writing(scratch):
-                write_records(other.nodes, other.lines, other.bans, scratch)
-            with _asked(scratch, self._asking) as asked:
-                answers = asked.answers("places", texts, apart=self._asking.apart)
-                yield from zip(drawn, answers, strict=True)
-
-    def _without_roads(self, draws: random.Random) -> RoadMap:
-        """The map without some roads that are drawn."""
-        return without_roads(self._map, self._roads, self._spreads.roads_missing, draws)
-
-    def outcome(self, drawn: Drawn, answer: Union[Places, Fault]) -> Optional[Outcome]:
-        """What is counted of an answer. None if it has no place, or looking was cut off."""
-        if isinstance(answer, Fault) or not answer.places:
-            return None
-        outer = answer.places[0].matching.outer or ()
-        return Outcome.of(answer, is_right(self._lengths, drawn.path, outer))
+def level_of(parts: Sequence[Part], counts: Floats, weights: Floats) -> float:
+    """How far the share of likeliest places that are right lies from what is told of them, over parts that count so much: a standard
+    deviation, without what is due to chance."""
+    squares = []
+    for part in parts:
+        found = part.answered.found
+        first = found.first()
+        told = probabilities(weights, differences_of(found, part.answered.evidence))
+        likeliest = told.of_place[first]
+        count = max(len(first), 1)
+        off = float((part.right == first).sum() - likeliest.sum()) / count
+        squares.append(off**2 - float((likeliest * (1 - likeliest)).sum()) / count**2)
+    return float(np.sqrt(max(np.array(squares) @ counts / counts.sum(), 0.0)))
 
 
-def _word(answer: Union[Places, Fault], outcome: Optional[Outcome]) -> str:
-    """What becomes of a reference: one of `WORDS`."""
-    if isinstance(answer, Fault):
-        return "fault"
-    return answer.verdict if outcome is None else "counted"
-
-
-def _about(road_map: RoadMap, drawing: Drawing, words: Mapping[str, int]) -> dict[str, Any]:
-    """How the table was made."""
-    like = {} if drawing.like is None else {"like_messages": drawing.like.messages}
+def _about(
+    road_map: RoadMap,
+    drawing: Drawing,
+    parts: Sequence[Part],
+    chosen: Chosen,
+    wanted: Wanted,
+) -> dict[str, Any]:
+    """How it was made."""
+    feed: Optional[Mapping[str, Any]] = None
+    if wanted.feed:
+        values = chosen.statistics
+        numbers = None if values is None else dict(zip(STATISTICS, rounded(values)))
+        feed = {"asked": len(wanted.feed), "references": wanted.messages, "statistics": numbers}
     return {
-        **like,
-        "changes": drawing.spreads.content(),
+        "checked": None,
+        "differ": wanted.differ,
+        "pair": None if wanted.pair is None else wanted.pair.name,
+        "feed": feed,
         "map": {
             "bans": len(road_map.bans),
             "lines": len(road_map.lines),
             "nodes": len(road_map.nodes),
         },
-        "outcomes": dict(words),
+        "parts": [
+            {
+                "answers": len(part.right),
+                "counts": round(float(weight), DECIMALS),
+                "maps": round(part.maps, DECIMALS),
+                "references": round(part.references, DECIMALS),
+                "right": int((part.right >= 0).sum()),
+            }
+            for part, weight in zip(parts, chosen.weights)
+        ],
         "program": VERSION,
         "references": drawing.references,
         "right": RIGHT,
         "seed": drawing.seed,
     }
+
+
+def rounded(values: Floats) -> list[float]:
+    """Numbers with the digits that a file has."""
+    return [round(value, DECIMALS) for value in values.tolist()]

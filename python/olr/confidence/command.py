@@ -1,93 +1,28 @@
 """The command `olr-tools calibrate`."""
 
-import math
-from collections.abc import Callable, Mapping
+from collections.abc import Iterator
 from pathlib import Path
-from typing import Any, NamedTuple, Union
+from typing import Optional, Union
 
 import click
 
 from olr.client.questions import NUMBERS
-from olr.confidence.calibrating import Asking, Drawing, calibrated
+from olr.confidence.calibrating import Wanted, calibrated
+from olr.confidence.confidence import Confidence
 from olr.confidence.contents import text_of
-from olr.confidence.share import Share
-from olr.confidence.table import ConfidenceTable, Row
+from olr.confidence.messages import Feed, read_checked, read_feed
+from olr.confidence.parts import GREATEST_DIFFERENCE, Asking, Drawing
+from olr.confidence.weights import WEIGHTS
+from olr.errors import ToolError
 from olr.map_folder import inputs_of
-from olr.matching.options import number_options, patience_option, tolerance_options
+from olr.matching.options import number_options, of_question, patience_option, tolerance_options
 from olr.messages.message import Reading
 from olr.messages.options import reading_options
 from olr.outputs import require_free_file, write_whole
+from olr.profiles import resolved
 from olr.trials.likeness import LikeMessages
-from olr.trials.spreads import Spreads
 
-Command = Callable[..., None]
 MOST_REFERENCES = 1_000_000
-
-
-class Spread(NamedTuple):
-    """The option of a spread."""
-
-    option: str
-    greatest: int
-    unit: str
-    purpose: str
-
-
-SPREADS = {
-    "position": Spread(
-        "--position-off",
-        500,
-        "metres",
-        "how far points lie off at most, east or west and north or south",
-    ),
-    "bearing": Spread(
-        "--bearing-off", 16, "sectors of 11.25 degrees", "how far bearings are off at most"
-    ),
-    "legs": Spread("--legs-off", 100, "percent", "how far the lengths of legs are off at most"),
-    "class_": Spread(
-        "--class-off", 100, "percent", "how many points have a class that is off by one"
-    ),
-    "form": Spread("--form-off", 100, "percent", "how many points have another form"),
-    "roads_missing": Spread(
-        "--roads-missing",
-        100,
-        "percent",
-        "how many roads the sender's map lacks, and as many others the asked one",
-    ),
-    "roads_class": Spread(
-        "--roads-class-off",
-        100,
-        "percent",
-        "how many roads have a class that is off by one on the asked map",
-    ),
-}
-"""The options of all spreads."""
-Value = Union[int, float]
-
-
-def _finite(context: click.Context, parameter: click.Parameter, value: Value) -> Value:
-    """A number. Raises `BadParameter` for NaN, which a range doesn't refuse."""
-    if not math.isfinite(value):
-        raise click.BadParameter("give a number", context, parameter)
-    return value
-
-
-def spread_options(command: Command) -> Command:
-    """Gives a command an option for each spread."""
-    for name, default in reversed(Spreads()._asdict().items()):
-        option, greatest, unit, purpose = SPREADS[name]
-        kind = click.IntRange if isinstance(default, int) else click.FloatRange
-        text = f"{purpose}: 0 to {greatest} {unit}, by default {default:g}."
-        command = click.option(
-            option,
-            f"off_{name}",
-            type=kind(0, greatest),
-            default=default,
-            callback=_finite,
-            metavar="N",
-            help=text[0].upper() + text[1:],
-        )(command)
-    return command
 
 
 @click.command()
@@ -97,15 +32,44 @@ def spread_options(command: Command) -> Command:
     metavar="DIR",
     required=True,
     type=click.Path(path_type=Path),
-    help="The map to draw on: a folder with nodes.csv, lines.csv and perhaps bans.csv.",
+    help="The map that is asked: a folder with nodes.csv, lines.csv and perhaps bans.csv.",
+)
+@click.option(
+    "--for",
+    "messages",
+    metavar="MESSAGES",
+    type=click.Path(path_type=Path),
+    help="A file of messages, as match reads it. Trial paths are like theirs, and their answers say how different the sender's map is: 80 line "
+    "references or more. By default nothing is known of the messages, and trials of all differences count.",
+)
+@click.option(
+    "--differ",
+    type=click.FloatRange(0, GREATEST_DIFFERENCE),
+    metavar="D",
+    help=f"How different the sender's map is: from 0, the same one, to {GREATEST_DIFFERENCE:g}; 1 is that of another vendor. By default the "
+    "messages of --for say so.",
+)
+@click.option(
+    "--pair",
+    metavar="OTHER",
+    type=click.Path(path_type=Path),
+    help="The sender's map, in a folder, if you have it: trials are drawn on it. By default it is made up of the map of --map.",
+)
+@click.option(
+    "--checked",
+    "checked_file",
+    metavar="FILE",
+    type=click.Path(path_type=Path),
+    help="Answers that somebody checked: lines of a key of --for, a comma or a tab, and right or wrong, of the likeliest place: 20 or more. They "
+    "shift all probabilities. By default none is known.",
 )
 @click.option(
     "--out",
     "file",
-    metavar="TABLE.json",
+    metavar="FILE.json",
     required=True,
     type=click.Path(path_type=Path),
-    help="The table to write. Folders above are made as needed.",
+    help="The file to write, for --confidence. Folders above are made as needed.",
 )
 @click.option(
     "--force",
@@ -118,7 +82,7 @@ def spread_options(command: Command) -> Command:
     default=Drawing().references,
     show_default=True,
     metavar="N",
-    help="How many references are drawn, changed and asked.",
+    help="How many trial references are drawn and asked.",
 )
 @click.option(
     "--seed",
@@ -126,92 +90,83 @@ def spread_options(command: Command) -> Command:
     default=Drawing().seed,
     show_default=True,
     metavar="N",
-    help="What is drawn: the same seed draws the same references, and makes the same table.",
-)
-@click.option(
-    "--like",
-    metavar="MESSAGES",
-    type=click.Path(path_type=Path),
-    help="A file of messages: as many paths begin on a road of each class, and are so long, as its line references. By default "
-    "main roads are frequent, and lengths are from 0.3 to 10 km.",
+    help="What is drawn: the same seed draws the same references, and makes the same file.",
 )
 @reading_options
-@spread_options
 @tolerance_options
-@number_options({"apart": NUMBERS["places"]["apart"]})
+@number_options({name: NUMBERS["places"][name] for name in ("apart", "look")})
 @patience_option("Then the command ends, and names the reference.")
 def command(
     folder: Path,
+    messages: Optional[Path],
+    differ: Optional[float],
+    pair: Optional[Path],
+    checked_file: Optional[Path],
     file: Path,
     force: bool,
     references: int,
     seed: int,
-    like: Path | None,
     reading: Reading,
     patience: float,
-    apart: int | None,
-    **options: Value | None,
+    **options: Union[int, str, None],
 ) -> None:
-    """Count on a map of one's own how often the first place of an answer is the right one, and write it as a table of confidence.
+    """Find by trials how probable it is that a place is the one that the sender meant, and write it for --confidence.
 
-    References to paths that are known are drawn on the map in DIR, changed as a sender's map differs from it, and asked. The table has
-    the share of right answers by their margin and their total. docs/CONFIDENCE.md says what it means.
+    References to paths that are known are drawn on the map in DIR, changed as they come from another map, and asked. Trials count that look
+    like the messages of --for. docs/CONFIDENCE.md says what the probabilities mean, and where they fail.
     """
-    spreads, tolerances = _told_apart(options)
-    apart = NUMBERS["places"]["apart"].default if apart is None else apart
-    inputs = [*inputs_of(folder), *([] if like is None else [like])]
-    if like is None and reading != Reading():
-        raise click.UsageError("--format, --ref and --key are for --like")
+    asking = of_question("places", options)
+    if messages is None and reading != Reading():
+        raise click.UsageError("--format, --ref and --key are for --for")
+    if messages is None and checked_file is not None:
+        raise click.UsageError("--checked is for --for: it names its messages by their keys")
+    if differ is not None and pair is not None:
+        raise click.UsageError(
+            "--pair has the sender's map, and --differ makes one up: give one of them"
+        )
+    given = [one for one in (messages, checked_file) if one is not None]
+    inputs = [*inputs_of(folder), *given, *([] if pair is None else inputs_of(pair))]
     require_free_file(file, force, inputs)
-    messages = None if like is None else LikeMessages(like, reading)
-    drawing = Drawing(references, seed, spreads, messages)
-    table = calibrated(folder, drawing, Asking(tolerances, apart, patience))
-    write_whole(file, text_of(table).encode(), force, inputs)
-    click.echo(_summary(file, table))
-
-
-def _told_apart(options: Mapping[str, Value | None]) -> tuple[Spreads, dict[str, Any]]:
-    """The spreads, and the tolerances that weren't left out."""
-    given = {name: value for name, value in options.items() if value is not None}
-    spreads: dict[str, Any] = {name: given.pop(f"off_{name}") for name in Spreads._fields}
-    return Spreads(**spreads), given
-
-
-def _summary(file: Path, table: ConfidenceTable) -> str:
-    """How often answers of each margin were right."""
-    outcomes = table.about["outcomes"]
-    others = ", ".join(
-        f"{outcomes[word]:,} {text}"
-        for word, text in (
-            ("none", "fit nowhere"),
-            ("open", "were cut off"),
-            ("fault", "have a fault"),
-        )
-        if outcomes[word]
+    keys = {} if checked_file is None else read_checked(checked_file)
+    feed = None if messages is None else read_feed(messages, reading, keys, seed)
+    wanted = Wanted(
+        feed=[] if feed is None else feed.texts(),
+        messages=0 if feed is None else feed.total,
+        differ=differ,
+        checked={} if feed is None else _by_text(feed, keys, checked_file),
+        pair=pair,
     )
-    first = f"{file}: {outcomes['counted']:,} answers" + (f" ({others})" if others else "")
-    return "\n".join([first, *map(_line, table.by_margin)])
+    likeness = None if feed is None else LikeMessages(one.reference for one in feed.messages)
+    numbers = asking.all_numbers()
+    confidence = calibrated(
+        folder,
+        Drawing(references, seed, likeness),
+        Asking(resolved(asking.profile, asking.given), numbers["apart"], numbers["look"], patience),
+        wanted,
+    )
+    write_whole(file, text_of(confidence).encode(), force, inputs)
+    for line in (f"{file}: {references:,} trial references", *_lines(confidence), asking.line()):
+        click.echo(line)
 
 
-def _line(row: Row) -> str:
-    """The share of a row by margin, in percent, with its interval."""
-    if row.bin is None:
-        name = "no second place"
-    else:
-        name = (
-            f"margin {row.bin.start} and more"
-            if row.bin.end is None
-            else f"margin {row.bin.start} to below {row.bin.end}"
+def _by_text(feed: Feed, keys: dict[str, bool], file: Optional[Path]) -> dict[str, bool]:
+    """Checked answers by the texts of their messages. Raises `ToolError` for a key that no message with a line reference has."""
+    for key in keys:
+        if key not in feed.by_key:
+            raise ToolError(f"{file}: no message with a line reference has the key {key!r}")
+    return {feed.by_key[key].text: right for key, right in keys.items()}
+
+
+def _lines(confidence: Confidence) -> Iterator[str]:
+    """What is said of a confidence: how different the maps are, what was checked, and the weights."""
+    differs, checked = confidence.map_differs, confidence.about["checked"]
+    if differs is not None:
+        between = f"{differs.low:.1f} to {differs.high:.1f}"
+        yield f"map differs: {differs.value:.1f} ({between}), 1 as that of another vendor"
+    if checked is not None:
+        yield (
+            f"checked: {checked['right']:,} of {checked['answers']:,} right, which shifts none of these by "
+            f"{checked['shift']:+.2f}"
         )
-    if not row.share.count:
-        return f"{name}: no answers"
-    return f"{name}: {_percents(row.share)}"
-
-
-def _percents(share: Share) -> str:
-    """A share in percent, with its interval. It is 100 only if all were right, and 0 only if none was: one of many is seen."""
-    right = 100 * share.share
-    if 0 < share.right < share.count:
-        right = min(max(right, 1), 99)
-    low, high = min(100 * share.low, 99), max(100 * share.high, 1)
-    return f"{right:.0f} percent of {share.count:,} right ({low:.0f} to {high:.0f})"
+    for name, weight in WEIGHTS.items():
+        yield f"weight {name}: {confidence.weights[name]:.4g} for {weight.unit}"

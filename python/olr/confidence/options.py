@@ -1,4 +1,4 @@
-"""The option `--confidence` of `match`, `view`, `report` and `run`, and the table that it names."""
+"""The option `--confidence` of the commands that show places, and what it names."""
 
 from collections.abc import Callable, Mapping
 from pathlib import Path
@@ -7,48 +7,72 @@ from typing import Any, NamedTuple, Optional
 import click
 
 from olr.client.questions import NUMBERS
-from olr.confidence.table import ConfidenceTable
+from olr.confidence.confidence import Confidence
+from olr.confidence.judged import Judging
 from olr.errors import ToolError
+from olr.likely.order import LIST, Shown
 
 Command = Callable[..., None]
-REMEDY = "make a table with your options by olr-tools calibrate"
+REMEDY = "make a file with your options by olr-tools calibrate"
 
 
 def confidence_option(command: Command) -> Command:
-    """Gives a command the file of a table of confidence, `confidence`: None where it is left out."""
+    """Gives a command the file of a confidence, `confidence`: None where it is left out."""
     return click.option(
         "--confidence",
-        metavar="TABLE",
+        metavar="FILE",
         type=click.Path(path_type=Path),
-        help="The table of confidence, which olr-tools calibrate makes. By default it is one of the streets of a town, with the default "
-        "tolerances: with others there is no confidence.",
+        help="The file by which places have probabilities: olr-tools calibrate makes one for your map and your feed. By default it is one "
+        "for the profile feed and maps that differ somewhat: with other tolerances there are no probabilities.",
     )(command)
 
 
-def table_of(file: Optional[Path]) -> ConfidenceTable:
-    """The table of a file, by default the one that comes with the package. Raises `ToolError` if the file isn't one."""
-    return ConfidenceTable.default() if file is None else ConfidenceTable.of_file(file)
-
-
 class Chosen(NamedTuple):
-    """The table that is used."""
+    """By what answers are judged."""
 
-    table: Optional[ConfidenceTable]
-    note: str
-    """Why there is none; an empty text if there is one."""
+    judging: Judging
+    others: str
+    """Which numbers are others than those of the confidence, so that there are no probabilities; an empty text if none is."""
+
+    @property
+    def note(self) -> str:
+        """Why there are no probabilities; an empty text if there are."""
+        return f"no probabilities: {self.others}: {REMEDY}" if self.others else ""
 
 
-def table_for(
+def confidence_of(file: Optional[Path]) -> Confidence:
+    """That of a file, by default the one that comes with the package. Raises `ToolError` if the file is none."""
+    return Confidence.default() if file is None else Confidence.of_file(file)
+
+
+def judging_for(
     file: Optional[Path], tolerances: Mapping[str, Any], numbers: Mapping[str, int]
 ) -> Chosen:
-    """The table of a file; by default the one that comes with the package, or none if that says nothing of these tolerances and numbers of
-    `places`: those that were given. Raises `ToolError` if the file isn't a table, or is one of others.
-    """
+    """By what answers are judged that are asked with tolerances and numbers of `places`: those that were given. Without a file and with
+    other numbers than those of the one that comes with the package there are no probabilities. Raises `ToolError` if the file is none, or
+    is for others, and `Fault` for a number that is out of its range."""
+    chosen = judging_by(confidence_of(file), tolerances, numbers)
+    if file is not None and chosen.others:
+        raise ToolError(f"{file} says nothing of such answers: {chosen.others}: {REMEDY}")
+    return chosen
+
+
+def judging_by(
+    confidence: Confidence, tolerances: Mapping[str, Any], numbers: Mapping[str, int]
+) -> Chosen:
+    """As `judging_for`, by a confidence: if it is for other numbers there are no probabilities."""
     apart = numbers.get("apart", NUMBERS["places"]["apart"].default)
-    table = table_of(file)
-    others = table.fits(tolerances, apart)
-    if others is None:
-        return Chosen(table, "")
-    if file is not None:
-        raise ToolError(f"{file} says nothing of such answers: {others}: {REMEDY}")
-    return Chosen(None, f"no confidence: {others}: {REMEDY}")
+    others = confidence.others(tolerances, apart)
+    return Chosen(Judging(None if others else confidence, Shown.of(numbers)), others)
+
+
+def listing(numbers: Mapping[str, int]) -> dict[str, int]:
+    """The numbers of `places` with which is asked, so that what is shown doesn't depend on how long the list is."""
+    return {**numbers, **LIST}
+
+
+def cut_off_line(count: int) -> Optional[str]:
+    """The line of a summary on answers for which looking was cut off before a place that might be shown; None if there is none."""
+    if not count:
+        return None
+    return f"cut off: {count:,} may have more places: give a greater --look"

@@ -1,0 +1,69 @@
+"""Weights that answers to trials are fitted by."""
+
+from typing import NamedTuple
+
+import numpy as np
+from scipy.optimize import minimize
+
+from olr.arrays import Floats, Integers
+from olr.confidence.weights import OF_PLACE, WEIGHTS, Differences, probabilities
+
+NONE = -1
+"""In place of the number of a place: none of them is the right one."""
+SHRINKING = 1e-4
+"""How strongly a weight of its usual size is drawn to 0: so one of which trials say nothing is 0."""
+
+
+class Trial(NamedTuple):
+    """Answers to references whose right place is known, of which each has a place."""
+
+    differences: Differences
+    right: Integers
+    """The row of the right place of each answer, or `NONE`: of several ones the likeliest."""
+    weight: Floats
+    """How much each answer counts."""
+
+
+def fitted(trial: Trial) -> Floats:
+    """The weights, in the order of `WEIGHTS`, by which right places are as probable as can be. Those that are bounded aren't below 0."""
+    scale = np.array([weight.usual for weight in WEIGHTS.values()])
+    of_none = trial.differences.of_none
+    # Columns whose means are 0, but for the constant one, let the search end sooner.
+    means = np.concatenate([[0.0], of_none[:, 1:].mean(axis=0)])
+    centred = trial._replace(
+        differences=trial.differences._replace(of_none=of_none - means),
+        weight=trial.weight / trial.weight.sum(),
+    )
+
+    def loss(scaled: Floats) -> tuple[float, Floats]:
+        value, slope = _loss(scaled * scale, centred)
+        return value + SHRINKING * float(scaled @ scaled), slope * scale + 2 * SHRINKING * scaled
+
+    found = minimize(
+        loss,
+        np.where([weight.is_bounded for weight in WEIGHTS.values()], 0.5, 0.0),
+        jac=True,
+        method="L-BFGS-B",
+        bounds=[(0.0 if weight.is_bounded else None, None) for weight in WEIGHTS.values()],
+        options={"ftol": 1e-12, "gtol": 1e-7, "maxiter": 500},
+    )
+    weights: Floats = found.x * scale
+    weights[len(OF_PLACE)] -= weights[len(OF_PLACE) :] @ means
+    return weights
+
+
+def _loss(weights: Floats, trial: Trial) -> tuple[float, Floats]:
+    """The mean of what right places lack in the logarithm of their probability, and its slope by each weight."""
+    differences = trial.differences
+    told = probabilities(weights, differences)
+    is_none = trial.right == NONE
+    right = np.where(is_none, 0, trial.right)
+    of_right = np.where(is_none, told.of_none, told.of_place[right])
+    value = -float(trial.weight @ np.log(np.maximum(of_right, 1e-300)))
+    expected = np.add.reduceat(
+        differences.of_place * told.of_place[:, None], differences.starts(), axis=0
+    )
+    there = np.where(is_none[:, None], 0.0, differences.of_place[right])
+    by_place = trial.weight @ (there - expected)
+    by_none = trial.weight @ ((told.of_none - is_none)[:, None] * differences.of_none)
+    return value, np.concatenate([by_place, by_none])

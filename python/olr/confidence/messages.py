@@ -1,0 +1,87 @@
+"""The messages of a feed, and answers to some of them that somebody checked."""
+
+import csv
+import random
+from collections.abc import Iterator, Mapping
+from pathlib import Path
+from typing import NamedTuple
+
+from olr.client.answers import Reference
+from olr.errors import ToolError
+from olr.messages.message import Reading
+from olr.messages.reading import messages_of
+from olr.regions.reading import read_reference
+
+MOST = 2_000
+"""So many references of a feed are asked; of a longer one some that are drawn."""
+WORDS = {"right": True, "wrong": False}
+"""What a file of checked answers says of the likeliest place of a message."""
+
+
+class Message(NamedTuple):
+    """A message with a line reference."""
+
+    text: str
+    reference: Reference
+
+
+class Feed(NamedTuple):
+    """Messages with line references: all of a file, or some that were drawn."""
+
+    messages: list[Message]
+    by_key: Mapping[str, Message]
+    """Those whose keys were asked for."""
+    total: int
+    """How many the file has."""
+
+    def texts(self) -> list[str]:
+        """Their references."""
+        return [one.text for one in self.messages]
+
+
+def read_feed(file: Path, reading: Reading, keys: Mapping[str, bool], seed: int) -> Feed:
+    """The messages of a file. Raises `ToolError` if it can't be read, or has no line reference."""
+    draws = random.Random(f"{seed} feed")
+    kept: list[Message] = []
+    by_key: dict[str, Message] = {}
+    count = 0
+    for message in messages_of(file, reading):
+        reference = read_reference(message.reference)
+        if reference is None or reference.kind != "line":
+            continue
+        found = Message(message.reference, reference)
+        count += 1
+        if len(kept) < MOST:
+            kept.append(found)
+        elif (at := draws.randrange(count)) < MOST:
+            kept[at] = found
+        if message.key is not None and message.key in keys:
+            by_key[message.key] = found
+    if not count:
+        raise ToolError(f"{file} has no line reference: name a file that has some")
+    return Feed(kept, by_key, count)
+
+
+def read_checked(file: Path) -> dict[str, bool]:
+    """Whether the likeliest places of some messages are right, by their keys: a file with a key, a comma or a tab, and `right` or `wrong` on
+    each line; a first line that says `key` is passed over. Raises `ToolError` if it can't be read, or a line is none.
+    """
+    try:
+        lines = file.read_text(encoding="utf-8").splitlines()
+    except (OSError, UnicodeDecodeError) as error:
+        reason = getattr(error, "strerror", None) or "it isn't UTF-8"
+        raise ToolError(f"{file} can't be read: {reason}") from error
+    return dict(_checked(file, lines))
+
+
+def _checked(file: Path, lines: list[str]) -> Iterator[tuple[str, bool]]:
+    """The answers of lines."""
+    delimiter = "\t" if lines and "\t" in lines[0] else ","
+    for number, row in enumerate(csv.reader(lines, delimiter=delimiter), 1):
+        if not row or number == 1 and row[0] == "key":
+            continue
+        if len(row) != 2 or row[1].strip() not in WORDS:
+            raise ToolError(
+                f"{file}: line {number} isn't a key, a comma or a tab, and one of {', '.join(WORDS)}"
+            )
+        yield row[0], WORDS[row[1].strip()]

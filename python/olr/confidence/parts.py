@@ -1,0 +1,178 @@
+"""Trials in parts, which differ in how different their maps and how far off their references are."""
+
+import random
+import tempfile
+from collections.abc import Iterator, Mapping, Sequence
+from itertools import islice
+from pathlib import Path
+from typing import Any, NamedTuple, Optional
+
+import numpy as np
+
+from olr.arrays import Integers
+from olr.client.answers import Places
+from olr.client.map_client import Map
+from olr.client.patience import PATIENCE
+from olr.client.questions import NUMBERS
+from olr.confidence.feed import Answered
+from olr.confidence.fitting import NONE
+from olr.likely.listed import Listed, evidence_for, listed
+from olr.likely.order import LIST
+from olr.map_folder import write_records
+from olr.outputs import writing
+from olr.profiles import as_arguments
+from olr.progress import progress
+from olr.regions.reading import read_reference
+from olr.road_map import RoadMap
+from olr.trials.changing import changed_points
+from olr.trials.differing import Difference, differing
+from olr.trials.encoder import Network, text_of
+from olr.trials.graph import Graph
+from olr.trials.likeness import Likeness, Usual
+from olr.trials.neighbourhood import Neighbourhoods
+from olr.trials.paths import Paths
+from olr.trials.rightness import is_right
+from olr.trials.roads import Roads
+from olr.trials.spreads import Spreads
+
+ANOTHER = Difference(5.0, 15.0, 4.0, 4.0, 5.0, 1.0)
+"""How a map of another maker differs, more or less: a difference of 1."""
+SPREADS = Spreads()
+"""By how much the references of a sender are off, more or less: likewise."""
+GREATEST_DIFFERENCE = 1.5
+"""Of the maps of parts: it is drawn evenly up to this."""
+GREATEST_SPREAD = 1.5
+"""Of their references, likewise."""
+ALIKE = 0.2
+"""The share of parts whose maps don't differ at all, and of those whose references are exact."""
+UNEVEN = (0.6, 1.4)
+"""Each kind of difference of a part is so many times as large as the difference of its maps: no two makers differ alike."""
+PARTS, LEAST_OF_PART = 100, 20
+"""There are so many parts at most, and each has so many references at least."""
+MOST_LINES = 20_000
+"""Of the map of a part: a larger one is cut around one of its nodes."""
+
+
+class Asking(NamedTuple):
+    """With what is asked."""
+
+    tolerances: Mapping[str, int]
+    """By the names of the program's options: all of them."""
+    apart: int = NUMBERS["places"]["apart"].default
+    look: int = NUMBERS["places"]["look"].default
+    patience: float = PATIENCE
+
+    def map_of(self, folder: Path) -> Map:
+        """The map of a folder, to ask it."""
+        tolerances: dict[str, Any] = as_arguments(self.tolerances)
+        return Map.of_folder(folder, **tolerances, patience=self.patience)
+
+    def numbers(self) -> dict[str, int]:
+        """Those of the question."""
+        return {"apart": self.apart, "look": self.look, **LIST}
+
+
+class Part(NamedTuple):
+    """Trials on one pair of maps."""
+
+    maps: float
+    """How different they are: 1 as the map of another maker."""
+    references: float
+    """How far off the references are: 1 as those of `SPREADS`."""
+    answered: Answered
+    right: Integers
+    """For each answer that has a place the number of the right one among all places, or `NONE`: of several ones the likeliest."""
+
+    def wrong(self) -> float:
+        """The share of likeliest places that aren't the right ones; 0 where there is none."""
+        first = self.answered.found.first()
+        return float(np.mean(self.right != first)) if len(first) else 0.0
+
+
+class Drawing(NamedTuple):
+    """What is drawn."""
+
+    references: int = 10_000
+    seed: int = 1
+    likeness: Optional[Likeness] = None
+    """What paths are like: usual ones for None."""
+
+    def parts(self) -> int:
+        """How many parts there are."""
+        return min(PARTS, max(self.references // LEAST_OF_PART, 1))
+
+
+def parts_of(road_map: RoadMap, drawing: Drawing, asking: Asking) -> Iterator[Part]:
+    """Trials on a map, which is asked, and on what it might be like at a sender's. The same numbers give the same trials. Raises `ToolError`
+    for a map with too few paths."""
+    trials = _Trials(road_map, drawing.likeness or Usual(), asking)
+    count = drawing.parts()
+    with progress("trial references answered", drawing.references) as advance:
+        for number in range(count):
+            first, behind = (drawing.references * one // count for one in (number, number + 1))
+            yield trials.part(behind - first, random.Random(f"{drawing.seed} {number}"))
+            advance(behind - first)
+
+
+class _Trials:
+    """Draws and asks parts."""
+
+    def __init__(self, road_map: RoadMap, likeness: Likeness, asking: Asking) -> None:
+        self._asking, self._roads = asking, Roads(road_map)
+        self._neighbourhoods = Neighbourhoods(road_map, self._roads, MOST_LINES)
+        self._paths = Paths(Network(road_map), likeness)
+        self._lengths = {line.id: line.length for line in road_map.lines}
+
+    def part(self, count: int, draws: random.Random) -> Part:
+        """So many references of a sender to known paths, and what another map answers."""
+        maps, references = (
+            most * max(0.0, 1 - draws.random() / (1 - ALIKE))
+            for most in (GREATEST_DIFFERENCE, GREATEST_SPREAD)
+        )
+        of_kinds = Difference(*(draws.uniform(*UNEVEN) * value for value in ANOTHER)).times(maps)
+        here = self._neighbourhoods.drawn(draws)
+        lacked = Difference(missing=of_kinds.missing * draws.random())
+        sender = differing(here, self._roads, lacked, draws)
+        other = differing(here, self._roads, of_kinds, draws)
+        drawn = list(islice(self._paths.drawn(Graph(sender, self._roads), draws), count))
+        spreads = SPREADS.times(references)
+        texts = [text_of(changed_points(one.points, spreads, draws)) for one in drawn]
+        answered = ask(other, texts, self._asking)
+        lengths = self._lengths | {line.id: line.length for line in other.lines}
+        is_right_place = [
+            is_right(lengths, drawn[answer].path, matching.outer or ())
+            for answer, matching in zip(answered.found.owners().tolist(), answered.found.matchings)
+        ]
+        return Part(maps, references, answered, right_places(answered.found, is_right_place))
+
+
+def ask(road_map: RoadMap, texts: Sequence[str], asking: Asking) -> Answered:
+    """What a map answers to references. Raises `ToolError`."""
+    with tempfile.TemporaryDirectory(prefix="olr-calibrate-") as place:
+        scratch = Path(place)
+        with writing(scratch):
+            write_records(road_map.nodes, road_map.lines, road_map.bans, scratch)
+        with asking.map_of(scratch) as asked:
+            return answered_by(asked, texts, asking)
+
+
+def answered_by(asked: Map, texts: Sequence[str], asking: Asking) -> Answered:
+    """What a map answers to references, with what speaks for and against each place. Raises `ToolError`."""
+    answers = asked.answers("places", texts, **asking.numbers())
+    found = listed([one if isinstance(one, Places) else None for one in answers], asked.network())
+    references = list(map(read_reference, texts))
+    radius = asking.tolerances["radius"]
+    return Answered(references, found, evidence_for(found, references, asked.network(), radius))
+
+
+def right_places(found: Listed, are_right: Sequence[bool]) -> Integers:
+    """The number of the right place of each answer that has one: the likeliest one of those that are right, or `NONE`."""
+    right = np.array(are_right, dtype=np.bool_)
+    owners = found.owners()
+    order = np.lexsort((found.costs, owners))
+    order = order[right[order]]
+    numbers, first = np.unique(owners[order], return_index=True)
+    of_answers = np.full(len(found.sizes), NONE, dtype=np.int64)
+    of_answers[numbers] = order[first]
+    result: Integers = of_answers[found.sizes > 0]
+    return result

@@ -1,0 +1,85 @@
+"""Why a place is as probable as it is, in a sentence: by how much it differs from what the reference says."""
+
+from collections.abc import Iterator
+from typing import NamedTuple
+
+import numpy as np
+
+from olr.likely.evidence import Evidence
+
+MOST_REASONS = 4
+OFF = 0.02
+"""The share by which a leg misses what the reference says, from which on it is said."""
+FAR, FAR_END = 20.0, 20.0
+"""Metres that a point lies from its line, and from the proper end of its line, from which on it is said."""
+OTHER_DIRECTION = 2
+"""Sectors of 11.25 degrees, likewise."""
+MANY_LINES = 15
+"""Lines of a route, likewise."""
+ALL_FITS = "points, directions and lengths are as the reference says"
+
+
+class _Reason(NamedTuple):
+    """A reason, and how much it weighs beside others."""
+
+    weight: float
+    text: str
+
+
+def reasons_of(evidence: Evidence) -> list[str]:
+    """The reasons of each matching, those that weigh most first."""
+    fit = evidence.fit
+    behind_points, behind_legs = np.cumsum(fit.counts), np.cumsum(fit.counts - 1)
+    longer = evidence.longer()
+    found = []
+    for number, (points, legs) in enumerate(zip(behind_points.tolist(), behind_legs.tolist())):
+        count = int(fit.counts[number])
+        of_points, of_legs = slice(points - count, points), slice(legs - count + 1, legs)
+        reasons = [
+            *_of_route(bool(fit.turns_back[number]), int(fit.lines[number])),
+            *_of_legs(longer[of_legs].tolist()),
+            *_of_ends(fit.from_end[of_points].tolist()),
+            *_of_distances(evidence.distance[of_points].tolist()),
+            *_of_directions(evidence.sectors[of_points].tolist()),
+        ]
+        reasons.sort(key=lambda one: -one.weight)
+        found.append("; ".join(one.text for one in reasons[:MOST_REASONS]) or ALL_FITS)
+    return found
+
+
+def _of_route(turns_back: bool, lines: int) -> Iterator[_Reason]:
+    if turns_back:
+        yield _Reason(100, "it turns back at a dead end")
+    if lines >= MANY_LINES:
+        yield _Reason(0, f"{lines} lines, any of which may be missing")
+
+
+def _of_legs(longer: list[float]) -> Iterator[_Reason]:
+    for number, share in enumerate(longer, 1):
+        if abs(share) >= OFF:
+            word = "longer" if share > 0 else "shorter"
+            percent = 100 * abs(share)
+            yield _Reason(2 * percent, f"leg {number} is {percent:.0f} percent {word} than told")
+
+
+def _of_ends(from_end: list[float]) -> Iterator[_Reason]:
+    for number, metres in enumerate(from_end, 1):
+        if metres >= FAR_END:
+            is_last = number == len(from_end)
+            where = "before the end" if is_last else "behind the start"
+            weight = min(metres, 50.0) / 3
+            yield _Reason(weight, f"point {number} lies {metres:.0f} m {where} of its line")
+
+
+def _of_distances(distance: list[float]) -> Iterator[_Reason]:
+    for number, metres in enumerate(distance, 1):
+        if metres >= FAR:
+            yield _Reason(metres, f"point {number} lies {metres:.0f} m beside its line")
+
+
+def _of_directions(sectors: list[float]) -> Iterator[_Reason]:
+    for number, off in enumerate(sectors, 1):
+        if off >= OTHER_DIRECTION:
+            degrees = off * 11.25
+            text = f"the direction at point {number} differs by about {degrees:.0f} degrees"
+            yield _Reason(10 * off, text)

@@ -1,0 +1,312 @@
+"""Probabilities: how weights make them, how weights are fitted, files, and what is said of places."""
+
+import json
+import math
+from collections.abc import Callable
+from dataclasses import replace
+from pathlib import Path
+from typing import Any
+
+import numpy as np
+import pytest
+
+import olr
+from conftest import REFERENCE, TOP, Program
+from olr.arrays import Floats
+from olr.client.questions import TOLERANCES
+from olr.confidence.confidence import Confidence
+from olr.confidence.contents import text_of
+from olr.confidence.fitting import NONE, Trial, fitted
+from olr.confidence.judged import Judging, judged
+from olr.confidence.likeness import Likeness, Range, alike, range_of
+from olr.confidence.shifting import Checked, shift_of, shifted
+from olr.confidence.weights import OF_NONE, OF_PLACE, WEIGHTS, Differences, probabilities
+from olr.errors import ToolError
+from olr.likely.order import LIST, Shown
+from olr.profiles import FEED, tolerances_of
+from olr.regions.reading import read_reference
+from test_extras import run_without
+
+EXAMPLES = TOP / "examples"
+KIOSK = "KwVGnCN20HPDBwFCATFjT5Y="
+ROADWORKS = "CwVGnSN2zhvHCgDX/tIzAw=="
+"""Without the town's bans two places."""
+USUAL = {name: number.default for name, number in TOLERANCES.items()}
+ABOUT = dict.fromkeys(("map", "parts", "program", "references", "right", "seed"), 0)
+ROUND = dict(zip(WEIGHTS, (0.01, 0.2, 0.05, 0.1, 2.0, -4.0, -0.5, 1.0)))
+
+
+def confidence_of(**others: Any) -> Confidence:
+    """A confidence for the program's defaults, with weights that are easy to reckon with."""
+    made = Confidence(USUAL, 750, ROUND, Range(0.9, 0.6, 1.2), ABOUT)
+    return replace(made, **others)
+
+
+def test_probabilities_by_hand() -> None:
+    """Two answers: one with two places, of which the second is 10 points behind, and one with a place that turns back."""
+    differences = Differences(
+        np.array([2, 1]),
+        np.array([[0, 0, 0, 0, 0], [0, 0, 0, 10, 0], [0, 0, 0, 0, 1.0]]),
+        np.array([[1, 0, math.log(3)], [1, 1, 0.0]]),
+    )
+    told = probabilities(np.array(list(ROUND.values())), differences)
+    one = [1.0, math.exp(-1), math.exp(-4) * 3]
+    other = [math.exp(-2), math.exp(-4.5)]
+    assert told.of_place.tolist() == pytest.approx(
+        [one[0] / sum(one), one[1] / sum(one), other[0] / sum(other)]
+    )
+    assert told.of_none.tolist() == pytest.approx([one[2] / sum(one), other[1] / sum(other)])
+
+
+def test_they_add_up_to_1_however_large_weights_are() -> None:
+    draws = np.random.default_rng(1)
+    sizes = draws.integers(1, 9, 50)
+    differences = Differences(
+        sizes,
+        draws.uniform(0, 1000, (int(sizes.sum()), len(OF_PLACE))),
+        draws.uniform(0, 10, (50, len(OF_NONE))),
+    )
+    for scale in (0.001, 1.0, 1e4):
+        told = probabilities(draws.uniform(0, scale, len(WEIGHTS)), differences)
+        sums = np.add.reduceat(told.of_place, differences.starts()) + told.of_none
+        assert sums == pytest.approx(1) and (told.of_place >= 0).all()
+
+
+def drawn_trial(weights: Floats, count: int) -> Trial:
+    """Answers whose right places are drawn by weights."""
+    draws = np.random.default_rng(2)
+    sizes = draws.integers(1, 5, count)
+    of_place = draws.gamma(2, 1, (int(sizes.sum()), len(OF_PLACE)))
+    of_place *= (10, 1, 4, 8, 0)
+    of_place[:, 4] = draws.random(len(of_place)) < 0.1
+    of_none = np.stack(
+        [np.ones(count), draws.integers(0, 4, count), draws.gamma(4, 0.5, count)], axis=1
+    ).astype(np.float64)
+    differences = Differences(sizes, of_place, of_none)
+    told = probabilities(weights, differences)
+    right = np.full(count, NONE)
+    for number, (start, size) in enumerate(zip(differences.starts(), sizes)):
+        chances = [*told.of_place[start : start + size], told.of_none[number]]
+        drawn = draws.choice(size + 1, p=np.array(chances) / sum(chances))
+        right[number] = start + drawn if drawn < size else NONE
+    return Trial(differences, right, np.ones(count))
+
+
+def test_weights_that_answers_were_drawn_by_are_found() -> None:
+    weights = np.array(list(ROUND.values()))
+    found = fitted(drawn_trial(weights, 20_000))
+    assert found == pytest.approx(weights, rel=0.25, abs=0.02)
+
+
+def test_a_weight_with_a_wrong_sign_is_0() -> None:
+    """Answers that are drawn so that places farther away are right more often."""
+    weights = np.array([-0.05, *list(ROUND.values())[1:]])
+    found = fitted(drawn_trial(weights, 4000))
+    assert found[0] == 0
+    bounded = [weight.is_bounded for weight in WEIGHTS.values()]
+    assert (found[bounded] >= 0).all() and list(WEIGHTS)[5:7] == ["none", "none_points"]
+
+
+def test_answers_count_by_their_weights() -> None:
+    """Half of the answers are drawn by other weights, and count for nothing."""
+    weights = np.array(list(ROUND.values()))
+    one, other = drawn_trial(weights, 4000), drawn_trial(weights * 0 + 0.3, 4000)
+    together = Trial(
+        Differences(
+            np.concatenate([one.differences.sizes, other.differences.sizes]),
+            np.concatenate([one.differences.of_place, other.differences.of_place]),
+            np.concatenate([one.differences.of_none, other.differences.of_none]),
+        ),
+        np.concatenate(
+            [
+                one.right,
+                np.where(other.right < 0, NONE, other.right + len(one.differences.of_place)),
+            ]
+        ),
+        np.concatenate([one.weight, 0 * other.weight]),
+    )
+    # The means by which columns are centred differ, so that the search ends elsewhere within its tolerance.
+    assert fitted(together) == pytest.approx(fitted(one), rel=0.02, abs=1e-3)
+
+
+def test_checked_answers_shift_the_level() -> None:
+    """Forty answers of one place that told 0.73; all of them right, or none of them."""
+    differences = Differences(np.ones(40, int), np.zeros((40, 5)), np.full((40, 3), (1.0, 0, 0)))
+    weights = np.array([0, 0, 0, 0, 0, -1.0, 0, 0])
+    first = np.ones(40, dtype=np.bool_)
+    told = []
+    for right in (40, 29, 0):
+        checked = Checked(differences, first, np.arange(40) < right)
+        again = shifted(weights, shift_of(weights, checked))
+        told.append(float(probabilities(again, differences).of_place[0]))
+        assert (again[:5] == weights[:5]).all() and (again[6:] == weights[6:]).all()
+    assert told[0] > 0.85 and told[1] == pytest.approx(29 / 40, abs=0.01) and told[2] < 0.3
+
+
+def test_parts_that_are_alike() -> None:
+    """What is known of parts is twice their first number and once their second, without an error: so is what is said of a feed."""
+    draws = np.random.default_rng(3)
+    statistics = draws.normal(size=(60, 4))
+    known = np.stack([2 * statistics[:, 0], statistics[:, 1]], axis=1)
+    likeness = Likeness(statistics, known)
+    assert np.abs(likeness.said - known).max() < 0.6
+    said = likeness.said_of(np.array([1.0, -0.5, 0, 0]))
+    assert said.tolist() == pytest.approx([2, -0.5], abs=0.2)
+    weights = alike(likeness.said, said, np.array([0.3, 0.3]))
+    nearest = np.argmin(((likeness.said - said) ** 2).sum(axis=1))
+    assert weights.argmax() == nearest and weights.max() == 1 and (weights >= 0).all()
+
+
+def test_a_range() -> None:
+    """The mean of weighted numbers, and between which 95 percent of them lie."""
+    values = np.arange(100.0)
+    assert range_of(values, np.ones(100)) == Range(49.5, 2.0, 97.0)
+    assert range_of(values, (values == 7).astype(float)) == Range(7, 7, 7)
+
+
+def test_a_file_is_read_as_it_was_written(tmp_path: Path) -> None:
+    file = tmp_path / "confidence.json"
+    for made in (confidence_of(), confidence_of(map_differs=None, level=0.05)):
+        file.write_text(text_of(made))
+        assert Confidence.of_file(file) == made and text_of(Confidence.of_file(file)) == text_of(
+            made
+        )
+    content = json.loads(file.read_text())
+    assert content["version"] == 2
+    assert {name: one["unit"] for name, one in content["weights"].items()} == {
+        name: weight.unit for name, weight in WEIGHTS.items()
+    }
+
+
+def changed(change: Callable[[Any], Any]) -> str:
+    """A file of which something was changed."""
+    content = json.loads(text_of(confidence_of()))
+    change(content)
+    return json.dumps(content)
+
+
+@pytest.mark.parametrize(
+    ("text", "reason"),
+    [
+        ("", "Expecting value"),
+        ("[]", "it isn't an object of JSON"),
+        ("[" * 100_000, "its JSON is too deep"),
+        ('{"version": 1}', "its version is 1, not 2: make it again"),
+        (changed(lambda it: it.pop("apart")), "it isn't an object of about, apart,"),
+        (changed(lambda it: it.update(more=1)), "it isn't an object of about, apart,"),
+        (changed(lambda it: it.update(apart=-1)), "apart is -1, not a whole number from 0"),
+        (changed(lambda it: it["tolerances"].update(radius=0)), "radius is 0, not a whole number"),
+        (changed(lambda it: it["tolerances"].pop("class")), "tolerances isn't an object of"),
+        (changed(lambda it: it["weights"].pop("none")), "weights isn't an object of"),
+        (
+            changed(lambda it: it["weights"]["distance"].update(value=-0.1)),
+            "weight distance is -0.1, not a number of 0 or more",
+        ),
+        (
+            changed(lambda it: it["weights"]["none"].update(value="x")),
+            "weight none is 'x', not a number",
+        ),
+        (changed(lambda it: it["weights"]["none"].update(value=1e999)), "Infinity is no number"),
+        (
+            changed(lambda it: it["map_differs"].update(low=1.0)),
+            "the value of map_differs doesn't lie from its low to its high",
+        ),
+        (changed(lambda it: it.update(level=-1)), "level is -1, not a number of 0 or more"),
+        (changed(lambda it: it.update(about={})), "about isn't an object with map, parts,"),
+    ],
+)
+def test_what_is_no_file(text: str, reason: str, tmp_path: Path) -> None:
+    file = tmp_path / "file.json"
+    file.write_text(text)
+    with pytest.raises(ToolError) as raised:
+        Confidence.of_file(file)
+    assert str(raised.value).startswith(f"{file} is no confidence file, as olr-tools calibrate")
+    assert reason in str(raised.value)
+    with pytest.raises(ToolError, match="can't be read: No such file"):
+        Confidence.of_file(tmp_path / "none.json")
+
+
+def test_other_numbers() -> None:
+    made = confidence_of()
+    assert made.others({}, 750) == "" == made.others({"class_": 7, "radius": 100}, 750)
+    assert made.others({"radius": 50, "class_": 3}, 100) == (
+        "radius is 50, not 100; class is 3, not 7; apart is 100, not 750"
+    )
+
+
+def test_the_one_that_comes_with_the_package() -> None:
+    """It is for the profile feed, says that maps differ somewhat, in a wide interval, and has the signs that it should."""
+    shipped = Confidence.default()
+    assert shipped is olr.Confidence.default()
+    assert shipped.others(tolerances_of(FEED), 750) == ""
+    differs = shipped.map_differs
+    assert differs is not None and 0.5 < differs.value < 1
+    assert differs.high - differs.low > 0.3
+    for name, weight in WEIGHTS.items():
+        assert not weight.is_bounded or shipped.weights[name] >= 0
+
+
+def town_without_bans(tmp_path: Path) -> Path:
+    """The map of the examples without its bans."""
+    folder = tmp_path / "town"
+    folder.mkdir()
+    for name in ("nodes.csv", "lines.csv"):
+        (folder / name).write_bytes((EXAMPLES / name).read_bytes())
+    return folder
+
+
+def test_judged_answers(tmp_path: Path, program: Program) -> None:
+    """Places add up to 1 with none of these, the likeliest one first; points along a line, faults and pages have no probability."""
+    folder = town_without_bans(tmp_path)
+    with olr.Map(folder, program=program.path) as town:
+        texts = [ROADWORKS, KIOSK, "?", REFERENCE]
+        answers: list[Any] = list(town.answers("places", texts, **LIST))
+        answers[3] = town.match(REFERENCE)
+        references = [read_reference(text) for text in texts]
+        judging = Judging(confidence_of(), Shown(within=14_620, most=100))
+        roads, kiosk, fault, page = judged(answers, references, town.network(), judging)
+        bare = judged(answers, [None] * 4, town.network(), judging)[0]
+        few = judged(answers, references, town.network(), Judging(confidence_of(), Shown(30, 1)))[0]
+    assert fault is None is page
+    assert roads is not None and bare is not None and few is not None and kiosk is not None
+    probable = [one.probability for one in roads.places]
+    assert len(probable) >= 2 and None not in probable
+    assert sum(filter(None, probable)) + (roads.none_of_these or 0) == pytest.approx(1)
+    assert probable == sorted(probable, key=lambda one: -(one or 0))
+    assert [one.likely for one in roads.places] == list(range(1, len(probable) + 1))
+    assert roads.map_differs == Range(0.9, 0.6, 1.2) and all(one.reasons for one in roads.places)
+    assert [one.probability for one in few.places] == probable[:1]
+    assert few.none_of_these == roads.none_of_these
+    for other in (kiosk, bare):
+        assert {one.probability for one in other.places} == {None}
+        assert other.none_of_these is None is other.map_differs
+    assert [one.rank for one in bare.places] == [one.rank for one in roads.places]
+
+
+def test_a_table(tmp_path: Path, program: Program) -> None:
+    """Without references or a confidence the columns are there, and empty."""
+    with olr.Map(town_without_bans(tmp_path), program=program.path) as town:
+        answers: list[Any] = list(town.answers("places", [ROADWORKS], **LIST))
+        network = town.network()
+        made: dict[str, Any] = {"references": [ROADWORKS], "confidence": confidence_of()}
+        full = olr.to_geodataframe(answers, network, **made)
+        shown = olr.to_geodataframe(answers, network, **made, most=1)
+        bare = olr.to_geodataframe(answers, network)
+        with pytest.raises(TypeError, match="takes many references"):
+            olr.to_geodataframe(answers, network, references=ROADWORKS)
+        with pytest.raises(ValueError):
+            olr.to_geodataframe(answers, network, references=[])
+    sums = full["probability"].sum() + full["none_of_these"].sum()
+    assert sums == pytest.approx(1, abs=0.002) and full["none_of_these"].count() == 1
+    assert full["likely"].tolist() == list(range(1, len(full) + 1))
+    assert len(shown) == 1 and shown["probability"][0] == full["probability"][0]
+    assert bare["likely"].tolist() == full["likely"].tolist()
+    empty = ["probability", "none_of_these", "map_differs", "map_differs_low", "map_differs_high"]
+    assert bare[empty].isna().all().all() and bare["ends_m"].notna().all()
+
+
+def test_what_works_without_scipy() -> None:
+    """A confidence is used by numpy alone: only calibrate needs scipy."""
+    others = "top not in (*sys.stdlib_module_names, 'olr', 'numpy')"
+    ended = run_without(others, "import olr; print(len(olr.Confidence.default().weights))")
+    assert (ended.returncode, ended.stdout) == (0, f"{len(WEIGHTS)}\n"), ended.stderr
