@@ -5,12 +5,19 @@ import csv
 from collections.abc import Sequence
 from pathlib import Path
 
+from conftest import OF_PROGRAM
+from olr.confidence.confidence import Confidence
 from olr.tools import run
 from region_maps import EAST, WEST, Drawing, Point, Spot, first_position, text_of
 
 ORIGIN = first_position((0, 0))
 INTERVAL = 18
 """Of a road of 10,000 microdegrees, 1113.2 m."""
+NO_PROBABILITIES = (
+    f"no probabilities: {Confidence.default().others({}, 750)}: "
+    "make a file with your options by olr-tools calibrate"
+)
+"""What a summary says by `OF_PROGRAM`."""
 Row = dict[str, str]
 Pair = tuple[Row, Row]
 
@@ -47,13 +54,25 @@ def pairs(old: Path, new: Path, texts: Sequence[str], *words: object) -> list[Pa
 def pairs_of(old: Path, new: Path, messages: Path, *words: object) -> list[Pair]:
     """The rows of the references of a file."""
     out = messages.parent / "changes.csv"
-    given = ["compare", messages, "--map", old, "--with", new, "--out", out, "--force", *words]
+    given = [
+        "compare",
+        messages,
+        "--map",
+        old,
+        "--with",
+        new,
+        "--out",
+        out,
+        "--force",
+        *OF_PROGRAM,
+        *words,
+    ]
     assert run(list(map(str, given))) == 0
     with out.open(encoding="utf-8", newline="") as stream:
         rows = list(csv.DictReader(stream))
     assert [row["side"] for row in rows] == ["old", "new"] * (len(rows) // 2)
     for one, other in zip(rows[::2], rows[1::2]):
-        for name in ("record", "key", "change", "certainty", "moved_m"):
+        for name in ("record", "key", "change", "certainty", "agreement", "moved_m"):
             assert one[name] == other[name]
     return list(zip(rows[::2], rows[1::2]))
 

@@ -10,6 +10,7 @@ from dataclasses import replace
 from pathlib import Path
 from typing import Any
 
+import numpy as np
 import pytest
 
 from asking import draw_map, draw_references
@@ -57,11 +58,12 @@ def test_a_road_that_moves(tmp_path: Path) -> None:
         old, new = changed(tmp_path, one, other)
         assert (old["change"], old["certainty"]) == ("same", "same")
         assert metres(old, "moved_m", "alone_m") == pytest.approx([8.91, 0], abs=0.01)
-        assert metres(new, "alone_m") == [0]
+        assert metres(new, "alone_m", "agreement") == [0, 1]
     old, new = changed(tmp_path, road(*STRAIGHT), far)
     assert old["change"] == "moved"
     for row in (old, new):
         assert metres(row, "moved_m", "alone_m") == pytest.approx([11.13, 1113.2], abs=0.1)
+        assert row["agreement"] == "0.0"
     assert changed(tmp_path, road(*STRAIGHT), far, "--across", 12)[0]["change"] == "same"
     assert changed(tmp_path, road(*STRAIGHT), near, "--across", 8)[0]["change"] == "moved"
 
@@ -79,6 +81,9 @@ def test_a_detour(wide: int, lacks: float, tmp_path: Path) -> None:
     assert old["change"] == "moved"
     assert metres(old, "moved_m", "alone_m") == pytest.approx([22.26, lacks], abs=0.02)
     assert metres(new, "alone_m") == pytest.approx([alone], abs=0.02)
+    # It is longer by its two sides.
+    longer = 10_400 * MICRODEGREE
+    assert metres(new, "agreement") == pytest.approx([1 - alone / longer], abs=0.001)
     wider = round(alone * 10) + 1
     assert changed(tmp_path, road(*STRAIGHT), detour, "--apart", wider)[0]["change"] == "same"
     assert changed(tmp_path, road(*STRAIGHT), detour, "--apart", wider - 3)[0]["change"] == "moved"
@@ -105,6 +110,7 @@ def test_a_road_that_is_removed_or_added(left_out: int | None, reason: str, tmp_
     assert (old["change"], old["certainty"], old["verdict"]) == ("lost", "", "unique")
     assert (new["verdict"], new["reason"], new["lines"]) == ("none", reason, "")
     assert (old["reason"], old["lines"], old["outer_m"]) == ("", "1;3;5", "1113.3")
+    assert (old["agreement"], new["turns_back"], new["total"]) == ("", "", "")
     old, new = changed(tmp_path, less, whole)
     assert (new["change"], new["verdict"], new["reason"]) == ("found", "unique", "")
     assert (old["reason"], old["moved_m"], new["alone_m"]) == (reason, "", "")
@@ -130,7 +136,7 @@ def test_what_changes_without_the_road(tmp_path: Path) -> None:
     longer.line(at(0, 0), at(10_000, 0), length=12_245)
     for new in (three_parts(), others, longer):
         old, found = changed(tmp_path, road(*STRAIGHT), new)
-        assert (old["change"], old["certainty"]) == ("same", "same")
+        assert (old["change"], old["certainty"], old["agreement"]) == ("same", "same", "1.0")
         assert metres(old, "moved_m", "alone_m") == pytest.approx([0, 0], abs=0.02)
         assert old["lines"] != found["lines"] or new is longer
     assert found["outer_m"] == "1224.5"
@@ -160,11 +166,35 @@ def test_another_road_fits_as_well(tmp_path: Path) -> None:
     assert (old["change"], old["certainty"]) == ("same", "more")
     old, new = changed(tmp_path, equal, equal)
     assert (old["change"], old["certainty"]) == ("same", "same")
+    # Verdicts are those within what is asked for, however long the list is by which places are judged.
+    old, new = changed(tmp_path, lesser, equal, "--within", 25)
+    assert (new["verdict"], new["margin"], new["certainty"]) == ("unique", "26", "same")
+    old, new = changed(tmp_path, lesser, equal, "--within", 66)
+    assert (old["verdict"], old["margin"], old["certainty"]) == ("ambiguous", "66", "same")
     # One matching is all of the single road, and not of two.
     old, new = changed(tmp_path, single, equal, "--look", 1)
     assert (old["verdict"], new["verdict"], old["certainty"]) == ("unique", "open", "less")
     old, new = changed(tmp_path, equal, single, "--look", 1)
     assert (old["certainty"], new["margin"]) == ("more", "")
+
+
+def test_the_likeliest_place_is_compared(tmp_path: Path) -> None:
+    """Of a parallel road 13.36 m away that is as long as the reference says, and one through its points that is 10 percent longer. The
+    first one costs 26 points, the second one some hundred for its length, a fifth of which counts.
+    """
+    both, near, far = Drawing(), Drawing(), Drawing()
+    for drawing in (both, near):
+        drawing.line(at(0, 0), at(10_000, 0), length=12_245)
+    for drawing in (both, far):
+        drawing.line(at(0, 120), at(10_000, 120), length=11_133)
+    old, new = changed(tmp_path, both, near, "--within", 200)
+    assert (old["change"], old["agreement"], old["certainty"]) == ("same", "1.0", "more")
+    assert (old["lines"], old["verdict"], old["total"]) == ("1", "ambiguous", new["total"])
+    assert int(old["margin"]) == int(old["total"]) - 26
+    # By their totals it is the second one, and not within 50 points of the first one: it is shown nevertheless.
+    old, new = changed(tmp_path, both, far)
+    assert (old["change"], old["agreement"], old["verdict"]) == ("moved", "0.0", "unique")
+    assert (old["lines"], new["total"]) == ("1", "26")
 
 
 @pytest.mark.parametrize(
@@ -192,7 +222,7 @@ def test_certainty(verdicts: tuple[Any, Any], certainty: str) -> None:
     assert found.is_changed() == (certainty != "same")
 
 
-LINE: Any = [[0.0, 0.0], [0.0, 1.0]]
+LINE = np.array([[0.0, 0.0], [0.0, 1.0]])
 
 
 @pytest.mark.parametrize(
@@ -206,6 +236,9 @@ def test_a_point_along_a_line(east: int, north: int, change: str, tmp_path: Path
     assert old["change"] == change
     assert metres(old, "moved_m") == pytest.approx([(east / 2 + north) * MICRODEGREE], abs=0.5)
     assert (old["alone_m"], new["alone_m"]) == ("", "")
+    # Of both roads as much is in the other one; and 10 m around its end, unless it is farther away.
+    shared = 0 if north == 100 else 1 if east == 0 else 1 - (east * MICRODEGREE - 10) / 1113.2
+    assert metres(old, "agreement") == pytest.approx([shared], abs=0.001)
 
 
 def test_a_location_that_is_nothing(tmp_path: Path) -> None:
@@ -216,6 +249,7 @@ def test_a_location_that_is_nothing(tmp_path: Path) -> None:
     for row in (old, new):
         assert (row["change"], row["certainty"], row["lines"]) == ("same", "same", "")
         assert (row["moved_m"], row["alone_m"], row["outer_m"]) == ("", "0.0", "0.0")
+        assert row["agreement"] == ""
 
 
 def test_a_fault_of_one_map_alone(tmp_path: Path, capsys: pytest.CaptureFixture[str]) -> None:
@@ -275,7 +309,7 @@ def assert_all_the_same(rows: Sequence[Pair], count: int) -> None:
         own = {name: value for name, value in old.items() if name not in ("side", "lines")}
         assert own == {name: new[name] for name in own}
         if old["change"] == "same":
-            assert (old["certainty"], old["moved_m"]) == ("same", "0.0")
+            assert (old["certainty"], old["moved_m"], old["agreement"]) == ("same", "0.0", "1.0")
             assert old["alone_m"] in ("0.0", "")
 
 
@@ -313,7 +347,9 @@ def test_real_streets(tmp_path: Path) -> None:
         longest = max([0.0, *(network.lines[id].length / 10 for id in whole_ones)])
         if not without.intersection(lines):
             assert old["change"] in ("same", "none")
+            assert old["agreement"] in ("1.0", "")
         elif longest > 100:
             assert old["change"] in ("lost", "moved")
+            assert old["agreement"] != "1.0"
     changes = Counter(old["change"] for old, _ in rows)
     assert changes["same"] > 50 and changes["moved"] + changes["lost"] > 15

@@ -1,5 +1,6 @@
 """`olr-tools compare`: files, stores, maps that change meanwhile, and words that are refused."""
 
+import csv
 import json
 import os
 import shutil
@@ -11,13 +12,28 @@ import pytest
 
 import olr
 from asking import draw_map, draw_references
-from compared_maps import ALONG, HALFWAY, INTERVAL, ORIGIN, STRAIGHT, at, pairs, road
-from conftest import REFERENCE, TOP, Program
+from compared_maps import (
+    ALONG,
+    HALFWAY,
+    INTERVAL,
+    NO_PROBABILITIES,
+    ORIGIN,
+    STRAIGHT,
+    at,
+    pairs,
+    pairs_of,
+    road,
+)
+from conftest import ASKED_WITH_PROGRAM, OF_PROGRAM, REFERENCE, TOP, Program
+from olr.client.map_client import AHEAD
 from olr.comparing import command as compare_command
 from olr.comparing.asking import CHUNK, Comparison
 from olr.comparing.columns import CHANGES
 from olr.comparing.places import Limits
 from olr.comparing.summary import Summary
+from olr.confidence.confidence import DEFAULT
+from olr.confidence.judged import Judging
+from olr.likely.order import Shown
 from olr.messages.message import Message, Reading
 from olr.messages.reading import messages_of
 from olr.regions.making import make_store_of_folder
@@ -52,6 +68,65 @@ def test_stores_and_folders(tmp_path: Path) -> None:
             assert pairs(one, other, [*texts, HALFWAY]) == wanted
 
 
+def test_each_row_is_that_of_match(tmp_path: Path, capsys: pytest.CaptureFixture[str]) -> None:
+    """What a row says of a map is what `match --places` says of the likeliest place there, by the profile `feed`: of the town, and of the
+    town without a street."""
+    old, new = tmp_path / "old", tmp_path / "new"
+    for folder in (old, new):
+        shutil.copytree(EXAMPLES, folder)
+    lines = (new / "lines.csv").read_text().splitlines()
+    kept = [line for line in lines if line.split(",")[0] not in ("501", "502")]
+    (new / "lines.csv").write_text("\n".join(kept) + "\n")
+    (new / "bans.csv").unlink()
+    messages, feed = tmp_path / "messages.tsv", ("--profile", "feed")
+    shutil.copy(EXAMPLES / "messages.tsv", messages)
+    found = pairs_of(old, new, messages, *feed)
+    assert "no probabilities" not in capsys.readouterr().out
+    probable = 0
+    for side, folder in enumerate((old, new)):
+        out = tmp_path / f"{folder.name}.csv"
+        words = ["match", messages, "--map", folder, "--places", "--out", out, *feed]
+        assert run(list(map(str, words))) == 0
+        with out.open(encoding="utf-8", newline="") as stream:
+            first = {row["record"]: row for row in csv.DictReader(stream) if row["likely"] in "1"}
+        assert len(first) == len(found) == 5
+        for pair in found:
+            row, wanted = pair[side], first[pair[side]["record"]]
+            same = ["verdict", "probability", "none_of_these", "reasons", "total", "margin"]
+            for name in (*same, "turns_back", "outer_m", "lines"):
+                assert row[name] == wanted[name]
+            probable += row["probability"] != ""
+    assert probable == 6
+    capsys.readouterr()
+    # The file that comes with the package, named.
+    own = tmp_path / "own.json"
+    shutil.copy(DEFAULT, own)
+    assert pairs_of(old, new, messages, *feed, "--confidence", own) == found
+    words = ["compare", messages, "--map", old, "--with", new, "--confidence", own]
+    for more, said in (
+        (OF_PROGRAM, "own.json says nothing of such answers: radius is 100, not 75"),
+        (("--out", own, "--force"), "own.json"),
+        (("--confidence", messages), "messages.tsv"),
+    ):
+        given = [*words, "--out", tmp_path / "other.csv", *more]
+        assert run(list(map(str, given))) == 1
+        assert said in capsys.readouterr().err
+    assert own.read_bytes() == DEFAULT.read_bytes() and not (tmp_path / "other.csv").exists()
+
+
+def test_looking_that_was_cut_off_is_said(
+    tmp_path: Path, capsys: pytest.CaptureFixture[str]
+) -> None:
+    """One matching is all of a road, and not of two that are as near."""
+    single, double = road(*STRAIGHT), road(*STRAIGHT)
+    road((0, 120), (10_000, 120), drawing=double)
+    one, other = single.write(tmp_path / "one"), double.write(tmp_path / "other")
+    said = "cut off: 2 may have more places: give a greater --look"
+    for words, line in (((one, other), said), ((other, one), said), ((one, one), None)):
+        pairs(*words, [ALONG, "bad", ALONG], "--look", 1)
+        assert (said in capsys.readouterr().out.splitlines()) == (line is not None)
+
+
 def test_geometries_of_both_maps(tmp_path: Path, capsys: pytest.CaptureFixture[str]) -> None:
     """Of the road that moved, the one that is lost, and the text that is none, in a GeoPackage and as GeoJSON."""
     old, new = road(*STRAIGHT), road((0, 100), (10_000, 100))
@@ -60,7 +135,7 @@ def test_geometries_of_both_maps(tmp_path: Path, capsys: pytest.CaptureFixture[s
     lost = text_of([Point(west, south, EAST, INTERVAL), Point(west + 10_000, south, WEST)])
     messages = tmp_path / "messages"
     messages.write_text(f"moved\t{ALONG}\nlost\t{lost}\nnone\tCwVGnSN2zhvHCgDX\nspot\t{HALFWAY}\n")
-    words = ["compare", messages, "--map", old.write(tmp_path / "old")]
+    words = ["compare", messages, *OF_PROGRAM, "--map", old.write(tmp_path / "old")]
     words += ["--with", new.write(tmp_path / "new"), "--out"]
     assert run(list(map(str, [*words, tmp_path / "out.geojson"]))) == 0
     assert capsys.readouterr().out.splitlines() == [
@@ -69,7 +144,10 @@ def test_geometries_of_both_maps(tmp_path: Path, capsys: pytest.CaptureFixture[s
         "lost: 1",
         "refused by both maps, BadLength: 1",
         "certainty same: 2",
+        "agree: 0 of 2 that both maps place",
         "moved by: median 11.1 m, greatest 11.1 m",
+        f"{ASKED_WITH_PROGRAM}, across 10 m",
+        NO_PROBABILITIES,
     ]
     features = json.loads((tmp_path / "out.geojson").read_text())["features"]
     assert [one["properties"]["record"] for one in features] == [1, 1, 2, 2, 3, 3, 4, 4]
@@ -161,7 +239,7 @@ def changed_map(folder: Path, suffix: str) -> None:
 
 
 def test_no_more_are_held_than_are_asked(program: Program, tmp_path: Path) -> None:
-    """Of folders, which are asked ahead by 256, a chunk and some more messages."""
+    """A chunk of messages, and those by which folders are asked ahead."""
     folder = road(*STRAIGHT).write(tmp_path / "map")
     taken = 0
 
@@ -173,13 +251,19 @@ def test_no_more_are_held_than_are_asked(program: Program, tmp_path: Path) -> No
 
     seen, summary = 0, Summary()
     with olr.Map(folder, program=program.path) as asked:
-        comparison = Comparison(asked, asked, {}, Limits(10, 75))
+        judging = Judging(None, Shown())
+        comparison = Comparison(asked, asked, {}, Limits(10, 75), judging)
         for chunk in comparison.chunks(messages()):
             seen += len(chunk.references)
-            assert len(chunk.references) <= CHUNK and taken <= seen + 2 * CHUNK
+            assert len(chunk.references) <= CHUNK and taken <= seen + CHUNK + AHEAD
             summary.add(chunk.references)
     assert seen == taken == 5000
-    assert list(summary.lines()) == ["same: 3,333", "none: 1,667", "certainty same: 3,333"]
+    assert list(summary.lines()) == [
+        "same: 3,333",
+        "none: 1,667",
+        "certainty same: 3,333",
+        "agree: 3,333 of 3,333 that both maps place",
+    ]
 
 
 @pytest.mark.parametrize(

@@ -8,9 +8,10 @@ import numpy as np
 import pytest
 from shapely.geometry import LineString
 
+from olr.comparing.agreement import agreement
 from olr.comparing.places import Limits, Spot, Stretch, difference
 from olr.comparing.plane import DEGREE, Plane, Segments
-from olr.comparing.stretches import hausdorff, longest_lacking, within
+from olr.comparing.stretches import hausdorff, longest_lacking, share_within, within
 
 LIMITS = Limits(across=10, apart=75)
 Spots = list[tuple[float, float]]
@@ -70,6 +71,49 @@ def test_longest_run_by_hand(one: Any, other: Any, lacking: tuple[float, float])
     assert found == pytest.approx(lacking, abs=0.02)
 
 
+@pytest.mark.parametrize(
+    ("one", "other", "shares"),
+    [
+        (ROAD, ROAD, (1, 1)),
+        # Up to 10 m behind its end.
+        (ROAD, ((0, 0), (500, 0)), (0.51, 1)),
+        (ROAD, ((0, 0), (490, 0), (490, 490)), (0.5, 0.5)),
+        # At right angles there is no common direction; at 45 degrees 10 m aside is 14.14 m along, before the crossing and behind it.
+        (ROAD, ((500, -500), (500, 500)), (0, 0)),
+        (ROAD, ((400, -100), (600, 100)), (0.02828, 0.1)),
+        (ROAD, ROAD[::-1], (0, 0)),
+        (ROAD, ((0, 8), (1000, 8)), (1, 1)),
+        (ROAD, ((0, 12), (1000, 12)), (0, 0)),
+        # A stretch that is there twice, and reaches 10 m farther at both ends.
+        (ROAD, ((100, 0), (300, 0), (300, 50), (100, 50), (100, 0), (300, 0)), (0.22, 4 / 7)),
+        # Once to the end and back again: half of it is the road.
+        (((0, 0), (1000, 0), (0, 0)), ROAD, (0.5, 1)),
+        # Segments of 0.1 to 400 m, and points that are repeated.
+        (ROAD, ((0, 0), (0.1, 0), (0.1, 0), (400, 0), (800, 0), (800, 30)), (0.81, 80 / 83)),
+        # What is far away, and what has no length.
+        (ROAD, ((0, 5000), (1000, 5000)), (0, 0)),
+        (ROAD, ((5, 0), (5, 0)), (0, 0)),
+        (((5, 5), (5, 5)), ((5, 5), (5, 5)), (0, 0)),
+    ],
+)
+def test_shares_by_hand(one: Any, other: Any, shares: tuple[float, float]) -> None:
+    """They are those of the agreement too, in degrees at the equator."""
+    found = (
+        share_within(segments(*one), segments(*other), 10),
+        share_within(segments(*other), segments(*one), 10),
+    )
+    assert found == pytest.approx(shares, abs=0.0001)
+    assert all(0 <= share <= 1 for share in found)
+    points = (stretch(*one).points, stretch(*other).points)
+    for some in (points, points[::-1]):
+        assert agreement(*some, 10) == pytest.approx(min(shares), abs=0.0001)
+
+
+def test_nothing_agrees_with_no_points() -> None:
+    road, none = stretch(*ROAD).points, stretch().points
+    assert agreement(road, none, 10) == agreement(none, road, 10) == agreement(none, none, 10) == 0
+
+
 def drawn(draw: random.Random) -> Spots:
     """A polyline that wanders, at times straight on or back, with steps of 0.5 to 200 m."""
     east, north, heading = draw.uniform(-50, 50), draw.uniform(-50, 50), draw.uniform(-0.5, 0.5)
@@ -90,11 +134,12 @@ def shaken(draw: random.Random, points: Spots) -> Spots:
     return aside if len(aside) > 1 else points
 
 
-def sampled_lacking(one: Spots, other: Spots, across: float) -> float:
-    """The longest run, by points that are at most 0.1 m apart, each of which stands for as much of its segment."""
+def sampled(one: Spots, other: Spots, across: float) -> tuple[float, float]:
+    """The longest run that is lacking, and how much isn't, by points that are at most 0.1 m apart, each of which stands for as much of its
+    segment."""
     ends = np.array([pair for pair in zip(other, other[1:]) if pair[0] != pair[1]])
     first, leads = ends[:, 0], ends[:, 1] - ends[:, 0]
-    longest = run = 0.0
+    longest = run = there = 0.0
     for start, end in zip(np.array(one[:-1]), np.array(one[1:])):
         lead = end - start
         length, alike = float(np.hypot(*lead)), leads @ lead > 0
@@ -105,20 +150,25 @@ def sampled_lacking(one: Spots, other: Spots, across: float) -> float:
         aside = from_first - np.clip(share, 0, 1)[:, :, None] * leads[alike]
         for is_near in (np.hypot(aside[:, :, 0], aside[:, :, 1]) <= across).any(axis=1).tolist():
             run = 0.0 if is_near else run + length / count
+            there += length / count if is_near else 0.0
             longest = max(longest, run)
-    return longest
+    return longest, there
 
 
-def test_longest_run_beside_samples() -> None:
+def test_runs_and_shares_beside_samples() -> None:
     draw = random.Random(5)
     differing = 0
     for _ in range(60):
         one = drawn(draw)
         other = draw.choice([shaken(draw, one), drawn(draw)])
         across = draw.choice([2, 10, 30])
+        whole = LineString(one).length
         found = longest_lacking(segments(*one), segments(*other), across)
-        assert found == pytest.approx(sampled_lacking(one, other, across), abs=0.5)
-        differing += 0 < found < LineString(one).length - 1
+        share = share_within(segments(*one), segments(*other), across)
+        longest, there = sampled(one, other, across)
+        assert found == pytest.approx(longest, abs=0.5)
+        assert share * whole == pytest.approx(there, abs=0.5 + whole / 1000)
+        differing += 0 < found < whole - 1
     assert differing > 20
 
 
@@ -169,22 +219,38 @@ def test_lines_that_are_long() -> None:
     other[(along >= 40_000) & (along <= 40_300)] += (0, 100)
     found = longest_lacking(Segments.of(one), Segments.of(other), 10)
     assert 280 < found < 310
+    share = share_within(Segments.of(one), Segments.of(other), 10)
+    assert share == pytest.approx(1 - found / float(Segments.of(one).lengths.sum()))
     assert hausdorff(one, other) == pytest.approx(103, abs=4)
 
 
 def test_places_that_cover_nothing() -> None:
     road, short, none = stretch(*ROAD), stretch((0, 0), (70, 0)), stretch()
     spot = stretch((3, 4), (3, 4))
-    assert difference(none, none, LIMITS) == (True, None, 0, 0)
-    assert difference(spot, spot, LIMITS) == (True, 0, 0, 0)
-    is_same, moved, *alone = difference(none, road, LIMITS)
-    assert (is_same, moved) == (False, None)
+    assert difference(none, none, LIMITS) == (True, None, 0, 0, None)
+    assert difference(spot, spot, LIMITS) == (True, 0, 0, 0, None)
+    assert difference(none, spot, LIMITS).agreement is None
+    is_same, moved, *alone, agreed = difference(none, road, LIMITS)
+    assert (is_same, moved, agreed) == (False, None, 0)
     assert alone == pytest.approx([0, 1000])
     assert difference(short, none, LIMITS)[:2] == (True, None)
-    is_same, moved, *alone = difference(spot, short, LIMITS)
-    assert is_same
+    is_same, moved, *alone, agreed = difference(spot, short, LIMITS)
+    assert (is_same, agreed) == (True, 0)
     assert alone == pytest.approx([0, 70])
     assert moved == pytest.approx(math.hypot(67, 4))
+
+
+def test_agreement_is_no_matter_of_apart() -> None:
+    """It is the lesser share, which is that of the longer place: 60 m of 100 and the 10 m behind them."""
+    road, most = stretch((0, 0), (100, 0)), stretch((0, 0), (60, 0))
+    for one, other in ((road, most), (most, road)):
+        found = difference(one, other, LIMITS)
+        assert (found.is_same, found.agreement) == (True, 0.7)
+    assert difference(road, road, LIMITS).agreement == 1
+    assert difference(road, stretch((0, 11), (100, 11)), LIMITS).agreement == 0
+    assert difference(road, stretch((0, 11), (100, 11)), Limits(12, 75)).agreement == 1
+    # 110 m of 300, with three digits.
+    assert difference(road, stretch((0, 0), (300, 0)), LIMITS).agreement == 0.367
 
 
 def test_apart_is_up_to_where_places_are_the_same() -> None:
@@ -228,6 +294,17 @@ def test_points_along_lines(other: Spot, is_same: bool) -> None:
         assert found.old_alone is None and found.new_alone is None
 
 
+def test_points_along_lines_agree_as_their_routes_do() -> None:
+    """Routes of 1,000 m, one of which begins 300 m farther on, or leads back."""
+    here = spot(0, 0, (1, 0))
+    assert difference(here, here, LIMITS).agreement == 1
+    assert difference(here, spot(70, 9, (1, 0)), LIMITS).agreement == pytest.approx(
+        0.934, abs=0.001
+    )
+    assert difference(here, spot(300, 0, (1, 0)), LIMITS).agreement == 0.71
+    assert difference(here, spot(0, 0, (-1, 0)), LIMITS).agreement == 0
+
+
 def test_a_degree_of_longitude_is_shorter_in_the_north() -> None:
     """At 60 degrees half as long: 20 m to the east of a road that leads north are 360 millionths of a degree there."""
     plane = Plane.around(np.array([(10.0, 60.0), (10.0, 60.0)]))
@@ -241,6 +318,9 @@ def test_a_degree_of_longitude_is_shorter_in_the_north() -> None:
 
 def test_a_segment_of_no_direction_is_nowhere() -> None:
     """Right angles aren't the same direction."""
-    start, end = within(segments((0, 0), (100, 0)), segments((50, -50), (50, 50)), 10)
-    assert (start > end).all()
+    one, others = segments((0, 0), (100, 0)), segments((50, -50), (50, 50), (51, 150))
+    numbers, _ = within(one, others, 10)
+    assert not len(numbers)
+    numbers, found = within(one, segments((50, -50), (50, 50), (60, 50), (70, 0)), 10)
+    assert numbers.tolist() == [0] and 50 < found.start[0] < found.end[0] < 90
     assert longest_lacking(segments((0, 0), (0, 0)), segments(*ROAD), 10) == 0

@@ -4,6 +4,7 @@ import csv
 import json
 import os
 import re
+import shlex
 from collections.abc import Iterator
 from pathlib import Path
 from typing import Any
@@ -11,7 +12,9 @@ from typing import Any
 import pytest
 
 from browser import Browser
-from conftest import Program, Tools
+from compared_maps import NO_PROBABILITIES
+from conftest import ASKED_WITH_PROGRAM, OF_PROGRAM, Program, Tools
+from olr.confidence.confidence import DEFAULT
 from olr.regions.making import make_store_of_folder
 from region_maps import EAST, WEST, Drawing, Point, first_position, text_of
 
@@ -61,7 +64,7 @@ def made(tools: Tools, folder: Path, *words: object) -> tuple[Path, str]:
     """The page, and what the command prints."""
     page = folder / "page.html"
     given = ["compare", folder / "messages.csv", "--map", folder / "old", "--with", folder / "new"]
-    given += ["--out", folder / "out.csv", "--page", page, "--force", *words]
+    given += ["--out", folder / "out.csv", "--page", page, "--force", *OF_PROGRAM, *words]
     ended = tools.run(*given)
     assert (ended.returncode, ended.stderr) == (0, "")
     return page, ended.stdout
@@ -99,7 +102,10 @@ def test_the_page(tools: Tools, browser: Browser, maps: Path, width: int) -> Non
         "found: 1",
         "refused by both maps, BadLength: 1",
         "certainty same: 9",
+        "agree: 6 of 9 that both maps place",
         "moved by: median 44.5 m, greatest 66.8 m",
+        f"{ASKED_WITH_PROGRAM}, across 10 m",
+        NO_PROBABILITIES,
     ]
     opened(browser, page, width)
     text = browser.value("document.body.innerText")
@@ -109,12 +115,15 @@ def test_the_page(tools: Tools, browser: Browser, maps: Path, width: int) -> Non
         "44.5 m in the median",
         "66.8 m at most",
         "across 10 m",
+        "The maps agree on 6 of 9 that both maps place: each of their two places covers 90% of the other one",
+        NO_PROBABILITIES,
     ):
         assert said in text
     rows = shown(browser)
     assert [row[0] for row in rows] == ["2", "3", "4", "5", "6", "7"]
     assert [row[2] for row in rows] == ["moved"] * 3 + ["lost"] * 2 + ["found"]
-    assert [row[5] for row in rows] == ["22.3", "66.8", "44.5", "", "", ""]
+    assert [row[5] for row in rows] == ["0.000"] * 3 + [""] * 3
+    assert [row[6] for row in rows] == ["22.3", "66.8", "44.5", "", "", ""]
     assert [row[3] for row in rows] == ["", "", "", "point 1", "point 1", "point 1"]
     # Keys are texts.
     assert (rows[0][1], rows[3][1]) == (HOSTILE, "<b>bold</b>")
@@ -125,11 +134,11 @@ def test_the_page(tools: Tools, browser: Browser, maps: Path, width: int) -> Non
 
 def test_sort_filter_and_keys(tools: Tools, browser: Browser, maps: Path) -> None:
     opened(browser, made(tools, maps)[0])
-    heading = "#rows thead th:nth-of-type(6) button"
+    heading = "#rows thead th:nth-of-type(7) button"
     browser.click(heading)
-    assert [row[5] for row in shown(browser)] == ["22.3", "44.5", "66.8", "", "", ""]
+    assert [row[6] for row in shown(browser)] == ["22.3", "44.5", "66.8", "", "", ""]
     browser.click(heading)
-    assert [row[5] for row in shown(browser)] == ["66.8", "44.5", "22.3", "", "", ""]
+    assert [row[6] for row in shown(browser)] == ["66.8", "44.5", "22.3", "", "", ""]
     browser.click("#rows tbody tr:nth-of-type(2) th")
     current = "document.querySelector('#rows [aria-current=true]').cells[0].textContent"
     assert browser.value(current) == "4"
@@ -159,6 +168,28 @@ def test_sort_filter_and_keys(tools: Tools, browser: Browser, maps: Path) -> Non
     assert (browser.errors, browser.loaded) == ([], [])
 
 
+def test_probabilities_of_both_maps(tools: Tools, browser: Browser, maps: Path) -> None:
+    """Those of the rows, behind the verdict on each map; and the file that they are by."""
+    page, _ = made(tools, maps, "--profile", "feed")
+    with (maps / "out.csv").open(encoding="utf-8", newline="") as stream:
+        rows = list(csv.DictReader(stream))
+    wanted: dict[str, list[str]] = {}
+    for row in rows:
+        share = f"{float(row['probability']):.3f}" if row["probability"] else ""
+        wanted.setdefault(row["record"], []).extend([row["verdict"], share])
+    opened(browser, page)
+    titles = browser.value("[...document.querySelectorAll('#rows thead th')].map(e => e.innerText)")
+    assert titles[-4:] == ["old verdict", "old probability", "new verdict", "new probability"]
+    found = {row[0]: row[-4:] for row in shown(browser)}
+    assert len(found) == 6 and found == {record: wanted[record] for record in found}
+    assert sum(one[1] != "" for one in found.values()) == 5
+    assert "by the file that comes with olr-tools" in browser.value("document.body.innerText")
+    (maps / "own.json").write_bytes(DEFAULT.read_bytes())
+    page, _ = made(tools, maps, "--profile", "feed", "--confidence", maps / "own.json")
+    opened(browser, page)
+    assert f"by {maps / 'own.json'}" in browser.value("document.body.innerText")
+
+
 def test_rows_that_are_left_out(tools: Tools, browser: Browser, maps: Path) -> None:
     """Of three rows each change has one."""
     page, printed = made(tools, maps, "--rows", 3)
@@ -171,12 +202,14 @@ def test_rows_that_are_left_out(tools: Tools, browser: Browser, maps: Path) -> N
 
 
 def data_of(page: Path) -> Any:
-    """The data of a page, without the names of the maps."""
+    """The data of a page, without what names the maps."""
     text = page.read_text(encoding="utf-8")
     found = re.search(r'<script id="data" type="application/json">(.*?)</script>', text)
     assert found is not None
     data = json.loads(found[1])
     del data["facts"]
+    for row in data["rows"]:
+        del row["commands"]
     return data
 
 
@@ -204,6 +237,20 @@ def test_a_page_without_rows(tools: Tools, browser: Browser, maps: Path) -> None
     assert f"{page}: 0 of 0 that change" in printed
     opened(browser, page)
     assert shown(browser) == []
+
+
+def test_the_commands_of_the_chosen_row(tools: Tools, browser: Browser, maps: Path) -> None:
+    """One for each map."""
+    page, _ = made(tools, maps, "--radius", 90)
+    opened(browser, page)
+    assert browser.value("document.querySelector('#same').hidden")
+    browser.click("#rows tbody td")
+    texts = "[...document.querySelectorAll('#commands code')].map(it => it.textContent)"
+    for name, words in zip(("old", "new"), map(shlex.split, browser.value(texts)), strict=True):
+        assert words[:2] == ["olr", "places"]
+        assert words[3:] == ["--map", str(maps / name), "--radius", "90"]
+    browser.click("#all")
+    assert browser.value(texts) == []
 
 
 def test_a_page_that_is_refused(tools: Tools, maps: Path) -> None:

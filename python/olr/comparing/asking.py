@@ -1,19 +1,24 @@
 """The messages of a file that are asked on two maps, a chunk at a time: no more of them are held."""
 
 from collections.abc import Iterable, Iterator, Mapping, Sequence
+from dataclasses import replace
 from itertools import islice, tee
-from typing import NamedTuple, cast
+from typing import NamedTuple, Optional, cast
 
 from olr.client.answers import Places
+from olr.client.fault import Fault
 from olr.client.map_client import Map
 from olr.comparing.changes import Compared, Side, compared
-from olr.comparing.places import Answer, Limits, first_places
+from olr.comparing.places import Answer, Limits, likeliest_places
+from olr.confidence.judged import Judged, Judging, judged
+from olr.confidence.options import listing
 from olr.matching.rows import Rows
 from olr.messages.message import Message
 from olr.network import Network
+from olr.regions.reading import read_reference
 
-CHUNK = 256
-"""So many references are compared at once."""
+CHUNK = 64
+"""So many references are compared at once: each has up to 100 places on both maps."""
 
 
 class Chunk(NamedTuple):
@@ -27,10 +32,13 @@ class Chunk(NamedTuple):
 class Comparison:
     """Two maps, of which both are asked about each reference."""
 
-    def __init__(self, old: Map, new: Map, numbers: Mapping[str, int], limits: Limits) -> None:
-        """The numbers are those of `places`. Reads both maps. Raises `ToolError`."""
-        self._old, self._new = _Asked(old, old.network()), _Asked(new, new.network())
-        self._numbers, self._limits = numbers, limits
+    def __init__(
+        self, old: Map, new: Map, numbers: Mapping[str, int], limits: Limits, judging: Judging
+    ) -> None:
+        """The numbers are those of `places`. Both maps are asked for all places that may be shown, and `judging` says which of them are.
+        Reads both maps. Raises `ToolError`."""
+        self._old, self._new = (_Asked(one, one.network(), judging) for one in (old, new))
+        self._numbers, self._limits = listing(numbers), limits
 
     def chunks(self, messages: Iterable[Message]) -> Iterator[Chunk]:
         """The references of messages, compared. Raises `ToolError`, also if the files of a map change meanwhile."""
@@ -66,6 +74,7 @@ class _Asked(NamedTuple):
 
     map: Map
     network: Network
+    judging: Judging
 
     def places(self, messages: Iterable[Message], numbers: Mapping[str, int]) -> Iterator[Answer]:
         """The places of the references of messages."""
@@ -74,12 +83,21 @@ class _Asked(NamedTuple):
 
     def located(self, texts: Sequence[str], answers: Sequence[Answer]) -> _Located:
         """Where the map has references, by the answers about their places, and why those have none that have none."""
-        rows, shapes = first_places(answers, self.network)
+        references = list(map(read_reference, texts))
+        judgements = judged(answers, references, self.network, self.judging)
+        rows, shapes = likeliest_places(answers, judgements, self.network)
         lacking = [isinstance(one, Places) and not one.places for one in answers]
         wanted = [text for text, lacks in zip(texts, lacking) if lacks]
         reasons = iter(list(self.map.answers("why", wanted, nearest=0)) if wanted else [])
         sides = [
-            Side(answer, shape, next(reasons) if lacks else None)
-            for answer, shape, lacks in zip(answers, shapes, lacking)
+            Side(_shown(answer, judgement), shape, next(reasons) if lacks else None, judgement)
+            for answer, judgement, shape, lacks in zip(answers, judgements, shapes, lacking)
         ]
         return _Located(sides, rows)
+
+
+def _shown(answer: Answer, judgement: Optional[Judged]) -> Answer:
+    """An answer with the verdict on the places that are shown."""
+    if judgement is None or isinstance(answer, Fault):
+        return answer
+    return replace(answer, verdict=judgement.verdict)

@@ -8,8 +8,8 @@ The **change** of a reference is the first of these that holds:
 | `none` | no place | no place |
 | `lost` | a place | no place |
 | `found` | no place | a place |
-| `same` | the first place | covers the same stretch: see `places` |
-| `moved` | the first place | is another stretch |
+| `same` | the likeliest place | covers the same stretch: see `places` |
+| `moved` | the likeliest place | is another stretch |
 
 Beside it the **certainty** of a reference that has a place on both maps says whether there is no second place. An answer is certain if it
 is `unique`. If it is `ambiguous` there is a second place, and if it is `open` there may be one, so that neither is certain:
@@ -26,6 +26,7 @@ from typing import Literal, NamedTuple, Optional, Union
 from olr.client.answers import Places, Why
 from olr.client.fault import Fault
 from olr.comparing.places import Answer, Difference, Limits, Shape, difference
+from olr.confidence.judged import Judged, JudgedPlace
 from olr.messages.message import Message
 
 Change = Literal["same", "moved", "lost", "found", "none", "refused"]
@@ -36,10 +37,17 @@ class Side(NamedTuple):
     """What one of the maps says of a reference."""
 
     answer: Answer
+    """With the verdict on the places that are shown."""
     shape: Optional[Shape]
-    """Of the first place, if there is one."""
+    """Of the likeliest place, if there is one."""
     why: Union[Why, Fault, None] = None
     """Of a reference that has no place there."""
+    judged: Optional[Judged] = None
+    """How probable its places are; None for a fault."""
+
+    def place(self) -> Optional[JudgedPlace]:
+        """The likeliest place, if there is one."""
+        return self.judged.places[0] if self.judged and self.judged.places else None
 
 
 class Compared(NamedTuple):
@@ -53,6 +61,17 @@ class Compared(NamedTuple):
     """None where a map has no place."""
     old: Side
     new: Side
+
+    @property
+    def agreement(self) -> Optional[float]:
+        """How far both maps agree on it, 0 to 1. None where a map has no place, or neither place has a length."""
+        return None if self.difference is None else self.difference.agreement
+
+    def is_cut_off(self) -> bool:
+        """Whether a map may have another place for it: looking was cut off before."""
+        return any(
+            side.judged is not None and side.judged.is_cut_off for side in (self.old, self.new)
+        )
 
     def is_changed(self) -> bool:
         """Whether something is otherwise with the new map: the place, how certain it is, or whether the reference is refused."""

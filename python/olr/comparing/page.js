@@ -20,6 +20,7 @@
   };
   counts("Of all references", "change", data.changes);
   counts("Of those with a place on both maps", "certainty", data.certainties);
+  find("agreeing").textContent = data.agreeing || "";
   find("moved").textContent = data.moved || "";
   find("left-out").textContent = data.left_out;
 
@@ -30,6 +31,7 @@
   };
   const grouped = (value) => value.toLocaleString("en");
   const metres = (value) => value.toLocaleString("en", { minimumFractionDigits: 1, maximumFractionDigits: 1 });
+  const share = (value) => value.toFixed(3);
   const named = (row) => `record ${row.record}${row.key === null ? "" : `, ${row.key}`}: ${row.change}`;
   let shown = [];
   let chosen = -1;
@@ -39,6 +41,10 @@
     map.show(isOne ? [chosen] : shown);
     map.choose(isOne ? chosen : -1);
     find("all").disabled = !isOne;
+    const commands = isOne ? data.rows[chosen].commands : [];
+    find("commands").replaceChildren();
+    for (const text of commands) add(add(find("commands"), "p"), "code", text).className = "command";
+    find("same").hidden = !commands.length;
   };
   const choose = (index) => { chosen = index; draw(); };
   const map = mapOfMany({
@@ -59,12 +65,15 @@
       { title: "change", value: (row) => row.change },
       { title: "reason", value: (row) => row.reason },
       { title: "certainty", value: (row) => row.certainty },
+      { title: "agreement", number: true, value: (row) => row.agreement, text: share },
       { title: "moved by", number: true, value: (row) => row.moved, text: metres },
       { title: "old alone", number: true, value: (row) => row.old_alone, text: metres },
       { title: "new alone", number: true, value: (row) => row.new_alone, text: metres },
       { title: "remedy", value: (row) => row.remedy },
       { title: "old verdict", value: (row) => row.old },
+      { title: "old probability", number: true, value: (row) => row.old_probability, text: share },
       { title: "new verdict", value: (row) => row.new },
+      { title: "new probability", number: true, value: (row) => row.new_probability, text: share },
     ],
     rows: data.rows,
     choices: [

@@ -1,16 +1,20 @@
 """The page of the references that change: how many do so in which way, a table of them, and both places of each on a map."""
 
 from collections.abc import Iterable, Mapping, Sequence
+from pathlib import Path
 from typing import Any, NamedTuple, Optional
 
 import numpy as np
 
 from olr.arrays import Floats
+from olr.asked_with import command_text, is_for_program
 from olr.client.fault import Fault
+from olr.comparing.agreement import AGREE
 from olr.comparing.changes import Compared, Side
 from olr.comparing.places import Shape, Spot
 from olr.comparing.rows import reason_of, remedy_of, rounded
 from olr.comparing.summary import Summary
+from olr.matching.rows import DIGITS as OF_PROBABILITIES
 from olr.network import Network
 from olr.pages.html import Template, html_of
 from olr.report.sample import equal_shares
@@ -22,6 +26,7 @@ MOST_LINES = 10_000
 CHUNK = 100
 """Around so many references the lines of a map are read at once."""
 MOVED = "Those that moved did so by {:,.1f} m in the median, and by {:,.1f} m at most."
+AGREEING = "The maps agree on {}: each of their two places covers {:.0%} of the other one at least."
 LEFT_OUT = "{:,} of {:,} references that change are left out here: of each change those at the end of the file."
 Row = dict[str, Any]
 
@@ -30,6 +35,7 @@ class Shown(NamedTuple):
     """A reference that changes, as the page shows it."""
 
     row: Row
+    reference: str
     shapes: Mapping[str, Floats]
     """Its points on each of the maps that has a place, by longitude and latitude in degrees."""
 
@@ -51,7 +57,7 @@ class Changed:
                 self.count += 1
                 kept = self._kept.setdefault(one.words(), [])
                 if len(kept) < self._most:
-                    kept.append(Shown(_row(one), _shapes(one)))
+                    kept.append(Shown(_row(one), one.message.reference, _shapes(one)))
 
     def chosen(self) -> list[Shown]:
         """Those that are shown, as in the file. Each change has an equal share; one of which there are fewer leaves room to the others."""
@@ -61,12 +67,24 @@ class Changed:
 
 
 class About(NamedTuple):
-    """What was compared, in words: the file of messages, both maps, and with which numbers."""
+    """What was compared: the file of messages, both maps, and with which numbers."""
 
     messages: str
-    old: str
-    new: str
+    old: Path
+    new: Path
     numbers: str
+    """As a text."""
+    all_numbers: Mapping[str, int]
+    """All tolerances and the numbers of `places`, by the names of the program's options."""
+    probabilities: str
+    """By what there are any, or why there are none."""
+
+    def commands(self, reference: str) -> list[str]:
+        """The commands of the program `olr` that give the places of a reference on both maps, but for stores, which it doesn't read."""
+        folders = filter(is_for_program, (self.old, self.new))
+        return [
+            command_text("places", reference, str(folder), self.all_numbers) for folder in folders
+        ]
 
 
 def page_of(about: About, summary: Summary, changed: Changed, network: Network) -> str:
@@ -75,19 +93,21 @@ def page_of(about: About, summary: Summary, changed: Changed, network: Network) 
     chosen = changed.chosen()
     drawn = [_drawn(number, one) for number, one in enumerate(chosen)]
     left = changed.count - len(chosen)
-    moved = summary.moved()
+    moved, agreeing = summary.moved(), summary.agreeing()
     data: dict[str, Any] = {
         "facts": {
             "messages": f"{about.messages}, {summary.references:,} references",
-            "old map": about.old,
-            "new map": about.new,
+            "old map": str(about.old),
+            "new map": str(about.new),
             "asked with": about.numbers,
+            "probabilities": about.probabilities,
         },
         "changes": [[name, "", count] for name, count in summary.changes()],
         "certainties": [[name, "", count] for name, count in summary.certainties()],
+        "agreeing": agreeing and AGREEING.format(agreeing.text(), AGREE),
         "moved": moved and MOVED.format(*moved),
         "left_out": LEFT_OUT.format(left, changed.count) if left else "",
-        "rows": [one.row for one in chosen],
+        "rows": [one.row | {"commands": about.commands(one.reference)} for one in chosen],
         "shapes": [shape for some in drawn for shape in some],
         "roads": _roads(network, [_box(one) for one in chosen if one.shapes]),
     }
@@ -103,8 +123,11 @@ def _row(reference: Compared) -> Row:
         "key": reference.message.key,
         "change": reference.words(),
         "certainty": reference.certainty,
+        "agreement": reference.agreement,
         "old": _verdict(reference.old),
         "new": _verdict(reference.new),
+        "old_probability": _probability(reference.old),
+        "new_probability": _probability(reference.new),
         "moved": differs and rounded(differs.moved),
         "old_alone": differs and rounded(differs.old_alone),
         "new_alone": differs and rounded(differs.new_alone),
@@ -116,6 +139,14 @@ def _row(reference: Compared) -> Row:
 def _verdict(side: Side) -> str:
     """What a map says of a reference, in a word."""
     return "refused" if isinstance(side.answer, Fault) else side.answer.verdict
+
+
+def _probability(side: Side) -> Optional[float]:
+    """How probable the likeliest place on a map is."""
+    place = side.place()
+    if place is None or place.probability is None:
+        return None
+    return round(place.probability, OF_PROBABILITIES)
 
 
 def _reason(side: Side) -> Optional[str]:

@@ -11,11 +11,13 @@ which `places` puts matchings together (docs/specification/places.md), with dist
   same if the points are at most `apart` from each other, and each lies within `across` of the other's route where that goes in the same
   direction as its own.
 
-How far a place has moved is the Hausdorff distance of the two geometries, of points their distance.
+How far a place has moved is the Hausdorff distance of the two geometries, of points their distance. How far two places agree is what they
+cover of each other (`agreement`): the outer parts of lines, and of points along lines the routes, since a point is where its route has it.
+
+The place of a reference on a map is the likeliest one.
 """
 
 from collections.abc import Sequence
-from dataclasses import replace
 from typing import NamedTuple, Optional, Union
 
 import numpy as np
@@ -23,10 +25,13 @@ import numpy as np
 from olr.arrays import Floats
 from olr.client.answers import Matching, Places
 from olr.client.fault import Fault
+from olr.comparing.agreement import DIGITS, agreement, agreement_of_segments
 from olr.comparing.plane import Plane, Segments
 from olr.comparing.stretches import hausdorff, longest_lacking, within
-from olr.matching.rows import Rows, parts_of, rows_of_answers
+from olr.confidence.judged import Judged
+from olr.matching.rows import Rows, rows_of_answers
 from olr.network import Network, middle
+from olr.parts import parts_of
 
 
 class Limits(NamedTuple):
@@ -67,13 +72,17 @@ class Difference(NamedTuple):
     """The longest run that the old one has and the new one lacks, in metres. None for a point along a line."""
     new_alone: Optional[float] = None
     """The other way round."""
+    agreement: Optional[float] = None
+    """What they cover of each other, 0 to 1, as it is shown: rounded. None where neither has a length."""
 
 
-def first_places(answers: Sequence[Answer], network: Network) -> tuple[Rows, list[Optional[Shape]]]:
-    """A row for each answer, of its first place if it has one, and the shapes of these. Raises as `rows_of_answers`."""
-    firsts = list(map(_with_first_place, answers))
-    rows = rows_of_answers(firsts, network)
-    matchings = [_matching(one) for one in firsts]
+def likeliest_places(
+    answers: Sequence[Answer], judgements: Sequence[Optional[Judged]], network: Network
+) -> tuple[Rows, list[Optional[Shape]]]:
+    """A row for each answer, of its likeliest place if it has one, and the shapes of these. Raises as `rows_of_answers`."""
+    firsts = [one and one._replace(places=one.places[:1]) for one in judgements]
+    rows = rows_of_answers(answers, network, judgements=firsts)
+    matchings = list(map(_matching, firsts))
     behind = np.cumsum(rows.shapes.sizes)
     parts = np.split(rows.shapes.points, behind[:-1])
     along = [one for one in matchings if one is not None and one.earliest is not None]
@@ -84,14 +93,9 @@ def first_places(answers: Sequence[Answer], network: Network) -> tuple[Rows, lis
     ]
 
 
-def _with_first_place(answer: Answer) -> Answer:
-    """An answer without the other places."""
-    return replace(answer, places=answer.places[:1]) if isinstance(answer, Places) else answer
-
-
-def _matching(answer: Answer) -> Optional[Matching]:
-    """The first place of an answer."""
-    return answer.places[0].matching if isinstance(answer, Places) and answer.places else None
+def _matching(judgement: Optional[Judged]) -> Optional[Matching]:
+    """That of the likeliest place of an answer."""
+    return judgement.places[0].place.matching if judgement and judgement.places else None
 
 
 def _spots(matchings: Sequence[Matching], network: Network) -> list[Spot]:
@@ -125,7 +129,9 @@ def difference(old: Shape, new: Shape, limits: Limits) -> Difference:
 def _of_stretches(old: Stretch, new: Stretch, limits: Limits) -> Difference:
     """How the outer parts of lines differ."""
     if np.array_equal(old.points, new.points):
-        return Difference(True, 0.0 if len(old.points) else None, 0.0, 0.0)
+        has_length = bool((old.points != old.points[:1]).any())
+        agreed = 1.0 if has_length else None
+        return Difference(True, 0.0 if len(old.points) else None, 0.0, 0.0, agreed)
     plane = Plane.around(np.concatenate([old.points, new.points]))
     before, after = plane.metres(old.points), plane.metres(new.points)
     one, other = Segments.of(before), Segments.of(after)
@@ -136,19 +142,23 @@ def _of_stretches(old: Stretch, new: Stretch, limits: Limits) -> Difference:
     moved = hausdorff(before, after) if len(before) and len(after) else None
     # Two without a length have no stretch to lack.
     is_far = moved is not None and not any(alone) and moved > limits.apart
-    return Difference(max(alone) <= limits.apart and not is_far, moved, *alone)
+    agreed = None
+    if len(one.lengths) or len(other.lengths):
+        agreed = round(agreement_of_segments(one, other, limits.across), DIGITS)
+    return Difference(max(alone) <= limits.apart and not is_far, moved, *alone, agreed)
 
 
 def _of_spots(old: Spot, new: Spot, limits: Limits) -> Difference:
     """How points along lines differ."""
+    agreed = round(agreement(old.route, new.route, limits.across), DIGITS)
     if all(map(np.array_equal, old, new)):
-        return Difference(True, 0.0)
+        return Difference(True, 0.0, agreement=agreed)
     plane = Plane.around(np.concatenate([old.route, new.route]))
     before, after = (Spot(*map(plane.metres, one)) for one in (old, new))
     moved = float(np.hypot(*(after.point - before.point)))
     is_near = moved <= limits.apart
     is_same = is_near and _is_on(before, after, limits) and _is_on(after, before, limits)
-    return Difference(is_same, moved)
+    return Difference(is_same, moved, agreement=agreed)
 
 
 def _is_on(spot: Spot, other: Spot, limits: Limits) -> bool:
@@ -157,5 +167,5 @@ def _is_on(spot: Spot, other: Spot, limits: Limits) -> bool:
     here = Segments(spot.point[None, :], direction, np.zeros(len(direction)))
     if not len(direction):
         return False
-    start, end = within(here, Segments.of(other.route), limits.across)
-    return bool((start <= end).any())
+    numbers, _ = within(here, Segments.of(other.route), limits.across)
+    return len(numbers) > 0

@@ -61,3 +61,8 @@ class Segments(NamedTuple):
         """Where each ends."""
         result: Floats = self.starts + self.directions * self.lengths[:, None]
         return result
+
+    def boxes(self) -> tuple[Floats, Floats]:
+        """The least and the greatest coordinates of each."""
+        ends = self.ends()
+        return np.minimum(self.starts, ends), np.maximum(self.starts, ends)

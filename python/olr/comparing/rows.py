@@ -56,6 +56,7 @@ def _row(reference: Compared, which: Which, side: Side) -> dict[str, Any]:
         "side": which,
         "change": reference.change,
         "certainty": reference.certainty,
+        "agreement": reference.agreement,
         "moved_m": None if differs is None else rounded(differs.moved),
         "alone_m": rounded(alone),
         "reason": reason_of(side.why),

@@ -1,4 +1,4 @@
-"""What one polyline has and another one lacks, and how far they are apart: by their geometry alone, in a plane with metres.
+"""What one polyline has of another one and what it lacks, and how far they are apart: by their geometry alone, in a plane with metres.
 
 A point of a polyline is also in another one if that has a segment within some metres of it which goes in the same direction: one whose
 direction differs by less than 90 degrees. For a segment of each that is an interval of the first one, which is worked out as it is: no
@@ -10,7 +10,7 @@ from typing import NamedTuple
 
 import numpy as np
 
-from olr.arrays import Booleans, Floats
+from olr.arrays import Booleans, Floats, Integers
 from olr.comparing.plane import Segments
 
 ROUNDING = 0.001
@@ -36,12 +36,29 @@ def longest_lacking(one: Segments, other: Segments, across: float) -> float:
     segments that are near one another."""
     if not len(one.lengths):
         return 0.0
-    behind = np.cumsum(one.lengths)
-    covered = _covered(one, behind - one.lengths, other, across)
-    start, end = (np.concatenate(column) for column in zip(*covered))
+    covered, reached = _along(one, other, across)
+    return float(np.max(np.concatenate([covered.start, [one.lengths.sum()]]) - reached))
+
+
+def share_within(one: Segments, other: Segments, across: float) -> float:
+    """The share of the length of a polyline that is in the other one, which is what lies within `across` metres of one of its segments that
+    go in the same direction: 0 to 1, and 0 of a polyline without a length. What the other one covers several times counts once. It takes a
+    time as `longest_lacking`."""
+    if not len(one.lengths):
+        return 0.0
+    covered, reached = _along(one, other, across)
+    added = covered.end - np.maximum(covered.start, reached[:-1])
+    return min(float(np.maximum(added, 0.0).sum() / one.lengths.sum()), 1.0)
+
+
+def _along(one: Segments, other: Segments, across: float) -> tuple[_Intervals, Floats]:
+    """From where to where along a polyline it is in the other one, by the starts of these intervals, and how far they reach: in front of
+    each of them, and behind the last one."""
+    before = np.cumsum(one.lengths) - one.lengths
+    start, end = (np.concatenate(column) for column in zip(*_covered(one, before, other, across)))
     order = np.argsort(start)
     reached = np.maximum.accumulate(np.concatenate([[0.0], end[order]]))
-    return float(np.max(np.concatenate([start[order], behind[-1:]]) - reached))
+    return _Intervals(start[order], end[order]), reached
 
 
 def _covered(
@@ -52,48 +69,64 @@ def _covered(
     for first in range(0, len(one.lengths), BLOCK):
         which = slice(first, first + BLOCK)
         block = one.taken(which)
-        start, end = within(block, other.taken(_near(block, other, across)), across)
-        there = start < end
-        shift = before[which, None]
-        yield (start + shift)[there], (end + shift)[there]
+        numbers, found = within(block, other.taken(_near(block, other, across)), across)
+        shift = before[which][numbers]
+        yield found.start + shift, found.end + shift
 
 
 def _near(one: Segments, other: Segments, across: float) -> Booleans:
     """Which segments of the other polyline may be within a distance of some segments, by the box of these."""
-    ends = np.concatenate([one.starts, one.ends()])
-    low, high = ends.min(axis=0) - across - 1, ends.max(axis=0) + across + 1
-    least, most = np.minimum(other.starts, other.ends()), np.maximum(other.starts, other.ends())
-    result: Booleans = (least <= high).all(axis=1) & (most >= low).all(axis=1)
+    low, high = one.boxes()
+    least, most = other.boxes()
+    reach = across + 1
+    result: Booleans = (least <= high.max(axis=0) + reach).all(axis=1) & (
+        most >= low.min(axis=0) - reach
+    ).all(axis=1)
     return result
 
 
-def within(one: Segments, other: Segments, across: float) -> _Intervals:
-    """From where to where along each segment of the first ones it is within a distance of each of the others and goes in the same
-    direction: a row for each of the first ones."""
+def within(one: Segments, other: Segments, across: float) -> tuple[Integers, _Intervals]:
+    """From where to where along each segment of the first ones it is within a distance of one of the others and goes in the same
+    direction: the number of that segment, and the interval, for each pair that has one."""
+    first, second = _near_pairs(one, other, across)
+    here, there = one.taken(first), other.taken(second)
     radius = across + ROUNDING
-    cosine = one.directions @ other.directions.T
     parts = (
-        _beside(one, other, radius),
-        _around(one, other.starts, radius),
-        _around(one, other.ends(), radius),
+        _beside(here, there, radius),
+        _around(here, there.starts, radius),
+        _around(here, there.ends(), radius),
     )
     # What is within a distance of a segment is convex, so that the three are one interval.
-    start, end = np.full(cosine.shape, np.inf), np.full(cosine.shape, -np.inf)
+    start, end = np.full(len(first), np.inf), np.full(len(first), -np.inf)
     for part in parts:
-        there = (part.start <= part.end) & (cosine > STRAIGHT)
-        start[there] = np.minimum(start[there], part.start[there])
-        end[there] = np.maximum(end[there], part.end[there])
-    return _Intervals(np.maximum(start, 0.0), np.minimum(end, one.lengths[:, None]))
+        some = part.start <= part.end
+        start[some] = np.minimum(start[some], part.start[some])
+        end[some] = np.maximum(end[some], part.end[some])
+    start, end = np.maximum(start, 0.0), np.minimum(end, here.lengths)
+    found = start <= end
+    return first[found], _Intervals(start[found], end[found])
+
+
+def _near_pairs(one: Segments, other: Segments, across: float) -> tuple[Integers, Integers]:
+    """The numbers of those segments of both that go in the same direction, and may be within a distance of each other, by their boxes."""
+    low, high = one.boxes()
+    least, most = other.boxes()
+    pairs: Booleans = one.directions @ other.directions.T > STRAIGHT
+    for axis in (0, 1):
+        pairs &= low[:, axis, None] - across - 1 <= most[None, :, axis]
+        pairs &= high[:, axis, None] + across + 1 >= least[None, :, axis]
+    first, second = np.nonzero(pairs)
+    return first, second
 
 
 def _beside(one: Segments, other: Segments, radius: float) -> _Intervals:
-    """Where segments are beside others: no farther from their straight line, and neither before their start nor behind their end."""
-    between = one.starts[:, None] - other.starts[None]
-    along = np.einsum("ijk,jk->ij", between, other.directions)
-    aside = _cross(other.directions[None], between)
-    cosine = one.directions @ other.directions.T
-    sine = _cross(other.directions[None], one.directions[:, None])
-    lengthwise = _sorted(-along, other.lengths - along, cosine)
+    """Where segments are beside others, one beside one: no farther from their straight line, and neither before their start nor behind
+    their end."""
+    between = one.starts - other.starts
+    along = _dot(between, other.directions)
+    aside = _cross(other.directions, between)
+    lengthwise = _sorted(-along, other.lengths - along, _dot(one.directions, other.directions))
+    sine = _cross(other.directions, one.directions)
     sideways = _sorted(-radius - aside, radius - aside, sine)
     return _Intervals(
         np.maximum(lengthwise.start, sideways.start), np.minimum(lengthwise.end, sideways.end)
@@ -101,10 +134,10 @@ def _beside(one: Segments, other: Segments, radius: float) -> _Intervals:
 
 
 def _around(one: Segments, points: Floats, radius: float) -> _Intervals:
-    """Where segments are within the circles around points."""
-    between = one.starts[:, None] - points[None]
-    ahead = np.einsum("ijk,ik->ij", between, one.directions)
-    square = ahead**2 - (between**2).sum(axis=2) + radius**2
+    """Where segments are within the circles around points, one for each."""
+    between = one.starts - points
+    ahead = _dot(between, one.directions)
+    square = ahead**2 - _dot(between, between) + radius**2
     half = np.sqrt(np.maximum(square, 0.0))
     return _Intervals(np.where(square >= 0, -ahead - half, np.inf), -ahead + half)
 
@@ -114,6 +147,12 @@ def _sorted(low: Floats, high: Floats, slope: Floats) -> _Intervals:
     steep = np.where(np.abs(slope) < STRAIGHT, STRAIGHT, slope)
     first, second = low / steep, high / steep
     return _Intervals(np.minimum(first, second), np.maximum(first, second))
+
+
+def _dot(one: Floats, other: Floats) -> Floats:
+    """The dot products of vectors."""
+    result: Floats = (one * other).sum(axis=-1)
+    return result
 
 
 def _cross(one: Floats, other: Floats) -> Floats:

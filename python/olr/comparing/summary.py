@@ -5,7 +5,20 @@ from collections.abc import Iterable, Iterator
 from typing import NamedTuple, Optional
 
 from olr.client.fault import Fault
+from olr.comparing.agreement import AGREE
 from olr.comparing.changes import Compared
+
+
+class Agreeing(NamedTuple):
+    """On how many references both maps agree."""
+
+    agree: int
+    placed: int
+    """So many have a place on both maps, of which one has a length at least."""
+
+    def text(self) -> str:
+        """As it is said."""
+        return f"{self.agree:,} of {self.placed:,} that both maps place"
 
 
 class Moved(NamedTuple):
@@ -24,14 +37,21 @@ class Summary:
         self._certainties: Counter[str] = Counter()
         self._moved: Counter[int] = Counter()
         """How many places moved by how many decimetres."""
+        self._agreeing = Agreeing(0, 0)
+        self.cut_off = 0
+        """Of how many references a map may have more places: looking was cut off before one that might be shown."""
 
     def add(self, references: Iterable[Compared]) -> None:
         """Counts references."""
         for one in references:
             self.references += 1
+            self.cut_off += one.is_cut_off()
             self._changes[_counted(one)] += 1
             if one.certainty is not None:
                 self._certainties[one.certainty] += 1
+            if one.agreement is not None:
+                agree, placed = self._agreeing
+                self._agreeing = Agreeing(agree + (one.agreement >= AGREE), placed + 1)
             if one.change == "moved" and one.difference and one.difference.moved is not None:
                 self._moved[round(one.difference.moved * 10)] += 1
 
@@ -42,6 +62,10 @@ class Summary:
     def certainties(self) -> list[tuple[str, int]]:
         """Likewise how certain places are."""
         return _by_count(self._certainties)
+
+    def agreeing(self) -> Optional[Agreeing]:
+        """On how many references both maps agree: None if they place none."""
+        return self._agreeing if self._agreeing.placed else None
 
     def moved(self) -> Optional[Moved]:
         """How far places moved: None if none did."""
@@ -55,6 +79,9 @@ class Summary:
             yield f"{change}: {count:,}"
         for certainty, count in self.certainties():
             yield f"certainty {certainty}: {count:,}"
+        agreeing = self.agreeing()
+        if agreeing is not None:
+            yield f"agree: {agreeing.text()}"
         moved = self.moved()
         if moved is not None:
             yield f"moved by: median {moved.median:,.1f} m, greatest {moved.greatest:,.1f} m"
