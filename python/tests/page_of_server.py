@@ -9,6 +9,7 @@ import pytest
 
 from browser import Browser
 from conftest import TOP, Program
+from olr.profiles import FEED, tolerances_of
 from servers import Server, serving, wait_until
 
 ROADWORKS = "CwVGnSN2zhvHCgDX/tIzAw=="
@@ -17,7 +18,22 @@ UNMATCHED = "CwVGnSN2zhtnBgEB/2IjAQ=="
 """It fits none."""
 MESSAGES = (TOP / "examples/messages.tsv").read_text()
 SHOWN = "[...document.querySelectorAll('#rows tbody tr')].filter(line => !line.hidden)"
-RECORD, KEY, VERDICT, TOTAL, MARGIN, CONFIDENCE, FAULT, REFERENCE = range(8)
+OF_FEED = [word for name, value in tolerances_of(FEED).items() for word in (f"--{name}", value)]
+"""Words of the program for what the page asks, if nobody changes an option."""
+AS_PROGRAM = "?profile=program"
+"""The page with the program's own tolerances."""
+(
+    RECORD,
+    KEY,
+    VERDICT,
+    PROBABILITY,
+    NONE_OF_THESE,
+    TURNS_BACK,
+    TOTAL,
+    MARGIN,
+    REASONS,
+    REFERENCE,
+) = range(10)
 """Columns of its table."""
 
 

@@ -8,13 +8,14 @@ import socket
 import subprocess
 from collections.abc import Iterator
 from pathlib import Path
+from typing import Any
 from urllib.parse import quote
 
 import pytest
 
 import olr
 from asking import draw_map, draw_references
-from conftest import REFERENCE, TOP, Program, Tools
+from conftest import OF_PROGRAM, REFERENCE, TOP, Program, Tools
 from olr.client.fault_table import ROWS
 from olr.client.questions import NUMBERS, TOLERANCES
 from olr.serving import problems
@@ -195,8 +196,9 @@ def test_geojson(
     some = [line.rpartition("\t")[2] for line in lines]
     records, out = tmp_path / "records.tsv", tmp_path / "rows.geojson"
     records.write_text("".join(f"{number}\t{text.strip()}\n" for number, text in enumerate(some)))
-    words = ["--places"] if what == "places" else []
-    ended = tools.run("match", records, "--map", folder, *words, "--radius", 80, "--out", out)
+    words: list[object] = ["--places"] if what == "places" else []
+    words += ["--radius", 80, *OF_PROGRAM]
+    ended = tools.run("match", records, "--map", folder, *words, "--out", out)
     assert ended.returncode == 0, ended.stderr
     expected: dict[str, list[object]] = {}
     for feature in json.loads(out.read_text())["features"]:
@@ -216,19 +218,29 @@ def test_geojson(
         assert refused.problem()[:2] == (422, "BadLength")
 
 
-def test_scenes(server: Server, drawn: Path, texts: list[str]) -> None:
+@pytest.mark.parametrize("tolerances", [{}, {"radius": 70}])
+def test_scenes(tolerances: dict[str, Any], server: Server, drawn: Path, texts: list[str]) -> None:
     """They are those that `olr-tools view` draws."""
-    with olr.Map(drawn, radius=70) as asked:
+    confidence = None if tolerances else olr.Confidence.default()
+    probable = 0
+    with olr.Map(drawn, profile="feed", **tolerances) as asked:
         for text in [text for text in texts[:12] if text.isascii()]:
-            reply = server.get(path_of("scene", text, radius=70, most=3))
+            reply = server.get(path_of("scene", text, **tolerances, most=3))
             try:
-                expected = scene_of(text, asked, most=3)
+                expected = scene_of(text, asked, confidence, most=3)
             except olr.Fault as fault:
                 assert reply.problem()[1] == fault.name
             else:
                 found = json.loads(reply.body)
                 assert found.pop("tiles") is None
+                assert found.pop("command").startswith("olr ") and expected.pop("command") == ""
+                if tolerances and expected["entries"]:
+                    (why,) = found.pop("probability")
+                    assert why.startswith("No probabilities: radius is 70, not ")
+                    assert expected.pop("probability") == []
                 assert found == json.loads(json.dumps(expected))
+                probable += any(entry["probability"] for entry in found["entries"])
+    assert (probable > 4) == (not tolerances)
 
 
 @pytest.mark.parametrize(
@@ -247,7 +259,7 @@ def test_scenes(server: Server, drawn: Path, texts: list[str]) -> None:
         ("ref=x&radius=%D9%A3", "radius is a whole number"),
         ("ref=x&radius=99999999999999999999", "radius is a whole number"),
         ("ref=x&page=1001", "page is a whole number of matchings from 1 to 1000"),
-        ("ref=x&look=10", "'look' is no option of /match: it has ref, after, radius"),
+        ("ref=x&look=10", "'look' is no option of /match: it has ref, after, profile, radius"),
         ("ref=x&map=/etc", "'map' is no option"),
         ("ref=x&", "'' is no option"),
         ("ref=%FF", "the query isn't UTF-8"),
@@ -336,7 +348,7 @@ def test_the_description(server: Server) -> None:
                 if method == "get":
                     assert server.get(path_of(path[1:], "x", **least)).status == 400
     named = {it["name"] for it in document["paths"]["/match"]["get"]["parameters"]}
-    assert named == {"ref", "after", *TOLERANCES, *NUMBERS["match"]}
+    assert named == {"ref", "after", "profile", *TOLERANCES, *NUMBERS["match"]}
     marks = re.findall(r' id="([^"]+)"', page)
     assert len(marks) == len(set(marks))
     assert {line.split(" ")[0] for line in ROWS} < set(marks)

@@ -9,24 +9,28 @@ from typing import Any
 import pytest
 
 import olr
-from asking import batch_of, draw_map, draw_references
+from asking import batch_of, draw_map, draw_references, likeliest_of
 from bad_programs import bad_program
 from browser import Browser
-from conftest import Program
-from olr.confidence.table import ConfidenceTable
+from conftest import OF_PROGRAM, Program, Tools
+from olr.client.questions import NUMBERS
 from olr.messages.reading import read_messages
 from page_of_server import (
-    CONFIDENCE,
-    FAULT,
     KEY,
     MARGIN,
     MESSAGES,
+    NONE_OF_THESE,
+    OF_FEED,
+    PROBABILITY,
+    REASONS,
     REFERENCE,
     ROADWORKS,
     SHOWN,
     TOTAL,
+    TURNS_BACK,
     UNMATCHED,
     VERDICT,
+    AS_PROGRAM,
     Page,
     folder,
     page,
@@ -48,8 +52,9 @@ def answers(
     return batch_of(program, "places", records, ["--map", folder, *words])
 
 
-def test_a_list(page: Page, program: Program, folder: Path, tmp_path: Path) -> None:
+def test_a_list(page: Page, program: Program, tools: Tools, folder: Path, tmp_path: Path) -> None:
     """A list that is pasted, its table, keys, and the picture that follows."""
+    page.open(AS_PROGRAM)
     event = "new ClipboardEvent('paste', {bubbles: true, cancelable: true, clipboardData: data})"
     page.value(
         f"(() => {{ const data = new DataTransfer(); data.setData('text/plain', {json.dumps(MESSAGES)});"
@@ -62,17 +67,20 @@ def test_a_list(page: Page, program: Program, folder: Path, tmp_path: Path) -> N
     assert page.column(KEY) == ["m1", "m2", "m3", "m4", "m5"]
     assert page.column(VERDICT) == verdicts
     assert page.column(REFERENCE) == texts
-    totals = [one["places"][0]["matching"]["total"] for one in expected[:3]]
-    assert page.column(TOTAL) == [*map(str, totals), "", ""]
+    file = tmp_path / "messages.tsv"
+    file.write_text(MESSAGES)
+    likeliest = likeliest_of(tools, file, folder, *OF_PROGRAM)
+    assert page.column(TOTAL) == [row["total"] for row in likeliest]
+    assert likeliest[2]["rank"] == "2"
     assert page.column(MARGIN) == ["", "", str(expected[2]["margin"]), "", ""]
-    assert page.column(FAULT) == ["", "", "", "", expected[4]]
+    assert page.column(REASONS) == ["", "", "", "", expected[4]]
     # The first row is chosen, and has the keys.
     page.settle()
     assert page.chosen(KEY) == "m1" and "key m1" in page.text("#row")
     for _ in range(2):
         page.browser.press("ArrowDown")
     page.wait("document.querySelector('#verdict').textContent === 'ambiguous'")
-    assert page.chosen(KEY) == "m3" and page.query().endswith("&key=m3&record=3")
+    assert page.chosen(KEY) == "m3" and "&key=m3&record=3&" in page.query()
     assert page.text("#panel #reference") == ROADWORKS
     page.browser.press("End")
     page.wait("document.body.dataset.state === 'failed'")
@@ -93,14 +101,61 @@ def test_a_list(page: Page, program: Program, folder: Path, tmp_path: Path) -> N
 
 
 def test_options_ask_a_list_anew(page: Page) -> None:
+    page.open(AS_PROGRAM)
     page.read(MESSAGES)
     page.browser.click("#options-button")
     page.fill("#option-lowest", "2")
     page.browser.press("Enter", "\r")
     page.wait(f"{SHOWN}[3].cells[{VERDICT}].textContent === 'unique'")
     page.wait("document.querySelector('#list').dataset.state === 'done'")
-    assert "no confidence with these options" in page.text("#progress")
-    assert set(page.column(CONFIDENCE)) == {""}
+    others = olr.Confidence.default().others({"lowest": 2}, NUMBERS["places"]["apart"].default)
+    said = f"No probabilities: {others}: make a file with your options by olr-tools calibrate."
+    assert others.startswith("radius is 100, not ")
+    page.settle()
+    assert said in page.text("#progress") and said in page.text("#probability")
+    assert {*page.column(PROBABILITY), *page.column(NONE_OF_THESE)} == {""}
+    page.value("[...document.querySelectorAll('#options button')].at(-1).click()")
+    page.wait(f"{SHOWN}[3].cells[{PROBABILITY}].textContent !== ''")
+    page.wait("document.querySelector('#list').dataset.state === 'done'")
+    assert "robabilities" not in page.text("#progress")
+    assert "" not in page.column(NONE_OF_THESE)[:4]
+    assert page.is_quiet()
+
+
+def test_a_list_is_sorted_and_filtered_by_probability(page: Page) -> None:
+    page.read(MESSAGES)
+    shown = page.column(PROBABILITY)
+    assert len(set(shown[:4])) > 1 and "" not in shown[:4] and shown[4] == ""
+    heading = f"document.querySelectorAll('#rows thead button')[{PROBABILITY}]"
+    page.value(f"{heading}.click()")
+    assert page.column(PROBABILITY) == [*sorted(shown[:4], key=float), ""]
+    page.value(f"{heading}.click()")
+    assert page.column(PROBABILITY) == [*sorted(shown[:4], key=float, reverse=True), ""]
+    choice = "document.querySelectorAll('#rows select')[1]"
+    texts = page.value(f"[...{choice}.options].map(option => option.textContent)")
+    words = ("below 0.5", "0.5 to 0.9", "0.9 and above")
+    counts = Counter(words[(float(text) >= 0.5) + (float(text) >= 0.9)] for text in shown[:4])
+    shares = [f"{word} ({counts[word]})" for word in sorted(counts)]
+    assert texts == ["all (5)", "without (1)", *shares] and len(shares) > 1
+    page.value(f"{choice}.value = '='")
+    page.value(f"{choice}.dispatchEvent(new Event('change'))")
+    assert page.column(KEY) == ["m5"]
+    assert page.is_quiet()
+
+
+def test_a_list_that_is_looked_at_in_part(
+    page: Page, tools: Tools, folder: Path, tmp_path: Path
+) -> None:
+    """It says how many references may have more places, as the summary of `olr-tools match` does."""
+    file = tmp_path / "messages.tsv"
+    file.write_text(MESSAGES)
+    words = ["match", file, "--map", folder, "--places", *OF_PROGRAM, "--look", 1]
+    said = tools.run(*words, "--out", tmp_path / "out.csv").stdout
+    page.open(f"{AS_PROGRAM}&look=1")
+    page.read(MESSAGES)
+    assert "\ncut off: 2 may have more places: give a greater --look\n" in said
+    assert "2 may have more places: give a greater look." in page.text("#progress")
+    assert page.column(VERDICT)[2] == "open"
     assert page.is_quiet()
 
 
@@ -114,6 +169,7 @@ def drop(page: Page, name: str, text: str) -> None:
 
 def test_files_that_are_dropped(page: Page) -> None:
     """Tables and JSON, with keys that look like markup."""
+    page.open(AS_PROGRAM)
     drop(page, "feed.csv", f'id;key;ref\n1;"{MARKUP}";{ROADWORKS}\n2;;{UNMATCHED}\n')
     page.wait("document.querySelector('#list').dataset.state === 'done'")
     page.settle()
@@ -157,11 +213,13 @@ def town(tmp_path_factory: pytest.TempPathFactory) -> Path:
     return draw_map(tmp_path_factory.mktemp("town"))
 
 
-def test_two_thousand_rows(started: Browser, program: Program, town: Path, tmp_path: Path) -> None:
-    """Verdicts, faults and confidences are those of the program and the table."""
+def test_two_thousand_rows(
+    started: Browser, program: Program, tools: Tools, town: Path, tmp_path: Path
+) -> None:
+    """Verdicts and faults are those of the program, and probabilities those of `olr-tools match`."""
     texts = draw_references(town, 2000)
     lines = [f"k{number}\t{text}" for number, text in enumerate(texts)]
-    expected = answers(program, town, tmp_path, texts)
+    expected = answers(program, town, tmp_path, texts, *OF_FEED)
     with serving(program.path, town, tmp_path / "log") as server:
         page = Page(started, server)
         page.open()
@@ -170,19 +228,21 @@ def test_two_thousand_rows(started: Browser, program: Program, town: Path, tmp_p
         verdicts = ["refused" if isinstance(one, str) else one["verdict"] for one in expected]
         assert page.column(VERDICT) == verdicts
         assert "2,000 of 2,000 answered" in page.text("#progress")
-        with olr.Map.of_folder(town, program=program.path) as asked:
-            table = ConfidenceTable.default()
-            shares = [
-                None if isinstance(one, olr.Fault) else table.of(one)
-                for one in asked.answers("places", texts)
-            ]
-        rounded = ["" if share is None else f"{share.rounded:g}" for share in shares]
-        assert page.column(CONFIDENCE) == rounded
-        page.value("[...document.querySelectorAll('#rows thead button')].at(3).click()")
+        file = tmp_path / "messages.tsv"
+        file.write_text("\n".join(lines))
+        likeliest = likeliest_of(tools, file, town)
+        for column, name in ((PROBABILITY, "probability"), (NONE_OF_THESE, "none_of_these")):
+            rounded = [f"{float(row[name]):.3f}" if row[name] else "" for row in likeliest]
+            assert page.column(column) == rounded and len(set(rounded)) > 100
+        assert page.column(REASONS) == [row["fault"] or row["reasons"] for row in likeliest]
+        assert [text == "turns back" for text in page.column(TURNS_BACK)] == [
+            row["turns_back"] == "1" for row in likeliest
+        ]
+        page.value(f"[...document.querySelectorAll('#rows thead button')].at({TOTAL}).click()")
         totals = [int(text.replace(",", "")) for text in page.column(TOTAL) if text]
         assert totals == sorted(totals) and len(totals) > 1000
         options = page.value(
-            "[...document.querySelectorAll('#rows select option')].map(e => e.textContent)"
+            "[...document.querySelector('#rows select').options].map(e => e.textContent)"
         )
         counts = Counter(verdicts)
         assert options[1:] == [f"{word} ({counts[word]})" for word in sorted(counts)]
@@ -201,7 +261,7 @@ def test_stop_and_go_on(started: Browser, program: Program, folder: Path, tmp_pa
     hanging = bad_program(tmp_path / "olr", program, {UNMATCHED: "hangs"})
     with serving(hanging, folder, tmp_path / "log", "--time-limit", 600) as server:
         page = Page(started, server)
-        page.open()
+        page.open(AS_PROGRAM)
         text = "".join(f"{key}\t{ref}\n" for key, ref in zip("abc", (ROADWORKS, UNMATCHED, BROKEN)))
         page.value(f"document.querySelector('#list-text').value = {json.dumps(text)}")
         page.value("document.querySelector('#list-form').requestSubmit()")

@@ -1,6 +1,7 @@
 """The page of `olr-tools serve` in Chromium: a reference, options, addresses that are sent on, keys, and a program that hangs."""
 
 import json
+import shlex
 import signal
 from pathlib import Path
 from urllib.parse import quote
@@ -12,18 +13,31 @@ from asking import said
 from bad_programs import bad_program
 from browser import Browser
 from conftest import Program
+from olr.client.questions import TOLERANCES
 from olr.network import Network
+from olr.profiles import FEED, tolerances_of
 from olr.serving import scenes
 from olr.view.scene import scene_of
 from olr.view.surroundings import Surroundings
-from page_of_server import MESSAGES, ROADWORKS, UNMATCHED, Page, folder, page, server, started
+from page_of_server import (
+    AS_PROGRAM,
+    MESSAGES,
+    OF_FEED,
+    ROADWORKS,
+    UNMATCHED,
+    Page,
+    folder,
+    page,
+    server,
+    started,
+)
 from servers import Server, serving, wait_until
 
 
 def test_a_reference(page: Page, program: Program, folder: Path) -> None:
     assert page.value("document.activeElement.id") == "ref"
     assert page.ask(f" {ROADWORKS} ") == "ready"
-    expected = said(program, "places", ROADWORKS, "--map", folder, "--format", "json")
+    expected = said(program, "places", ROADWORKS, "--map", folder, *OF_FEED, "--format", "json")
     assert page.text("#verdict").lower() == expected["verdict"] == "ambiguous"
     assert page.count(".entry") == len(expected["places"]) == 2
     assert [page.count(kind) for kind in (".pin", ".ray", ".outer", ".inner")] == [2, 2, 1, 1]
@@ -34,7 +48,7 @@ def test_a_reference(page: Page, program: Program, folder: Path) -> None:
         link = page.value(
             f"[...document.querySelectorAll('#answers a')].find(a => a.textContent === '{what}').href"
         )
-        words = [] if what == "show" else ["--map", folder]
+        words = [] if what == "show" else ["--map", folder, *OF_FEED]
         shown = json.loads(page.server.get(link.removeprefix(page.server.url[:-1])).body)
         assert shown == said(program, what, ROADWORKS, *words, "--format", "json")
     assert page.is_quiet()
@@ -58,6 +72,7 @@ def test_texts_that_are_no_references(page: Page) -> None:
 def test_one_scene_after_the_other(page: Page) -> None:
     """What was drawn is gone: as many elements are there as if it had been the first one."""
     counted = "document.querySelectorAll('#place *').length"
+    page.open(AS_PROGRAM)
     page.ask(ROADWORKS)
     first = page.value(counted)
     for _ in range(3):
@@ -74,11 +89,11 @@ def test_one_scene_after_the_other(page: Page) -> None:
 def test_options(page: Page) -> None:
     page.ask(ROADWORKS)
     page.browser.click("#options-button")
-    assert page.value("document.activeElement.id") == "option-radius"
+    assert page.value("document.activeElement.id") == "option-profile"
     fields = page.value(
         "[...document.querySelectorAll('#options input')].map(e => [e.min, e.max, e.value])"
     )
-    assert fields[0] == ["1", "1000", "100"] and len(fields) == 10
+    assert fields[0] == ["1", "1000", str(tolerances_of(FEED)["radius"])] and len(fields) == 10
     page.fill("#option-within", "6")
     page.browser.press("Enter", "\r")
     page.wait("document.querySelector('#verdict').textContent === 'unique'")
@@ -95,6 +110,53 @@ def test_options(page: Page) -> None:
     assert page.is_quiet()
 
 
+def choose_profile(page: Page, name: str) -> None:
+    """Chooses a profile, as one does."""
+    page.value(f"document.querySelector('#option-profile').value = {json.dumps(name)}")
+    change = "new Event('change', {bubbles: true})"
+    page.value(f"document.querySelector('#option-profile').dispatchEvent({change})")
+    page.settle()
+
+
+def values_of(page: Page) -> dict[str, int]:
+    """The numbers of the fields of tolerances."""
+    fields = "[...document.querySelectorAll('#options input')].map(e => [e.id.slice(7), Number(e.value)])"
+    return {name: value for name, value in page.value(fields) if name in TOLERANCES}
+
+
+def test_profiles(page: Page, program: Program, folder: Path) -> None:
+    """The fields are those of the profile, but for one that was changed. Addresses, and the program's own answers, say which it is."""
+    query = f"?ref={quote(ROADWORKS, safe='/')}"
+    page.ask(ROADWORKS)
+    page.browser.click("#options-button")
+    assert values_of(page) == tolerances_of(FEED)
+    words = shlex.split(page.text("#command"))
+    assert words[:3] == ["olr", "places", ROADWORKS] and folder.name in words
+    page.fill("#option-radius", "80")
+    page.browser.press("Enter", "\r")
+    page.settle()
+    assert page.query() == f"{query}&radius=80"
+    choose_profile(page, "program")
+    assert values_of(page) == {**tolerances_of("program"), "radius": 80}
+    assert page.query() == f"{query}&profile=program&radius=80"
+    assert page.text("#options-button") == "Options: profile program, radius 80"
+    # All places are asked for: the likeliest one isn't always the first one.
+    command = f"olr places {ROADWORKS} --map {folder.name} --radius 80 --within 14620 --most 100"
+    assert page.text("#command") == command
+    link = page.value("document.querySelector('#answers a:nth-of-type(2)').href")
+    shown = json.loads(page.server.get(link.removeprefix(page.server.url[:-1])).body)
+    given = ("--map", folder, "--radius", 80, "--format", "json")
+    assert shown == said(program, "places", ROADWORKS, *given)
+    page.open(f"{query}&profile=program&radius=80")
+    assert values_of(page) == {**tolerances_of("program"), "radius": 80}
+    page.value("[...document.querySelectorAll('#options button')].at(-1).click()")
+    page.settle()
+    assert page.query() == query and values_of(page) == tolerances_of(FEED)
+    page.open(f"{query}&profile=none")
+    assert page.settle() == "failed" and "'none' is no profile" in page.text("#problem")
+    assert page.is_quiet("status of 400")
+
+
 def test_an_option_of_an_address_that_is_out_of_its_range(page: Page) -> None:
     """Its field comes into sight when something else is asked for, and is named."""
     page.open(f"?ref={quote(ROADWORKS, safe='/')}&radius=1001")
@@ -109,6 +171,7 @@ def test_an_option_of_an_address_that_is_out_of_its_range(page: Page) -> None:
 
 def test_an_address_has_all(page: Page) -> None:
     """A tab that is opened anew shows the same; and so does going back."""
+    page.open(AS_PROGRAM)
     page.ask(UNMATCHED)
     page.ask(ROADWORKS)
     page.browser.press("Tab")
@@ -131,7 +194,7 @@ def test_an_address_has_all(page: Page) -> None:
     assert page.value(shown) == second
     page.open(f"?ref={ROADWORKS}&place=none")
     assert page.count(".outer") == 1
-    page.open(f"?ref={ROADWORKS}&place=0&radius=150&within=5")
+    page.open(f"?ref={ROADWORKS}&place=0&radius=150&most=1")
     assert page.count(".outer") == 0 and page.count(".entry") == 1
     assert page.value("document.querySelector('#option-radius').value") == "150"
     assert page.is_quiet()
@@ -177,7 +240,7 @@ def test_what_takes_too_long(
     hanging = bad_program(tmp_path / "olr", program, {UNMATCHED: "hangs"})
     with serving(hanging, folder, tmp_path / "log", "--time-limit", 1) as server:
         page = Page(started, server)
-        page.open(f"?ref={quote(UNMATCHED)}")
+        page.open(f"{AS_PROGRAM}&ref={quote(UNMATCHED)}")
         assert "It took too long: the program took longer" in page.text("#problem")
         Path(f"{hanging}.good").touch()
         page.browser.click("#problem button")

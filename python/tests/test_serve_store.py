@@ -100,7 +100,7 @@ def test_features_and_scenes(
                 wanted, got = json.loads(expected.body), json.loads(found.body)
                 for one in (wanted, got):
                     # A store has other lines around in another order.
-                    one.pop("lines", None), one.pop("cut", None)
+                    one.pop("lines", None), one.pop("cut", None), one.pop("command", None)
                 assert got == wanted
 
 

@@ -12,9 +12,10 @@
 | `served` | what the addresses ask of a map |
 | `folder_map`, `store_map` | the map of a folder, and that of a store |
 | `records` | the records of a body, and their lines, where a store is asked |
-| `features`, `scenes` | answers as GeoJSON, and as what a page draws |
+| `judging` | how places are asked whose probability is shown |
+| `features`, `scenes`, `rows` | answers as GeoJSON, as what a page draws, and as the rows of its list |
 | `rooms` | how many of these are made at once |
-| `streaming` | `POST /batch/{command}` |
+| `streaming` | `POST /batch/{command}` and `POST /rows` |
 | `lists` | `POST /messages`: lists as the page shows them |
 | `openapi`, `pages` | the addresses as an OpenAPI document, and the pages with the files that they load |
 | `addresses` | the addresses, and what each answers |

@@ -1,7 +1,14 @@
 """The addresses, and what each answers."""
 
 import json
-from collections.abc import Awaitable, Callable, Coroutine, Iterator
+from collections.abc import (
+    AsyncGenerator,
+    AsyncIterator,
+    Awaitable,
+    Callable,
+    Coroutine,
+    Iterator,
+)
 from typing import Any, NamedTuple, Optional
 
 from fastapi import FastAPI
@@ -13,15 +20,17 @@ from starlette.routing import Route
 from olr.client.fault import Fault
 from olr.client.questions import NUMBERS, What, record_text
 from olr.errors import ToolError
-from olr.confidence.table import ConfidenceTable
+from olr.confidence.confidence import Confidence
+from olr.profiles import FEED
 from olr.serving import features, openapi
 from olr.serving.limits import Limits
 from olr.serving.lists import Lists
 from olr.serving.meters import MEDIA_TYPE, Meters
 from olr.serving.pages import INDEX, Asset, assets, described, with_data
 from olr.serving.problems import Problem, of_error, of_status
-from olr.serving.queries import options_of, question_of, reference_of, require_no_options
+from olr.serving.queries import Kind, options_of, question_of, reference_of, require_no_options
 from olr.serving.rooms import Room
+from olr.serving.rows import Rows
 from olr.serving.scenes import Scenes, json_of
 from olr.serving.served import IsGone, Served
 from olr.serving.streaming import Streaming
@@ -38,8 +47,8 @@ class Service(NamedTuple):
     served: Served
     limits: Limits
     meters: Meters
-    table: ConfidenceTable
-    """How sure first places are, where it fits what is asked."""
+    confidence: Confidence
+    """How probable places are, where it is of what is asked."""
     tiles: Optional[str] = None
     """The URL of tiles for the page."""
 
@@ -56,6 +65,7 @@ def application(service: Service) -> FastAPI:
             Route("/scene", _scene(service, room)),
             Route("/messages", Lists(service.limits).answer, methods=["POST"]),
             *(_streaming(service, what) for what in NUMBERS),
+            _rows(service, room),
             Route("/health", _health(service)),
             Route("/metrics", _metrics(service)),
             *_pages(service),
@@ -81,13 +91,13 @@ def _is_gone(request: Request) -> IsGone:
 
 def _asking(service: Service, what: What, room: Room) -> Answering:
     has_features = what in ("match", "places")
+    made = features.Features(service.served, service.confidence, room)
 
     async def answer(request: Request) -> Response:
         options = options_of(request.scope["query_string"])
         question = question_of(what, options, service.limits.look)
         if has_features and features.MEDIA_TYPE in request.headers.get("accept", ""):
-            is_gone = _is_gone(request)
-            text = await features.features_of(service.served, question, room, is_gone)
+            text = await made.of(question, _is_gone(request))
             return Response(text, headers=VARIES, media_type=features.MEDIA_TYPE)
         known = await service.served.answer(question, _is_gone(request))
         return Response(known.json, headers=VARIES if has_features else None, media_type=JSON)
@@ -106,7 +116,7 @@ def _showing(service: Service) -> Answering:
 
 
 def _scene(service: Service, room: Room) -> Answering:
-    scenes = Scenes(service.served, service.limits, service.table, room)
+    scenes = Scenes(service.served, service.limits, service.confidence, room)
 
     async def scene(request: Request) -> Response:
         options = options_of(request.scope["query_string"])
@@ -117,15 +127,24 @@ def _scene(service: Service, room: Room) -> Answering:
 
 
 def _streaming(service: Service, what: What) -> Route:
-    streaming = Streaming(service.served, service.limits, what)
+    def lines(kind: Kind, body: AsyncIterator[bytes], _: IsGone) -> AsyncGenerator[bytes, None]:
+        return service.served.batch(kind, body)
+
+    streaming = Streaming(service.served, service.limits, what, lines)
     return Route(f"/batch/{what}", streaming, methods=["POST"])
+
+
+def _rows(service: Service, room: Room) -> Route:
+    rows = Rows(service.served, service.confidence, room)
+    streaming = Streaming(service.served, service.limits, "places", rows.lines, FEED)
+    return Route("/rows", streaming, methods=["POST"])
 
 
 def _pages(service: Service) -> Iterator[Route]:
     """The pages, and what they load."""
     document = openapi.document(service.limits)
     there = assets()
-    page = with_data(there.pop(INDEX), service.limits, service.table, service.tiles)
+    page = with_data(there.pop(INDEX), service.limits, service.tiles)
     yield Route("/", _fixed(page))
     yield Route("/docs", _fixed(Asset(described(document).encode(), "text/html")))
     text = json.dumps(document, ensure_ascii=False, indent=1)

@@ -12,6 +12,7 @@ from olr.errors import MapRefused
 from olr.serving.queries import Kind
 
 if TYPE_CHECKING:
+    from olr.near_paths.streets import Streets
     from olr.network import Network
 
 
@@ -25,6 +26,7 @@ class Edition:
         self.version: Optional[Version] = None
         """None until the first process has read them."""
         self._network: "Optional[Network]" = None
+        self._streets: "Optional[Streets]" = None
         self._reading = threading.Lock()
 
     def words(self, kind: Kind) -> list[str]:
@@ -57,3 +59,15 @@ class Edition:
                 with self.files.reading():
                     self._network = Network(self.files.nodes, self.files.lines)
             return self._network
+
+    def streets(self) -> "Streets":
+        """The lines and the bans between them, to search other paths: made once, of the version that the processes read. They take 30 MB
+        for 200,000 lines and as many bans, and half a second: call it in a thread. Raises `ToolError`, and `MapRefused` if the files were
+        changed before."""
+        from olr.near_paths.notes import streets_of_files
+
+        network = self.network()
+        with self._reading:
+            if self._streets is None:
+                self._streets = streets_of_files(network, self.files)
+            return self._streets

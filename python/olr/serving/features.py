@@ -2,13 +2,18 @@
 
 import asyncio
 from io import StringIO
+from typing import NamedTuple, Optional
 
 from olr.client.answers import Candidates, Page, Places
 from olr.client.fault import Fault
 from olr.client.objects import read_answer
 from olr.client.questions import TOLERANCES
+from olr.confidence.confidence import Confidence
+from olr.confidence.judged import Judging, judged
 from olr.matching.rows import Counted, rows_of_answers
 from olr.matching.texts import GeoJson
+from olr.regions.reading import read_reference
+from olr.serving.judging import long_list_of
 from olr.serving.queries import Kind, Question
 from olr.serving.rooms import Room
 from olr.serving.served import IsGone, Known, Served, Versions, of_one_edition
@@ -16,23 +21,36 @@ from olr.serving.served import IsGone, Known, Served, Versions, of_one_edition
 MEDIA_TYPE = "application/geo+json"
 
 
-async def features_of(served: Served, question: Question, room: Room, is_gone: IsGone) -> bytes:
-    """A feature for each matching or place, or one without a geometry. Raises as `Served.answer` and `Room.place`."""
+class Features(NamedTuple):
+    """Makes GeoJSON of a map."""
 
-    async def ask(versions: Versions) -> bytes:
-        known = await served.answer(question, is_gone)
-        versions.note(known)
-        try:
-            counts = await served.answer(_candidates(question), is_gone)
-        except Fault as fault:
-            counted: Counted = fault
-        else:
-            versions.note(counts)
-            counted = _counted(counts)
-        async with room.place(is_gone):
-            return await asyncio.to_thread(_text, question.kind, known, counted, versions)
+    served: Served
+    confidence: Confidence
+    room: Room
 
-    return await of_one_edition(served, ask)
+    async def of(self, question: Question, is_gone: IsGone) -> bytes:
+        """A feature for each matching, or for each place that is shown, the likeliest one first; or one without a geometry. Raises as
+        `Served.answer` and `Room.place`."""
+        judging: Optional[Judging] = None
+        asked = question
+        if question.kind.what == "places":
+            kind, judging, _ = long_list_of(question.kind, self.confidence)
+            asked = question._replace(kind=kind)
+
+        async def ask(versions: Versions) -> bytes:
+            known = await self.served.answer(asked, is_gone)
+            versions.note(known)
+            try:
+                counts = await self.served.answer(_candidates(question), is_gone)
+            except Fault as fault:
+                counted: Counted = fault
+            else:
+                versions.note(counts)
+                counted = _counted(counts)
+            async with self.room.place(is_gone):
+                return await asyncio.to_thread(_text, asked, known, counted, versions, judging)
+
+        return await of_one_edition(self.served, ask)
 
 
 def _candidates(question: Question) -> Question:
@@ -47,14 +65,23 @@ def _counted(known: Known) -> Candidates:
     return found
 
 
-def _text(kind: Kind, known: Known, counted: Counted, versions: Versions) -> bytes:
-    """The text of a collection of features."""
-    network = versions.network()
-    answer = read_answer(kind.what, known.json, known.digest)
+def _text(
+    question: Question,
+    known: Known,
+    counted: Counted,
+    versions: Versions,
+    judging: Optional[Judging],
+) -> bytes:
+    """The text of a collection of features. `judging` says by what places are judged."""
+    network, what = versions.network(), question.kind.what
+    answer = read_answer(what, known.json, known.digest)
     assert isinstance(answer, (Page, Places))
-    rows = rows_of_answers([answer], network, "outer", [counted])
+    judgements = None
+    if judging is not None:
+        judgements = judged([answer], [read_reference(question.text.decode())], network, judging)
+    rows = rows_of_answers([answer], network, "outer", [counted], judgements)
     stream = StringIO()
-    written = GeoJson(stream, kind.what)
+    written = GeoJson(stream, what)
     written.add(rows.values, rows.shapes)
     written.end()
     return stream.getvalue().encode()

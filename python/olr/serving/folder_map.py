@@ -2,13 +2,15 @@
 
 import asyncio
 import logging
-from collections.abc import AsyncGenerator, AsyncIterator
+from collections.abc import AsyncGenerator, AsyncIterator, Mapping
 from contextlib import AbstractAsyncContextManager
 from pathlib import Path
 from typing import TYPE_CHECKING, Any, Optional
 
+from olr.client.answers import Matching, Reference
 from olr.client.fault import Fault
-from olr.errors import ToolError
+from olr.client.files import Version
+from olr.errors import MapRefused, ToolError
 from olr.serving.batches import lines_of
 from olr.serving.edition import Edition
 from olr.serving.limits import Limits
@@ -19,6 +21,7 @@ from olr.serving.runs import printed_by, version_of
 from olr.serving.served import IsGone, Known
 
 if TYPE_CHECKING:
+    from olr.near_paths.streets import Streets
     from olr.network import Network
 
 log = logging.getLogger("olr.serving")
@@ -82,8 +85,7 @@ class FolderMap:
         answer = await self.pool.answer(question.kind, question.text, is_gone)
         if answer.fault is not None:
             raise Fault(answer.fault)
-        version = answer.edition.version
-        return Known(answer.json, None if version is None else version.network)
+        return Known(answer.json, answer.edition.version or Version(None, None))
 
     async def _page_after(self, question: Question, after: str, is_gone: IsGone) -> Known:
         """The page behind a cursor: `olr batch` has first pages alone."""
@@ -96,7 +98,7 @@ class FolderMap:
             words += ["--format", "json", "--", question.text.decode()]
             page = await printed_by(str(edition.program), words, self._limits.time)
             await edition.keep(version)
-        return Known(page, version.network)
+        return Known(page, version)
 
     async def show(self, text: bytes) -> bytes:
         """What a reference says. Raises `ToolError`."""
@@ -112,9 +114,30 @@ class FolderMap:
         """The lines of a process of its own. Raises as `batches.lines_of`."""
         return lines_of(self.pool.edition, kind, body)
 
+    def digest(self) -> Optional[str]:
+        """Of the nodes and lines that are asked now."""
+        return self.digests().get("network")
+
     def network(self) -> "Network":
         """Its nodes and lines. Call it in a thread. Raises `ToolError`."""
         return self.pool.edition.network()
+
+    def streets(
+        self,
+        version: Version,
+        tolerances: Mapping[str, int],
+        reference: Reference,
+        matching: Matching,
+    ) -> "Streets":
+        """All its lines and bans. Call it in a thread. Raises `ToolError`, and `MapRefused` if another version is served."""
+        edition = self.pool.edition
+        if edition.version != version:
+            raise MapRefused(f"another version of the map {edition.name} is served")
+        return edition.streets()
+
+    def map_name(self) -> Optional[str]:
+        """The name of its folder."""
+        return self.pool.edition.name
 
     def sizes(self) -> dict[str, int]:
         """How many processes there are, and requests that wait."""

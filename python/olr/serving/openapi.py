@@ -1,10 +1,14 @@
-"""The addresses as an OpenAPI document. Options, ranges and defaults are those of `client/questions.py`."""
+"""The addresses as an OpenAPI document. Options, ranges and defaults are those of `client/questions.py`, and profiles those of
+`profiles.py`. A tolerance has no default here: who writes it into each request, as clients that are made from such documents do, would
+never ask with another profile.
+"""
 
 from collections.abc import Mapping
 from typing import Any
 
 from olr.client.questions import NUMBERS, TOLERANCES, Number, What
 from olr.messages.message import FORMATS
+from olr.profiles import FEED, PROFILE, PROFILES, PROGRAM, about_text, tolerances_of
 from olr.serving import features, lists, meters, problems, streaming
 from olr.serving.limits import Limits
 from olr.serving.queries import AFTER, REF
@@ -32,10 +36,11 @@ def document(limits: Limits, with_features: bool = True) -> Json:
     for what in NUMBERS:
         paths[f"/{what}"] = {"get": _question(what, limits, with_features)}
     paths["/show"] = {"get": _get("What a reference says, without the map", [_reference()], JSON)}
-    scene = [_reference(), *_numbers(TOLERANCES, limits), *_numbers(NUMBERS["places"], limits)]
+    scene = [_reference(), *_tolerances(FEED), *_numbers(NUMBERS["places"], limits)]
     paths["/scene"] = {"get": _get("All that the page draws of a reference", scene, JSON)}
     for what in NUMBERS:
         paths[f"/batch/{what}"] = {"post": _batch(what, limits)}
+    paths["/rows"] = {"post": _rows(limits)}
     paths["/messages"] = {"post": _messages(limits)}
     paths["/health"] = {"get": _health()}
     paths["/metrics"] = {"get": _get("Figures for Prometheus", [], TEXT, own=True)}
@@ -59,7 +64,7 @@ def _question(what: What, limits: Limits, with_features: bool) -> Json:
         parameters.append(
             _parameter(AFTER, {"type": "string"}, "a cursor: the page behind it is answered")
         )
-    parameters += [*_numbers(TOLERANCES, limits), *_numbers(NUMBERS[what], limits)]
+    parameters += [*_tolerances(PROGRAM), *_numbers(NUMBERS[what], limits)]
     found = _get(SUMMARIES[what], parameters, JSON)
     if what in ("match", "places") and with_features:
         found["responses"]["200"]["content"][features.MEDIA_TYPE] = {}
@@ -88,8 +93,18 @@ def _health() -> Json:
 
 
 def _batch(what: What, limits: Limits) -> Json:
-    parameters = [*_numbers(TOLERANCES, limits), *_numbers(NUMBERS[what], limits)]
-    found = _get(f"{SUMMARIES[what]}: a line for each line", parameters, streaming.MEDIA_TYPE)
+    parameters = [*_tolerances(PROGRAM), *_numbers(NUMBERS[what], limits)]
+    return _lines(f"{SUMMARIES[what]}: a line for each line", parameters, limits)
+
+
+def _rows(limits: Limits) -> Json:
+    summary = "The likeliest place of each reference, and how probable it is, as the page's list shows them: a line for each line"
+    return _lines(summary, [*_tolerances(FEED), *_numbers(NUMBERS["places"], limits)], limits)
+
+
+def _lines(summary: str, parameters: list[Json], limits: Limits) -> Json:
+    """An address that answers lines of JSON about lines of a body."""
+    found = _get(summary, parameters, streaming.MEDIA_TYPE)
     found["requestBody"] = {
         "required": True,
         "description": "Lines of a key, a tab and a reference, or of a reference alone",
@@ -124,6 +139,19 @@ def _reference() -> Json:
     text = "a reference: the text of its binary format, in base64. A plus sign may stand as it is"
     found = _parameter(REF, {"type": "string"}, text)
     return found | {"required": True, "example": EXAMPLE}
+
+
+def _tolerances(profile: str) -> list[Json]:
+    """The profile, which is by default that one, and the tolerances."""
+    schema = {"type": "string", "enum": list(PROFILES), "default": profile}
+    about = "; ".join(map(about_text, PROFILES))
+    found = [_parameter(PROFILE, schema, f"the tolerances that aren't given: {about}")]
+    for name, number in TOLERANCES.items():
+        span = {"type": "integer", "minimum": number.least, "maximum": number.greatest}
+        defaults = ", ".join(f"{one} {tolerances_of(one)[name]}" for one in PROFILES)
+        text = f"{number.purpose} ({number.unit}); by default that of the profile: {defaults}"
+        found.append(_parameter(name, span, text))
+    return found
 
 
 def _numbers(numbers: Mapping[str, Number], limits: Limits) -> list[Json]:

@@ -14,8 +14,8 @@ from starlette.responses import Response
 
 from olr.client.fault_table import ROWS
 from olr.client.questions import NUMBERS, TOLERANCES
-from olr.confidence.table import ConfidenceTable
 from olr.pages.html import data_text, leaflet, leaflet_licence, origin_of
+from olr.profiles import FEED, PROFILES, about_text, tolerances_of
 from olr.serving.limits import Limits
 from olr.serving.lists import MOST_ROWS, most_bytes
 from olr.serving.problems import TITLES
@@ -71,13 +71,17 @@ def assets() -> dict[str, Asset]:
     return {name: Asset.of_text(name, text) for name, text in texts.items()}
 
 
-def with_data(page: Asset, limits: Limits, table: ConfidenceTable, tiles: Optional[str]) -> Asset:
+def with_data(page: Asset, limits: Limits, tiles: Optional[str]) -> Asset:
     """The page with what its script needs to know."""
     data = {
         "tolerances": _numbers(TOLERANCES, limits),
         "numbers": _numbers(NUMBERS["places"], limits),
+        "profiles": [
+            {"name": name, "about": about_text(name), "tolerances": tolerances_of(name)}
+            for name in PROFILES
+        ],
+        "profile": FEED,
         "names": {what: list(numbers) for what, numbers in NUMBERS.items()},
-        "confidence": _confidence(table),
         "body": most_bytes(limits),
         "rows": MOST_ROWS,
         "tiles": tiles,
@@ -93,21 +97,6 @@ def _numbers(numbers: Mapping[str, Any], limits: Limits) -> list[dict[str, Any]]
         for name, (least, greatest, default, unit, purpose) in numbers.items()
         for most in [min(greatest, limits.look) if name == "look" else greatest]
     ]
-
-
-def _confidence(table: ConfidenceTable) -> dict[str, Any]:
-    """What confidence of answers is read from: `ConfidenceTable.of` says how."""
-    cells = [
-        {
-            "margin": cells.margin,
-            "rows": [
-                {"total": row.bin, "count": row.share.count, "share": row.share.rounded}
-                for row in cells.rows
-            ],
-        }
-        for cells in table.cells
-    ]
-    return {"made": table.numbers(), "least": table.least, "cells": cells}
 
 
 def described(document: Mapping[str, Any]) -> str:
@@ -149,8 +138,12 @@ def _section(method: str, path: str, about: Mapping[str, Any]) -> str:
 
 def _row(parameter: Mapping[str, Any]) -> str:
     schema = parameter["schema"]
-    span = f'{schema["minimum"]:,} to {schema["maximum"]:,}' if "minimum" in schema else "a text"
-    default = f'{schema["default"]:,}' if "default" in schema else ""
+    span = ", ".join(schema.get("enum", ["a text"]))
+    if "minimum" in schema:
+        span = f'{schema["minimum"]:,} to {schema["maximum"]:,}'
+    default = schema.get("default", "")
+    if isinstance(default, int):
+        default = f"{default:,}"
     if parameter.get("required"):
         default = "needed"
     cells = (parameter["name"], span, default, parameter["description"])

@@ -1,4 +1,6 @@
-"""The query of a URL as a question. Names, ranges and defaults are those of the command line: `client/questions.py` has them."""
+"""The query of a URL as a question. Names and ranges are those of the command line: `client/questions.py` has them. So are the defaults, but
+that tolerances are those of the profile `program` where none is named: who asks an address speaks for the program.
+"""
 
 import re
 from collections.abc import Mapping
@@ -10,12 +12,12 @@ from olr.client.fault import Fault
 from olr.client.questions import (
     ALL,
     NUMBERS,
-    TOLERANCES,
     What,
     cursor_of,
     number_words,
     record_text,
 )
+from olr.profiles import PROFILE, PROFILES, PROGRAM, names_text, tolerances_of
 from olr.serving.problems import Problem, bad_request, of_fault
 
 REF, AFTER = "ref", "after"
@@ -98,12 +100,18 @@ def kind_of(what: What, options: Mapping[str, str], most_look: int) -> Kind:
 
 @lru_cache(maxsize=KINDS)
 def _kind(what: What, options: tuple[tuple[str, str], ...], most_look: int) -> Kind:
-    numbers = {name: number.default for name, number in {**TOLERANCES, **NUMBERS[what]}.items()}
+    profile = dict(options).get(PROFILE, PROGRAM)
+    if profile not in PROFILES:
+        raise bad_request(f"{profile!r} is no profile: {names_text()}")
+    defaults = {name: number.default for name, number in NUMBERS[what].items()}
+    numbers = {**tolerances_of(profile), **defaults}
     if "look" in numbers:
         numbers["look"] = min(numbers["look"], most_look)
     for name, value in options:
+        if name == PROFILE:
+            continue
         if name not in numbers:
-            known = [REF, *([AFTER] if what == "match" else []), *numbers]
+            known = [REF, *([AFTER] if what == "match" else []), PROFILE, *numbers]
             raise bad_request(f"{name!r} is no option of /{what}: it has {', '.join(known)}")
         numbers[name] = _number(name, value)
     if numbers.get("look", 0) > most_look:

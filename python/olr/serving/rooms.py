@@ -8,8 +8,8 @@ from olr.serving.problems import busy
 from olr.serving.served import IsGone
 
 ABREAST = 4
-"""Scenes and GeoJSON that are made at once, each in a thread. Python works at one at a time. There are a few threads more, which look at the
-files of the map: they don't wait for all that are to be made."""
+"""Scenes, GeoJSON and lots of rows that are made at once, each in a thread. Python works at one at a time. There are a few threads more,
+which look at the files of the map: they don't wait for all that are to be made."""
 
 
 class Room:
@@ -27,7 +27,7 @@ class Room:
             async with asyncio.timeout(self._seconds):
                 await self._places.acquire()
         except TimeoutError as error:
-            raise busy("too many scenes and GeoJSON are made") from error
+            raise busy("too many scenes, GeoJSON and rows are made") from error
         try:
             if is_gone():
                 raise busy("nobody waits for it")

@@ -3,20 +3,26 @@
 import asyncio
 import json
 import threading
+from collections.abc import Mapping
+from functools import partial
 from typing import NamedTuple, Optional, TypeVar
 
 from olr.client.answers import Answer, Candidates, Page, Places, Why
 from olr.client.fault import Fault
 from olr.client.objects import read_answer, reference
 from olr.client.questions import NUMBERS, TOLERANCES, What, record_text
-from olr.confidence.table import ConfidenceTable
+from olr.confidence.confidence import Confidence
+from olr.confidence.judged import Judging
 from olr.network import Network
+from olr.profiles import FEED, PROFILE
+from olr.serving.judging import long_list_of
 from olr.serving.limits import Limits
 from olr.serving.queries import Kind, Options, Question, kind_of, reference_of
 from olr.serving.rooms import Room
 from olr.serving.served import IsGone, Served, Versions, of_one_edition
 from olr.store_network import StoreNetwork
-from olr.view.scene import Answered, fits, scene_of_answers
+from olr.view.notes import notes_of
+from olr.view.scene import Answered, add_command, fits, judgements_of, scene_of_answers
 from olr.view.surroundings import Scene, Surroundings, box_of, network_around
 
 Wanted = TypeVar("Wanted", Candidates, Page, Places, Why)
@@ -25,20 +31,28 @@ Wanted = TypeVar("Wanted", Candidates, Page, Places, Why)
 class Scenes:
     """Makes scenes of a map."""
 
-    def __init__(self, served: Served, limits: Limits, table: ConfidenceTable, room: Room) -> None:
-        """`table` says how sure first places are, where it fits what is asked."""
-        self._served, self._limits, self._table, self._room = served, limits, table, room
+    def __init__(self, served: Served, limits: Limits, confidence: Confidence, room: Room) -> None:
+        """`confidence` says how probable places are, where it is of what is asked."""
+        self._served, self._limits, self._room = served, limits, room
+        self._confidence = confidence
         self._ground = Ground()
 
     async def scene(self, options: Options, is_gone: IsGone) -> Scene:
-        """The scene of a reference. The options are the tolerances and the numbers of `places`. Raises `Fault` if it is no reference, other
-        errors of the package, and `Problem`."""
+        """The scene of a reference, which says why it has no probabilities where it has none. The options are the tolerances and the
+        numbers of `places`. Without a profile it is that of messages of feeds, as in all that draws. Raises `Fault` if it is no reference,
+        other errors of the package, and `Problem`.
+        """
+        options = {PROFILE: FEED} | options
         text = record_text(reference_of(options))
-        table = self._table_for(kind_of("places", options, self._limits.look))
+        kind = kind_of("places", options, self._limits.look)
+        numbers = kind.numbers()
+        asked = long_list_of(kind, self._confidence)
         said = reference(await self._served.show(text))
 
         async def ask(versions: Versions) -> Scene:
-            asking = _Asking(self._served, versions, options, self._limits, text, is_gone)
+            asking = _Asking(
+                self._served, versions, options, self._limits, asked.kind, text, is_gone
+            )
             candidates = await asking.answer("candidates", Candidates)
             places = await asking.answer("places", Places)
             page = await asking.answer("match", Page)
@@ -48,22 +62,29 @@ class Scenes:
                 if isinstance(answered.why, Fault):
                     raise answered.why
             async with self._room.place(is_gone):
-                return await asyncio.to_thread(self._draw, answered, versions, table)
+                scene = await asyncio.to_thread(
+                    self._draw, answered, versions, asked.judging, numbers
+                )
+            add_command(scene, self._served.map_name(), numbers)
+            if asked.note and scene["entries"]:
+                scene["probability"] = [f"{asked.note[0].upper()}{asked.note[1:]}."]
+            return scene
 
         return await of_one_edition(self._served, ask)
 
-    def _table_for(self, kind: Kind) -> Optional[ConfidenceTable]:
-        """The table, if it says something of such answers."""
-        numbers = kind.numbers()
-        tolerances = {name: numbers[name] for name in TOLERANCES}
-        return self._table if self._table.fits(tolerances, numbers["apart"]) is None else None
-
     def _draw(
-        self, answered: Answered, versions: Versions, table: Optional[ConfidenceTable]
+        self,
+        answered: Answered,
+        versions: Versions,
+        judging: Judging,
+        tolerances: Mapping[str, int],
     ) -> Scene:
-        """The scene of answers, with the lines around."""
+        """The scene of answers, with other paths of the first one, and the lines around."""
         network = versions.network()
-        scene = scene_of_answers(answered, network, table)
+        (judgement,) = judgements_of([answered], network, judging)
+        scene = scene_of_answers(answered, network, judgement, judging.confidence)
+        streets = partial(versions.streets, tolerances)
+        scene |= notes_of(scene, answered, network, tolerances["lowest"], streets)
         self._ground.add_lines(scene, network)
         return scene
 
@@ -99,14 +120,17 @@ class _Asking(NamedTuple):
     versions: Versions
     options: Options
     limits: Limits
+    places: Kind
+    """With which places are asked."""
     text: bytes
     is_gone: IsGone
 
     async def answer(self, what: What, wanted: type[Wanted]) -> "Wanted | Fault":
         """The answer to a question, or why there is none. Raises as `Served.answer`."""
-        names = {*TOLERANCES, *NUMBERS[what]}
+        names = {PROFILE, *TOLERANCES, *NUMBERS[what]}
         own = {name: value for name, value in self.options.items() if name in names}
-        question = Question(kind_of(what, own, self.limits.look), self.text, None)
+        kind = self.places if what == "places" else kind_of(what, own, self.limits.look)
+        question = Question(kind, self.text, None)
         try:
             known = await self.served.answer(question, self.is_gone)
         except Fault as fault:

@@ -1,13 +1,16 @@
 """What the addresses ask of a map, whether it is a folder or a store."""
 
-from collections.abc import AsyncGenerator, AsyncIterator, Awaitable, Callable
+from collections.abc import AsyncGenerator, AsyncIterator, Awaitable, Callable, Mapping
 from contextlib import AbstractAsyncContextManager
 from typing import TYPE_CHECKING, Any, NamedTuple, Optional, Protocol, TypeVar
 
+from olr.client.answers import Matching, Reference
+from olr.client.files import Version
 from olr.errors import MapRefused
 from olr.serving.queries import Kind, Question
 
 if TYPE_CHECKING:
+    from olr.near_paths.streets import Streets
     from olr.network import Network
 
 Made = TypeVar("Made")
@@ -20,8 +23,12 @@ class Known(NamedTuple):
 
     json: bytes
     """As the program prints it, without a line end."""
-    digest: Optional[str]
-    """Of the map's nodes and lines."""
+    version: Version
+
+    @property
+    def digest(self) -> Optional[str]:
+        """Of the map's nodes and lines."""
+        return self.version.network
 
 
 class Served(Protocol):
@@ -51,8 +58,24 @@ class Served(Protocol):
     def batch(self, kind: Kind, body: AsyncIterator[bytes]) -> AsyncGenerator[bytes, None]:
         """The lines of `olr batch` about the records of a body, in pieces, within a `place`. Raises as `answer`, and as the body does."""
 
+    def digest(self) -> Optional[str]:
+        """Of the nodes and lines that are asked now."""
+
     def network(self) -> "Network":
         """Its nodes and lines. Call it in a thread. Raises `ToolError`."""
+
+    def streets(
+        self,
+        version: Version,
+        tolerances: Mapping[str, int],
+        reference: Reference,
+        matching: Matching,
+    ) -> "Streets":
+        """The lines and bans of a version that may matter for the matching of a reference, asked with these tolerances. Call it in a
+        thread. Raises `ToolError`, and `MapRefused` if another version is served."""
+
+    def map_name(self) -> Optional[str]:
+        """The name of its folder, without those above: None for a store, which the program doesn't read."""
 
     def sizes(self) -> dict[str, int]:
         """How many processes there are, and requests that wait."""
@@ -79,15 +102,29 @@ class Versions:
 
     def __init__(self, served: Served) -> None:
         self._served = served
-        self._digests: set[Optional[str]] = set()
+        self._noted: set[Version] = set()
 
     def note(self, known: Known) -> None:
         """An answer that is used."""
-        self._digests.add(known.digest)
+        self._noted.add(known.version)
 
     def network(self) -> "Network":
         """The network of the same version. Call it in a thread, after the last answer. Raises `MapRefused` if there is none."""
         network = self._served.network()
-        if self._digests - {network.digest}:
-            raise MapRefused("another version of the map took the place of the one that was asked")
+        if {version.network for version in self._noted} - {network.digest}:
+            raise _other_version()
         return network
+
+    def streets(
+        self, tolerances: Mapping[str, int], reference: Reference, matching: Matching
+    ) -> "Streets":
+        """The lines and bans of the same version. Call it in a thread, after the last answer. Raises as `Served.streets`, and `MapRefused`
+        if the answers are of several versions, of which only the bans differ."""
+        if len(self._noted) != 1:
+            raise _other_version()
+        (version,) = self._noted
+        return self._served.streets(version, tolerances, reference, matching)
+
+
+def _other_version() -> MapRefused:
+    return MapRefused("another version of the map took the place of the one that was asked")

@@ -15,7 +15,7 @@ import click
 import uvicorn
 import uvloop
 
-from olr.confidence.options import table_of
+from olr.confidence.options import confidence_of
 from olr.errors import ToolError
 from olr.map_folder import store_of
 from olr.serving.addresses import Service, application
@@ -57,7 +57,7 @@ class Settings(NamedTuple):
     tiles: Optional[str] = None
     """The URL of tiles for the page."""
     confidence: Optional[Path] = None
-    """The file of a table of confidence: by default the one that comes with the package."""
+    """The file of a confidence: by default the one that comes with the package."""
 
 
 class _Server(uvicorn.Server):  # type: ignore[misc]
@@ -116,8 +116,8 @@ async def _answer(settings: Settings, served: Served, listening: socket.socket) 
     """Answers what comes, until a signal ends it."""
     port = listening.getsockname()[1]
     meters = Meters(served)
-    table = table_of(settings.confidence)
-    app = application(Service(served, settings.limits, meters, table, settings.tiles))
+    confidence = confidence_of(settings.confidence)
+    app = application(Service(served, settings.limits, meters, confidence, settings.tiles))
     allowed = allowed_for(settings.host, port, settings.names, settings.origins)
     front = Front(app, [getattr(route, "path") for route in app.routes], allowed, meters)
     connections = Connections(_most_connections())

@@ -3,13 +3,15 @@
 import asyncio
 import logging
 import threading
-from collections.abc import AsyncGenerator, AsyncIterator, Callable
+from collections.abc import AsyncGenerator, AsyncIterator, Callable, Mapping
 from concurrent.futures import ThreadPoolExecutor
 from contextlib import asynccontextmanager
 from pathlib import Path
 from typing import TYPE_CHECKING, Any, Optional, TypeVar
 
+from olr.client.answers import Matching, Reference
 from olr.client.fault import Fault
+from olr.client.files import Version
 from olr.client.map_client import Map
 from olr.client.program import find_program
 from olr.client.questions import TOLERANCES, argument
@@ -25,6 +27,7 @@ from olr.serving.served import IsGone, Known
 from olr.store_network import StoreNetwork
 
 if TYPE_CHECKING:
+    from olr.near_paths.streets import Streets
     from olr.network import Network
 
 log = logging.getLogger("olr.serving")
@@ -102,7 +105,7 @@ class StoreMap:
         """The answer to a question. Raises `ToolError` and `Problem`."""
         async with self.place(is_gone):
             text = await self._in_thread(lambda: self._asked(question))
-        return Known(text, self._digest)
+        return Known(text, Version(self._digest, None))
 
     def _asked(self, question: Question) -> bytes:
         numbers = question.kind.numbers()
@@ -167,7 +170,11 @@ class StoreMap:
     async def _in_thread(self, call: Callable[[], Made]) -> Made:
         return await asyncio.get_running_loop().run_in_executor(self._thread, call)
 
-    def network(self) -> "Network":
+    def digest(self) -> Optional[str]:
+        """Of the nodes and lines that are asked now."""
+        return self._digest
+
+    def network(self) -> "StoreNetwork":
         """Its nodes and lines. Call it in a thread. Raises `ToolError`."""
         with self._opening:
             if self._network is None or self._network.digest != self._digest:
@@ -175,6 +182,25 @@ class StoreMap:
                 network.require_digest(self._digest)
                 self._network = network
             return self._network
+
+    def streets(
+        self,
+        version: Version,
+        tolerances: Mapping[str, int],
+        reference: Reference,
+        matching: Matching,
+    ) -> "Streets":
+        """The lines and bans that may matter for a matching. Call it in a thread. Raises `ToolError`, and `MapRefused` if another version
+        is served."""
+        from olr.near_paths.notes import streets_near
+
+        network = self.network()
+        network.require_digest(version.network or "")
+        return streets_near(network, reference, matching, tolerances)
+
+    def map_name(self) -> Optional[str]:
+        """None: the program doesn't read a store."""
+        return None
 
     def sizes(self) -> dict[str, int]:
         """How many questions are being answered, and how many wait."""

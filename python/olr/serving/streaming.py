@@ -1,10 +1,10 @@
-"""`POST /batch/{command}`: the lines of `olr batch`, while the body comes.
+"""`POST /batch/{command}` and `POST /rows`: lines about the records of a body, while it comes.
 
 What the client doesn't take isn't made: the server then reads neither the program's answers nor the body, and holds about a MiB.
 """
 
 import asyncio
-from collections.abc import AsyncIterator
+from collections.abc import AsyncGenerator, AsyncIterator, Callable
 from contextlib import aclosing, asynccontextmanager
 
 from starlette.requests import Request
@@ -14,8 +14,9 @@ from olr.client.questions import What
 from olr.errors import ToolError
 from olr.serving.limits import Limits
 from olr.serving.problems import Problem, of_error
-from olr.serving.queries import kind_of, options_of
-from olr.serving.served import Served
+from olr.profiles import PROFILE, PROGRAM
+from olr.serving.queries import Kind, kind_of, options_of
+from olr.serving.served import IsGone, Served
 
 TAKEN = (
     "text/plain",
@@ -29,20 +30,29 @@ TICK = 0.25
 """Seconds between two looks whether the client is there."""
 
 
+Lines = Callable[[Kind, AsyncIterator[bytes], IsGone], AsyncGenerator[bytes, None]]
+"""Makes lines about the records of a body, in pieces."""
+
+
 class _Gone(Exception):
     """The client is gone."""
 
 
 class Streaming:
-    """The address of a command of `olr batch`."""
+    """An address whose answer is lines."""
 
-    def __init__(self, served: Served, limits: Limits, what: What) -> None:
-        self._served, self._limits, self._what = served, limits, what
+    def __init__(
+        self, served: Served, limits: Limits, what: What, lines: Lines, profile: str = PROGRAM
+    ) -> None:
+        """Its options are those of the question `what`, and the tolerances that aren't given those of `profile`."""
+        self._served, self._limits, self._lines = served, limits, lines
+        self._what, self._profile = what, profile
 
     async def __call__(self, scope: Scope, receive: Receive, send: Send) -> None:
         """Answers a request. Raises `ToolError` and `Problem` before it has begun to; later it closes the connection."""
         request = Request(scope)
-        kind = kind_of(self._what, options_of(scope["query_string"]), self._limits.look)
+        options = {PROFILE: self._profile} | options_of(scope["query_string"])
+        kind = kind_of(self._what, options, self._limits.look)
         _require_type(request)
         self._require_length(request)
         sent = _Sent(send)
@@ -54,7 +64,7 @@ class Streaming:
                     return
                 async with asyncio.timeout(limit) as deadline, _watched(scope, deadline):
                     body = self._body(receive, deadline)
-                    async with aclosing(self._served.batch(kind, body)) as lines:
+                    async with aclosing(self._lines(kind, body, scope["is_gone"])) as lines:
                         async for piece in lines:
                             await sent.put(piece)
                             deadline.reschedule(loop.time() + limit)

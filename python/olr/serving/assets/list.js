@@ -1,15 +1,16 @@
 "use strict";
 // A list of references: it is read by the server, asked as a stream, and shown as a table.
 //
-//   const list = listOf({ place, data, onChoose: (row, event) => ... });
+//   const list = listOf({ place, data, fields, onChoose: (row, event) => ... });
 //
-// `place` is its section. `list.read(body, reading, isWanted)` reads a text or file, of which `reading` says { format, ref, key }, and throws
-// a Trouble if it isn't understood; if it isn't wanted any more then, all stays as it is. `list.ask(options)` asks for the places of all
-// rows, some at a time, `list.rowOf(state)` finds the row of a state, and `list.choose(row)` marks one.
+// `place` is its section, and `fields` are those of options.js. `list.read(body, reading, isWanted)` reads a text or file, of which `reading`
+// says { format, ref, key }, and throws a Trouble if it isn't understood; if it isn't wanted any more then, all stays as it is.
+// `list.ask(options)` asks for the likeliest places of all rows, some at a time, `list.rowOf(state)` finds the row of a state, and
+// `list.choose(row)` marks one.
 // References that are asked at once. The server gives others a turn between two lots.
 const AT_ONCE = 500;
 
-function listOf({ place, data, onChoose }) {
+function listOf({ place, data, fields, onChoose }) {
   const find = (selector) => place.querySelector(selector);
   const [bar, words, stop, goOn] = ["progress", "[role=status]", "#stop", "#go-on"].map(find);
   const grouped = (value) => value.toLocaleString("en");
@@ -35,12 +36,25 @@ function listOf({ place, data, onChoose }) {
     show();
     return true;
   };
-  const UNASKED = { verdict: "waiting", total: null, margin: null, confidence: null, fault: "" };
+  // What an answer says of a row, and docs/SERVE.md of each.
+  const UNASKED = {
+    verdict: "waiting",
+    probability: null,
+    none_of_these: null,
+    reasons: null,
+    total: null,
+    margin: null,
+    turns_back: null,
+    cut_off: false,
+    fault: null,
+    no_probabilities: null,
+  };
 
   // ---- the table
   const show = () => {
     find("#rows").replaceChildren();
     place.hidden = false;
+    const probability = { number: true, text: (value) => value.toFixed(3) };
     table = sortedTable({
       place: find("#rows"),
       caption: "References",
@@ -48,17 +62,24 @@ function listOf({ place, data, onChoose }) {
         { title: "record", number: true, value: (row) => row.record, text: grouped },
         { title: "key", value: (row) => row.key, mark: () => "key" },
         { title: "verdict", value: (row) => row.verdict, mark: (row) => `is-${row.verdict}` },
+        { title: "probability", ...probability, value: (row) => row.probability },
+        { title: "none of these", ...probability, value: (row) => row.none_of_these },
+        { title: "turns back", value: (row) => (row.turns_back ? "turns back" : "") },
         { title: "total", number: true, value: (row) => row.total, text: grouped },
         { title: "margin", number: true, value: (row) => row.margin, text: grouped },
-        { title: "confidence", number: true, value: (row) => row.confidence },
-        { title: "fault", value: (row) => row.fault },
+        { title: "fault or reasons", value: (row) => row.fault || row.reasons, mark: () => "reasons" },
         { title: "reference", value: (row) => row.reference, mark: () => "reference" },
       ],
       rows,
-      choices: [{ title: "Verdict", value: (row) => row.verdict }],
+      choices: [
+        { title: "Verdict", value: (row) => row.verdict },
+        { title: "Probability", value: (row) => shareOf(row.probability) },
+      ],
       onChoose: (index, event) => onChoose(rows[index], event),
     });
   };
+
+  const shareOf = (value) => (value === null ? "" : value >= 0.9 ? "0.9 and above" : value >= 0.5 ? "0.5 to 0.9" : "below 0.5");
 
   // ---- asking
   const left = () => rows.filter((row) => row.verdict === "waiting");
@@ -67,31 +88,21 @@ function listOf({ place, data, onChoose }) {
     place.dataset.state = state;
     Object.assign(bar, { max: rows.length, value: rows.length - waiting });
     const done = `${grouped(rows.length - waiting)} of ${grouped(rows.length)} answered`;
-    words.textContent = [`${done}.`, text, fits(options) ? "" : NO_CONFIDENCE, note].filter(Boolean).join(" ");
+    words.textContent = [`${done}.`, text, ofAnswers(), note].filter(Boolean).join(" ");
     bar.hidden = state === "done";
     stop.hidden = state !== "asking";
     goOn.hidden = state === "asking" || !waiting;
   };
-  const NO_CONFIDENCE = "There is no confidence with these options.";
-  const fits = (given) => Object.entries(data.confidence.made).every(([name, value]) => {
-    const number = [...data.tolerances, ...data.numbers].find((one) => one.name === name);
-    return Number(name in given ? given[name] : number.default) === value;
-  });
-  const isIn = (value, bin) => (value === null ? bin === null : bin !== null && bin[0] <= value && (bin[1] === null || value < bin[1]));
-  // As ConfidenceTable.of says it.
-  const confidenceOf = ({ places, margin, verdict }) => {
-    if (!fits(options) || !places.length || (margin === null && verdict === "open")) return null;
-    const { total, points, earliest } = places[0].matching;
-    if (earliest) return null;
-    const cells = data.confidence.cells.find((one) => isIn(margin, one.margin));
-    const { count, share } = cells.rows.find((one) => isIn(total / points.length, one.total));
-    return count >= data.confidence.least ? share : null;
+  const ofAnswers = () => {
+    const cut = rows.filter((row) => row.cut_off).length;
+    const lacking = rows.find((row) => row.no_probabilities);
+    return [cut && `${grouped(cut)} may have more places: give a greater look.`, lacking && sentence(lacking.no_probabilities)].filter(Boolean).join(" ");
   };
-  const fill = ({ key, answer, fault }) => {
-    const row = rows[Number(key)];
-    if (answer === null) return Object.assign(row, { verdict: "refused", fault });
-    const first = answer.places[0];
-    return Object.assign(row, { verdict: answer.verdict, total: first ? first.matching.total : null, margin: answer.margin, confidence: confidenceOf(answer) });
+  const fill = (answer) => {
+    const row = rows[Number(answer.key)];
+    for (const name of Object.keys(UNASKED)) row[name] = answer[name];
+    if (row.verdict === "fault") row.verdict = "refused";
+    return row;
   };
   // Rows that have changed are shown together, some times a second.
   const changed = new Set();
@@ -109,7 +120,7 @@ function listOf({ place, data, onChoose }) {
   const askSome = async (some, signal) => {
     const body = some.map((row) => `${row.index}\t${row.reference}\n`).join("");
     const more = { method: "POST", body, headers: { "Content-Type": "text/plain" }, signal };
-    const response = await asked(`batch/places?${queryOf(Object.entries(options))}`, more);
+    const response = await asked(`rows?${queryOf(Object.entries(fields.asked(options)))}`, more);
     for await (const lines of linesOf(response)) {
       if (signal.aborted) return;
       lines.forEach(take);

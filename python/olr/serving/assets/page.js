@@ -18,12 +18,15 @@
   });
   const fields = fieldsOf({
     place: find("options"),
+    profiles: data.profiles,
+    profile: data.profile,
     groups: [{ title: "Tolerances", numbers: data.tolerances }, { title: "Places", numbers: data.numbers }],
     onChange: () => change(fields.values()),
   });
   const list = listOf({
     place: find("list"),
     data,
+    fields,
     onChoose: (row, event) => follow(row, event.type === "click" ? "push" : "replace"),
   });
 
@@ -79,7 +82,7 @@
       // Keys that are held down go over many rows.
       await new Promise((done) => { setTimeout(done, COALESCED); });
       if (running !== mine) return undefined;
-      const scene = await askedJson(`scene?${queryOf([["ref", state.ref], ...Object.entries(state.options)])}`, { signal: mine.signal });
+      const scene = await askedJson(`scene?${queryOf([["ref", state.ref], ...Object.entries(fields.asked(state.options))])}`, { signal: mine.signal });
       if (running !== mine) return undefined;
       find("panel").hidden = false;
       picture.show(scene, state.place === null ? undefined : Number(state.place) - 1);
@@ -112,8 +115,8 @@
     return [what, link];
   });
   const linkAnswers = () => links.forEach(([what, link]) => {
-    const names = what === "show" ? [] : [...data.tolerances.map((number) => number.name), ...data.names[what]];
-    link.href = `${what}?${queryOf([["ref", state.ref], ...Object.entries(state.options).filter(([name]) => names.includes(name))])}`;
+    const names = what === "show" ? [] : ["profile", ...data.tolerances.map((number) => number.name), ...data.names[what]];
+    link.href = `${what}?${queryOf([["ref", state.ref], ...Object.entries(fields.asked(state.options)).filter(([name]) => names.includes(name))])}`;
   });
 
   // ---- the reference
@@ -150,7 +153,7 @@
   for (const [button, form] of [["options-button", "options"], ["list-button", "list-form"]]) {
     find(button).addEventListener("click", () => {
       unfold(button, form, find(form).hidden);
-      if (!find(form).hidden) find(form).querySelector("input, textarea").focus();
+      if (!find(form).hidden) find(form).querySelector("input, select, textarea").focus();
     });
   }
 
