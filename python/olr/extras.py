@@ -23,7 +23,6 @@ EXTRAS = {
         "httptools",
         "numpy",
         "prometheus_client",
-        "shapely",
         "uvicorn",
         "uvloop",
     ),

@@ -1,12 +1,11 @@
 """Answers as tables with geometries. docs/COLUMNS.md says what is in each column."""
 
 from collections.abc import Iterable, Iterator, Mapping, Sequence
-from typing import Any, Optional
+from typing import Any, Optional, TypeVar
 
 from olr.client.answers import Page, Places
 from olr.client.fault import Fault
 from olr.client.questions import many
-from olr.confidence.table import ConfidenceTable
 from olr.extras import needed_by
 
 with needed_by("olr.to_geodataframe", "geo"):
@@ -14,6 +13,9 @@ with needed_by("olr.to_geodataframe", "geo"):
     import numpy as np
     import pandas
 
+    from olr.confidence.confidence import Confidence
+    from olr.confidence.judged import Judging, judged
+    from olr.likely.order import Shown
     from olr.matching.columns import ANSWERS, PIECES, TYPES, Columns, Part
     from olr.matching.rows import (
         Counted,
@@ -25,7 +27,10 @@ with needed_by("olr.to_geodataframe", "geo"):
     )
     from olr.matching.shapes import wkb
     from olr.network import Network
+    from olr.regions.reading import read_reference
 
+Item = TypeVar("Item")
+Other = TypeVar("Other")
 CRS = "EPSG:4326"
 
 
@@ -35,30 +40,52 @@ def to_geodataframe(
     keys: Optional[Iterable[object]] = None,
     part: Part = "outer",
     candidates: Optional[Iterable[Counted]] = None,
-    confidence: Optional[ConfidenceTable] = None,
+    confidence: Optional["Confidence"] = None,
+    references: Optional[Iterable[str]] = None,
+    within: Optional[int] = None,
+    most: Optional[int] = None,
 ) -> "geopandas.GeoDataFrame":
-    """A row for each matching of pages, and for each place of answers to `places`, in metres and degrees (EPSG:4326).
+    """A row for each matching of pages, and for each place of answers to `places`, the likeliest one first, in metres and degrees
+    (EPSG:4326).
 
     The geometry is the line of the outer or the inner part; of a point along a line it is the point halfway between its two places.
     An answer without a matching, and a fault, has one row without a geometry, so no reference is lost. `key` comes from `keys`, of
     which there have to be as many as answers, and else counts answers from 0. `candidates` are the answers to that question about
-    the same references: without them nobody knows how many there are. `confidence` is a table of confidence of the same tolerances, such as
-    `olr.ConfidenceTable.default()`: without one that column is empty. Sources and names are those of `network.sources()`.
+    the same references: without them nobody knows how many there are. Sources and names are those of `network.sources()`.
+
+    Places have probabilities by `confidence`, one of the same tolerances such as `olr.Confidence.default()`, and their `references`, the texts
+    that were asked; without either these columns are empty. They are those of `olr-tools match --places` if the answers have its list: all
+    places, by `within=14620, most=100`. Then `within` and `most` here say which of them are shown, as those options of the command do; where
+    either is given the other one is at its default.
 
     The columns and their types are the same whatever is in them: `Int64`, `float64`, or `object` with texts or None. Raises
     `MapRefused` if the network is of another version of the map than an answer, `ToolError` if it hasn't a line of one, `ValueError`
     if there are more keys than answers or fewer, and `TypeError` for one answer or one key in place of many.
     """
     _require_many("to_geodataframe", answers)
-    counted = _paired(_keyed("to_geodataframe", answers, keys), candidates)
-    chunks = (
-        (
-            [key for key, _ in items],
-            rows_of_answers(chunk, network, part, _counts(items), confidence),
-        )
-        for items, chunk in in_chunks(counted)
-    )
+    judging = Judging(confidence, _shown(within, most))
+    keyed = _keyed("to_geodataframe", answers, keys)
+    with_texts = _beside("references", keyed, references)
+    counted = _beside("candidates", with_texts, candidates)
+
+    def rows_of(items: Sequence[Any], chunk: Sequence[Located]) -> tuple[list[object], Rows]:
+        texts = [text for (_, text), _ in items]
+        said = [None if text is None else read_reference(text) for text in texts]
+        judgements = judged(chunk, said, network, judging)
+        counts = [count for _, count in items]
+        rows = rows_of_answers(chunk, network, part, counts, judgements)
+        return [key for (key, _), _ in items], rows
+
+    chunks = (rows_of(items, chunk) for items, chunk in in_chunks(counted))
     return _table(chunks, ANSWERS, keys is None)
+
+
+def _shown(within: Optional[int], most: Optional[int]) -> Optional[Shown]:
+    """Which places are shown: all for None."""
+    if within is None and most is None:
+        return None
+    usual = Shown()
+    return Shown(usual.within if within is None else within, usual.most if most is None else most)
 
 
 def to_pieces(
@@ -94,18 +121,18 @@ def _keyed(
     return zip(found, answers, strict=True)
 
 
-def _paired(
-    keyed: Iterator[tuple[object, Located]], candidates: Optional[Iterable[Counted]]
-) -> Iterator[tuple[tuple[object, Counted], Located]]:
-    """Answers with their keys and with their candidates."""
-    if candidates is None:
-        return (((key, None), answer) for key, answer in keyed)
-    both = zip(keyed, candidates, strict=True)
-    return (((key, counted), answer) for (key, answer), counted in both)
-
-
-def _counts(items: Sequence[tuple[object, Counted]]) -> Sequence[Counted]:
-    return [counted for _, counted in items]
+def _beside(
+    what: str, keyed: Iterator[tuple[Item, Located]], others: Optional[Iterable[Other]]
+) -> Iterator[tuple[tuple[Item, Optional[Other]], Located]]:
+    """Answers with what they have already, and with others, one for each; None where there are no others. Raises `TypeError` for one text,
+    and `ValueError` where there are more or fewer."""
+    if others is None:
+        return (((item, None), answer) for item, answer in keyed)
+    found = many(
+        f"to_geodataframe takes many {what}", others, "give a list, with one for each answer"
+    )
+    both = zip(keyed, found, strict=True)
+    return (((item, other), answer) for (item, answer), other in both)
 
 
 def _table(

@@ -66,7 +66,7 @@ tools = LateGroup(
     {
         "calibrate": (
             "olr.confidence.command",
-            "Count how sure answers are on a map of one's own.",
+            "Find by trials how probable places are, on a map of one's own.",
         ),
         "check": ("olr.checking.command", "Find what is wrong with a map."),
         "compare": (

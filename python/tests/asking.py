@@ -1,5 +1,6 @@
 """What tests of the client share: answers as the program's JSON, and references on a drawn map."""
 
+import csv
 import dataclasses
 import json
 import random
@@ -9,7 +10,7 @@ from functools import cache
 from pathlib import Path
 from typing import Any
 
-from conftest import TOP, Program
+from conftest import TOP, Program, Tools
 from olr.client.late import Late
 
 
@@ -74,3 +75,13 @@ def batch_of(program: Program, what: str, records: Path, options: Sequence[objec
     ended = program.run("batch", what, *options, "--input", records)
     lines = [json.loads(line) for line in ended.stdout.splitlines()]
     return [line["answer"] if line["fault"] is None else line["fault"] for line in lines]
+
+
+def likeliest_of(tools: Tools, file: Path, folder: Path, *words: object) -> list[dict[str, str]]:
+    """The rows that `olr-tools match --places` writes of the likeliest places, or of references without one."""
+    out = file.with_suffix(".likeliest.csv")
+    words = ("match", file, "--map", folder, "--places", "--out", out, "--force", *words)
+    ended = tools.run(*words)
+    assert (ended.returncode, ended.stderr) == (0, "")
+    with out.open(encoding="utf-8", newline="") as stream:
+        return [row for row in csv.DictReader(stream) if row["likely"] in ("1", "")]

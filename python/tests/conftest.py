@@ -26,6 +26,12 @@ REFERENCE = "CwVF/yN2yRpnBAFUAAgbpwYBAf9kK0Fa"
 """Some reference: to ask whether a map can be read."""
 
 
+OF_PROGRAM = ("--profile", "program")
+"""Words of `olr-tools` for the program's own tolerances: where what it writes is compared with what the program says, or was drawn for them."""
+ASKED_WITH_PROGRAM = "asked with: radius 100 m, bearing 4 sectors, class 7, lowest 0, percent 30 %, slack 300 dm, profile program"
+"""What a summary says then."""
+
+
 class Program:
     """The program `olr`."""
 

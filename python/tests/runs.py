@@ -13,7 +13,7 @@ from pathlib import Path
 from typing import NamedTuple, Optional, Union
 
 from asking import draw_map, draw_references
-from conftest import TOP, Program
+from conftest import OF_PROGRAM, TOP, Program
 from olr.content import Content
 from olr.errors import ToolError
 from olr.messages.message import Reading
@@ -149,7 +149,7 @@ class Runs:
     def words(self, *words: object, messages: Optional[Path] = None) -> list[str]:
         """The words of a run."""
         given = ["run", messages or self.town.messages, "--store", self.town.store]
-        given += ["--out", self.out, *words]
+        given += ["--out", self.out, *OF_PROGRAM, *words]
         return [str(TOP / "olr-tools"), *map(str, given)]
 
     def run(

@@ -104,7 +104,7 @@ def test_columns_are_those_of_the_json(
     for key, (page, points) in enumerate(zip(pages, candidates)):
         empty = dict.fromkeys(expected({**NOTHING, "outer": None, "inner": None}, part, {}))
         row: Row = {"key": key, "rank": None, "verdict": "none", "gap": None, "fault": None}
-        row |= {"margin": None, "confidence": None, "members": None, "candidates": None} | empty
+        row |= {**dict.fromkeys(OF_PLACES), "candidates": None, **empty}
         if isinstance(page, str):
             wanted.append(row | {"verdict": "fault", "fault": page})
             continue
@@ -131,6 +131,11 @@ def test_columns_are_those_of_the_json(
             assert 0.95 < ELLIPSOID.geometry_length(geometry) / metres < 1.005
 
 
+OF_PLACES = [
+    *("likely", "probability", "none_of_these", "margin", "ends_m", "turns_back", "members"),
+    *("map_differs", "map_differs_low", "map_differs_high", "reasons"),
+]
+"""Columns that matchings don't have."""
 NOTHING: Row = {"total": 0, "points": [], "legs": [], "cursor": ""}
 
 

@@ -111,7 +111,9 @@ def test_the_conformance_suite(program: Program, tmp_path: Path) -> None:
         what, options = key[0], dict(zip(key[1:-3:2], key[2:-3:2]))
         for name, text in files.items():
             (tmp_path / name).write_text(text, encoding="utf-8")
-        numbers = {name[2:]: int(value) for name, value in options.items() if value.isdecimal()}
+        numbers: dict[str, Any] = {
+            name[2:]: int(value) for name, value in options.items() if value.isdecimal()
+        }
         own = {name: numbers.pop(name) for name in NUMBERS[what] if name in numbers}  # type: ignore[index]
         if "class" in numbers:
             numbers["class_"] = numbers.pop("class")

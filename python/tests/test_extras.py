@@ -19,7 +19,7 @@ from olr.extras import ALWAYS, COMES_WITH, EXTRA_OF, EXTRAS, needed_by
 from olr.setup import MODULES
 
 PACKAGE = TOP / "python"
-LATE = {"regions": {"osmium", "pyproj"}, "run": {"fiona", "shapely"}}
+LATE = {"regions": {"osmium", "pyproj"}, "run": {"fiona"}}
 """Modules that a command needs for some files only, which its extra doesn't bring: OpenStreetMap files, and files of geometries."""
 
 REFUSING = """
@@ -77,7 +77,10 @@ with olr.Map.of_folder(examples, program=program) as town:
     ]
 
 
-@pytest.mark.parametrize("name", ["Network", "to_geodataframe"])
+MODULE_OF = {"Network": "numpy", "Confidence": "numpy", "to_geodataframe": "geopandas"}
+
+
+@pytest.mark.parametrize("name", MODULE_OF)
 def test_a_name_that_lacks_a_module_says_so(name: str) -> None:
     ended = run_without(
         ALL,
@@ -89,7 +92,7 @@ except ImportError as error:
     print(error.name, isinstance(error, olr.ToolError), error)
 """,
     )
-    module = {"Network": "numpy", "to_geodataframe": "geopandas"}[name]
+    module = MODULE_OF[name]
     assert ended.stdout == (
         f"{module} True olr.{name} needs the module {module}: on Debian run olr-tools setup "
         f"(python3-{module}), elsewhere install the extra olr[geo] of the wheel\n"

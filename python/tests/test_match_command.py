@@ -9,8 +9,9 @@ from pathlib import Path
 
 import pytest
 
-from conftest import REFERENCE, TOP, Program, Tools
+from conftest import ASKED_WITH_PROGRAM, OF_PROGRAM, REFERENCE, TOP, Program, Tools
 from olr import tools as command_line
+from olr.client.questions import TOLERANCES
 from olr.matching import columns as columns_of
 
 EXAMPLES = TOP / "examples"
@@ -30,11 +31,16 @@ def info(file: Path) -> str:
 
 def test_matchings(tools: Tools, tmp_path: Path) -> None:
     out = tmp_path / "new" / "out.gpkg"
-    ended = tools.run("match", EXAMPLES / "messages.tsv", "--map", EXAMPLES, "--out", out)
+    words = ["match", EXAMPLES / "messages.tsv", "--map", EXAMPLES, "--out", out]
+    ended = tools.run(*words, *OF_PROGRAM)
     assert (ended.returncode, ended.stderr) == (0, "")
-    assert ended.stdout == (
-        f"{out}: 8 rows of 5 references\nmatched: 3\nnone: 1\nrefused, BadLength: 1\n"
-    )
+    assert ended.stdout.splitlines()[:-1] == [
+        f"{out}: 8 rows of 5 references",
+        "matched: 3",
+        "none: 1",
+        "refused, BadLength: 1",
+        ASKED_WITH_PROGRAM,
+    ]
     shown = info(out)
     assert "Layer name: match" in shown and "Feature Count: 8" in shown
     assert "fault (String) = BadLength 12" in shown
@@ -45,6 +51,7 @@ def test_matchings(tools: Tools, tmp_path: Path) -> None:
 def test_places(tools: Tools, tmp_path: Path) -> None:
     out = tmp_path / "out.geojson"
     words = ["match", EXAMPLES / "messages.tsv", "--map", EXAMPLES, "--places", "--out", out]
+    words += OF_PROGRAM
     ended = tools.run(*words, "--part", "inner", "--radius", 150)
     assert ended.stdout.splitlines()[1:4] == ["unique: 3", "none: 1", "refused, BadLength: 1"]
     features = json.loads(out.read_text())["features"]
@@ -63,7 +70,7 @@ def test_places(tools: Tools, tmp_path: Path) -> None:
 def test_why(tools: Tools, tmp_path: Path) -> None:
     out = tmp_path / "out.gpkg"
     words = ["match", EXAMPLES / "unmatched.tsv", "--map", EXAMPLES, "--why", "--out", out]
-    assert tools.run(*words).returncode == 0
+    assert tools.run(*words, *OF_PROGRAM).returncode == 0
     with sqlite3.connect(out) as base:
         rows = base.execute("select key, verdict, at, remedies from why order by key").fetchall()
     assert len(rows) == 4 and all(verdict != "match" for _, verdict, _, _ in rows)
@@ -115,22 +122,26 @@ def test_columns_whatever_the_answers(
 
 
 def test_numbers_of_places(tmp_path: Path, capsys: pytest.CaptureFixture[str]) -> None:
-    """The roadworks have a second place with a gap of 7. With `--within 6` it isn't listed, with `--most 1` it isn't looked for, and
-    with `--look 1` neither."""
+    """The roadworks have a second place with a gap of 7, which is the likelier one. With `--within 6` the program wouldn't list it, with `--look
+    1` it isn't looked for, and with `--most 1` the other one isn't shown, which changes no verdict.
+    """
     (tmp_path / "messages.txt").write_text("CwVGnSN2zhvHCgDX/tIzAw==\n")
     for name in ("nodes.csv", "lines.csv"):
         (tmp_path / name).symlink_to(EXAMPLES / name)
     words = ["match", str(tmp_path / "messages.txt"), "--map", str(tmp_path), "--force"]
     words += ["--out", str(tmp_path / "out.gpkg")]
-    for given, verdict in (
-        ("--places", "ambiguous"),
-        ("--places --within 6", "unique"),
-        ("--places --most 1", "open"),
-        ("--places --look 1", "open"),
-        ("--places --apart 1000000", "unique"),
+    for given, verdict, ranks in (
+        ("--places", "ambiguous", [2, 1]),
+        ("--places --within 6", "unique", [2, 1]),
+        ("--places --most 1", "ambiguous", [2]),
+        ("--places --look 1", "open", [1]),
+        ("--places --apart 1000000", "unique", [1]),
     ):
         assert command_line.run([*words, *given.split()]) == 0
         assert capsys.readouterr().out.splitlines()[1] == f"{verdict}: 1"
+        with sqlite3.connect(tmp_path / "out.gpkg") as base:
+            found = base.execute("select rank from places order by likely").fetchall()
+        assert [rank for (rank,) in found] == ranks
     for given, status, said in (
         ("--places --look 0", 1, "olr-tools: BadNumber look"),
         ("--most 1", 2, "--most is for places, not for match"),
@@ -154,8 +165,9 @@ def test_help_has_units_ranges_and_defaults(
     shown = [row for row in rows if row[1] in of_command]
     assert len(shown) == (11 if name == "match" else 10)
     for option, _, unit, default, scope in shown:
-        text = re.search(rf"{option} N (.*?, by default [0-9]+)\.", helped)
-        assert text is not None and text[1].endswith(f": {scope} {unit}, by default {default}")
+        text = re.search(rf" {option} N (.*?, by default .*?)\.", helped)
+        known = "that of the profile" if option[2:] in TOLERANCES else default
+        assert text is not None and text[1].endswith(f": {scope} {unit}, by default {known}")
 
 
 @pytest.mark.parametrize(

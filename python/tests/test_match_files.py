@@ -16,7 +16,7 @@ import pytest
 
 import olr
 from asking import draw_map, draw_references
-from conftest import REFERENCE, TOP, Program
+from conftest import OF_PROGRAM, REFERENCE, TOP, Program
 from olr.map_folder import read_map
 from olr.tools import run
 from olr.trials.encoder import Network, drawn_references, text_of
@@ -36,7 +36,7 @@ def environment(program: Program, monkeypatch: pytest.MonkeyPatch) -> None:
 
 def match(out: Path, *words: object, messages: Path = EXAMPLES / "messages.tsv") -> int:
     """Runs `match` on the example's map, and answers its status."""
-    given = ["match", messages, "--map", EXAMPLES, "--out", out, *words]
+    given = ["match", messages, "--map", EXAMPLES, "--out", out, *OF_PROGRAM, *words]
     return run(list(map(str, given)))
 
 
@@ -73,7 +73,7 @@ def test_pieces_in_each_kind_of_file(tmp_path: Path, capsys: pytest.CaptureFixtu
         answers = tables[3].dropna(subset=["rank"]).set_index(["key", "rank"])
         assert sums.round(6).to_dict() == answers["outer_m"].to_dict()
     assert all(it.geom_type == "LineString" for it in tables[2]["geometry"])
-    assert (tmp_path / "out.csv").read_text().splitlines()[0].startswith("record,key,rank,verdict,")
+    assert (tmp_path / "out.csv").read_text().splitlines()[0].startswith("record,key,likely,rank,")
 
 
 def test_geojson_is_read_by_others(tmp_path: Path) -> None:
@@ -158,7 +158,7 @@ def test_rows_are_added_to_the_same_columns_alone(
         "places.gpkg": "has no layer match, but places: name another file",
         "other.gpkg": "its layer match lacks from_m, has begin: name another file",
         "typed.gpkg": "its layer match has fault as INTEGER and not TEXT",
-        "table.csv": "has other columns, so rows can't be added: its first line isn't record,key,rank",
+        "table.csv": "has other columns, so rows can't be added: its first line isn't record,key,likely",
         "cut.csv": "ends within a line",
         "none.gpkg": "isn't a GeoPackage",
         "features.geojson": "is GeoJSON, to which rows can't be added: name a file .gpkg or .csv",

@@ -159,10 +159,12 @@ def test_types_of_tables(program: Program) -> None:
         texts = table[["verdict", "cursor", "fault"]].values.ravel()
         assert all(text is None or isinstance(text, str) for text in texts)
     penalties = ("total", "point_penalty", "leg_penalty")
-    counts = ("rank", "gap", "margin", "members", "candidates")
+    counts = ("likely", "rank", "gap", "margin", "turns_back", "members", "candidates")
     numbers = dict.fromkeys((*penalties, *counts), "Int64")
-    metres = dict.fromkeys(("confidence", "from_m", "to_m", "outer_m", "inner_m"), "float64")
-    words = ("verdict", "part", "lines", "sources", "names", "cursor", "fault")
+    sure = ("probability", "none_of_these", "map_differs", "map_differs_low", "map_differs_high")
+    lengths = ("ends_m", "from_m", "to_m", "outer_m", "inner_m")
+    metres = dict.fromkeys((*sure, *lengths), "float64")
+    words = ("verdict", "part", "lines", "sources", "names", "reasons", "cursor", "fault")
     texts = dict.fromkeys(words, "object")
     assert types == [{"key": "int64", "geometry": "geometry", **numbers, **metres, **texts}] * 6
 
@@ -185,7 +187,8 @@ def test_tables(program: Program, tmp_path: Path, suffix: str) -> None:
     assert table["total"].dropna().tolist() == [8, 64, 71]
     assert table["fault"].tolist()[3] == "BadLength 12"
     assert table.geometry.isna().tolist() == [False, False, False, True, True]
-    assert places[["key", "gap", "margin"]].values.tolist() == [[0, 0, 7], [0, 7, 7]]
+    # The likeliest place is the second one of the program.
+    assert places[["key", "gap", "margin"]].values.tolist() == [[0, 7, 7], [0, 0, 7]]
     point = kiosk.geometry[0]
     assert point.geom_type == "Point"
     assert point.distance(network.point((701, (2697 + 2716) // 2))) < 1e-9

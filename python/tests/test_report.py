@@ -9,24 +9,24 @@ import sys
 from collections import Counter
 from collections.abc import Mapping
 from pathlib import Path
-from typing import Any, Optional
+from typing import Any
 
 import pytest
 
-import olr
-from conftest import REFERENCE, TOP, Program
+from confidences import FEED, LONG_LIST, OF_NONE, PlainOrder, write_confidence
+from conftest import OF_PROGRAM, REFERENCE, TOP, Program
 from feeds import MARKUP, Feed, data_of, jq, make_feed, tables_of
-from olr.messages.message import Message
+from olr.confidence.likeness import Range
 from olr.regions.making import make_store_of_folder
-from olr.report.counting import EDGES, Histogram
-from olr.report.sample import Sample, equal_shares
 from olr.tools import run
 from olr.trials.encoder import Network, drawn_references, text_of
 from olr.map_folder import read_map
 from vector_files import STREETS
 
-NUMBERS = ["--within", "200", "--look", "20"]
+WITHIN, LOOK = 200, ["--look", "20"]
+NUMBERS = ["--within", str(WITHIN), *LOOK]
 """With which the feed has answers of all kinds."""
+DIFFERS = Range(0.84, 0.55, 1.16)
 MORE_BYTES = 30 << 20
 
 
@@ -44,15 +44,34 @@ def feed(tmp_path_factory: pytest.TempPathFactory) -> Feed:
 
 @pytest.fixture(scope="module")
 def data(feed: Feed, program: Program) -> Any:
-    """What its page has."""
+    """What its page has, by a confidence by which all places of an answer are as probable."""
     with pytest.MonkeyPatch.context() as patch:
         patch.setenv("OLR_PROGRAM", os.fspath(program.path))
-        return report(feed, feed.folder.parent / "page.html", *NUMBERS)
+        return report(feed, feed.folder.parent / "page.html", *sure(feed), *NUMBERS)
+
+
+@pytest.fixture(scope="module")
+def listed(feed: Feed, program: Program) -> dict[int, Any]:
+    """The answers to its references by their records, with long lists of places; None for a fault."""
+    records = jq(program, feed, "places", ".", *LONG_LIST, *LOOK)
+    return {one["record"]: one["answer"] for one in records}
+
+
+@pytest.fixture(scope="module")
+def plain(feed: Feed) -> PlainOrder:
+    """The likely order on its map."""
+    return PlainOrder(feed.folder)
+
+
+def sure(feed: Feed) -> list[object]:
+    """The words that name a confidence, which was made for some feed."""
+    file = feed.folder.parent / "sure.json"
+    return ["--confidence", write_confidence(file, DIFFERS, FEED)]
 
 
 def report(feed: Feed, out: Path, *words: object) -> Any:
     """The data of a report's page."""
-    given = ["report", feed.messages, "--map", feed.folder, "--out", out, *words]
+    given = ["report", feed.messages, "--map", feed.folder, "--out", out, *OF_PROGRAM, *words]
     assert run(list(map(str, given))) == 0
     return data_of(out)
 
@@ -72,17 +91,9 @@ def by_ranges(numbers: list[int], names: list[str]) -> dict[str, int]:
     return found
 
 
-def cell_of(margin: Optional[int], total: float) -> Any:
-    """The cell of the file of the default table: of a margin, and of a total for each point."""
-    cells = json.loads((TOP / "python/olr/confidence/tempe.json").read_text())["cells"]
-
-    def has(bin: Any, value: Optional[float]) -> bool:
-        if bin is None or value is None:
-            return bin is None and value is None
-        return bool(bin["from"] <= value and (bin["to"] is None or value < bin["to"]))
-
-    rows = next(it["rows"] for it in cells if has(it["margin"], margin))
-    return next(row for row in rows if has(row["bin"], total))
+def is_line(places: list[Any]) -> bool:
+    """Whether the places are those of a line, not of a point along one."""
+    return "outer" in places[0]["matching"]
 
 
 def grouped(query: str) -> str:
@@ -99,7 +110,7 @@ def test_verdicts_and_faults(feed: Feed, data: Any, program: Program) -> None:
     assert nonzero(tables["References by verdict"]) == verdicts
     assert tables["Refused references by fault"] == faults
     whole = sum(verdicts.values())
-    assert data["summary"][0] == (
+    assert data["summary"][2] == (
         f"{whole} references: {verdicts['unique']} unique, {verdicts['ambiguous']} ambiguous, {verdicts['open']} open, "
         f"{verdicts['none']} fit nothing, {verdicts['refused']} refused."
     )
@@ -107,15 +118,19 @@ def test_verdicts_and_faults(feed: Feed, data: Any, program: Program) -> None:
     assert meanings["NotBase64"] == "the text isn't standard base64"
 
 
-def test_penalties(feed: Feed, data: Any, program: Program) -> None:
+def test_penalties(
+    feed: Feed, data: Any, program: Program, listed: dict[int, Any], plain: PlainOrder
+) -> None:
+    """Margins are the program's; the others are of the places that are shown, in the likely order."""
     tables = tables_of(data)
-    of_places = '[.[].answer // empty | select(.verdict != "none") | {}]'
-    for caption, query in (
-        ("Totals of first places", ".places[0].matching.total"),
-        ("Gaps of the second and further places that are listed", ".places[1:][].gap"),
-        ("Margins, the gap of the second place", ".margin"),
+    query = '[.[].answer // empty | select(.verdict != "none") | .margin]'
+    shown = [plain.shown(one["places"], WITHIN) for one in listed.values() if one and one["places"]]
+    others = [place for places in shown for place in places if place["rank"] > 1]
+    for caption, numbers in (
+        ("Totals of likeliest places", [places[0]["matching"]["total"] for places in shown]),
+        ("Gaps of the other places that are shown", [place["gap"] for place in others]),
+        ("Margins, the gap of the second best place", jq(program, feed, "places", query, *NUMBERS)),
     ):
-        numbers = jq(program, feed, "places", of_places.replace("{}", query), *NUMBERS)
         assert len(numbers) > 20
         names = [name for name in tables[caption] if name != "none"]
         expected = by_ranges([one for one in numbers if one is not None], names)
@@ -123,6 +138,72 @@ def test_penalties(feed: Feed, data: Any, program: Program) -> None:
         if None in numbers:
             expected["none"] = numbers.count(None)
         assert tables[caption] == expected
+    assert any(places[0]["rank"] > 1 for places in shown)
+
+
+def test_how_many_are_right(
+    feed: Feed,
+    data: Any,
+    listed: dict[int, Any],
+    plain: PlainOrder,
+    tmp_path: Path,
+    capsys: pytest.CaptureFixture[str],
+) -> None:
+    """By this confidence each of `n` places that were found is the right one with a probability of 1 / (n + 0.6)."""
+    found = [one for one in listed.values() if one and one["places"]]
+    lines = [one["places"] for one in found if is_line(one["places"])]
+    probable = [1 / (len(places) + OF_NONE) for places in lines]
+    assert len(set(probable)) > 5 and len(found) > len(lines)
+    right = sum(probable)
+    off = 1.96 * sum(one * (1 - one) for one in probable) ** 0.5
+    first = (
+        f"about {right:.0f} of {len(lines)} likeliest places are right ({int(right - off)} to {int(right + off) + 1}), "
+        "by the trials of sure.json"
+    )
+    second = "the two maps seem to differ by 0.8 (0.6 to 1.2), 1 as another vendor's"
+    assert data["summary"][0] == f"{first[0].upper()}{first[1:]}."
+    assert data["summary"][1].startswith(f"{second[0].upper()}{second[1:]}: sure.json says so by")
+    bins = {f"{low / 10:g} to below {low / 10 + 0.1:g}": 0 for low in range(8, 0, -1)}
+    expected = {"0.9 to 1": 0, **bins, "below 0.1": 0}
+    for one in probable:
+        expected[list(expected)[9 - int(10 * one)]] += 1
+    table = tables_of(data)["Likeliest places by probability"]
+    assert table == {**expected, "none": len(found) - len(lines)}
+    assert list(table) == [*expected, "none"]
+    back = sum(plain.turns_back(plain.shown(one["places"], WITHIN)[0]["matching"]) for one in found)
+    cut_off = sum(plain.is_cut_off(one, WITHIN) for one in found)
+    assert back > 5 and cut_off > 2
+    remarks = [
+        f"turn back at a dead end: {back} likeliest places",
+        f"cut off: {cut_off} may have more places: give a greater --look",
+    ]
+    assert data["summary"][3:5] == [f"{line[0].upper()}{line[1:]}." for line in remarks]
+    capsys.readouterr()
+    report(feed, tmp_path / "page.html", *sure(feed), *NUMBERS, "--rows", 1)
+    printed = capsys.readouterr().out.splitlines()
+    assert printed[1] == first and printed[2].startswith(second) and printed[-2:] == remarks
+
+
+def test_the_likeliest_place_counts(tmp_path: Path) -> None:
+    """The roadworks' second place is 23.2 points likelier than the first one, as `test_view.py` works out. A tenth of that by this confidence:
+    so its probability is 1 / (1 + exp(-2.32))."""
+    folder = tmp_path / "map"
+    folder.mkdir()
+    for name in ("nodes.csv", "lines.csv"):
+        (folder / name).write_bytes((TOP / "examples" / name).read_bytes())
+    messages = tmp_path / "feed.tsv"
+    messages.write_text("m3\tCwVGnSN2zhvHCgDX/tIzAw==\n")
+    file = write_confidence(tmp_path / "sure.json", behind=0.1, none=-20.0)
+    found = report(Feed(folder, messages), tmp_path / "page.html", "--confidence", file)
+    assert found["summary"][0].startswith("About 1 of 1 likeliest place is right (0 to 1), ")
+    tables = tables_of(found)
+    assert nonzero(tables["Likeliest places by probability"]) == {"0.9 to 1": 1}
+    (row,) = found["rows"]
+    assert (row["total"], row["probability"], row["none_of_these"]) == (71, 0.911, 0.0)
+    (gap,) = (
+        name for name, count in tables["Gaps of the other places that are shown"].items() if count
+    )
+    assert gap == "5 to 9"
 
 
 def test_why(feed: Feed, data: Any, program: Program) -> None:
@@ -153,26 +234,28 @@ def test_why(feed: Feed, data: Any, program: Program) -> None:
         f'{lacking} | .nearest as $near | ["radius", "bearing", "class", "end"][] | select(. as $it | $near | all(.not | any(. == $it)))'
     )
     assert every == all_fail
-    assert data["summary"][1].startswith(
+    assert data["summary"][5].startswith(
         f"{points} points of references without a place have no candidate. At {nearest['radius']} of them"
     )
     assert sum(shape["kind"] == "lacking" for shape in data["shapes"]) == points
 
 
-def test_rows(feed: Feed, data: Any, program: Program) -> None:
-    """Each record has a row, what isn't unique comes first, and numbers are those of the answer."""
-    places = {one["record"]: one for one in jq(program, feed, "places", ".", *NUMBERS)}
+def test_rows(
+    feed: Feed, data: Any, program: Program, listed: dict[int, Any], plain: PlainOrder
+) -> None:
+    """Each record has a row, what isn't unique comes first, and numbers are those of the answer's likeliest place."""
+    asked = {one["record"]: one for one in jq(program, feed, "places", ".", *NUMBERS)}
     rows = data["rows"]
-    assert sorted(row["record"] for row in rows) == sorted(places)
+    assert sorted(row["record"] for row in rows) == sorted(asked)
     order = ["none", "refused", "ambiguous", "open", "unique"]
     keys = [(order.index(row["verdict"]), row["record"]) for row in rows]
     assert keys == sorted(keys)
-    assert data["left_out"] == f"All {len(places)} references."
+    assert data["left_out"] == f"All {len(asked)} references."
     for row, scene in zip(rows, data["scenes"]):
-        answer = places[row["record"]]["answer"]
+        answer = asked[row["record"]]["answer"]
         assert row["key"] == f"{row['record'] - 1} {MARKUP}"
         if answer is None:
-            fault = places[row["record"]]["fault"]
+            fault = asked[row["record"]]["fault"]
             assert row["verdict"] == "refused" and row["reason"].startswith(fault)
             assert (scene is None) == (row["cause"] != "TooManyCandidates")
             continue
@@ -181,27 +264,29 @@ def test_rows(feed: Feed, data: Any, program: Program) -> None:
         if not answer["places"]:
             assert row["cause"] in ("point", "leg", "chain") and row["reason"].endswith(".")
             continue
-        first = answer["places"][0]["matching"]
+        places = listed[row["record"]]["places"]
+        shown = plain.shown(places, WITHIN)
+        first = shown[0]["matching"]
         assert (row["total"], row["margin"]) == (first["total"], answer["margin"])
-        if "outer" in first:
-            length = sum(end - start for _, start, end in first["outer"]) / 10
-            assert row["length"] == pytest.approx(length)
-        cell = cell_of(answer["margin"], first["total"] / len(first["points"]))
-        is_cut_off = row["verdict"] == "open" and answer["margin"] is None
-        if is_cut_off or cell["count"] < 40 or "earliest" in first:
-            assert "confidence" not in row
-        else:
-            assert (row["right"], row["answers"]) == (cell["right"], cell["count"])
-            assert row["confidence"] == pytest.approx(cell["share"], abs=0.05)
+        entries = [entry for entry in scene["entries"] if entry["members"]]
+        cursors = [place["matching"]["cursor"] for place in shown]
+        assert [entry["cursor"] for entry in entries] == cursors
+        assert row.get("turns_back") == ("turns back" if plain.turns_back(first) else None)
+        if not is_line(places):
+            assert "probability" not in row and "none_of_these" not in row
+            assert not any(entry["probability"] for entry in entries)
+            continue
+        length = sum(end - start for _, start, end in first["outer"]) / 10
+        assert row["length"] == pytest.approx(length)
+        whole = len(places) + OF_NONE
+        assert row["probability"] == pytest.approx(1 / whole, abs=0.0006)
+        assert row["none_of_these"] == pytest.approx(OF_NONE / whole, abs=0.0006)
     assert Counter(row["verdict"] for row in rows if "length" not in row)["unique"] > 0
-    confidence = Counter(f"{row['confidence']:g}" for row in rows if "confidence" in row)
-    counted = tables_of(data)["References that fit somewhere, by confidence"]
-    assert {name: count for name, count in counted.items() if name != "unknown"} == confidence
 
 
 def test_fewer_rows(feed: Feed, data: Any, tmp_path: Path) -> None:
     """All are counted, and each outcome has a share."""
-    small = report(feed, tmp_path / "page.html", *NUMBERS, "--rows", 40)
+    small = report(feed, tmp_path / "page.html", *sure(feed), *NUMBERS, "--rows", 40)
     assert small["sections"] == data["sections"] and small["summary"] == data["summary"]
     assert len(small["rows"]) == len(small["scenes"]) == 40
     whole = nonzero(tables_of(data)["References by verdict"])
@@ -210,25 +295,26 @@ def test_fewer_rows(feed: Feed, data: Any, tmp_path: Path) -> None:
     assert small["left_out"].startswith(f"40 of {sum(whole.values())} references, drawn at random")
     for word, count in whole.items():
         assert f"{word} {shown[word]} of {count}" in small["left_out"]
-    again = report(feed, tmp_path / "page.html", *NUMBERS, "--rows", 40, "--force")
+    again = report(feed, tmp_path / "page.html", *sure(feed), *NUMBERS, "--rows", 40, "--force")
     assert again["rows"] == small["rows"]
 
 
 def test_a_store_gives_the_same(feed: Feed, data: Any, tmp_path: Path) -> None:
     store = tmp_path / "map.gpkg"
     make_store_of_folder(feed.folder, store)
-    found = report(Feed(store, feed.messages), tmp_path / "page.html", *NUMBERS)
+    found = report(Feed(store, feed.messages), tmp_path / "page.html", *sure(feed), *NUMBERS)
     for name in ("sections", "summary", "rows", "shapes"):
         assert found[name] == data[name], name
     lines = {line["id"]: line for line in data["lines"]}
     assert all(lines.get(line["id"], line) == line for line in found["lines"])
     for one, other in zip(found["scenes"], data["scenes"]):
         if one is not None:
-            assert one | {"near": 0} == other | {"near": 0}
+            assert one["command"] == "" and other["command"].startswith("olr ")
+            assert one | {"near": 0, "command": ""} == other | {"near": 0, "command": ""}
 
 
 def test_real_streets(tmp_path: Path, capsys: pytest.CaptureFixture[str]) -> None:
-    """The summary is the one that `match` prints, and most references are unique."""
+    """The summary is the one that `match` prints, behind what is expected, and most references are unique."""
     words = ["import", "vector", STREETS, "--class", 5, "--form", 3, "--id", "ID"]
     assert run([*map(str, words), "--out", str(tmp_path / "map")]) == 0
     network = Network(read_map(tmp_path / "map"))
@@ -239,8 +325,10 @@ def test_real_streets(tmp_path: Path, capsys: pytest.CaptureFixture[str]) -> Non
     found = report(Feed(tmp_path / "map", messages), tmp_path / "page.html")
     summary = capsys.readouterr().out.splitlines()
     match = ["match", messages, "--map", tmp_path / "map", "--places", "--out", tmp_path / "it.csv"]
-    assert run(list(map(str, match))) == 0
-    assert summary[1:] == capsys.readouterr().out.splitlines()[1:]
+    assert run(list(map(str, [*match, *OF_PROGRAM]))) == 0
+    assert [line for line in summary[1:] if "turn back" not in line] == (
+        capsys.readouterr().out.splitlines()[1:]
+    )
     assert summary[0] == f"{tmp_path / 'page.html'}: 60 rows of 60 references"
     assert tables_of(found)["References by verdict"]["unique"] > 40
     assert found["title"] == "feed.tsv on map"
@@ -255,22 +343,48 @@ def test_texts_of_others_are_no_markup(feed: Feed, data: Any) -> None:
     assert " src=" not in text.split("<script")[0] and "url(" not in text.split("</style>")[0]
 
 
-def test_other_tolerances_have_no_confidence(
+def test_other_tolerances_have_no_probabilities(
     feed: Feed, tmp_path: Path, capsys: pytest.CaptureFixture[str]
 ) -> None:
     found = report(feed, tmp_path / "page.html", "--radius", 90, "--rows", 20)
-    assert all("confidence" not in row for row in found["rows"])
+    assert all("probability" not in row for row in found["rows"])
     assert found["sections"][-1]["tables"] == []
-    assert "radius is 90, and 100 in the table" in found["sections"][-1]["texts"][0]
-    table = TOP / "python/olr/confidence/tempe.json"
+    shipped = json.loads((TOP / "python/olr/confidence/shipped.json").read_text())
+    note = f"No probabilities: radius is 90, not {shipped['tolerances']['radius']}; "
+    assert found["sections"][-1]["texts"][0].startswith(note)
+    assert found["summary"][0].startswith(note) and "references: " in found["summary"][1]
+    printed = capsys.readouterr().out.splitlines()
+    assert printed[-1].startswith(note.lower()) and "likeliest places are right" not in printed[1]
     words = ["report", feed.messages, "--map", feed.folder, "--out", tmp_path / "other.html"]
-    assert run([*map(str, words), "--radius", "90", "--confidence", str(table)]) == 1
+    words += [*OF_PROGRAM, "--radius", 90, *sure(feed)]
+    assert run(list(map(str, words))) == 1
     assert "says nothing of such answers: radius is 90" in capsys.readouterr().err
-    own = report(feed, tmp_path / "page.html", "--confidence", table, "--force", "--rows", 20)
-    assert (
-        any("confidence" in row for row in own["rows"])
-        and "tempe.json" in own["sections"][-1]["texts"][0]
-    )
+
+
+def test_maps_that_no_feed_told(feed: Feed, tmp_path: Path) -> None:
+    """The file that comes with the package is of none, and neither is one of one's own map alone: the page says how to make one."""
+    own = write_confidence(tmp_path / "own.json", DIFFERS)
+    shipped = json.loads((TOP / "python/olr/confidence/shipped.json").read_text())
+    tolerances = [
+        word for name, value in shipped["tolerances"].items() for word in (f"--{name}", value)
+    ]
+    of_shipped = Range(**shipped["map_differs"])
+    for words, name, differs in (
+        (tolerances, "the confidence that comes with olr-tools", of_shipped),
+        ((*OF_PROGRAM, "--confidence", own), "own.json", DIFFERS),
+    ):
+        out = tmp_path / "page.html"
+        given = ["report", feed.messages, "--map", feed.folder, "--out", out, "--force", *words]
+        assert run(list(map(str, [*given, "--rows", 20]))) == 0
+        summary = data_of(out)["summary"]
+        assert summary[0].endswith(f", by the trials of {name}.")
+        assert summary[1] == (
+            f"How different the two maps are isn't known from this feed: {name} is for maps that differ by "
+            f"{differs.value:.1f} ({differs.low:.1f} to {differs.high:.1f}), 1 as another vendor's; "
+            "make one for this feed by olr-tools calibrate --map DIR --for FEED."
+        )
+        assert any("probability" in row for row in data_of(out)["rows"])
+        assert name in data_of(out)["sections"][-1]["texts"][0]
 
 
 @pytest.mark.parametrize(
@@ -281,11 +395,13 @@ def test_other_tolerances_have_no_confidence(
         (["--out", "feed.html", "--force"], 1, "feed.html is one of the inputs"),
         (["--out", "page.html", "--rows", "0"], 2, "0 is not in the range x>=1"),
         (["--out", "page.html", "--radius", "0"], 1, "BadTolerance radius"),
+        (["--out", "page.html", "--most", "101"], 1, "BadNumber most"),
+        (["--out", "page.html", "--within", "-1"], 1, "BadNumber within"),
         (["--out", "page.html", "--tiles", "tiles"], 1, "tiles is no URL of tiles"),
         (
             ["--out", "page.html", "--confidence", "lines.csv"],
             1,
-            "lines.csv is no confidence table",
+            "lines.csv is no confidence file",
         ),
         (["--out", "page.html", "--ref", "x"], 1, "leave out --ref and --key"),
     ],
@@ -308,42 +424,6 @@ def test_runs_that_fail(
     error = capsys.readouterr().err
     assert shown in error and (status == 2 or error.count("\n") == 1)
     assert sorted(os.listdir()) == before and Path("there.html").read_text() == "before"
-
-
-def test_ranges() -> None:
-    histogram = Histogram()
-    for points in (0, 1, 4, 5, 29, 30, 999, 1000, 14_620):
-        histogram.add(points)
-    assert histogram.rows() == [
-        ("0", 1), ("1 to 4", 2), ("5 to 9", 1), ("10 to 19", 0), ("20 to 29", 1), ("30 to 49", 1),
-        ("50 to 99", 0), ("100 to 199", 0), ("200 to 499", 0), ("500 to 999", 1), ("1,000 or more", 2),
-    ]  # fmt: skip
-    assert len(EDGES) == 11 and Histogram().rows() == []
-
-
-@pytest.mark.parametrize(
-    ("sizes", "most", "shares"),
-    [
-        ({"a": 3, "b": 100, "c": 9}, 30, {"a": 3, "c": 9, "b": 18}),
-        ({"a": 3, "b": 4}, 30, {"a": 3, "b": 4}),
-        ({"a": 50, "b": 50, "c": 50}, 10, {"a": 3, "b": 3, "c": 4}),
-        ({"a": 1, "b": 1, "c": 1}, 2, {"a": 0, "b": 1, "c": 1}),
-        ({}, 2, {}),
-    ],
-)
-def test_equal_shares(sizes: dict[str, int], most: int, shares: dict[str, int]) -> None:
-    assert equal_shares(sizes, most) == shares
-
-
-def test_each_message_is_as_likely_in_a_sample() -> None:
-    """Of 1,000 messages of one outcome 500 are kept: of each fifth about 100, where the standard deviation is below 9."""
-    sample = Sample(500)
-    for record in range(1, 1001):
-        sample.add(Message(record, None, "x"), olr.Fault("NotBase64"))
-    records = [drawn.message.record for drawn in sample.chosen()]
-    assert len(set(records)) == 500 and records == sorted(records)
-    fifths = Counter((record - 1) // 200 for record in records)
-    assert all(65 < fifths[number] < 135 for number in range(5))
 
 
 def test_memory_doesnt_grow_with_the_messages(feed: Feed, tmp_path: Path) -> None:
@@ -369,6 +449,6 @@ def test_a_feed_without_a_place(tmp_path: Path, capsys: pytest.CaptureFixture[st
     messages = tmp_path / "feed.jsonl"
     messages.write_text(json.dumps({"key": None, "ref": "no reference"}) + "\n")
     found = report(Feed(TOP / "examples", messages), tmp_path / "page.html", "--format", "jsonl")
-    assert [section["title"] for section in found["sections"]] == ["Answers", "Confidence"]
+    assert [section["title"] for section in found["sections"]] == ["Answers", "Probabilities"]
     assert found["shapes"] == found["lines"] == [] and found["scenes"] == [None]
     assert "refused, NotBase64: 1" in capsys.readouterr().out

@@ -11,12 +11,14 @@ from typing import Any
 import pytest
 
 from browser import Browser
-from conftest import Program, Tools
+from confidences import FEED, write_confidence
+from conftest import OF_PROGRAM, Program, Tools
 from feeds import MARKUP, Feed, data_of, make_feed
+from olr.confidence.likeness import Range
 from olr.pages.html import Template, html_of
 from olr.tools import run
 
-NUMBERS = ["--within", "200", "--look", "20"]
+NUMBERS = ["--within", "200", "--look", "20", *OF_PROGRAM]
 SHOWN = "[...document.querySelectorAll('.sorted tbody tr')].filter(line => !line.hidden)"
 CHOSEN = "document.querySelector('.sorted [aria-current]')"
 
@@ -40,8 +42,14 @@ def page(feed: Feed, program: Program) -> Path:
     with pytest.MonkeyPatch.context() as patch:
         patch.setenv("OLR_PROGRAM", os.fspath(program.path))
         words = ["report", feed.messages, "--map", feed.folder, "--out", out, *NUMBERS]
-        assert run(list(map(str, words))) == 0
+        assert run(list(map(str, [*words, *sure(feed)]))) == 0
     return out
+
+
+def sure(feed: Feed) -> list[object]:
+    """The words that name a confidence."""
+    file = feed.folder.parent / "sure.json"
+    return ["--confidence", write_confidence(file, Range(0.8, 0.6, 1.2), FEED)]
 
 
 @pytest.fixture(scope="module")
@@ -116,6 +124,9 @@ def test_it_is_a_page_for_all(browser: Browser, data: Any) -> None:
     assert all(MARKUP in key for key in column(browser, 1))
     bars = "[...document.querySelectorAll('.bars tbody tr')].every(line => /\\d/.test(line.cells[1].textContent))"
     assert browser.value(bars)
+    top = browser.value("[...document.querySelectorAll('#summary p')].map(it => it.textContent)")
+    assert top == data["summary"] and "likeliest places are right (" in top[0]
+    assert "The two maps seem to differ by 0.8 (0.6 to 1.2)" in top[1]
     legend = browser.value("document.querySelector('.legend').innerText")
     for word in ("unique", "ambiguous", "open", "none", "refused", "a point without a candidate"):
         assert word in legend
@@ -123,9 +134,10 @@ def test_it_is_a_page_for_all(browser: Browser, data: Any) -> None:
 
 def test_sorting_by_each_heading(browser: Browser, data: Any) -> None:
     """Up and then down; what lacks a value stays at the end."""
-    names = ["record", "key", "verdict", "total", "points", "margin", "confidence", "length", None]
+    names = ["record", "key", "verdict", "total", "points", "margin", "probability"]
+    names += ["none_of_these", "turns_back", "length", "reason"]
     for number, name in enumerate(names):
-        values = [row.get(name or "reason") for row in data["rows"]]
+        values = [row.get(name) for row in data["rows"]]
         there = [value for value in values if value not in (None, "")]
         for expected in ("ascending", "descending"):
             browser.click(f".sorted thead th:nth-child({number + 1}) button")
@@ -135,9 +147,9 @@ def test_sorting_by_each_heading(browser: Browser, data: Any) -> None:
             if isinstance(there[0], str):
                 assert sorted(shown[: len(there)]) == sorted(there)
                 continue
-            numbers = [float(text.split(" ")[0].replace(",", "")) for text in shown[: len(there)]]
+            numbers = [float(text.replace(",", "")) for text in shown[: len(there)]]
             assert numbers == sorted(there, reverse=expected == "descending")
-        assert heading(browser, (number + 1) % 9) == "none"
+        assert heading(browser, (number + 1) % len(names)) == "none"
     browser.value("document.querySelector('.sorted thead th button').focus()")
     browser.press("Enter", "\r")
     assert heading(browser, 0) == "ascending" and column(browser, 0)[0] == "1"
@@ -158,7 +170,7 @@ def test_filters(browser: Browser, data: Any) -> None:
     type_text(browser, "")
     choose(browser, 0, "refused")
     choose(browser, 1, "TooManyCandidates")
-    assert [text.split(":")[0] for text in column(browser, 8)] == ["TooManyCandidates 1"]
+    assert [text.split(":")[0] for text in column(browser, 10)] == ["TooManyCandidates 1"]
     type_text(browser, "nothing has this")
     assert column(browser, 1) == []
     assert browser.value(status) == f"0 of {len(rows)} rows"
@@ -217,7 +229,7 @@ def test_each_row_opens_its_page(browser: Browser, data: Any) -> None:
 def test_the_page_of_a_row_is_the_page_of_view(
     browser: Browser, page: Path, feed: Feed, data: Any, tools: Tools, tmp_path: Path
 ) -> None:
-    """The same data, and the same text but for them, of rows of each verdict."""
+    """The same data, without what is said of other paths, and the same text but for them, of rows of each verdict."""
     browser.value(CATCH + "window.open = () => null;")
     draws = random.Random(2)
     for verdict in ("unique", "ambiguous", "open", "none", "refused"):
@@ -234,15 +246,17 @@ def test_the_page_of_a_row_is_the_page_of_view(
             "--map",
             feed.folder,
         ]
-        ended = tools.run("view", *words, *NUMBERS, "--out", out)
-        assert ended.returncode == 0 and ended.stdout.endswith(f": {verdict}\n")
+        ended = tools.run("view", *words, *NUMBERS, *sure(feed), "--out", out)
+        assert ended.returncode == 0 and ended.stdout.splitlines()[0].endswith(f": {verdict}")
         other = out.read_text(encoding="utf-8")
         rest = r'(<script id="data" type="application/json">).*?(</script>)'
         assert _plain(re.sub(rest, "", text, flags=re.DOTALL)) == _plain(
             re.sub(rest, "", other, flags=re.DOTALL)
         )
         (tmp_path / "opened.html").write_text(text, encoding="utf-8")
-        assert _sorted(data_of(tmp_path / "opened.html")) == _sorted(data_of(out))
+        viewed = data_of(out)
+        del viewed["notes"], viewed["others"]
+        assert _sorted(data_of(tmp_path / "opened.html")) == _sorted(viewed)
 
 
 def _sorted(scene: Any) -> Any:
@@ -307,6 +321,19 @@ def test_a_click_on_the_map_chooses_the_row(browser: Browser, data: Any) -> None
     assert (
         tip == f"record {data['rows'][crowded]['record']}, {data['rows'][crowded]['key']}: refused"
     )
+
+
+def test_the_command_of_the_chosen_row(browser: Browser, data: Any) -> None:
+    """A text that is no reference has none."""
+    isnt_seen = "document.querySelector('#same').hidden"
+    unique = next(at for at, row in enumerate(data["rows"]) if row["verdict"] == "unique")
+    other = next(at for at, scene in enumerate(data["scenes"]) if scene is None)
+    for at in (unique, other, unique):
+        browser.value(f"document.querySelector('tr[data-index=\"{at}\"]').click()")
+        assert browser.value(isnt_seen) == (at == other)
+        shown = browser.value("document.querySelector('#command').textContent")
+        assert shown == ("" if at == other else data["scenes"][at]["command"])
+    assert shown.startswith("olr places ")
 
 
 def test_a_narrow_window(started: Browser, page: Path) -> None:

@@ -10,6 +10,7 @@ from pathlib import Path
 
 import pytest
 
+from conftest import ASKED_WITH_PROGRAM, OF_PROGRAM
 from olr.running import cluster
 from olr.tools import run
 from region_maps import Drawing, hostile_map, hostile_text
@@ -127,7 +128,8 @@ def records_of(draw: random.Random, drawing: Drawing) -> list[bytes]:
 def test_all_questions_on_two_maps(
     runs: Runs, scheduler: str, monkeypatch: pytest.MonkeyPatch, capfd: pytest.CaptureFixture[str]
 ) -> None:
-    """By the command line alone, from the files of a map to the joined lines. All runs have the workers that were there."""
+    """By the command line alone, from the files of a map to the joined lines. All runs have the workers that were there. Places are all that
+    there are, up to 100."""
     monkeypatch.setenv("OLR_PROGRAM", os.fspath(runs.program.path))
     questions: dict[str, list[str]] = {
         "match": ["--page", "3"],
@@ -146,13 +148,15 @@ def test_all_questions_on_two_maps(
         for what, options in questions.items():
             out, joined = folder / what, folder / f"{what}.jsonl"
             words = ["run", messages, "--store", store, "--out", out, "--join", joined, *options]
-            words += ["--scheduler", scheduler, "--per-group", 30]
+            words += ["--scheduler", scheduler, "--per-group", 30, *OF_PROGRAM]
             words += [] if what == "match" else [f"--{what}"]
             assert run(list(map(str, words))) == 0, capfd.readouterr().err
             command = [runs.program.path, "batch", what, "--map", folder, *options]
             command += ["--input", messages]
+            command += ["--within", 14_620, "--most", 100] if what == "places" else []
             ended = subprocess.run(list(map(str, command)), capture_output=True, check=True)
-            assert ended.stdout.count(b"\n") == 120 and joined.read_bytes() == ended.stdout
+            is_same = joined.read_bytes() == ended.stdout
+            assert ended.stdout.count(b"\n") == 120 and is_same
             assert len(os.listdir(out / "parts")) == 4
             faults |= {
                 str(json.loads(line)["fault"]).split()[0] for line in ended.stdout.splitlines()
@@ -182,8 +186,9 @@ def test_an_empty_input(runs: Runs) -> None:
         empty.write_text(text)
         runs.out, runs.joined = (runs.folder / f"{len(text)}{name}" for name in ("out", "joined"))
         ended = runs.run("--join", runs.joined, messages=empty)
-        said = f"{runs.out}: 0 lines of 0 in 0 parts\n{runs.joined}: 0 lines\n"
-        assert ended == (0, said, "")
+        said = [f"{runs.out}: 0 lines of 0 in 0 parts", ASKED_WITH_PROGRAM]
+        said += [f"{runs.joined}: 0 lines", ""]
+        assert ended == (0, "\n".join(said), "")
         assert (runs.joined.read_bytes(), runs.parts()) == (b"", [])
 
 

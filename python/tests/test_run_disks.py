@@ -8,7 +8,7 @@ from pathlib import Path
 
 import pytest
 
-from conftest import Program
+from conftest import OF_PROGRAM, Program
 from olr.tools import run as olr_tools
 from runs import Runs, Town, lines_of_batch
 
@@ -52,6 +52,7 @@ class Commands:
     def __init__(self, town: Town, out: Path, capsys: pytest.CaptureFixture[str]) -> None:
         self.out, self.joined = out, out.parent / "joined"
         words = ["run", town.plain, "--store", town.store, "--out", out, "--per-group", "30"]
+        words += OF_PROGRAM
         self._words = list(map(str, words))
         self._capsys = capsys
 

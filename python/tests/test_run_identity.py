@@ -11,7 +11,7 @@ from typing import Any
 
 import pytest
 
-from conftest import Program
+from conftest import OF_PROGRAM, Program
 from olr import content, road_map
 from olr.errors import ProgramEnded, ProgramNotFound, ToolError
 from olr.regions.making import make_store_of_folder
@@ -267,6 +267,7 @@ def test_resume_with_others(
     begun = Begun(town, program, out, town.messages)
     begun.answer(begun.groups()[:4])
     words = ["run", town.messages, "--out", out, "--per-group", 30, "--join", joined, "--resume"]
+    words += OF_PROGRAM
 
     def resumed(store: Path = town.store) -> tuple[int, str]:
         status = olr_tools([*map(str, words), "--store", os.fspath(store)])
@@ -295,7 +296,7 @@ def test_resume_with_options_at_their_defaults(
     table = tmp_path / "messages.csv"
     rows = town.plain.read_text().splitlines()[:60]
     table.write_text("key,ref\n" + "\n".join(row.replace("\t", ",") for row in rows) + "\n")
-    words = ["run", str(table), "--store", str(town.store), "--out", str(out)]
+    words = ["run", str(table), *OF_PROGRAM, "--store", str(town.store), "--out", str(out)]
     assert olr_tools([*words, "--bearing", "4"]) == 0
     before = {file: file.stat() for file in (out / "parts").iterdir()}
     capsys.readouterr()

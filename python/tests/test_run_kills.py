@@ -16,7 +16,7 @@ from pathlib import Path
 
 import pytest
 
-from conftest import Program
+from conftest import OF_PROGRAM, Program
 from olr.running.parts import NotWhole
 from olr.tools import run as olr_tools
 from runs import Begun, Town, lines_of_batch
@@ -113,6 +113,7 @@ def test_runs_are_killed(town: Town, program: Program, messages: Path, tmp_path:
     expected = lines_of_batch(program, town.folder, "match", messages)
     out, joined = tmp_path / "run", tmp_path / "joined"
     words = ["run", messages, "--store", town.store, "--out", out, "--per-group", 9]
+    words += OF_PROGRAM
     again = list(map(str, [*words, "--resume", "--join", joined, "--force"]))
     kills = ends = begun = 0
     while kills < KILLS or not ends:

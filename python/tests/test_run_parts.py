@@ -10,7 +10,7 @@ from pathlib import Path
 
 import pytest
 
-from conftest import Program
+from conftest import OF_PROGRAM, Program
 from olr.errors import ToolError
 from olr.running.answering import Job
 from olr.running.cluster import Outcome
@@ -151,7 +151,7 @@ class Copied:
     def __init__(self, whole: Path, town: Town, folder: Path) -> None:
         self.out, self.joined = folder / "out", folder / "joined"
         shutil.copytree(whole, self.out)
-        words = ["run", town.messages, "--store", town.store, "--out", self.out]
+        words = ["run", town.messages, *OF_PROGRAM, "--store", town.store, "--out", self.out]
         self.words = list(map(str, [*words, "--per-group", 30, "--resume", "--join", self.joined]))
 
     def stamps(self) -> dict[str, tuple[int, int]]:

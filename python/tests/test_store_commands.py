@@ -55,7 +55,8 @@ def test_match(question: list[str], town: Town, tmp_path: Path) -> None:
 def test_view(store: Path, tmp_path: Path, capsys: pytest.CaptureFixture[str]) -> None:
     words = ["view", "m3", "--messages", EXAMPLES / "messages.tsv", "--map", store]
     assert run(list(map(str, [*words, "--out", tmp_path / "page.html"]))) == 0
-    assert capsys.readouterr().out == f"{tmp_path}/page.html: unique\n"
+    lines = capsys.readouterr().out.splitlines()
+    assert lines[0] == f"{tmp_path}/page.html: unique" and lines[1].endswith(", profile feed")
     assert run(list(map(str, [*words, "--out", store, "--force"]))) == 1
     assert run(list(map(str, [*words, "--out", tmp_path / "page.html"]))) == 1
 

@@ -1,6 +1,8 @@
 """`olr-tools view`: the page in Chromium, what it draws, clicks and keys, and that it loads nothing."""
 
+import json
 import os
+import shlex
 import shutil
 from collections.abc import Iterator
 from pathlib import Path
@@ -10,14 +12,15 @@ import pytest
 
 import olr
 from browser import Browser
-from conftest import REFERENCE, TOP, Program, Tools
-from olr.client.questions import TOLERANCES
-from olr.confidence.contents import text_of
-from olr.confidence.counting import Outcome, counted_table
+from confidences import FEED, write_confidence
+from conftest import OF_PROGRAM, REFERENCE, TOP, Program, Tools
+from feeds import data_of
+from olr.confidence.likeness import Range
 from olr.errors import ToolError
 from olr.tools import run
 from olr.view.page import html_of
 from olr.view.scene import scene_of
+from region_maps import EAST, Drawing, Point, text_of
 
 KIOSK = "KwVGnCN20HPDBwFCATFjT5Y="
 ROADWORKS = "CwVGnSN2zhvHCgDX/tIzAw=="
@@ -56,12 +59,12 @@ def count(browser: Browser, selector: str) -> Any:
 def view(tools: Tools, browser: Browser, folder: Path, text: str, *words: object) -> str:
     """Opens the page of a reference, and sees that its script had no error and that it loaded nothing. Answers its verdict."""
     page = folder / "page.html"
-    ended = tools.run("view", text, "--map", folder, "--out", page, *words)
+    ended = tools.run("view", text, "--map", folder, "--out", page, *OF_PROGRAM, *words)
     assert (ended.returncode, ended.stderr) == (0, "")
     browser.open(page)
     assert browser.value("document.body.dataset.ready") == "yes"
     assert (browser.errors, browser.loaded) == ([], [])
-    verdict = ended.stdout.strip().removeprefix(f"{page}: ")
+    verdict = ended.stdout.splitlines()[0].removeprefix(f"{page}: ")
     assert verdict in browser.value("document.title")
     return verdict
 
@@ -89,14 +92,13 @@ def test_one_place_at_a_time(tools: Tools, browser: Browser, folder: Path) -> No
     browser.click(".entry:nth-of-type(2)")
     assert [count(browser, kind) for kind in (".outer", ".inner", ".entry.chosen")] == [1, 1, 1]
     assert "Place 2" in browser.value("document.querySelector('.entry.chosen').innerText")
-    assert "gap 7" in browser.value("document.querySelector('.entry.chosen').innerText")
     second = browser.value("document.querySelector('.outer').getAttribute('d')")
     assert second != first
     chosen = "[...document.querySelectorAll('.rank.chosen b')].map(e => e.textContent)"
-    assert browser.value(chosen) == ["1: 1", "2: 1"]
+    assert browser.value(chosen) == ["1: 1", "2: 2"]
     browser.press("ArrowUp")
     assert browser.value("document.querySelector('.outer').getAttribute('d')") == first
-    assert browser.value(chosen) == ["1: 1", "2: 2"]
+    assert browser.value(chosen) == ["1: 1", "2: 1"]
     browser.press("2")
     assert browser.value("document.querySelector('.outer').getAttribute('d')") == second
     browser.press("0")
@@ -178,41 +180,145 @@ def test_a_narrow_window_shows_all_of_it(tools: Tools, browser: Browser, folder:
 def test_numbers_of_places(folder: Path, capsys: pytest.CaptureFixture[str]) -> None:
     """The second place of the roadworks has a gap of 7."""
     words = ["view", ROADWORKS, "--map", str(folder), "--out", str(folder / "page.html")]
+    words += OF_PROGRAM
     assert run([*words, "--within", "6"]) == 0
     assert run([*words, "--within", "7", "--force"]) == 0
-    assert [line.split()[-1] for line in capsys.readouterr().out.splitlines()] == [
-        "unique",
-        "ambiguous",
-    ]
+    lines = capsys.readouterr().out.splitlines()
+    assert [line.split()[-1] for line in lines if str(folder) in line] == ["unique", "ambiguous"]
 
 
-def test_how_sure_it_is(
+def entries(browser: Browser) -> Any:
+    """The texts of the entries, each as its lines."""
+    texts = browser.value("[...document.querySelectorAll('.entry')].map(e => e.innerText)")
+    return [text.splitlines() for text in texts]
+
+
+def test_the_likely_order(tools: Tools, browser: Browser, folder: Path) -> None:
+    """The second place of the program costs 14 points at its points and a fifth of 57 on its leg, and its points lie 3.6 m from the ends of
+    their lines: 26.6. The first one costs 44, a fifth of 20, and a third of 5.4: 49.8."""
+    view(tools, browser, folder, ROADWORKS)
+    titles = browser.value("[...document.querySelectorAll('.entry b')].map(e => e.textContent)")
+    assert titles == ["Place 1likeliest", "Place 2"]
+    first, second = entries(browser)
+    assert "71 penalty points, gap 7, 701.7 m, 1 matching" in first
+    assert "points 3.6 m from the ends of their lines, rank 2 by penalty" in first
+    assert "64 penalty points, 565.8 m, 1 matching" in second
+    assert "points 5.4 m from the ends of their lines, rank 1 by penalty" in second
+
+
+def test_the_command_lists_what_is_shown(
+    tools: Tools,
     browser: Browser,
     folder: Path,
     program: Program,
-    tmp_path: Path,
+    monkeypatch: pytest.MonkeyPatch,
+) -> None:
+    """Also what is shown as it is likely, though it costs more than is asked for."""
+    assert view(tools, browser, folder, ROADWORKS, "--within", 6) == "unique"
+    scene = data_of(folder / "page.html")
+    monkeypatch.chdir(folder.parent)
+    olr_word, *words = shlex.split(scene["command"])
+    answer = json.loads(program.run(*words, "--format", "json").stdout)
+    listed = [place["matching"]["cursor"] for place in answer["places"]]
+    assert olr_word == "olr" and len(listed) == 2
+    assert [entry["cursor"] for entry in scene["entries"]] == listed[::-1]
+
+
+@pytest.mark.parametrize(
+    ("feed", "differs", "shown"),
+    [
+        (FEED, Range(0.9, 0.6, 1.2), "The maps seem to differ by 0.9 (0.6 to 1.2), 1 as another"),
+        (None, Range(0.7, 0.5, 0.9), "The probabilities are those of maps that differ by 0.7"),
+        (None, None, ""),
+    ],
+)
+def test_how_probable_it_is(
+    feed: Any,
+    differs: Any,
+    shown: str,
+    tools: Tools,
+    browser: Browser,
+    folder: Path,
+) -> None:
+    """By this confidence each of two places has a probability of 1 / 2.6, and none of them 0.6 / 2.6."""
+    sure = write_confidence(folder / "sure.json", differs, feed)
+    view(tools, browser, folder, ROADWORKS, "--confidence", sure)
+    titles = browser.value("[...document.querySelectorAll('.entry b')].map(e => e.textContent)")
+    assert titles == ["Place 1probability 0.38", "Place 2probability 0.38"]
+    reasons = browser.value("[...document.querySelectorAll('.reasons')].map(e => e.innerText)")
+    assert reasons[0] == "leg 1 is 9 percent longer than told."
+    assert "the direction at point 2 differs by about 34 degrees" in reasons[1]
+    texts = browser.value("[...document.querySelectorAll('#probability li')].map(e => e.innerText)")
+    assert texts[0] == "None of these: probability 0.23."
+    assert [text[: len(shown)] for text in texts[1:]] == ([shown] if shown else [])
+    view(tools, browser, folder, ROADWORKS, "--confidence", sure, "--most", 1, "--force")
+    texts = browser.value("[...document.querySelectorAll('#probability li')].map(e => e.innerText)")
+    assert texts[1] == "Others that aren't shown: probability 0.38."
+    assert count(browser, ".entry") == 1
+
+
+def test_no_probability(
+    browser: Browser,
+    folder: Path,
     capsys: pytest.CaptureFixture[str],
 ) -> None:
-    """The roadworks have a second place: of 100 such answers, 50 are right in this table. With other tolerances nothing is said, but why."""
-    outcomes = [Outcome(3, 35.0, number < 50) for number in range(100)]
-    about = dict.fromkeys(("changes", "map", "outcomes", "program", "references", "seed"))
-    tolerances = {name: number.default for name, number in TOLERANCES.items()}
-    table = tmp_path / "table.html"
-    table.write_text(text_of(counted_table(outcomes, tolerances, 750, about)))
-    page = folder / "page.html"
-    words = ["view", ROADWORKS, "--map", str(folder), "--out", str(page), "--force"]
-    for more, shown in (
-        (["--confidence", str(table)], "Confidence 0.5: of 100 trial references"),
-        (["--radius", "150"], ""),
+    """A point along a line has none. With other tolerances than those of the confidence there are none, and it is said why."""
+    sure, page = write_confidence(folder / "sure.html"), folder / "page.html"
+    words = ["view", "--map", str(folder), "--out", str(page), "--force", *OF_PROGRAM]
+    own = "Probabilities are of lines: a point along a line has none."
+    for more, texts, notes in (
+        ([KIOSK, "--confidence", str(sure)], [own], []),
+        ([ROADWORKS, "--radius", "150"], [], ["no probabilities: radius is 150, not 75"]),
+        ([UNMATCHED, "--radius", "150"], [], []),
     ):
         assert run([*words, *more]) == 0
         browser.open(page)
-        assert browser.value("document.querySelector('#confidence').innerText").startswith(shown)
-        assert (count(browser, "#confidence") == 1) == bool(shown)
-        notes = capsys.readouterr().out.splitlines()[1:]
-        assert [note.split(":")[0] for note in notes] == ([] if shown else ["no confidence"])
-    assert run([*words, "--confidence", str(table), "--out", str(table)]) == 1
+        shown = "[...document.querySelectorAll('#probability li')].map(e => e.innerText)"
+        assert browser.value(shown) == texts
+        assert "probability" not in browser.value("document.querySelector('#entries').innerText")
+        assert (count(browser, "#probability") == 1) == bool(texts)
+        printed = capsys.readouterr().out.splitlines()[2:]
+        assert [line.partition(";")[0] for line in printed] == notes
+    assert run([*words, ROADWORKS, "--confidence", str(sure), "--radius", "150"]) == 1
+    assert (
+        "sure.html says nothing of such answers: radius is 150, not 100" in capsys.readouterr().err
+    )
+    assert run([*words, ROADWORKS, "--confidence", str(sure), "--out", str(sure)]) == 1
     assert "is one of the inputs" in capsys.readouterr().err
+
+
+def test_turning_back_at_a_dead_end(tools: Tools, browser: Browser, folder: Path) -> None:
+    """The reference begins on a road to the east that ends after 55.7 m, and its other point is in the west."""
+    drawing = Drawing()
+    for spots in (((-500, 0), (500, 0)), ((500, 0), (-500, 0)), ((-500, 0), (-5000, 0))):
+        drawing.line(*spots)
+    text = text_of([Point(0, 0, EAST, 667 // 59), Point(-5000, 0, EAST)])
+    sure = write_confidence(folder / "sure.json")
+    map_folder = drawing.write(folder / "stub")
+    view(tools, browser, map_folder, text, "--confidence", sure)
+    (entry,) = entries(browser)
+    assert "points 50.0 m from the ends of their lines, turns back at a dead end" in entry
+    reasons = browser.value("document.querySelector('.reasons').innerText")
+    assert reasons.startswith("it turns back at a dead end; ")
+    assert "point 1 lies 56 m behind the start of its line" in reasons
+
+
+def test_looking_was_cut_off(
+    tools: Tools, browser: Browser, folder: Path, capsys: pytest.CaptureFixture[str]
+) -> None:
+    """Of two matchings of the roadworks one is looked at."""
+    said = "Looking was cut off: give a greater --look."
+    for look, shown in ((1, said), (2, "")):
+        words = ["--look", look, "--force"]
+        assert view(tools, browser, folder, ROADWORKS, *words) == ("open", "ambiguous")[look - 1]
+        assert browser.value("document.querySelector('#looking').innerText") == shown
+        assert (count(browser, "#looking") == 1) == bool(shown)
+        page = [str(folder), "--out", str(folder / "page.html"), *OF_PROGRAM]
+        assert run(["view", ROADWORKS, "--map", *page, *map(str, words)]) == 0
+        printed = capsys.readouterr().out
+        assert ("cut off: 1 may have more places: give a greater --look\n" in printed) == bool(
+            shown
+        )
 
 
 def test_one_file_without_addresses(tools: Tools, folder: Path) -> None:

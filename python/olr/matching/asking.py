@@ -13,16 +13,21 @@ from olr.client.answers import AnswerOrFault, Page, Places, Why
 from olr.client.fault import Fault
 from olr.client.map_client import Map
 from olr.client.questions import What
-from olr.confidence.table import ConfidenceTable
+from olr.confidence.judged import Judging, judged
+from olr.likely.order import listed_within
 from olr.matching.columns import Part
+from olr.matching.lacking import Lacking
 from olr.matching.reasons import Reasons, rows_of_reasons
 from olr.matching.rows import Counted, Located, Rows, in_chunks, rows_of_answers, rows_of_pieces
 from olr.matching.writing import Sink
 from olr.messages.message import Message, Reading
 from olr.messages.reading import count_of, messages_of
 from olr.progress import progress
+from olr.regions.reading import read_reference
 
 Item = TypeVar("Item")
+NOWHERE = "none"
+"""What an answer is counted as without a place or matching: it is the verdict of `places` too."""
 CHUNK = 256
 """So many references are decoded at once, of which `why` was asked."""
 
@@ -30,25 +35,36 @@ CHUNK = 256
 class Asked:
     """What was asked of the messages of a file."""
 
-    def __init__(self, asked: Map, file: Path, reading: Reading) -> None:
+    def __init__(
+        self,
+        asked: Map,
+        file: Path,
+        reading: Reading,
+        lacking: Optional[Lacking] = None,
+        within: Optional[int] = None,
+    ) -> None:
         """The messages of a file that are asked of a map. They are counted, if they can be read twice: so what isn't understood is
-        said before the first one is asked. Raises `ToolError`."""
-        self._map = asked
+        said before the first one is asked. Those that fit nowhere go to `lacking`. Verdicts on places are those with `within`, where a
+        longer list is asked for. Raises `ToolError`.
+        """
+        self._map, self._lacking, self._within = asked, lacking, within
         self._total = count_of(file, reading)
         self._messages = messages_of(file, reading)
         self.outcomes: Counter[str] = Counter()
         """How often an answer was what."""
+        self.cut_off = 0
+        """How many answers may lack a place that would be shown: looking was cut off before."""
 
     def write_answers(
         self,
         question: What,
         numbers: Mapping[str, int],
         part: Part,
-        table: Optional[ConfidenceTable],
+        judging: Judging,
         rows: Sink,
         pieces: Optional[Sink],
     ) -> None:
-        """Asks where the references are, and writes rows of the answers, with their confidence, and of their pieces. Raises `ToolError`."""
+        """Asks where the references are, and writes rows of the answers, judged, and of their pieces. Raises `ToolError`."""
         network = self._map.network()
         messages, again = tee(self._messages)
         counted = self._map.answers("candidates", (message.reference for message in again))
@@ -56,9 +72,12 @@ class Asked:
         for items, chunk in in_chunks(_with(answered, counted)):
             found = [message for message, _ in items]
             counts = [count for _, count in items]
-            _add(rows, found, rows_of_answers(chunk, network, part, counts, table))
+            references = [read_reference(message.reference) for message in found]
+            judgements = judged(chunk, references, network, judging)
+            self.cut_off += sum(one is not None and one.is_cut_off for one in judgements)
+            _add(rows, found, rows_of_answers(chunk, network, part, counts, judgements))
             if pieces is not None:
-                _add(pieces, found, rows_of_pieces(chunk, network))
+                _add(pieces, found, rows_of_pieces(chunk, network, judgements))
 
     def write_reasons(self, numbers: Mapping[str, int], rows: Sink) -> None:
         """Asks why references fit nothing, and writes a row for each. Raises `ToolError`."""
@@ -93,8 +112,14 @@ class Asked:
 
         with progress("matching", self._total) as advance:
             for answer in self._map.answers(question, texts(), **numbers):
-                self.outcomes[outcome_of(answer)] += 1
-                yield waiting.popleft(), answer
+                if isinstance(answer, Places) and self._within is not None:
+                    answer = listed_within(answer, self._within)
+                outcome = outcome_of(answer)
+                self.outcomes[outcome] += 1
+                message = waiting.popleft()
+                if outcome == NOWHERE and self._lacking is not None:
+                    self._lacking.add(message.reference)
+                yield message, answer
                 advance(1)
 
 
@@ -122,7 +147,7 @@ def outcome_of(answer: AnswerOrFault) -> str:
     if isinstance(answer, Fault):
         return f"refused, {answer.name}"
     if isinstance(answer, Page):
-        return "matched" if answer.matchings else "none"
+        return "matched" if answer.matchings else NOWHERE
     if isinstance(answer, Places):
         return answer.verdict
     return answer.verdict.word if isinstance(answer, Why) else "candidates"

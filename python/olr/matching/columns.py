@@ -16,14 +16,21 @@ TYPES: Mapping[Kind, str] = {"int64": "Int64", "float": "float64", "str": "objec
 """The types of columns in a table of pandas. A text that isn't there is None, a number that isn't there NaN."""
 
 ANSWERS: Columns = {
+    "likely": "int64",
     "rank": "int64",
     "verdict": "str",
+    "probability": "float",
+    "none_of_these": "float",
+    "map_differs": "float",
+    "map_differs_low": "float",
+    "map_differs_high": "float",
     "total": "int64",
     "point_penalty": "int64",
     "leg_penalty": "int64",
     "gap": "int64",
     "margin": "int64",
-    "confidence": "float",
+    "ends_m": "float",
+    "turns_back": "int64",
     "members": "int64",
     "candidates": "int64",
     "part": "str",
@@ -34,6 +41,7 @@ ANSWERS: Columns = {
     "to_m": "float",
     "outer_m": "float",
     "inner_m": "float",
+    "reasons": "str",
     "cursor": "str",
     "fault": "str",
 }

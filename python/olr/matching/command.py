@@ -1,20 +1,33 @@
 """The command `olr-tools match`."""
 
 import os
-from collections.abc import Mapping
 from contextlib import ExitStack
 from pathlib import Path
-from typing import Any, Optional
+from typing import Any, Optional, Union
 
 import click
 
 from olr.client.map_client import Map
 from olr.client.questions import NUMBERS, What
-from olr.confidence.options import Chosen, confidence_option, table_for
+from olr.confidence.judged import Judging
+from olr.confidence.options import (
+    Chosen,
+    confidence_option,
+    cut_off_line,
+    judging_for,
+    listing,
+)
 from olr.map_folder import inputs_of
 from olr.matching.asking import Asked
 from olr.matching.columns import OF_QUESTION, PIECES
-from olr.matching.options import map_options, number_options, of_question, patience_option
+from olr.matching.lacking import Lacking, Other
+from olr.matching.options import (
+    Asking,
+    map_options,
+    number_options,
+    of_question,
+    patience_option,
+)
 from olr.matching.writing import Output, Where, require_writable, writing_rows
 from olr.messages.message import Reading
 from olr.messages.options import reading_options
@@ -84,7 +97,7 @@ def command(
     pieces: Optional[Path],
     force: bool,
     append: bool,
-    **options: Optional[int],
+    **options: Union[int, str, None],
 ) -> None:
     """Match the references of FILE on a map, and write what they fit as geometries.
 
@@ -93,29 +106,38 @@ def command(
     PIECES. docs/COLUMNS.md says what is in each column.
     """
     question: What = what or "match"
-    tolerances, numbers = of_question(question, options)
+    asking = of_question(question, options)
     where = _where(force, append)
     outputs = _outputs(question, out, pieces)
-    sure = _confidence(question, confidence, tolerances, numbers)
+    sure = _judging(confidence, asking)
     inputs = [file, *inputs_of(folder), *([] if confidence is None else [confidence])]
     for output in outputs:
         require_writable(output.file, where, inputs)
-    with Map.of_folder(folder, **tolerances, patience=patience) as asked, ExitStack() as stack:
-        messages = Asked(asked, file, reading)
-        written = [stack.enter_context(writing_rows(one, where, inputs)) for one in outputs]
-        if question == "why":
-            messages.write_reasons(numbers, written[0])
-        else:
-            second = written[1] if len(written) > 1 else None
-            messages.write_answers(question, numbers, part, sure.table, written[0], second)
+    with ExitStack() as maps:
+        asked = maps.enter_context(Map.of_folder(folder, **asking.tolerances, patience=patience))
+        other = Other.of(asking, folder, patience)
+        lacking = maps.enter_context(Lacking(asked, other))
+        with ExitStack() as stack:
+            within = None if sure.judging.shown is None else sure.judging.shown.within
+            nowhere_to = None if question == "why" else lacking
+            messages = Asked(asked, file, reading, nowhere_to, within)
+            written = [stack.enter_context(writing_rows(one, where, inputs)) for one in outputs]
+            if question == "why":
+                messages.write_reasons(asking.numbers, written[0])
+            else:
+                second = written[1] if len(written) > 1 else None
+                numbers = listing(asking.numbers) if question == "places" else asking.numbers
+                messages.write_answers(question, numbers, part, sure.judging, written[0], second)
+        nowhere = lacking.line()
     references = sum(messages.outcomes.values())
     click.echo(f"{out}: {written[0].rows:,} rows of {references:,} references")
     for output, sink in zip(outputs[1:], written[1:]):
         click.echo(f"{output.file}: {sink.rows:,} rows")
     for line in messages.summary():
         click.echo(line)
-    if sure.note:
-        click.echo(sure.note)
+    for more in (asking.line(), nowhere, cut_off_line(messages.cut_off), sure.note):
+        if more:
+            click.echo(more)
 
 
 def _where(force: bool, append: bool) -> Where:
@@ -125,19 +147,14 @@ def _where(force: bool, append: bool) -> Where:
     return "force" if force else "append" if append else "new"
 
 
-def _confidence(
-    question: What,
-    file: Optional[Path],
-    tolerances: Mapping[str, Any],
-    numbers: Mapping[str, int],
-) -> Chosen:
-    """The table of confidence for a question: none where nothing is said of its answers. Raises `UsageError` for a file where none is used, and
-    `ToolError` if it isn't a table of these tolerances."""
-    if question == "places":
-        return table_for(file, tolerances, numbers)
+def _judging(file: Optional[Path], asking: Asking) -> Chosen:
+    """By what answers to a question are judged: matchings aren't. Raises `UsageError` for a file where none is used, and `ToolError` if it
+    isn't one of these tolerances."""
+    if asking.question == "places":
+        return judging_for(file, asking.tolerances, asking.numbers)
     if file is not None:
         raise click.UsageError("--confidence is for --places")
-    return Chosen(None, "")
+    return Chosen(Judging(), "")
 
 
 def _outputs(question: What, out: Path, pieces: Optional[Path]) -> list[Output]:

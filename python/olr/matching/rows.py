@@ -10,9 +10,10 @@ from olr.arrays import Integers
 from olr.client.answers import Candidates, Matching, Page, Places
 from olr.client.fault import Fault
 from olr.client.pieces import Pieces
-from olr.confidence.table import ConfidenceTable
+from olr.confidence.judged import Judged, JudgedPlace, judged
 from olr.matching.columns import ANSWERS, PIECES, Part
 from olr.network import Network, Polylines, between, middle
+from olr.parts import Parts, parts_of
 from olr.road_map import Origin
 
 Located = Union[Page, Places, Fault]
@@ -20,9 +21,10 @@ Located = Union[Page, Places, Fault]
 Counted = Union[Candidates, Fault, None]
 """An answer to `candidates`; None where nobody asked."""
 Item = TypeVar("Item")
+DIGITS = 3
+"""Of probabilities behind the point."""
 ROWS = 500
 """So many rows are made at once, or some more: those of one answer stay together."""
-BLANKS = bytes.maketrans(b"[],", b"   ")
 BETWEEN = ";"
 """Stands between the lines, sources and names of a row."""
 
@@ -38,15 +40,6 @@ class Rows(NamedTuple):
     """The geometry of each row: a size of 1 is a point, and a size of 0 none."""
 
 
-class Parts(NamedTuple):
-    """Parts of lines, one behind the other."""
-
-    pieces: Integers
-    """A line's id, and two positions in decimetres, of each piece."""
-    counts: Integers
-    """How many pieces each part has."""
-
-
 class _Row(NamedTuple):
     """What a row has of its answer."""
 
@@ -55,10 +48,13 @@ class _Row(NamedTuple):
     verdict: str
     gap: Optional[int] = None
     margin: Optional[int] = None
-    confidence: Optional[float] = None
     members: Optional[int] = None
     fault: Optional[str] = None
     matching: Optional[Matching] = None
+    place: Optional[JudgedPlace] = None
+    """Of a place."""
+    of_first: Optional[Judged] = None
+    """The answer, in the row of its likeliest place."""
 
 
 def in_chunks(
@@ -95,16 +91,16 @@ def rows_of_answers(
     network: Network,
     part: Part = "outer",
     candidates: Optional[Sequence[Counted]] = None,
-    table: Optional[ConfidenceTable] = None,
+    judgements: Optional[Sequence[Optional[Judged]]] = None,
 ) -> Rows:
-    """A row for each matching of pages, and for each place of answers to `places`; one for an answer that has none. First places have
-    their confidence by `table`. Raises `MapRefused` if the network is of another version of the map than an answer, and `ToolError`
-    if it hasn't a line of one.
+    """A row for each matching of pages, and for each place of answers to `places` that is shown, the likeliest one first; one for an answer
+    that has none. `judgements` are those of the answers: without them nothing is said of how probable places are. Raises `MapRefused` if
+    the network is of another version of the map than an answer, and `ToolError` if it hasn't a line of one.
     """
-    rows = [row for number, answer in enumerate(answers) for row in _rows(number, answer, table)]
+    rows = _all_rows(answers, network, judgements)
     matchings = [row.matching for row in rows]
     for row in rows:
-        if row.rank == 1 and row.matching is not None:
+        if row.matching is not None:
             network.require_version_of(row.matching.route)
     outers, inners = ([_part(one, which) for one in matchings] for which in _WHICH)
     outer = parts_of(outers)
@@ -114,6 +110,7 @@ def rows_of_answers(
     outer_m = _metres(outer)
     counts = [_number_of(one) for one in candidates or [None] * len(answers)]
     found: dict[str, Sequence[Any]] = {
+        **_judgements(rows),
         "rank": [row.rank for row in rows],
         "verdict": [row.verdict for row in rows],
         "total": _each(matchings, lambda one: one.total),
@@ -124,7 +121,6 @@ def rows_of_answers(
         ],
         "gap": [row.gap for row in rows],
         "margin": [row.margin for row in rows],
-        "confidence": [row.confidence for row in rows],
         "members": [row.members for row in rows],
         "candidates": [counts[row.answer] for row in rows],
         "part": [
@@ -147,23 +143,26 @@ def rows_of_answers(
 _WHICH: tuple[Part, Part] = ("outer", "inner")
 
 
-def rows_of_pieces(answers: Sequence[Located], network: Network) -> Rows:
-    """A row for each piece of the outer and of the inner part of each matching or place; of a point along a line for each piece between
-    its two positions, as the part `point`. Raises as `rows_of_answers`."""
+def rows_of_pieces(
+    answers: Sequence[Located],
+    network: Network,
+    judgements: Optional[Sequence[Optional[Judged]]] = None,
+) -> Rows:
+    """A row for each piece of the outer and of the inner part of each matching or place that is shown; of a point along a line for each
+    piece between its two positions, as the part `point`. Raises as `rows_of_answers`."""
     of_parts: list[tuple[_Row, str]] = []
     parts: list[Optional[Pieces]] = []
-    for number, answer in enumerate(answers):
-        for row in _rows(number, answer):
-            if row.matching is None:
-                continue
-            network.require_version_of(row.matching.route)
-            if row.matching.earliest is not None:
-                of_parts.append((row, "point"))
-                parts.append(_part(row.matching, "outer"))
-                continue
-            for which in _WHICH:
-                of_parts.append((row, which))
-                parts.append(_part(row.matching, which))
+    for row in _all_rows(answers, network, judgements):
+        if row.matching is None:
+            continue
+        network.require_version_of(row.matching.route)
+        if row.matching.earliest is not None:
+            of_parts.append((row, "point"))
+            parts.append(_part(row.matching, "outer"))
+            continue
+        for which in _WHICH:
+            of_parts.append((row, which))
+            parts.append(_part(row.matching, which))
     found = parts_of(parts)
     counts = found.counts.tolist()
     lines, texts = found.pieces[:, 0].tolist(), network.sources()
@@ -186,16 +185,22 @@ def rows_of_pieces(answers: Sequence[Located], network: Network) -> Rows:
     return Rows(numbers, {name: values[name] for name in PIECES}, shapes)
 
 
-def parts_of(parts: Sequence[Optional[Pieces]]) -> Parts:
-    """Parts as arrays. None has no pieces. Most are texts of the program, which are read all at once."""
-    texts = [b"" if part is None else part.text() for part in parts]
-    counts = np.array([max(0, text.count(b"]") - 1) for text in texts], dtype=np.int64)
-    joined = b" ".join(texts).translate(BLANKS)
-    numbers = np.fromstring(joined, dtype=np.int64, sep=" ") if joined.strip() else np.zeros(0)
-    return Parts(numbers.astype(np.int64).reshape(-1, 3), counts)
+def _all_rows(
+    answers: Sequence[Located],
+    network: Network,
+    judgements: Optional[Sequence[Optional[Judged]]],
+) -> list[_Row]:
+    """The rows of answers."""
+    if judgements is None:
+        judgements = judged(answers, [None] * len(answers), network)
+    return [
+        row
+        for number, (answer, judgement) in enumerate(zip(answers, judgements, strict=True))
+        for row in _rows(number, answer, judgement)
+    ]
 
 
-def _rows(number: int, answer: Located, table: Optional[ConfidenceTable] = None) -> Iterator[_Row]:
+def _rows(number: int, answer: Located, judgement: Optional[Judged]) -> Iterator[_Row]:
     """The rows of an answer."""
     if isinstance(answer, Fault):
         yield _Row(number, None, "fault", fault=answer.text)
@@ -207,14 +212,44 @@ def _rows(number: int, answer: Located, table: Optional[ConfidenceTable] = None)
         if not found:
             yield _Row(number, None, "none")
     else:
-        share = None if table is None else table.of(answer)
-        confidence = None if share is None else share.rounded
-        for rank, place in enumerate(answer.places, 1):
-            about = (answer.verdict, place.gap, answer.margin)
-            sure = confidence if rank == 1 else None
-            yield _Row(number, rank, *about, sure, place.members, matching=place.matching)
-        if not answer.places:
-            yield _Row(number, None, answer.verdict, margin=answer.margin)
+        assert judgement is not None
+        for place in judgement.places:
+            yield _Row(
+                answer=number,
+                rank=place.rank,
+                verdict=judgement.verdict,
+                gap=place.place.gap,
+                margin=answer.margin,
+                members=place.place.members,
+                matching=place.place.matching,
+                place=place,
+                of_first=judgement if place.likely == 1 else None,
+            )
+        if not judgement.places:
+            yield _Row(number, None, judgement.verdict, margin=answer.margin)
+
+
+def _judgements(rows: Sequence[_Row]) -> dict[str, Sequence[Any]]:
+    """The columns of how likely places are."""
+    places = [row.place for row in rows]
+    firsts = [row.of_first for row in rows]
+    differs = [None if one is None else one.map_differs for one in firsts]
+    return {
+        "likely": [None if one is None else one.likely for one in places],
+        "probability": [None if one is None else _rounded(one.probability) for one in places],
+        "none_of_these": [None if one is None else _rounded(one.none_of_these) for one in firsts],
+        "map_differs": [None if one is None else _rounded(one.value) for one in differs],
+        "map_differs_low": [None if one is None else _rounded(one.low) for one in differs],
+        "map_differs_high": [None if one is None else _rounded(one.high) for one in differs],
+        "reasons": [None if one is None else one.reasons or None for one in places],
+        "ends_m": [None if one is None else round(one.ends, 1) for one in places],
+        "turns_back": [None if one is None else int(one.turns_back) for one in places],
+    }
+
+
+def _rounded(value: Optional[float]) -> Optional[float]:
+    """A probability, or how different maps are, with the digits that are shown."""
+    return None if value is None else round(value, DIGITS)
 
 
 def _part(matching: Optional[Matching], which: Part) -> Optional[Pieces]:

@@ -11,13 +11,16 @@ function pictureOf({ map: place, panel, tiles = null, onChoose = () => {} }) {
     <header>
       <p id="verdict"></p>
       <p id="verdict-text"></p>
-      <p id="confidence"></p>
+      <p id="looking"></p>
+      <ul id="notes"></ul>
       <p id="reference"></p>
+      <p id="same" class="small" hidden>The program's own answer: <code id="command" class="command"></code></p>
     </header>
     <section id="fits" hidden>
       <h2>Where it fits</h2>
       <div role="radiogroup" aria-label="Where it fits">
         <div id="entries"></div>
+        <ul id="probability"></ul>
         <details id="more"><summary id="more-title"></summary><div id="more-entries"></div></details>
       </div>
     </section>
@@ -174,6 +177,8 @@ function pictureOf({ map: place, panel, tiles = null, onChoose = () => {} }) {
     }
   };
   const line = (path, kind, style) => path && path.length > 1 && L.polyline(path, { className: kind, lineCap: "butt", interactive: false, ...style }).addTo(shown);
+  // Other paths of the first entry: the scenes of many references have none.
+  const others = () => scene.others || [];
   const draw = () => {
     shown.clearLayers();
     ranked.flat().forEach((marker) => marker.getElement() && marker.getElement().classList.remove("chosen"));
@@ -182,6 +187,7 @@ function pictureOf({ map: place, panel, tiles = null, onChoose = () => {} }) {
       line(entry.outer, "outer", { color: "#0072b2", weight: 14, opacity: 0.55 });
       line(entry.inner, "inner", { color: "#e69f00", weight: 6, opacity: 1 });
       line(entry.route, "route", { color: "#00385a", weight: 2, dashArray: "7 5" });
+      if (chosen === 0) others().forEach((path) => line(path, "other", { color: "#d55e00", weight: 5, dashArray: "8 4" }));
       for (const end of entry.ends) L.circleMarker(end, { className: "end", radius: 6, color: "#1a1a1a", weight: 2, fillColor: "#e69f00", fillOpacity: 1, interactive: false }).addTo(shown);
       if (entry.spot) L.marker(entry.spot, { icon: L.divIcon({ className: "star", html: "&#9733;", iconSize: [30, 30] }), interactive: false, keyboard: false }).addTo(shown);
       entry.ranks.forEach((rank, index) => {
@@ -212,9 +218,13 @@ function pictureOf({ map: place, panel, tiles = null, onChoose = () => {} }) {
     input.addEventListener("change", () => chooseAndTell(index));
     const text = made("div", "", "text");
     const title = made("b", entry.title);
-    title.append(made("span", index ? `gap ${entry.gap}` : "best", "gap"));
-    const parts = [`${entry.total} penalty points`, entry.length, entry.members].filter(Boolean);
-    text.append(title, made("div", parts.join(", ")), made("div", `legs ${entry.legs}`, "small"), made("div", `lines ${entry.lines}`, "small"), made("div", `cursor ${entry.cursor}`, "small"));
+    title.append(made("span", entry.probability || (entry.members && !index ? "likeliest" : ""), "gap"));
+    const parts = [`${entry.total} penalty points`, entry.gap ? `gap ${entry.gap}` : "", entry.length, entry.members].filter(Boolean);
+    text.append(title, made("div", parts.join(", ")));
+    if (entry.facts.length) text.append(made("div", entry.facts.join(", "), "facts"));
+    if (entry.reasons) text.append(made("div", `${entry.reasons}.`, "reasons small"));
+    const rest = [`legs ${entry.legs}`, `lines ${entry.lines}`, `cursor ${entry.cursor}`];
+    text.append(...rest.map((it) => made("div", it, "small")));
     label.append(input, text);
     return label;
   };
@@ -226,15 +236,19 @@ function pictureOf({ map: place, panel, tiles = null, onChoose = () => {} }) {
   const fillPanel = () => {
     find("verdict").textContent = scene.verdict.word === "none" ? "nothing fits" : scene.verdict.word;
     find("verdict-text").textContent = scene.verdict.text;
-    find("confidence").textContent = scene.verdict.confidence;
+    find("looking").textContent = scene.looking;
+    fill("probability", items(scene.probability));
     find("reference").textContent = scene.reference;
+    find("command").textContent = scene.command;
+    find("same").hidden = !scene.command;
+    fill("notes", items(scene.notes || []));
     const labels = scene.entries.map(labelOf);
-    const others = labels.filter((_, index) => !scene.entries[index].members);
-    fill("entries", labels.filter((label) => !others.includes(label)));
-    fill("more-entries", others);
+    const rest = labels.filter((_, index) => !scene.entries[index].members);
+    fill("entries", labels.filter((label) => !rest.includes(label)));
+    fill("more-entries", rest);
     find("more").open = false;
-    find("more").hidden = !others.length;
-    find("more-title").textContent = others.length === 1 ? "One more matching" : `${others.length} more matchings`;
+    find("more").hidden = !rest.length;
+    find("more-title").textContent = rest.length === 1 ? "One more matching" : `${rest.length} more matchings`;
     find("fits").hidden = !scene.entries.length;
     find("why").hidden = !scene.why;
     const { texts, remedies } = scene.why || { texts: [], remedies: [] };
@@ -257,6 +271,7 @@ function pictureOf({ map: place, panel, tiles = null, onChoose = () => {} }) {
     ["the outer part: the location lies within it", '<path d="M2 10h42" stroke="#0072b2" stroke-width="14" opacity=".55"/>', () => scene.entries.some((entry) => entry.outer)],
     ["the inner part: the location covers it", '<path d="M2 10h42" stroke="#e69f00" stroke-width="6"/>', () => scene.entries.some((entry) => entry.outer)],
     ["the path between the candidates", '<path d="M2 10h42" stroke="#00385a" stroke-width="2" stroke-dasharray="7 5"/>', () => scene.entries.length],
+    ["another path, as short or nearly so", '<path d="M2 10h42" stroke="#d55e00" stroke-width="5" stroke-dasharray="8 4"/>', () => others().length],
     ["lines of the map, the wider the more important", '<path d="M2 6h42" stroke="#6f6f6f" stroke-width="6"/><path d="M2 16h42" stroke="#a3a3a3" stroke-width="2.5"/>'],
   ];
   const fillSamples = () => {
@@ -282,6 +297,7 @@ function pictureOf({ map: place, panel, tiles = null, onChoose = () => {} }) {
     const seen = L.latLngBounds(spots);
     scene.entries.forEach((entry) => entry.route.forEach((spot) => seen.extend(spot)));
     near().forEach((one) => seen.extend(one.spot));
+    others().flat().forEach((spot) => seen.extend(spot));
     map.fitBounds(seen, { padding: [70, 70], maxZoom: 18, animate: false });
     isWhole = true;
   };
@@ -319,9 +335,9 @@ function pictureOf({ map: place, panel, tiles = null, onChoose = () => {} }) {
     chosen = -1;
     [spots, legs, ranked] = [[], [], []];
     layers.forEach((layer) => layer.clearLayers());
-    panel.querySelectorAll("#verdict, #verdict-text, #confidence, #reference, #offsets, #cut").forEach((element) => { element.textContent = ""; });
-    ["entries", "more-entries", "reasons", "remedies", "points"].forEach((id) => fill(id, []));
-    ["fits", "why"].forEach((id) => { find(id).hidden = true; });
+    panel.querySelectorAll("#verdict, #verdict-text, #looking, #reference, #command, #offsets, #cut").forEach((element) => { element.textContent = ""; });
+    ["notes", "entries", "probability", "more-entries", "reasons", "remedies", "points"].forEach((id) => fill(id, []));
+    ["fits", "why", "same"].forEach((id) => { find(id).hidden = true; });
   };
   const show = (next, index = next.entries.length ? 0 : -1) => {
     clear();

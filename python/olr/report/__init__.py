@@ -2,7 +2,8 @@
 
 | module | subject |
 |---|---|
-| `counting` | answers, counted one after the other: verdicts, faults, penalties, confidence |
+| `counting` | answers, counted one after the other: verdicts, faults, penalties, probabilities |
+| `expectation` | what is said first: how many likeliest places are right, and how different the two maps are |
 | `reasons` | why references fit nothing, counted |
 | `sample` | the messages that the table of references has: some of each outcome |
 | `rows` | those messages as rows, with geometries and scenes, and the lines of the map around them |

@@ -1,13 +1,18 @@
 """A file of messages, asked and counted."""
 
-from collections.abc import Mapping
-from typing import NamedTuple, Optional, Union
+from collections.abc import Iterable, Iterator, Mapping
+from typing import NamedTuple, Union
 
-from olr.client.answers import Places
+from olr.client.answers import AnswerOrFault, Places
 from olr.client.fault import Fault
 from olr.client.map_client import Map
-from olr.confidence.table import ConfidenceTable
+from olr.confidence.judged import Judging, judged
+from olr.confidence.options import listing
 from olr.matching.asking import Asked
+from olr.matching.lacking import Lacking
+from olr.matching.rows import Located, in_chunks
+from olr.messages.message import Message
+from olr.regions.reading import read_reference
 from olr.report.counting import PlaceCounts
 from olr.report.reasons import ReasonCounts
 from olr.report.sample import Drawn, Sample
@@ -23,6 +28,8 @@ class Counted(NamedTuple):
     places: PlaceCounts
     reasons: ReasonCounts
     sample: list[Drawn]
+    lacking: Lacking
+    """Those that fit nowhere."""
 
 
 def count(
@@ -30,22 +37,43 @@ def count(
     asked: Map,
     numbers: Mapping[str, int],
     rows: int,
-    table: Optional[ConfidenceTable],
+    judging: Judging,
+    lacking: Lacking,
 ) -> Counted:
-    """Asks where the references of messages are, and why some fit nothing, and counts the answers. `rows` is how many messages are in the
-    sample at most. Raises `ToolError`."""
-    places, reasons, sample = PlaceCounts(table), ReasonCounts(), Sample(rows)
-    lacking: list[str] = []
-    for message, answer in messages.answered("places", numbers):
+    """Asks where the references of messages are, and why some fit nothing, judges the answers, and counts them. `rows` is how many messages
+    are in the sample at most. Those that fit nowhere are added to `lacking`. Raises `ToolError`."""
+    places, reasons, sample = PlaceCounts(), ReasonCounts(), Sample(rows)
+    network = asked.network()
+    kept: list[_Kept] = []
+    for chunk, answers in in_chunks(_located(messages.answered("places", listing(numbers)))):
+        references = [read_reference(message.reference) for message in chunk]
+        judgements = judged(answers, references, network, judging)
+        for message, answer, judgement in zip(chunk, answers, judgements):
+            assert isinstance(answer, (Places, Fault))
+            places.add(answer, judgement)
+            sample.add(message, answer)
+            if _is_without_place(answer):
+                kept.append(_Kept(message.reference, isinstance(answer, Places)))
+            if len(kept) == CHUNK:
+                _count_reasons(kept, asked, reasons, lacking)
+    _count_reasons(kept, asked, reasons, lacking)
+    return Counted(places, reasons, sample.chosen(), lacking)
+
+
+def _located(
+    answered: Iterable[tuple[Message, AnswerOrFault]]
+) -> Iterator[tuple[Message, Located]]:
+    """Messages with their answers, which say where they are."""
+    for message, answer in answered:
         assert isinstance(answer, (Places, Fault))
-        places.add(answer)
-        sample.add(message, answer)
-        if _is_without_place(answer):
-            lacking.append(message.reference)
-        if len(lacking) == CHUNK:
-            _count_reasons(lacking, asked, reasons)
-    _count_reasons(lacking, asked, reasons)
-    return Counted(places, reasons, sample.chosen())
+        yield message, answer
+
+
+class _Kept(NamedTuple):
+    """A reference of which `why` is asked."""
+
+    text: str
+    fits_nowhere: bool
 
 
 def _is_without_place(answer: Union[Places, Fault]) -> bool:
@@ -55,8 +83,11 @@ def _is_without_place(answer: Union[Places, Fault]) -> bool:
     return answer.verdict == "none"
 
 
-def _count_reasons(lacking: list[str], asked: Map, reasons: ReasonCounts) -> None:
+def _count_reasons(kept: list[_Kept], asked: Map, reasons: ReasonCounts, lacking: Lacking) -> None:
     """Asks why references fit nothing, and forgets them."""
-    for answer in asked.answers("why", lacking):
+    answers = list(asked.answers("why", (one.text for one in kept)))
+    for answer in answers:
         reasons.add(answer)
-    lacking.clear()
+    nowhere = [(one.text, answer) for one, answer in zip(kept, answers) if one.fits_nowhere]
+    lacking.add_answered([text for text, _ in nowhere], [answer for _, answer in nowhere])
+    kept.clear()

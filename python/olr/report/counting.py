@@ -6,8 +6,11 @@ from typing import Optional, Union
 
 from olr.client.answers import Places
 from olr.client.fault import Fault
-from olr.confidence.table import ConfidenceTable
+from olr.confidence.expected import Expected
+from olr.confidence.judged import Judged
 
+BINS = 10
+"""Of probabilities, all of the same width."""
 EDGES = (0, 1, 5, 10, 20, 30, 50, 100, 200, 500, 1000)
 """Where ranges of penalty points begin. The last one has no end."""
 
@@ -40,45 +43,83 @@ def _range(at: int) -> str:
     return f"{first:,}" if first == last else f"{first:,} to {last:,}"
 
 
-class PlaceCounts:
-    """Counts of answers to `places`."""
+class Probabilities:
+    """Probabilities of likeliest places, counted by bins and added up."""
 
-    def __init__(self, table: Optional[ConfidenceTable]) -> None:
-        """Without a table confidence isn't counted."""
-        self.table = table
+    def __init__(self) -> None:
+        self._counts = [0] * BINS
+        self.expected = Expected()
+        self.without = 0
+        """So many likeliest places have none."""
+
+    def add(self, probability: Optional[float]) -> None:
+        """Counts one."""
+        if probability is None:
+            self.without += 1
+            return
+        self.expected.add(probability)
+        self._counts[min(int(probability * BINS), BINS - 1)] += 1
+
+    def rows(self) -> list[tuple[str, int]]:
+        """All bins with their counts, that of the greatest probabilities first."""
+        return [(_bin(at), self._counts[at]) for at in reversed(range(BINS))]
+
+    def total(self) -> int:
+        """How many likeliest places there are."""
+        return self.expected.count + self.without
+
+
+def _bin(at: int) -> str:
+    """What a bin is called."""
+    if at == 0:
+        return f"below {1 / BINS:g}"
+    end = "1" if at + 1 == BINS else f"below {(at + 1) / BINS:g}"
+    return f"{at / BINS:g} to {end}"
+
+
+class PlaceCounts:
+    """Counts of answers to `places`, which were judged."""
+
+    def __init__(self) -> None:
         self.verdicts: Counter[str] = Counter()
         """A fault is `refused`."""
         self.faults: Counter[str] = Counter()
         """By their texts."""
         self.totals = Histogram()
-        """Of first places."""
+        """Of likeliest places."""
         self.gaps = Histogram()
-        """Of the second and further places that are listed."""
+        """Of places that are shown, but of that which costs least."""
         self.margins = Histogram()
         self.without_margin = 0
         """So many references that fit somewhere have no margin."""
-        self.confidence: Counter[Optional[float]] = Counter()
-        """Of references that fit somewhere: the rounded share, None where the table says nothing."""
+        self.probabilities = Probabilities()
+        self.turning_back = 0
+        """So many likeliest places turn back at a dead end."""
+        self.cut_off = 0
+        """So many references may have more places: looking was cut off."""
 
-    def add(self, answer: Union[Places, Fault]) -> None:
-        """Counts an answer."""
+    def add(self, answer: Union[Places, Fault], judgement: Optional[Judged]) -> None:
+        """Counts an answer, which was judged."""
         if isinstance(answer, Fault):
             self.verdicts["refused"] += 1
             self.faults[answer.text] += 1
             return
-        self.verdicts[answer.verdict] += 1
-        if not answer.places:
+        assert judgement is not None
+        self.verdicts[judgement.verdict] += 1
+        self.cut_off += judgement.is_cut_off
+        if not judgement.places:
             return
-        self.totals.add(answer.places[0].matching.total)
-        for place in answer.places[1:]:
-            self.gaps.add(place.gap)
-        if answer.margin is None:
+        likeliest = judgement.places[0]
+        self.totals.add(likeliest.place.matching.total)
+        self.turning_back += likeliest.turns_back
+        self.probabilities.add(likeliest.probability)
+        for one in judgement.places:
+            if one.rank > 1:
+                self.gaps.add(one.place.gap)
+        if judgement.margin is None:
             self.without_margin += 1
         else:
-            self.margins.add(answer.margin)
-        if self.table is not None:
-            share = self.table.of(answer)
-            self.confidence[None if share is None else share.rounded] += 1
+            self.margins.add(judgement.margin)
 
     def references(self) -> int:
         """How many there were."""

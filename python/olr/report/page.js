@@ -77,6 +77,13 @@
     window.open(URL.createObjectURL(page), "_blank");
   };
 
+  // ---- the command of the program that gives the answer of the chosen row
+  const tell = (index) => {
+    const scene = data.scenes[index];
+    find("command").textContent = scene ? scene.command : "";
+    find("same").hidden = !find("command").textContent;
+  };
+
   // ---- the map and the table
   const kinds = {
     unique: { title: "unique", colour: "#0072b2" },
@@ -95,11 +102,12 @@
     roads: lines,
     tiles: data.tiles,
     name: (index) => `${named(data.rows[index])}: ${data.rows[index].verdict}`,
-    onChoose: (index) => table.choose(index),
+    onChoose: (index) => { table.choose(index); tell(index); },
   });
   data.rows.forEach((row, index) => { row.scene = data.scenes[index]; });
   const grouped = (value) => value.toLocaleString("en");
-  const hasConfidence = data.rows.some((row) => row.confidence !== undefined);
+  const has = (name) => data.rows.some((row) => row[name] !== undefined);
+  const probability = { number: true, text: (value) => value.toFixed(3) };
   const columns = [
     { title: "record", number: true, value: (row) => row.record },
     { title: "key", value: (row) => row.key, mark: () => "key" },
@@ -107,7 +115,9 @@
     { title: "total", number: true, value: (row) => row.total, text: grouped },
     { title: "points", number: true, value: (row) => row.points },
     { title: "margin", number: true, value: (row) => row.margin, text: grouped },
-    { title: "confidence", number: true, value: (row) => row.confidence, text: (value, row) => `${value} (${grouped(row.right)} of ${grouped(row.answers)})` },
+    { title: "probability", name: "probability", ...probability, value: (row) => row.probability },
+    { title: "none of these", name: "none_of_these", ...probability, value: (row) => row.none_of_these },
+    { title: "turns back", name: "turns_back", value: (row) => row.turns_back },
     { title: "length, m", number: true, value: (row) => row.length, text: (value) => value.toLocaleString("en", { minimumFractionDigits: 1 }) },
     { title: "fault or reason", value: (row) => row.reason, mark: () => "reason" },
     { title: "page", value: (row) => (row.scene ? "open" : null), act: open, label: (row) => `open the page of ${named(row)}` },
@@ -115,14 +125,14 @@
   const table = sortedTable({
     place: find("rows"),
     caption: "References",
-    columns: columns.filter((column) => hasConfidence || column.title !== "confidence"),
+    columns: columns.filter((column) => !column.name || has(column.name)),
     rows: data.rows,
     choices: [
       { title: "Verdict", value: (row) => row.verdict },
       { title: "Cause", value: (row) => row.cause || "" },
     ],
     onShow: map.show,
-    onChoose: (index) => map.choose(index),
+    onChoose: (index) => { map.choose(index); tell(index); },
     onOpen: open,
   });
   find("all").addEventListener("click", map.fit);

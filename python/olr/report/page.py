@@ -1,7 +1,7 @@
 """The page of a report."""
 
 from collections import Counter
-from collections.abc import Mapping
+from collections.abc import Mapping, Sequence
 from datetime import datetime, timezone
 from typing import Any, NamedTuple, Optional
 
@@ -23,8 +23,10 @@ class About(NamedTuple):
     map: str
     numbers: str
     """The tolerances and the numbers of the question."""
-    confidence: str
-    """What confidence is of, or why there is none."""
+    first: Sequence[str]
+    """What the summary says first, as sentences."""
+    probabilities: str
+    """What probabilities are of, or why there are none."""
 
 
 def page_of(about: About, counted: Counted, rows: Rows, tiles: Optional[str] = None) -> str:
@@ -32,9 +34,9 @@ def page_of(about: About, counted: Counted, rows: Rows, tiles: Optional[str] = N
     shown = Counter(row["verdict"] for row in rows.rows)
     data: dict[str, Any] = {
         "title": f"{about.messages} on {about.map}",
-        "summary": summary(counted),
+        "summary": summary(counted, about.first),
         "facts": _facts(about),
-        "sections": [section.content() for section in sections(counted, about.confidence)],
+        "sections": [section.content() for section in sections(counted, about.probabilities)],
         "left_out": left_out(counted.places.verdicts, shown),
         "rows": rows.rows,
         "scenes": rows.scenes,

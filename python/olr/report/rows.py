@@ -8,13 +8,13 @@ import numpy as np
 from olr.client.answers import Candidates, Page, Places, Why
 from olr.client.fault import Fault
 from olr.client.map_client import Map
-from olr.confidence.table import ConfidenceTable
+from olr.confidence.judged import Judged, Judging
 from olr.network import Network
 from olr.progress import watched
 from olr.regions.reading import read_reference
 from olr.report.sample import Drawn
 from olr.store_network import StoreNetwork
-from olr.view.scene import Answered, answers_about, scene_of_answers
+from olr.view.scene import Answered, answers_about, judgements_of, scene_of_answers
 from olr.view.sentences import why_texts
 from olr.view.surroundings import DIGITS, Scene, Surroundings, box_of, network_around
 
@@ -25,6 +25,9 @@ MOST_LINES = 20_000
 ORDER = ("none", "refused", "unique", "open", "ambiguous", "lacking")
 """Of what the map shows: the last ones are seen best."""
 GEOMETRIES = ("route", "outer", "inner")
+DIGITS_OF_PROBABILITY = 3
+TURNS_BACK = "turns back"
+"""What the table says of a likeliest place that turns back at a dead end."""
 
 Row = dict[str, Any]
 Steps = list[int]
@@ -45,27 +48,42 @@ class Rows(NamedTuple):
 
 
 def rows_of(
-    drawn: Sequence[Drawn], asked: Map, numbers: Mapping[str, int], table: Optional[ConfidenceTable]
+    drawn: Sequence[Drawn], asked: Map, numbers: Mapping[str, int], judging: Judging
 ) -> Rows:
-    """Asks about messages, and makes rows of the answers. Without a table they have no confidence. Raises `ToolError`."""
+    """Asks about messages, and makes rows of the answers, which are judged. Raises `ToolError`."""
     network, lines = asked.network(), _Lines()
     rows: list[Row] = []
     scenes: list[Optional[Scene]] = []
     shapes: list[Row] = []
     for chunk in _chunks(watched(drawn, "references drawn", len(drawn))):
         answers = _answers_about(chunk, asked, numbers)
-        part = _network_of([one for one in answers if one is not None], network)
-        made = [None if one is None else scene_of_answers(one, part, table) for one in answers]
-        lines.add(network, [scene for scene in made if scene is not None])
-        for one, answered, scene in zip(chunk, answers, made):
+        made = _scenes(answers, network, judging)
+        lines.add(network, [scene for scene, _ in made if scene is not None])
+        for one, answered, (scene, judgement) in zip(chunk, answers, made):
             if answered is not None and scene is not None:
                 _pack(scene)
                 shapes += _shapes(len(rows), answered, scene)
-            rows.append(_row(one, answered, table))
-        scenes += made
+            rows.append(_row(one, answered, judgement))
+            scenes.append(scene)
     # What is drawn last is seen.
     shapes.sort(key=lambda shape: ORDER.index(shape["kind"]))
     return Rows(rows, scenes, shapes, *lines.chosen())
+
+
+def _scenes(
+    answers: Sequence[Optional[Answered]], network: Network, judging: Judging
+) -> list[tuple[Optional[Scene], Optional[Judged]]]:
+    """The scene of each answer, and how its places are judged; None where a text is no reference."""
+    known = [one for one in answers if one is not None]
+    part = _network_of(known, network)
+    judgements = judgements_of(known, part, judging)
+    found = iter(
+        [
+            (scene_of_answers(one, part, judgement, judging.confidence), judgement)
+            for one, judgement in zip(known, judgements)
+        ]
+    )
+    return [(None, None) if one is None else next(found) for one in answers]
 
 
 def _chunks(drawn: Iterable[Drawn]) -> Iterator[list[Drawn]]:
@@ -156,26 +174,29 @@ class _Lines:
         return lines, len(self._seen) - len(lines)
 
 
-def _row(drawn: Drawn, answered: Optional[Answered], table: Optional[ConfidenceTable]) -> Row:
-    """A row of the table. Lengths are in metres."""
+def _row(drawn: Drawn, answered: Optional[Answered], judgement: Optional[Judged]) -> Row:
+    """A row of the table: its numbers are those of the likeliest place. Lengths are in metres."""
     row: Row = {"record": drawn.message.record, "key": drawn.message.key, "verdict": "refused"}
     if answered is None:
         return row | _cause(drawn.fault)
     row["points"] = len(answered.reference.points)
-    places = answered.places
-    if isinstance(places, Fault):
-        return row | _cause(places)
-    row |= {"verdict": places.verdict, "margin": places.margin}
-    if places.places:
-        first = places.places[0].matching
-        row["total"] = first.total
-        if first.outer is not None:
-            row["length"] = first.outer.length() / 10
-        share = None if table is None else table.of(places)
-        if share is not None:
-            row |= {"confidence": share.rounded, "right": share.right, "answers": share.count}
-        return row
-    return row | _cause(answered.why)
+    if isinstance(answered.places, Fault):
+        return row | _cause(answered.places)
+    assert judgement is not None
+    row |= {"verdict": judgement.verdict, "margin": judgement.margin}
+    if not judgement.places:
+        return row | _cause(answered.why)
+    likeliest = judgement.places[0]
+    matching = likeliest.place.matching
+    row["total"] = matching.total
+    if matching.outer is not None:
+        row["length"] = matching.outer.length() / 10
+    if likeliest.turns_back:
+        row["turns_back"] = TURNS_BACK
+    if likeliest.probability is not None and judgement.none_of_these is not None:
+        row["probability"] = round(likeliest.probability, DIGITS_OF_PROBABILITY)
+        row["none_of_these"] = round(judgement.none_of_these, DIGITS_OF_PROBABILITY)
+    return row
 
 
 def _cause(cause: Union[Why, Fault, None]) -> Row:
@@ -188,7 +209,7 @@ def _cause(cause: Union[Why, Fault, None]) -> Row:
 
 
 def _shapes(row: int, answered: Answered, scene: Scene) -> list[Row]:
-    """What the map shows of a row: the outer part of the first place, as the number of one of the scene's paths, or a spot; else the
+    """What the map shows of a row: the outer part of the likeliest place, as the number of one of the scene's paths, or a spot; else the
     straight line through the points of the reference, and those of them that have no candidate."""
     kind = scene["verdict"]["word"]
     spots = [point["spot"] for point in scene["points"]]

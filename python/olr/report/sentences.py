@@ -5,9 +5,10 @@ from collections.abc import Iterable, Mapping, Sequence
 from typing import Any, NamedTuple
 
 from olr.client.fault import Fault
-from olr.client.questions import NUMBERS, TOLERANCES
+from olr.matching.lacking import option_text
 from olr.report.asking import Counted
 from olr.report.counting import Histogram
+from olr.report.expectation import remarks, sentence
 from olr.report.reasons import CONDITIONS, ReasonCounts
 
 MOST_FAULTS = 20
@@ -33,17 +34,6 @@ NOT = {
     "class": "its class is another one",
     "end": "no vehicle can go on from it, or come to it",
 }
-
-UNITS = {
-    "metres": " m",
-    "decimetres": " dm",
-    "percent": " %",
-    "penalty points": " points",
-    "sectors of 11.25 degrees": " sectors",
-    "matchings": " matchings",
-    "places": " places",
-}
-"""Of numbers, as the page has them; classes have none."""
 
 Row = tuple[str, str, int]
 """What is counted, what it means, and how often."""
@@ -76,13 +66,18 @@ class Section(NamedTuple):
         return {"title": self.title, "texts": self.texts, "tables": tables}
 
 
-def summary(counted: Counted) -> list[str]:
-    """A sentence or two on all of it."""
-    verdicts = counted.places.verdicts
+def summary(counted: Counted, first: Iterable[str]) -> list[str]:
+    """A sentence or two on all of it, behind those that come first."""
+    places = counted.places
+    verdicts, number = places.verdicts, places.references()
     parts = [f"{verdicts[word]:,} {name}" for word, name in _NAMES.items() if verdicts[word]]
-    number = counted.places.references()
-    texts = [f"{_many(number, 'reference')}: {', '.join(parts)}." if parts else "No references."]
-    return texts + list(_findings(counted.reasons))
+    return [
+        *first,
+        f"{_many(number, 'reference')}: {', '.join(parts)}." if parts else "No references.",
+        *map(sentence, remarks(places)),
+        *_findings(counted.reasons),
+        *counted.lacking.sentences(),
+    ]
 
 
 _NAMES = {
@@ -105,18 +100,18 @@ def _findings(reasons: ReasonCounts) -> Iterable[str]:
         yield text
     if whole:
         options = [(option, count) for option, count in reasons.first.most_common() if option]
-        best = f", most often {_option(options[0][0])} ({options[0][1]:,})" if options else ""
+        best = f", most often {option_text(options[0][0])} ({options[0][1]:,})" if options else ""
         helped = sum(count for _, count in options)
         yield f"For {helped:,} of {_many(whole, 'reference')} without a place a change of one option helps{best}."
 
 
 def sections(counted: Counted, note: str) -> list[Section]:
-    """The parts of the page before the map and the table of references. `note` says what confidence is of, or why there is none."""
+    """The parts of the page before the map and the table of references. `note` says what probabilities are of, or why there are none."""
     return [
         Section("Answers", [], [_verdicts(counted), _faults(counted.places.faults)]),
         *_why(counted.reasons),
         *_distributions(counted),
-        *_confidence(counted, note),
+        *_probabilities(counted, note),
     ]
 
 
@@ -144,7 +139,7 @@ def _why(reasons: ReasonCounts) -> Iterable[Section]:
         return
     verdicts = [(word, WHY[word], count) for word, count in reasons.verdicts.most_common()]
     remedies = [
-        (_option(option), f"helps {reasons.named[option]:,} in all", count)
+        (option_text(option), f"helps {reasons.named[option]:,} in all", count)
         for option, count in reasons.first.most_common()
         if option
     ]
@@ -186,16 +181,16 @@ def _distributions(counted: Counted) -> Iterable[Section]:
     if not places.totals.total():
         return
     no_margin = [("none", "no second place was found", places.without_margin)]
-    margins = _ranges("Margins, the gap of the second place", places.margins)
+    margins = _ranges("Margins, the gap of the second best place", places.margins)
     yield Section(
         "Penalties, gaps and margins",
         [
-            "In penalty points. A total is what the first place costs; 0 is a perfect fit. A gap is how much more another listed place costs "
-            "than the first one. A margin is the gap of the second place, whether it is listed or not: the greater, the surer."
+            "In penalty points. A total is what the likeliest place costs; 0 is a perfect fit. A gap is how much more another place that is shown "
+            "costs than the one that costs least. A margin is the least gap, whether that place is shown or not: the greater, the surer."
         ],
         [
-            _ranges("Totals of first places", places.totals),
-            _ranges("Gaps of the second and further places that are listed", places.gaps),
+            _ranges("Totals of likeliest places", places.totals),
+            _ranges("Gaps of the other places that are shown", places.gaps),
             margins._replace(
                 rows=[*margins.rows, *no_margin], whole=margins.whole + places.without_margin
             ),
@@ -209,28 +204,16 @@ def _ranges(caption: str, histogram: Histogram) -> Table:
     return Table(caption, "penalty points", rows, histogram.total())
 
 
-def _confidence(counted: Counted, note: str) -> Iterable[Section]:
-    """How many references have which confidence."""
-    confidence = counted.places.confidence
-    shares = sorted((it for it in confidence if it is not None), reverse=True)
-    rows = [(f"{share:g}", "", confidence[share]) for share in shares]
-    if confidence[None]:
-        rows.append(
-            (
-                "unknown",
-                "looking was cut off, or the table has too few such answers",
-                confidence[None],
-            )
-        )
-    table = Table(
-        "References that fit somewhere, by confidence", "confidence", rows, confidence.total()
-    )
-    yield Section("Confidence", [note], [table])
-
-
-def _option(option: str) -> str:
-    """A remedy by the option that has to be changed."""
-    return "without bans" if option == "without-bans" else f"--{option}"
+def _probabilities(counted: Counted, note: str) -> Iterable[Section]:
+    """How many likeliest places have which probability."""
+    found = counted.places.probabilities
+    rows: list[Row] = []
+    if found.expected.count:
+        rows += [(name, "", count) for name, count in found.rows()]
+        if found.without:
+            rows.append(("none", "a point along a line", found.without))
+    table = Table("Likeliest places by probability", "probability", rows, found.total())
+    yield Section("Probabilities", [note], [table])
 
 
 def _many(count: int, what: str) -> str:
@@ -255,14 +238,4 @@ def left_out(verdicts: Mapping[str, int], shown: Mapping[str, int]) -> str:
     return (
         f"{rows:,} of {_many(whole, 'reference')}, drawn at random, with an equal share of each verdict and each fault: {', '.join(parts)}. "
         "The others are counted above, and left out here: --rows makes room for more."
-    )
-
-
-def numbers_text(tolerances: Mapping[str, int], numbers: Mapping[str, int]) -> str:
-    """All numbers with which was asked, those that were given and those that weren't."""
-    given = {name.removesuffix("_"): value for name, value in {**tolerances, **numbers}.items()}
-    known = {**TOLERANCES, **NUMBERS["places"]}
-    return ", ".join(
-        f"{name} {given.get(name, number.default)}{UNITS.get(number.unit, '')}"
-        for name, number in known.items()
     )

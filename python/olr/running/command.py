@@ -6,19 +6,26 @@ from collections import Counter
 from collections.abc import Iterator, Sequence
 from contextlib import contextmanager
 from pathlib import Path
-from typing import TYPE_CHECKING, Any, Optional
+from typing import TYPE_CHECKING, Optional, Union
 
 import click
 
 from olr.client.map_client import Map
 from olr.client.program import find_program
 from olr.client.questions import NUMBERS, What
-from olr.confidence.options import Chosen, confidence_option, table_for
+from olr.confidence.options import confidence_option, cut_off_line, judging_for
 from olr.content import Content, Stamp
 from olr.errors import ToolError
 from olr.extras import needed_by
+from olr.likely.order import LIST
 from olr.map_folder import LINES, LINES_HEADER, NODES, NODES_HEADER, write_rows
-from olr.matching.options import number_options, of_question, patience_option, tolerance_options
+from olr.matching.options import (
+    Asking,
+    number_options,
+    of_question,
+    patience_option,
+    tolerance_options,
+)
 from olr.messages.message import KEY, REF, Reading
 from olr.messages.opening import as_file, name_of
 from olr.messages.options import reading_options
@@ -40,6 +47,11 @@ if TYPE_CHECKING:
 
 ROWS = (".csv", ".geojson", ".gpkg", ".parquet")
 """Endings of files of rows."""
+OF_ROWS, OF_LINES = (
+    {name: one for name, one in NUMBERS["places"].items() if (name in LIST) == are_of_rows}
+    for are_of_rows in (True, False)
+)
+"""The numbers of `places` that say which places rows show, and those on which lines depend: these have all places."""
 SCRATCH_FILES, SCRATCH_BYTES = 64, 4096
 """So many scratch files of so many bytes are written before a run begins, and deleted. Where they can't be, Dask couldn't start either, and
 wouldn't say why."""
@@ -121,7 +133,8 @@ wouldn't say why."""
     help="Ask for the candidates of each point of a reference. By default its matchings are asked for.",
 )
 @number_options(NUMBERS["match"], "without --places, --why and --candidates, ")
-@number_options(NUMBERS["places"], "with --places, ")
+@number_options(OF_LINES, "with --places, ")
+@number_options(OF_ROWS, "with --places, in the rows of --geometries and --pieces, ")
 @number_options(NUMBERS["why"], "with --why, ")
 @tolerance_options
 @confidence_option
@@ -148,16 +161,18 @@ def command(
     confidence: Optional[Path],
     patience: float,
     per_group: Optional[int],
-    **options: Optional[int],
+    **options: Union[int, str, None],
 ) -> None:
     """Match any number of references on a map of any size, on many processors or machines.
 
     MESSAGES has a key, a tab and a reference on each line, or is CSV or JSON; - is standard input. DIR gets files with the lines of
-    olr batch, parts/000000.jsonl and so on. A part is complete or absent: whatever happens, --resume goes on after what is written.
+    olr batch, parts/000000.jsonl and so on; with --places those of olr batch places --within 14620 --most 100. A part is complete or absent:
+    whatever happens, --resume goes on after what is written.
     """
     question: What = what or "match"
-    tolerances, numbers = of_question(question, options)
-    given = {name.removesuffix("_"): value for name, value in (tolerances | numbers).items()}
+    asking = of_question(question, options)
+    numbers = asking.tolerances | asking.numbers
+    given = {name.removesuffix("_"): value for name, value in numbers.items()}
     if scheduler is not None and workers is not None:
         raise click.UsageError("--workers is for a run without --scheduler")
     others = [one for one in (joined, geometries, pieces) if one is not None]
@@ -175,11 +190,17 @@ def command(
     rows = _rows(question, geometries, pieces, force, inputs)
     if confidence is not None and (geometries is None or question != "places"):
         raise click.UsageError("--confidence is for --geometries with --places")
-    sure = Chosen(None, "")
-    if rows is not None and rows.answers is not None and question == "places":
-        sure = table_for(confidence, tolerances, numbers)
-        rows = rows._replace(table=sure.table)
-    _require_numbers(question, tolerances, numbers)
+    sure = None
+    if question == "places":
+        given |= LIST
+        if rows is not None:
+            sure = judging_for(confidence, asking.tolerances, asking.numbers)
+            rows = rows._replace(judging=sure.judging)
+    _require_numbers(asking)
+    if rows is None and not OF_ROWS.keys().isdisjoint(asking.numbers):
+        raise click.UsageError(
+            "--within and --most are for --geometries and --pieces: the lines of --places have all places"
+        )
     copy, name = click.get_current_context().with_resource(as_file(messages)), name_of(messages)
     stamp = Stamp.of(copy)
     asked = Question(
@@ -202,7 +223,7 @@ def command(
             with _scratch_files(), connected(scheduler, workers, grouped.groups) as client:
                 outcome = answer_all(client, job, grouped)
         run.sync()
-        _report(run, grouped, outcome)
+        _report(run, grouped, outcome, asking)
         if joined is not None:
             lines = [run.lines(asked, grouped, group) for group in range(grouped.groups)]
             parts = map(run.file_of, range(grouped.groups))
@@ -211,11 +232,14 @@ def command(
         if rows is not None:
             from olr.running.geometries import write_geometries
 
-            lines = [run.lines(asked, grouped, group) for group in range(grouped.groups)]
-            for written, count in write_geometries(rows, asked, file, lines):
-                click.echo(f"{written}: {count:,} rows")
-            if sure.note:
-                click.echo(sure.note)
+            numbered = range(grouped.groups)
+            asked_lines = [run.asked_lines(asked, grouped, group) for group in numbered]
+            written = write_geometries(rows, asked, file, asked_lines)
+            for made, count in written.files:
+                click.echo(f"{made}: {count:,} rows")
+            for more in (cut_off_line(written.cut_off), sure and sure.note):
+                if more:
+                    click.echo(more)
         _require_answers(run, outcome.counts)
 
 
@@ -239,13 +263,13 @@ def _rows(
     return rows
 
 
-def _require_numbers(question: What, tolerances: dict[str, Any], numbers: dict[str, int]) -> None:
+def _require_numbers(asking: Asking) -> None:
     """Raises `Fault` where the program refuses a number, and `ProgramNotFound`: before anything is written."""
     with _scratch_files(), tempfile.TemporaryDirectory(prefix="olr-run.") as folder:
         write_rows(Path(folder, NODES), NODES_HEADER, [])
         write_rows(Path(folder, LINES), LINES_HEADER, [])
-        with Map.of_folder(folder, **tolerances) as asked:
-            list(asked.answers(question, [""], **numbers))
+        with Map.of_folder(folder, **asking.tolerances) as asked:
+            list(asked.answers(asking.question, [""], **asking.numbers))
 
 
 @contextmanager
@@ -264,7 +288,7 @@ def _scratch_files() -> Iterator[None]:
         raise ToolError(f"{about}: name another folder by TMPDIR") from error
 
 
-def _report(run: RunFolder, grouped: Grouped, outcome: Outcome) -> None:
+def _report(run: RunFolder, grouped: Grouped, outcome: Outcome, asking: Asking) -> None:
     """Prints what was answered. Raises `ToolError` if groups failed, or there isn't one line for each record."""
     counts, failed = outcome
     parts = grouped.groups - len(failed)
@@ -272,6 +296,7 @@ def _report(run: RunFolder, grouped: Grouped, outcome: Outcome) -> None:
     click.echo(f"{run.path}: {counts.total():,} lines of {grouped.records:,} in {parts:,} parts")
     for name, number in sorted(counts.items(), key=lambda pair: (-pair[1], pair[0])):
         click.echo(f"{_kind(name)}: {number:,}")
+    click.echo(asking.line())
     if failed:
         reasons = Counter(failed.values()).most_common()
         more = f", and {len(reasons) - 1} other reasons" if len(reasons) > 1 else ""

@@ -36,7 +36,7 @@ from olr.running.identity import Build, shortened
 from olr.running.joining import Lines
 from olr.running.parts import Part
 from olr.running.question import Question
-from olr.running.records import Record
+from olr.running.records import Record, reference_of
 
 RUN, GROUPS, PARTS, FACTS, FAILED = "run.json", "groups", "parts", "facts", "failed.txt"
 FOLDERS = GROUPS, PARTS, FACTS
@@ -66,6 +66,15 @@ class RunFolder:
     def lines(self, question: Question, grouped: Grouped, number: int) -> Lines:
         """The lines of a group, which are checked as they are read. Raises `NotWhole` and `ToolError`, as `Part.lines`."""
         yield from self.part(question, number, self.group(number, grouped.sha256)).lines()
+
+    def asked_lines(
+        self, question: Question, grouped: Grouped, number: int
+    ) -> Iterator[tuple[bytes, str]]:
+        """The lines of a group, each with the text of its reference. Raises as `lines`."""
+        group = self.group(number, grouped.sha256)
+        lines = self.part(question, number, group).lines()
+        for line, record in zip(lines, group.records(), strict=True):
+            yield line, reference_of(record.data)
 
     def _facts_of(self, group: int) -> Path:
         """The file that shows the part of a group whole."""

@@ -5,6 +5,7 @@
 | `scene` | all that is drawn, as data |
 | `surroundings` | the lines of the map around it |
 | `sentences` | what is said about it |
+| `notes` | other paths of its first entry |
 | `page` | the page: `page.html`, `page.css`, `page.js` and the data, by `olr.pages` |
 | `command` | the command |
 """

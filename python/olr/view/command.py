@@ -1,13 +1,14 @@
 """The command `olr-tools view`."""
 
 from pathlib import Path
-from typing import Optional
+from typing import Optional, Union
 
 import click
 
+from olr.asked_with import name_for_program
 from olr.client.map_client import Map
 from olr.client.questions import NUMBERS
-from olr.confidence.options import confidence_option, table_for
+from olr.confidence.options import confidence_option, cut_off_line, judging_for
 from olr.map_folder import inputs_of
 from olr.matching.options import map_options, number_options, of_question, patience_option
 from olr.messages.finding import message_of_key, message_of_record
@@ -17,7 +18,7 @@ from olr.outputs import require_free_file, write_whole
 from olr.pages.html import require_html
 from olr.pages.options import page_options
 from olr.view.page import html_of
-from olr.view.scene import scene_of
+from olr.view.scene import add_command, scene_of
 
 
 @click.command()
@@ -51,26 +52,29 @@ def command(
     file: Path,
     force: bool,
     tiles: Optional[str],
-    **options: Optional[int],
+    **options: Union[int, str, None],
 ) -> None:
-    """Show a reference on a map: its points and their directions, the candidates, where it fits, one place or matching at a time, or
-    else why it doesn't. The page is one file of HTML that needs no network, written whole or not at all.
+    """Show a reference on a map: its points and their directions, the candidates, where it fits, one place or matching at a time, the
+    likeliest one first, or else why it doesn't. The page is one file of HTML that needs no network, written whole or not at all.
 
     REF is a reference, a text in base64, or with --messages the key of a message in a file as match reads it.
     """
-    tolerances, numbers = of_question("places", options)
+    asking = of_question("places", options)
     text = _text(reference, messages, record, reading)
     inputs = [*inputs_of(folder), *(one for one in (messages, confidence) if one is not None)]
     require_html(file)
     require_free_file(file, force, inputs)
-    sure = table_for(confidence, tolerances, numbers)
-    with Map.of_folder(folder, **tolerances, patience=patience) as asked:
-        scene = scene_of(text, asked, sure.table, **numbers)
+    sure = judging_for(confidence, asking.tolerances, asking.numbers)
+    with Map.of_folder(folder, **asking.tolerances, patience=patience) as asked:
+        scene = scene_of(text, asked, sure.judging.confidence, **asking.numbers)
+    add_command(scene, name_for_program(folder), asking.all_numbers())
     page = html_of(scene, tiles)
     write_whole(file, page.encode(), force, inputs)
     click.echo(f"{file}: {scene['verdict']['word']}")
-    if scene["entries"] and sure.note:
-        click.echo(sure.note)
+    click.echo(asking.line())
+    for more in (cut_off_line(int(bool(scene["looking"]))), scene["entries"] and sure.note):
+        if more:
+            click.echo(more)
 
 
 def _text(

@@ -1,18 +1,25 @@
 """All that a page draws, as data for its script. Positions are `[latitude, longitude]` in degrees."""
 
-from collections.abc import Iterator, Sequence
+from collections.abc import Iterator, Mapping, Sequence
+from functools import partial
 from typing import Any, NamedTuple, Optional, Union
 
 import numpy as np
 
+from olr.asked_with import command_text
 from olr.client.answers import Candidate, Candidates, Matching, Page, Places, Reference, Why
 from olr.client.decoding import decode
 from olr.client.fault import Fault
 from olr.client.map_client import Map
 from olr.client.pieces import Pieces
-from olr.confidence.table import ConfidenceTable
+from olr.client.questions import What
+from olr.confidence.confidence import Confidence
+from olr.confidence.judged import Judged, JudgedPlace, Judging, judged
+from olr.likely.order import LIST, Shown
+from olr.near_paths.notes import streets_of
 from olr.network import Network, OnLine, middle
 from olr.view import sentences
+from olr.view.notes import notes_of
 from olr.view.surroundings import Scene, Surroundings, box_of, network_around, path_of
 
 MOST_IDS = 6
@@ -31,17 +38,21 @@ class Answered(NamedTuple):
 
 
 def scene_of(
-    text: str, asked: Map, table: Optional[ConfidenceTable] = None, **numbers: int
+    text: str, asked: Map, confidence: Optional[Confidence] = None, **numbers: int
 ) -> Scene:
-    """What a reference says, where it fits and how well; or why it doesn't. With a table it says how sure the first place is. The numbers
-    are those of `places`. Raises `Fault` if it is no reference, or a number is out of its range, and `MapRefused` if the map's files
-    change meanwhile."""
+    """What a reference says, where it fits and how well; or why it doesn't. With a confidence it says how probable each place is. The
+    numbers are those of `places`. Raises `Fault` if it is no reference, or a number is out of its range, and `MapRefused` if the map's
+    files change meanwhile."""
+    judging = Judging(confidence, Shown.of(numbers))
     reference = decode(text)
     network = asked.network()
     (answered,) = answers_about([(text, reference)], asked, **numbers)
     if isinstance(answered.why, Fault):
         raise answered.why
-    scene = scene_of_answers(answered, network, table)
+    (judgement,) = judgements_of([answered], network, judging)
+    scene = scene_of_answers(answered, network, judgement, confidence)
+    lowest = asked.tolerances["lowest"]
+    scene |= notes_of(scene, answered, network, lowest, partial(streets_of, asked))
     box = box_of(scene)
     scene["lines"], scene["cut"] = Surroundings(network_around(network, [box])).lines(box)
     return scene
@@ -50,11 +61,12 @@ def scene_of(
 def answers_about(
     references: Sequence[tuple[str, Reference]], asked: Map, **numbers: int
 ) -> list[Answered]:
-    """What scenes of references are made from. The numbers are those of `places`. Raises `Fault` for one that is out of its range, and
-    `MapRefused` if the map's files change meanwhile."""
+    """What scenes of references are made from. The numbers are those of `places`: a longer list is asked for, so that what is shown of it
+    doesn't depend on its length. Raises `Fault` for a number that is out of its range, and `MapRefused` if the map's files change
+    meanwhile."""
     texts = [text for text, _ in references]
     candidates = asked.answers("candidates", texts)
-    places: Iterator[Any] = asked.answers("places", texts, **numbers)
+    places: Iterator[Any] = asked.answers("places", texts, **{**numbers, **LIST})
     pages = asked.answers("match", texts)
     answers = zip(references, candidates, places, pages, strict=True)
     found = [Answered(*about, one, two, three) for about, one, two, three in answers]
@@ -70,11 +82,24 @@ def fits(answered: Answered) -> bool:
     return bool(places.places or page.matchings)
 
 
+def judgements_of(
+    answers: Sequence[Answered], network: Network, judging: Judging
+) -> list[Optional[Judged]]:
+    """Which places of answers are shown, and how probable they are; None where there is no answer. Raises as `scene_of_answers`."""
+    return judged(
+        [one.places for one in answers], [one.reference for one in answers], network, judging
+    )
+
+
 def scene_of_answers(
-    answered: Answered, network: Network, table: Optional[ConfidenceTable] = None
+    answered: Answered,
+    network: Network,
+    judgement: Optional[Judged],
+    confidence: Optional[Confidence] = None,
 ) -> Scene:
-    """The scene of a reference that was asked about, without the lines around. Raises `MapRefused` if the network is of another version of
-    the map, and `ToolError` if it lacks a line of an answer."""
+    """The scene of a reference that was asked about, without the lines around. `judgement` is that of its places, by a confidence if there
+    is one. Raises `MapRefused` if the network is of another version of the map, and `ToolError` if it lacks a line of an answer.
+    """
     reference, candidates, places, page = answered[1:5]
     scene: Scene = {
         "reference": answered.text.strip(),
@@ -84,24 +109,38 @@ def scene_of_answers(
         "candidates": [],
         "entries": [],
         "why": None,
-        "verdict": {"word": "refused", "text": "", "confidence": ""},
+        "command": "",
+        "verdict": {"word": "refused", "text": ""},
+        "probability": [],
+        "looking": "",
     }
     if isinstance(candidates, Candidates):
         scene["candidates"] = [_ranked(point, network) for point in candidates.points]
     if isinstance(places, Places) and isinstance(page, Page):
-        share = None if table is None else table.of(places)
+        assert judgement is not None
         scene["verdict"] = {
-            "word": places.verdict,
-            "text": sentences.verdict_text(places),
-            "confidence": "" if share is None else sentences.confidence_text(share),
+            "word": judgement.verdict,
+            "text": sentences.verdict_text(judgement.verdict, judgement.margin),
         }
-        scene["entries"] = _entries(places, page, network)
+        if confidence is not None and judgement.places:
+            scene["probability"] = sentences.probability_texts(judgement, confidence)
+        if judgement.is_cut_off:
+            scene["looking"] = sentences.CUT_OFF
+        scene["entries"] = _entries(judgement.places, page, network)
     else:
         fault = next(one for one in (places, page) if isinstance(one, Fault))
         scene["verdict"]["text"] = f"{fault.text}: {fault.meaning}."
     if answered.why is not None:
         scene["why"] = _why(answered.why, network)
     return scene
+
+
+def add_command(scene: Scene, map_name: Optional[str], numbers: Mapping[str, int]) -> None:
+    """Adds the command of the program `olr` that gives the same answer, with all its places: an empty text if there is none, as the
+    program doesn't read the map. The numbers are all tolerances and the numbers of `places`, by the names of the program's options.
+    """
+    question: What = "places" if scene["why"] is None else "why"
+    scene["command"] = command_text(question, scene["reference"], map_name, {**numbers, **LIST})
 
 
 def _points(reference: Reference) -> list[Scene]:
@@ -128,20 +167,32 @@ def _ranked(candidates: Sequence[Candidate], network: Network) -> list[Scene]:
     ]
 
 
-def _entries(places: Places, page: Page, network: Network) -> list[Scene]:
-    """The places, and then those of the first matchings that don't open one."""
+def _entries(places: Sequence[JudgedPlace], page: Page, network: Network) -> list[Scene]:
+    """The places, the likeliest one first, and then those of the first matchings that don't open one."""
     entries = []
-    for number, place in enumerate(places.places, 1):
-        entry = _entry(place.matching, network)
-        members = "1 matching" if place.members == 1 else f"{place.members} matchings"
-        entry |= {"title": f"Place {number}", "gap": place.gap, "members": members}
+    for one in places:
+        members = one.place.members
+        entry = _entry(one.place.matching, network) | {
+            "title": f"Place {one.likely}",
+            "gap": one.place.gap,
+            "members": "1 matching" if members == 1 else f"{members} matchings",
+            "probability": sentences.place_probability_text(one),
+            "facts": sentences.place_texts(one),
+            "reasons": one.reasons,
+        }
         entries.append(entry)
-    openers = {place.matching.cursor for place in places.places}
+    openers = {one.place.matching.cursor for one in places}
     for number, matching in enumerate(page.matchings, 1):
         if matching.cursor not in openers:
-            entry = _entry(matching, network)
-            gap = matching.total - page.matchings[0].total
-            entries.append(entry | {"title": f"Matching {number}", "gap": gap, "members": None})
+            entry = _entry(matching, network) | {
+                "title": f"Matching {number}",
+                "gap": matching.total - page.matchings[0].total,
+                "members": None,
+                "probability": "",
+                "facts": [],
+                "reasons": "",
+            }
+            entries.append(entry)
     return entries
 
 

@@ -1,19 +1,22 @@
 """What the page says: a reference, a verdict and reasons in sentences. Lengths are shown in metres."""
 
 from collections.abc import Sequence
+from typing import Optional
 
 from olr.client.answers import (
     Leg,
     NearLine,
     Pair,
-    Places,
     Reference,
     ReferencePoint,
     Remedy,
     Why,
     WhyLeg,
 )
-from olr.confidence.share import Share
+from olr.confidence.confidence import Confidence
+from olr.confidence.judged import Judged, JudgedPlace
+from olr.confidence.sentences import differs_text, probability_text
+from olr.likely.order import Verdict
 
 INTERVAL = 58.6
 """Metres in an interval."""
@@ -35,6 +38,10 @@ VERDICTS = {
     "open": "Looking was cut off before a second place was found",
     "none": "Within the tolerances there is no matching",
 }
+CUT_OFF = "Looking was cut off: give a greater --look."
+"""Where it ended before a place that might be shown."""
+LEAST_REST = 0.005
+"""The probability of places that aren't shown, from which on it is said."""
 CONDITIONS = {
     "radius": "too far away",
     "bearing": "another direction",
@@ -71,12 +78,34 @@ def legs_text(legs: Sequence[Leg]) -> str:
     return f"{lengths} m" + (f", which costs {penalty}" if penalty else "")
 
 
-def confidence_text(share: Share) -> str:
-    """How sure a first place is."""
-    return (
-        f"Confidence {share.rounded:g}: of {share.count:,} trial references with such a margin and such a total, the first place was "
-        f"right for {share.right:,}."
-    )
+def place_probability_text(place: JudgedPlace) -> str:
+    """How probable a place is; an empty text where nothing is said."""
+    if place.probability is None:
+        return ""
+    return f"probability {probability_text(place.probability)}"
+
+
+def place_texts(place: JudgedPlace) -> list[str]:
+    """What speaks for and against a place, whether it has a probability or not."""
+    texts = [f"points {place.ends:.1f} m from the ends of their lines"]
+    if place.turns_back:
+        texts.append("turns back at a dead end")
+    if place.rank != place.likely:
+        texts.append(f"rank {place.rank} by penalty")
+    return texts
+
+
+def probability_texts(judgement: Judged, confidence: Confidence) -> list[str]:
+    """How probable it is that none of the places is the right one, and of which maps that holds."""
+    none = judgement.none_of_these
+    if none is None:
+        return ["Probabilities are of lines: a point along a line has none."]
+    texts = [f"None of these: probability {probability_text(none)}."]
+    rest = 1 - none - sum(one.probability or 0.0 for one in judgement.places)
+    if rest >= LEAST_REST:
+        texts.append(f"Others that aren't shown: probability {probability_text(rest)}.")
+    differs = differs_text(confidence)
+    return [*texts, differs] if differs else texts
 
 
 def offsets_text(reference: Reference) -> str:
@@ -89,14 +118,14 @@ def offsets_text(reference: Reference) -> str:
     return ", ".join(parts)
 
 
-def verdict_text(places: Places) -> str:
+def verdict_text(verdict: Verdict, margin: Optional[int]) -> str:
     """The verdict, and the margin if there is one."""
-    text = VERDICTS[places.verdict]
-    if places.margin is None:
+    text = VERDICTS[verdict]
+    if margin is None:
         return text + "."
-    if places.verdict == "unique":
-        return f"{text} that fits nearly as well: the next one costs {places.margin} penalty points more."
-    return f"{text}: the second one costs {places.margin} penalty points more."
+    if verdict == "unique":
+        return f"{text} that fits nearly as well: the next one costs {margin} penalty points more."
+    return f"{text}: the second best one costs {margin} penalty points more."
 
 
 def why_texts(why: Why) -> list[str]:

@@ -1,0 +1,327 @@
+"""One answer, whichever way it is asked for: commands, pages, addresses and Python say the same of the same reference, map and confidence."""
+
+import csv
+import json
+import os
+import random
+from collections.abc import Iterator, Mapping, Sequence
+from contextlib import nullcontext
+from itertools import islice
+from pathlib import Path
+from typing import Any, NamedTuple, Optional, TypeGuard, Union
+
+import pandas
+import pytest
+
+import olr
+from confidences import FEED as OF_FEED
+from confidences import write_confidence
+from conftest import Program
+from feeds import data_of, point_along_line
+from olr.client.answers import AnswerOrFault, Places
+from olr.client.fault import Fault
+from olr.comparing.columns import CHANGES
+from olr.confidence.expected import Expected
+from olr.confidence.likeness import Range
+from olr.confidence.sentences import probability_text
+from olr.likely.order import LIST
+from olr.map_folder import read_map
+from olr.matching.columns import ANSWERS
+from olr.profiles import FEED
+from olr.regions.making import make_store_of_folder
+from olr.tools import run
+from olr.trials.changing import changed_points
+from olr.trials.encoder import Network, text_of
+from olr.trials.graph import Graph
+from olr.trials.paths import Paths
+from olr.trials.roads import Roads
+from olr.trials.spreads import Spreads
+from runs import answer_all_here
+from servers import Server, path_of, serving
+from vector_files import write_tempe
+
+Row = Mapping[str, Any]
+SHOWN = {"within": 90, "most": 3}
+"""Others than the defaults: so each way has to pass them on."""
+OPTIONS = [str(word) for name, value in SHOWN.items() for word in (f"--{name}", value)]
+DIFFERS = Range(0.83, 0.62, 1.18)
+DIFFER = "The maps seem to differ by 0.8 (0.6 to 1.2), 1 as another vendor's."
+WEIGHTS = {"distance": 0.02, "direction": 0.2, "length": 0.05, "behind": 0.02, "turning_back": 2.0}
+WEIGHTS |= {"none": -5.0, "none_points": -0.5, "none_lines": 0.5}
+DRAWN, LINES = 100, 14
+"""So many references of lines are drawn and matched, and so many are asked for in each way."""
+PAGES = 5
+"""So many of them are viewed: each page asks anew."""
+COLUMNS = [name for name in ANSWERS if name != "candidates"]
+"""Those that all tables of answers have."""
+TEXTS = {"key", *(name for name, kind in {**ANSWERS, **CHANGES}.items() if kind == "str")}
+"""Columns of texts."""
+
+
+class Case(NamedTuple):
+    """What is asked, and what `olr-tools match` says of it."""
+
+    folder: Path
+    store: Path
+    messages: Path
+    confidence: Path
+    texts: Mapping[str, str]
+    """The references by their keys."""
+    rows: Mapping[str, Sequence[Row]]
+    """The rows of each, the likeliest place first."""
+
+    def words(self, command: str, *words: object) -> list[str]:
+        """The words of a command about all of them."""
+        given = [command, self.messages, *words, *OPTIONS, "--confidence", self.confidence]
+        return list(map(str, given))
+
+    def asked(self, texts: Sequence[str]) -> "Case":
+        """The same of these references."""
+        keyed = {f"m{number}": text for number, text in enumerate(texts)}
+        self.messages.write_text("".join(f"{key}\t{text}\n" for key, text in keyed.items()))
+        out = self.messages.with_name("match.csv")
+        words = ["--places", "--map", self.folder, "--out", out, "--force"]
+        assert run(self.words("match", *words)) == 0
+        return self._replace(texts=keyed, rows=by_keys(rows_of(out)))
+
+
+@pytest.fixture(scope="module")
+def case(program: Program, tmp_path_factory: pytest.TempPathFactory) -> Iterator[Case]:
+    """References on the streets of Tempe that are far off, those of many that have most places and those that turn back; one to a point along
+    a line, one that fits nowhere, and one that is none."""
+    place = tmp_path_factory.mktemp("doors")
+    folder, store = write_tempe(place / "map"), place / "map.gpkg"
+    make_store_of_folder(folder, store)
+    road_map = read_map(folder)
+    paths = Paths(Network(road_map)).drawn(Graph(road_map, Roads(road_map)), random.Random(5))
+    draws, spreads = random.Random(6), Spreads(30, 2, 15, 20, 10)
+    drawn = [text_of(changed_points(it.points, spreads, draws)) for it in islice(paths, DRAWN)]
+    sure = write_confidence(place / "sure.json", DIFFERS, OF_FEED, FEED, **WEIGHTS)
+    made = Case(folder, store, place / "messages.tsv", sure, {}, {})
+    with pytest.MonkeyPatch.context() as patch:
+        patch.setenv("OLR_PROGRAM", os.fspath(program.path))
+        found = made.asked(drawn).rows.values()
+        several = sorted(found, key=lambda rows: -len(rows) - 5 * any(map(turns_back, rows)))
+        lines = [drawn[int(rows[0]["record"]) - 1] for rows in several[:LINES]]
+        point = next(point_along_line(text) for text in drawn if len(text) == 24)
+        yield made.asked([*lines, point, "CwVGnSN2zhtnBgEB/2IjAQ==", "CwVGnSN2zhvHCgDX"])
+
+
+def turns_back(row: Row) -> bool:
+    """Whether a place turns back."""
+    return bool(row["turns_back"])
+
+
+@pytest.fixture(autouse=True)
+def environment(program: Program, monkeypatch: pytest.MonkeyPatch) -> None:
+    """The commands find the program by its environment."""
+    monkeypatch.setenv("OLR_PROGRAM", os.fspath(program.path))
+
+
+def rows_of(file: Path) -> list[Row]:
+    """The rows of a file of CSV, with numbers as they are."""
+    with file.open(encoding="utf-8", newline="") as stream:
+        return [
+            {name: value_of(name, text) for name, text in row.items()}
+            for row in csv.DictReader(stream)
+        ]
+
+
+def value_of(name: str, text: str) -> Any:
+    """What a cell has: a number, a text or nothing."""
+    return text or None if name in TEXTS or not text else float(text)
+
+
+def by_keys(rows: Sequence[Row]) -> dict[str, list[Row]]:
+    """Rows by the keys of their references."""
+    found: dict[str, list[Row]] = {}
+    for row in rows:
+        found.setdefault(row["key"], []).append(row)
+    return found
+
+
+def only(rows: Sequence[Row], names: Sequence[str] = COLUMNS) -> list[Row]:
+    """Some columns of rows: without others all that `match` has but the number of candidates."""
+    return [{name: row[name] for name in names} for row in rows]
+
+
+def texts_of(rounded: Optional[float], before: str = "probability ") -> set[str]:
+    """What a picture may say of a probability that a table rounds so: it has fewer digits."""
+    if rounded is None:
+        return {""}
+    nearby = (rounded - 0.0005, rounded, rounded + 0.0005)
+    return {f"{before}{probability_text(min(max(one, 0.0), 1.0))}" for one in nearby}
+
+
+def assert_scene(scene: Any, rows: Sequence[Row]) -> None:
+    """A picture shows the places of rows in their order, and says the same of them."""
+    shown = [entry for entry in scene["entries"] if entry["members"] is not None]
+    placed = [row for row in rows if row["likely"] is not None]
+    assert scene["verdict"]["word"] == rows[0]["verdict"]
+    for name in ("cursor", "total", "gap"):
+        assert [entry[name] for entry in shown] == [row[name] for row in placed]
+    for entry, row in zip(shown, placed):
+        assert entry["title"] == f"Place {row['likely']:.0f}"
+        assert entry["probability"] in texts_of(row["probability"])
+        assert (entry["reasons"] or None) == row["reasons"]
+        ends, *facts = entry["facts"]
+        assert ends == f"points {row['ends_m']:.1f} m from the ends of their lines"
+        assert ("turns back at a dead end" in facts) == bool(row["turns_back"])
+        rank = f"rank {row['rank']:.0f} by penalty"
+        assert (rank in facts) == (row["rank"] != row["likely"])
+    if rows[0]["none_of_these"] is not None:
+        none, *_, differ = scene["probability"]
+        assert none.rstrip(".") in texts_of(rows[0]["none_of_these"], "None of these: probability ")
+        assert differ == DIFFER
+    elif placed:
+        assert scene["probability"] == [
+            "Probabilities are of lines: a point along a line has none."
+        ]
+
+
+def test_what_match_says(case: Case) -> None:
+    """The answers are of many kinds, or the other tests would show little."""
+    firsts = [rows[0] for rows in case.rows.values()]
+    assert list(case.rows) == list(case.texts)
+    assert [row["verdict"] for row in firsts[-2:]] == ["none", "fault"]
+    lines, point = firsts[:LINES], firsts[LINES]
+    assert point["likely"] == 1 and point["probability"] is point["none_of_these"] is None
+    assert len({row["probability"] for row in lines}) > LINES - 3
+    assert {len(rows) for rows in case.rows.values()} == {1, 2, 3}
+    assert any(rows[0]["rank"] != 1 for rows in case.rows.values())
+    assert any(map(turns_back, firsts)) and not all(map(turns_back, lines))
+    for rows in case.rows.values():
+        assert [row["likely"] for row in rows] in ([1, 2, 3], [1, 2], [1], [None])
+        # Such things are said once a reference.
+        assert {row["none_of_these"] for row in rows[1:]} <= {None}
+        told = [row["probability"] for row in rows if row["probability"] is not None]
+        if told:
+            assert sum(told) + rows[0]["none_of_these"] <= 1.002
+            assert [rows[0][f"map_differs{end}"] for end in ("", "_low", "_high")] == list(DIFFERS)
+
+
+def test_run_on_a_store(case: Case, tmp_path: Path, monkeypatch: pytest.MonkeyPatch) -> None:
+    """Its rows are those of `match`, but for the number of candidates, which isn't asked for."""
+    (tmp_path / "scratch").mkdir()
+    scratch = os.fspath(tmp_path / "scratch")
+    monkeypatch.setattr("olr.running.answering._local_folder", lambda: scratch)
+    monkeypatch.setattr("olr.running.command.connected", lambda *words: nullcontext())
+    monkeypatch.setattr("olr.running.command.answer_all", answer_all_here)
+    rows = tmp_path / "rows.csv"
+    words = ["--places", "--store", case.store, "--out", tmp_path / "out", "--geometries", rows]
+    assert run(case.words("run", *words)) == 0
+    found = by_keys(rows_of(rows))
+    assert found.keys() == case.rows.keys()
+    for key, expected in case.rows.items():
+        assert only(found[key]) == only(expected)
+        assert {row["candidates"] for row in found[key]} == {None}
+
+
+def test_view(case: Case, tmp_path: Path) -> None:
+    point = list(case.texts)[LINES]
+    for key in [*list(case.texts)[:PAGES], point]:
+        page = tmp_path / f"{key}.html"
+        words = ["view", case.texts[key], "--map", case.folder, "--out", page, *OPTIONS]
+        assert run([str(word) for word in [*words, "--confidence", case.confidence]]) == 0
+        assert_scene(data_of(page), case.rows[key])
+
+
+def test_report(case: Case, tmp_path: Path) -> None:
+    """The rows of the table, and the scene of each."""
+    page = tmp_path / "page.html"
+    assert run(case.words("report", "--map", case.folder, "--out", page)) == 0
+    data = data_of(page)
+    assert {row["key"] for row in data["rows"]} == case.texts.keys()
+    for row, scene in zip(data["rows"], data["scenes"], strict=True):
+        found = case.rows[row["key"]]
+        first = found[0]
+        is_fault = first["verdict"] == "fault"
+        assert row["verdict"] == ("refused" if is_fault else first["verdict"])
+        for name in ("probability", "none_of_these", "total", "margin"):
+            assert row.get(name) == first[name]
+        assert ("turns_back" in row) == bool(first["turns_back"])
+        if scene is not None:
+            assert_scene(scene, found)
+    expected = Expected()
+    for rows in case.rows.values():
+        if rows[0]["probability"] is not None:
+            expected.add(rows[0]["probability"])
+    assert expected.text().removeprefix("about") in data["summary"][0]
+    assert "0.8 (0.6 to 1.2), 1 as another vendor's" in data["summary"][1]
+
+
+def test_compare(case: Case, tmp_path: Path) -> None:
+    """Of a map with itself: both rows are of the likeliest place."""
+    out = tmp_path / "changes.csv"
+    maps = ["--map", case.folder, "--with", case.store]
+    assert run(case.words("compare", *maps, "--out", out)) == 0
+    names = [name for name in CHANGES if name in ANSWERS]
+    found = by_keys(rows_of(out))
+    for key, expected in case.rows.items():
+        assert only(found[key], names) == only([expected[0]], names) * 2
+        assert {row["change"] for row in found[key]} <= {"same", "none", "refused"}
+
+
+@pytest.fixture(scope="module")
+def server(
+    case: Case, program: Program, tmp_path_factory: pytest.TempPathFactory
+) -> Iterator[Server]:
+    """A server on the map."""
+    log = tmp_path_factory.mktemp("server") / "log"
+    with serving(program.path, case.folder, log, "--confidence", case.confidence) as started:
+        yield started
+
+
+def test_serve(case: Case, server: Server) -> None:
+    """The rows of a body, the scene of each reference and its GeoJSON."""
+    body = case.messages.read_text()
+    query = "&".join(f"{name}={value}" for name, value in SHOWN.items())
+    reply = server.get(f"/rows?{query}", "POST", body, Content_Type="text/plain")
+    rows = {row["key"]: row for row in map(json.loads, reply.body.splitlines())}
+    assert list(rows) == list(case.texts)
+    names = [name for name in rows["m0"] if name in ANSWERS]
+    assert {"verdict", "probability", "none_of_these", "total", "reasons"} < set(names)
+    for key, expected in case.rows.items():
+        assert only([rows[key]], names) == only(expected[:1], names)
+        path = path_of("places", case.texts[key], profile=FEED, **SHOWN)
+        reply = server.get(path, Accept="application/geo+json")
+        scene = server.get(path_of("scene", case.texts[key], **SHOWN))
+        if expected[0]["fault"]:
+            assert reply.status == scene.status == 422
+            continue
+        features = json.loads(reply.body)["features"]
+        properties = [feature["properties"] for feature in features]
+        assert only(properties, list(ANSWERS)) == only(expected, list(ANSWERS))
+        assert_scene(json.loads(scene.body), expected)
+
+
+def test_python(case: Case, program: Program) -> None:
+    """A table of the long list."""
+    texts = list(case.texts.values())
+    with olr.Map(case.folder, program=program.path, profile=FEED) as town:
+        answers = [one for one in town.answers("places", texts, **LIST) if is_place(one)]
+        counted = town.answers("candidates", texts)
+        table = olr.to_geodataframe(
+            answers,
+            town.network(),
+            keys=list(case.texts),
+            candidates=[one if isinstance(one, olr.Candidates) else None for one in counted],
+            confidence=olr.Confidence.of_file(case.confidence),
+            references=texts,
+            within=SHOWN["within"],
+            most=SHOWN["most"],
+        )
+    found = table.drop(columns="geometry").astype(object).to_dict("records")
+    rows = by_keys([{name: absent(value) for name, value in row.items()} for row in found])
+    for key, expected in case.rows.items():
+        assert only(rows[key], list(ANSWERS)) == only(expected, list(ANSWERS))
+
+
+def is_place(answer: AnswerOrFault) -> TypeGuard[Union[Places, Fault]]:
+    """Whether an answer is one to `places`."""
+    return isinstance(answer, (Places, Fault))
+
+
+def absent(value: Any) -> Any:
+    """None for what pandas has in place of a value that isn't there."""
+    return None if pandas.isna(value) else value
