@@ -93,6 +93,7 @@ def main():
             commands["batch"] = ["bash", "-c", shell, PROGRAM, chosen.map, chosen.messages, joined, *words]
         for workers in chosen.workers:
             run = [TOP / "olr-tools", "run", chosen.messages, "--store", chosen.store, "--workers", workers, "--join", joined]
+            run += ["--profile", "program"]
             commands[f"workers {workers}"] = [*run, "--out", f"{folder}/{workers}", *words]
         for name, command in commands.items():
             wall, processor, peaks = watched(command)
