@@ -319,6 +319,18 @@ def test_feeds_and_checked_answers_that_say_too_little(
         assert calibrate(tempe, out, *words, "--differ", 0.5) == 0
 
 
+@pytest.mark.parametrize("option", ["--map", "--pair"])
+def test_a_store(
+    option: str, tempe: Path, tmp_path: Path, capsys: pytest.CaptureFixture[str]
+) -> None:
+    store = tmp_path / "map.gpkg"
+    assert run(["regions", str(tempe), "--out", str(store)]) == 0
+    capsys.readouterr()
+    words = {"--map": str(tempe), option: str(store), "--out": str(tmp_path / "file.json")}
+    assert run(["calibrate", *(word for pair in words.items() for word in pair)]) == 1
+    assert capsys.readouterr().err.startswith(f"olr-tools: {store} is a store, and calibrate draws")
+
+
 def test_a_file_that_is_read_is_not_replaced(tempe: Path, messages: Path) -> None:
     assert calibrate(tempe, messages, "--for", messages, *FOR, "--force") == 1
     assert messages.read_text().startswith("id,code\n")

@@ -63,6 +63,8 @@ def calibrated(folder: Path, drawing: Drawing, asking: Asking, wanted: Wanted) -
     can't be read, one with too few paths, and a feed that is too small to say how different the maps are.
     """
     _require_feed(wanted)
+    for path in filter(None, (folder, wanted.pair)):
+        _require_folder(path)
     feed = answered_feed(folder, wanted.feed, asking)
     road_map = read_map(folder)
     if wanted.pair is None:
@@ -94,6 +96,15 @@ def calibrated(folder: Path, drawing: Drawing, asking: Asking, wanted: Wanted) -
     )
 
 
+def _require_folder(path: Path) -> None:
+    """Raises `ToolError` for a store."""
+    store = store_of(path)
+    if store is not None:
+        raise ToolError(
+            f"{store} is a store, and calibrate draws on a map in a folder: take a part of its file by olr-tools import --bbox"
+        )
+
+
 def _require_feed(wanted: Wanted) -> None:
     """Raises `ToolError` for a feed that is too small, where it isn't known how different the maps are."""
     is_known = wanted.differ is not None or wanted.pair is not None
@@ -123,13 +134,8 @@ def _checked(folder: Path, wanted: Wanted, asking: Asking) -> Optional[Checked]:
 
 
 def answered_feed(folder: Path, texts: Sequence[str], asking: Asking) -> Optional[Answered]:
-    """What a map answers to a feed; None for no feed. It is asked about something in any case: raises `ToolError` for a store, and for a
-    map that can't be read."""
-    store = store_of(folder)
-    if store is not None:
-        raise ToolError(
-            f"{store} is a store, and calibrate draws on a map in a folder: take a part of its file by olr-tools import --bbox"
-        )
+    """What a map answers to a feed; None for no feed. It is asked about something in any case: raises `ToolError` for a map that can't be
+    read."""
     with asking.map_of(folder) as asked:
         found = answered_by(asked, texts or [SOME_REFERENCE], asking)
     return found if texts else None
