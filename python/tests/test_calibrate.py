@@ -5,6 +5,7 @@ import os
 import random
 import re
 import subprocess
+import tempfile
 from collections.abc import Sequence
 from itertools import islice
 from pathlib import Path
@@ -17,12 +18,16 @@ from conftest import TOP, Program
 from olr.confidence.calibrating import Wanted, calibrated
 from olr.confidence.confidence import Confidence
 from olr.confidence.contents import text_of as text_of_file
+from olr.confidence.messages import read_feed
 from olr.confidence.parts import Asking, Drawing, answered_by, right_places
 from olr.confidence.weights import WEIGHTS
 from olr.counts import Counts
+from olr.errors import ToolError
 from olr.map_folder import read_map, write_map, write_records
+from olr.messages.message import Reading
 from olr.osm.importing import Options, import_osm
 from olr.profiles import FEED, tolerances_of
+from olr.road_map import Ban, Node
 from olr.tools import run
 from olr.trials.changing import changed_points
 from olr.trials.differing import Difference, differing
@@ -249,7 +254,37 @@ def test_checked_answers(
     assert (about["answers"], about["right"]) == (30, 0) and about["shift"] > 1
     shift = after.weights["none"] - before.weights["none"]
     assert shift == pytest.approx(about["shift"], abs=1e-5)
-    assert "checked: 0 of 30 right, which shifts none of these by +" in capsys.readouterr().out
+    assert 'checked: 0 of 30 right, which shifts "none of these" by +' in capsys.readouterr().out
+
+
+def test_one_reference_that_was_checked_often(tempe: Path, messages: Path, tmp_path: Path) -> None:
+    """Each answer counts. The file is as a spreadsheet writes it, with a mark of UTF-8."""
+    code = messages.read_text().splitlines()[1].split(",")[1]
+    feed, checked, file = (tmp_path / name for name in ("feed.csv", "checked.csv", "file.json"))
+    feed.write_text("id,code\n" + "".join(f"k{number},{code}\n" for number in range(25)))
+    lines = "".join(f"k{number},{'right' if number else 'wrong'}\n" for number in range(25))
+    checked.write_text("key,likeliest\n" + lines, encoding="utf-8-sig")
+    words = ["--for", feed, *FOR, "--differ", 0, "--checked", checked]
+    assert calibrate(tempe, file, *words) == 0
+    about = Confidence.of_file(file).about["checked"]
+    assert (about["answers"], about["right"]) == (25, 24)
+
+
+def test_two_messages_with_a_checked_key(messages: Path, tmp_path: Path) -> None:
+    """It is refused unless both have one reference."""
+    codes = [line.split(",")[1] for line in messages.read_text().splitlines()[1:3]]
+    feed, reading = tmp_path / "feed.csv", Reading(ref="code", key="id")
+    feed.write_text("id,code\n" + "".join(f"k{at},{codes[at // 2]}\n" for at in (0, 0, 1, 2)))
+    keys = {"k0": True, "k1": True, "k2": False}
+    assert {key: one.text for key, one in read_feed(feed, reading, keys, 1).by_key.items()} == {
+        "k0": codes[0],
+        "k1": codes[0],
+        "k2": codes[1],
+    }
+    feed.write_text(f"id,code\nk0,{codes[0]}\nk0,{codes[1]}\n")
+    assert read_feed(feed, reading, {}, 1).total == 2
+    with pytest.raises(ToolError, match="two messages have the key 'k0'"):
+        read_feed(feed, reading, keys, 1)
 
 
 @pytest.mark.parametrize(
@@ -289,9 +324,12 @@ def test_what_is_refused(
 @pytest.mark.parametrize(
     ("lines", "checked", "error"),
     [
-        (79, None, "the feed has 79 line references, and 80 are needed .* say it by --differ"),
+        (79, None, "80 line references are needed .* and the feed has 79: say it by --differ"),
         (100, "k1,maybe\n", "line 1 isn't a key, a comma or a tab, and one of right, wrong"),
         (100, "k1\n", "line 1 isn't a key"),
+        pytest.param(100, "k1" * 100_000, "line 1 isn't a key", id="a long line"),
+        (100, 'k1,right\n"k2,right\nk3,right\n', "line 2 isn't a key"),
+        (100, "k1,right\nk2\tright\nk1,wrong\n", "line 3 has the key 'k1' again"),
         (100, "nobody,right\n", "no message with a line reference has the key 'nobody'"),
         (100, "k1,right\nk2,wrong\n", "2 of 2 checked messages have a place, and 20 are needed"),
     ],
@@ -317,6 +355,38 @@ def test_feeds_and_checked_answers_that_say_too_little(
     assert re.search(error, shown) and not out.exists()
     if lines < 80:
         assert calibrate(tempe, out, *words, "--differ", 0.5) == 0
+
+
+def moved(node: Node) -> Node:
+    """The node a degree farther to the north."""
+    position = node.position
+    return node._replace(position=position._replace(lat=position.lat + 1_000_000))
+
+
+def test_pairs_that_are_none(
+    tempe: Path, tmp_path: Path, capsys: pytest.CaptureFixture[str]
+) -> None:
+    """A sender's map of another region, and one with a ban of a line that it doesn't have."""
+    road_map = read_map(tempe)
+    nodes = [moved(node) for node in road_map.nodes]
+    for bans, error in (
+        (road_map.bans, "no trial reference has a place: .* or maps of the same region"),
+        ([Ban(1, 10**9)], "sender 1: olr refuses the map: UnknownLine"),
+    ):
+        folder = tmp_path / f"sender {len(bans)}"
+        folder.mkdir()
+        write_records(nodes, road_map.lines, bans, folder)
+        words = ["--pair", folder, "--references", 40]
+        assert calibrate(tempe, tmp_path / "file.json", *words) == 1
+        assert re.search(error, capsys.readouterr().err.splitlines()[-1])
+
+
+def test_no_room_for_scratch_files(
+    tempe: Path, tmp_path: Path, capsys: pytest.CaptureFixture[str], monkeypatch: pytest.MonkeyPatch
+) -> None:
+    monkeypatch.setattr(tempfile, "tempdir", str(tmp_path / "none"))
+    assert calibrate(tempe, tmp_path / "file.json", "--references", 40) == 1
+    assert "name another folder for scratch files by TMPDIR" in capsys.readouterr().err
 
 
 @pytest.mark.parametrize("option", ["--map", "--pair"])

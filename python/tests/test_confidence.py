@@ -164,6 +164,12 @@ def test_a_range() -> None:
     assert range_of(values, (values == 7).astype(float)) == Range(7, 7, 7)
 
 
+def test_a_mean_lies_within_its_interval() -> None:
+    """Also where nearly all numbers are one, and so both ends of what has 95 percent of them."""
+    assert range_of(np.array([0.0, 1.0]), np.array([99.0, 1.0])) == Range(0.01, 0, 0.01)
+    assert range_of(np.array([0.0, 1.0]), np.array([1.0, 99.0])) == Range(0.99, 0.99, 1)
+
+
 def test_a_file_is_read_as_it_was_written(tmp_path: Path) -> None:
     file = tmp_path / "confidence.json"
     for made in (confidence_of(), confidence_of(map_differs=None, level=0.05)):

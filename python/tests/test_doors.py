@@ -166,7 +166,7 @@ def assert_scene(scene: Any, rows: Sequence[Row]) -> None:
         assert (entry["reasons"] or None) == row["reasons"]
         ends, *facts = entry["facts"]
         assert ends == f"points {row['ends_m']:.1f} m from the ends of their lines"
-        assert ("turns back at a dead end" in facts) == bool(row["turns_back"])
+        assert ("turns back" in facts) == bool(row["turns_back"])
         rank = f"rank {row['rank']:.0f} by penalty"
         assert (rank in facts) == (row["rank"] != row["likely"])
     if rows[0]["none_of_these"] is not None:

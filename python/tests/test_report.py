@@ -174,7 +174,7 @@ def test_how_many_are_right(
     cut_off = sum(plain.is_cut_off(one, WITHIN) for one in found)
     assert back > 5 and cut_off > 2
     remarks = [
-        f"turn back at a dead end: {back} likeliest places",
+        f"turn back: {back} likeliest places",
         f"cut off: {cut_off} may have more places: give a greater --look",
     ]
     assert data["summary"][3:5] == [f"{line[0].upper()}{line[1:]}." for line in remarks]

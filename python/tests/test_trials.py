@@ -11,7 +11,7 @@ from pathlib import Path
 import numpy as np
 import pytest
 
-from conftest import Program
+from conftest import REFERENCE, Program
 from olr.client.answers import ReferencePoint
 from olr.client.pieces import Piece
 from olr.errors import ToolError
@@ -197,8 +197,20 @@ def test_no_path_is_drawn_twice(tempe: RoadMap) -> None:
 )
 def test_a_map_with_too_few_paths(road_map: RoadMap) -> None:
     paths = Paths(Network(road_map)).drawn(graph_of(road_map), random.Random(1))
-    with pytest.raises(ToolError, match="too few paths .* [0-9]+ were found, so name a larger map"):
+    few = "too few paths .* [1-9][0-9]* were found, so name a larger map"
+    with pytest.raises(ToolError, match=f"{few}|has no path of the wanted classes and lengths"):
         list(islice(paths, 50))
+
+
+def test_a_map_without_roads_of_the_classes_of_the_messages() -> None:
+    """A larger map wouldn't help."""
+    road_map, reference = map_of(two_way(10, 1, 2, 5000, 7)), read_reference(REFERENCE)
+    assert reference is not None and reference.points[0].class_ != 7
+    paths = Paths(Network(road_map), LikeMessages([reference])).drawn(
+        graph_of(road_map), random.Random(1)
+    )
+    with pytest.raises(ToolError, match="has no path of the wanted classes and lengths"):
+        next(paths)
 
 
 def test_main_roads_are_drawn_as_often_as_it_is_said() -> None:

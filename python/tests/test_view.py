@@ -297,9 +297,9 @@ def test_turning_back_at_a_dead_end(tools: Tools, browser: Browser, folder: Path
     map_folder = drawing.write(folder / "stub")
     view(tools, browser, map_folder, text, "--confidence", sure)
     (entry,) = entries(browser)
-    assert "points 50.0 m from the ends of their lines, turns back at a dead end" in entry
+    assert "points 50.0 m from the ends of their lines, turns back" in entry
     reasons = browser.value("document.querySelector('.reasons').innerText")
-    assert reasons.startswith("it turns back at a dead end; ")
+    assert reasons.startswith("it turns back; ")
     assert "point 1 lies 56 m behind the start of its line" in reasons
 
 

@@ -57,7 +57,11 @@ NUMBERS: Mapping[What, Mapping[str, Number]] = {
             0, 1_000_000, 750, "decimetres", "put matchings together that differ by so much at most"
         ),
         "within": Number(
-            0, 14_620, 30, "penalty points", "list places that cost so much more than the best one"
+            0,
+            14_620,
+            30,
+            "penalty points",
+            "list places that cost at most so much more than the best one",
         ),
         "look": Number(1, 1_000_000, 1000, "matchings", "look at so many"),
         "most": Number(1, 100, 10, "places", "list so many"),

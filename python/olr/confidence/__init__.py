@@ -14,5 +14,5 @@
 | `options` | the option `--confidence` |
 | `sentences`, `expected` | what pages and summaries say of probabilities; how many of many answers are expected to be right |
 
-The first three lines need numpy alone; what makes a file needs scipy too.
+`fitting` and `shifting` need scipy, and with them what makes a file; the rest needs numpy alone.
 """

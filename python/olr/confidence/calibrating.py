@@ -20,7 +20,14 @@ from olr.confidence.likeness import (
     range_of,
 )
 from olr.confidence.pair import parts_of_pair
-from olr.confidence.parts import Asking, Drawing, Part, answered_by, parts_of
+from olr.confidence.parts import (
+    GREATEST_DIFFERENCE,
+    Asking,
+    Drawing,
+    Part,
+    answered_by,
+    parts_of,
+)
 from olr.confidence.shifting import LEAST_CHECKED, Checked, shift_of, shifted
 from olr.confidence.weights import WEIGHTS, Differences, differences_of, probabilities
 from olr.errors import ToolError
@@ -44,8 +51,8 @@ class Wanted(NamedTuple):
     """How many line references the feed has."""
     differ: Optional[float] = None
     """How different the maps are, where it is stated."""
-    checked: Mapping[str, bool] = {}
-    """Whether the likeliest places of some references are right, by their texts."""
+    checked: Sequence[tuple[str, bool]] = ()
+    """Some references, and whether their likeliest places are right."""
     pair: Optional[Path] = None
     """The map of the sender, on which trials are drawn then."""
 
@@ -66,13 +73,16 @@ def calibrated(folder: Path, drawing: Drawing, asking: Asking, wanted: Wanted) -
     for path in filter(None, (folder, wanted.pair)):
         _require_folder(path)
     feed = answered_feed(folder, wanted.feed, asking)
+    if wanted.pair is not None:
+        _require_map(wanted.pair, asking)
     road_map = read_map(folder)
     if wanted.pair is None:
         parts = list(parts_of(road_map, drawing, asking))
     else:
         parts = list(parts_of_pair(folder, wanted.pair, drawing, asking))
     if not any(len(part.right) for part in parts):
-        raise ToolError("no trial reference has a place: give wider tolerances")
+        apart = "" if wanted.pair is None else ", or maps of the same region"
+        raise ToolError(f"no trial reference has a place: give wider tolerances{apart}")
     chosen = chosen_parts(parts, feed, wanted)
     weights = fitted(trial_of(parts, chosen.weights))
     checked = _checked(folder, wanted, asking)
@@ -105,13 +115,21 @@ def _require_folder(path: Path) -> None:
         )
 
 
+def _require_map(sender: Path, asking: Asking) -> None:
+    """Raises `ToolError` for a sender's map that the program refuses. It isn't asked about the feed."""
+    try:
+        answered_feed(sender, (), asking)
+    except ToolError as error:
+        raise ToolError(f"{sender}: {error}") from error
+
+
 def _require_feed(wanted: Wanted) -> None:
     """Raises `ToolError` for a feed that is too small, where it isn't known how different the maps are."""
     is_known = wanted.differ is not None or wanted.pair is not None
     if not is_known and 0 < wanted.messages < LEAST_REFERENCES:
         raise ToolError(
-            f"the feed has {wanted.messages:,} line references, and {LEAST_REFERENCES} are needed to tell how different the maps are: "
-            "say it by --differ, from 0 for the same map to 1 for that of another maker"
+            f"{LEAST_REFERENCES} line references are needed to tell how different the maps are, and the feed has {wanted.messages:,}: "
+            f"say it by --differ, 0 for the same map and 1 for that of another vendor, {GREATEST_DIFFERENCE:g} at most"
         )
 
 
@@ -119,11 +137,11 @@ def _checked(folder: Path, wanted: Wanted, asking: Asking) -> Optional[Checked]:
     """The answers that somebody checked, asked again. None if there are none. Raises `ToolError` if too few of them have a place."""
     if not wanted.checked:
         return None
-    texts = list(wanted.checked)
+    texts = [text for text, _ in wanted.checked]
     with asking.map_of(folder) as asked:
         answered = answered_by(asked, texts, asking)
     found = answered.found
-    right = np.array(list(wanted.checked.values()), dtype=np.bool_)[found.sizes > 0]
+    right = np.array([right for _, right in wanted.checked], dtype=np.bool_)[found.sizes > 0]
     if len(right) < LEAST_CHECKED:
         raise ToolError(
             f"{len(right):,} of {len(texts):,} checked messages have a place, and {LEAST_CHECKED} are needed: check more"

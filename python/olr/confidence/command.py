@@ -133,7 +133,7 @@ def command(
         feed=[] if feed is None else feed.texts(),
         messages=0 if feed is None else feed.total,
         differ=differ,
-        checked={} if feed is None else _by_text(feed, keys, checked_file),
+        checked=[] if feed is None else _with_texts(feed, keys, checked_file),
         pair=pair,
     )
     likeness = None if feed is None else LikeMessages(one.reference for one in feed.messages)
@@ -149,12 +149,12 @@ def command(
         click.echo(line)
 
 
-def _by_text(feed: Feed, keys: dict[str, bool], file: Optional[Path]) -> dict[str, bool]:
-    """Checked answers by the texts of their messages. Raises `ToolError` for a key that no message with a line reference has."""
+def _with_texts(feed: Feed, keys: dict[str, bool], file: Optional[Path]) -> list[tuple[str, bool]]:
+    """Checked answers with the texts of their messages. Raises `ToolError` for a key that no message with a line reference has."""
     for key in keys:
         if key not in feed.by_key:
             raise ToolError(f"{file}: no message with a line reference has the key {key!r}")
-    return {feed.by_key[key].text: right for key, right in keys.items()}
+    return [(feed.by_key[key].text, right) for key, right in keys.items()]
 
 
 def _lines(confidence: Confidence) -> Iterator[str]:
@@ -165,7 +165,7 @@ def _lines(confidence: Confidence) -> Iterator[str]:
         yield f"map differs: {differs.value:.1f} ({between}), 1 as that of another vendor"
     if checked is not None:
         yield (
-            f"checked: {checked['right']:,} of {checked['answers']:,} right, which shifts none of these by "
+            f"checked: {checked['right']:,} of {checked['answers']:,} right, which shifts \"none of these\" by "
             f"{checked['shift']:+.2f}"
         )
     for name, weight in WEIGHTS.items():

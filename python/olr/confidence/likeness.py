@@ -64,8 +64,9 @@ def alike(said: Floats, wanted: Floats, widths: Floats) -> Floats:
 
 
 def range_of(values: Floats, weights: Floats) -> Range:
-    """The mean of weighted numbers, and within what nearly all of them lie."""
+    """The mean of weighted numbers, and within what nearly all of them lie, and the mean itself."""
     order = np.argsort(values)
     shares = np.cumsum(weights[order]) / weights.sum()
     low, high = (float(values[order][np.searchsorted(shares, at)]) for at in INTERVAL)
-    return Range(float(values @ weights / weights.sum()), low, high)
+    mean = float(values @ weights / weights.sum())
+    return Range(mean, min(low, mean), max(high, mean))

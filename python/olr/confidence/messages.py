@@ -40,7 +40,7 @@ class Feed(NamedTuple):
 
 
 def read_feed(file: Path, reading: Reading, keys: Mapping[str, bool], seed: int) -> Feed:
-    """The messages of a file. Raises `ToolError` if it can't be read, or has no line reference."""
+    """The messages of a file. Raises `ToolError` if it can't be read, has no line reference, or has two references with one of the keys."""
     draws = random.Random(f"{seed} feed")
     kept: list[Message] = []
     by_key: dict[str, Message] = {}
@@ -56,7 +56,10 @@ def read_feed(file: Path, reading: Reading, keys: Mapping[str, bool], seed: int)
         elif (at := draws.randrange(count)) < MOST:
             kept[at] = found
         if message.key is not None and message.key in keys:
-            by_key[message.key] = found
+            if by_key.setdefault(message.key, found).text != found.text:
+                raise ToolError(
+                    f"{file}: two messages have the key {message.key!r}, so it isn't known which one was checked"
+                )
     if not count:
         raise ToolError(f"{file} has no line reference: name a file that has some")
     return Feed(kept, by_key, count)
@@ -64,10 +67,10 @@ def read_feed(file: Path, reading: Reading, keys: Mapping[str, bool], seed: int)
 
 def read_checked(file: Path) -> dict[str, bool]:
     """Whether the likeliest places of some messages are right, by their keys: a file with a key, a comma or a tab, and `right` or `wrong` on
-    each line; a first line that says `key` is passed over. Raises `ToolError` if it can't be read, or a line is none.
+    each line; a first line that says `key` is passed over. Raises `ToolError` if it can't be read, a line is none, or a key is there twice.
     """
     try:
-        lines = file.read_text(encoding="utf-8").splitlines()
+        lines = file.read_text(encoding="utf-8-sig").splitlines()
     except (OSError, UnicodeDecodeError) as error:
         reason = getattr(error, "strerror", None) or "it isn't UTF-8"
         raise ToolError(f"{file} can't be read: {reason}") from error
@@ -76,12 +79,23 @@ def read_checked(file: Path) -> dict[str, bool]:
 
 def _checked(file: Path, lines: list[str]) -> Iterator[tuple[str, bool]]:
     """The answers of lines."""
-    delimiter = "\t" if lines and "\t" in lines[0] else ","
-    for number, row in enumerate(csv.reader(lines, delimiter=delimiter), 1):
+    keys: set[str] = set()
+    for number, row in enumerate(map(_fields, lines), 1):
         if not row or number == 1 and row[0] == "key":
             continue
         if len(row) != 2 or row[1].strip() not in WORDS:
             raise ToolError(
                 f"{file}: line {number} isn't a key, a comma or a tab, and one of {', '.join(WORDS)}"
             )
+        if row[0] in keys:
+            raise ToolError(f"{file}: line {number} has the key {row[0]!r} again")
+        keys.add(row[0])
         yield row[0], WORDS[row[1].strip()]
+
+
+def _fields(line: str) -> list[str]:
+    """The fields of a line; the line itself if it has none that can be told apart."""
+    try:
+        return next(csv.reader([line], delimiter="\t" if "\t" in line else ","), [])
+    except csv.Error:
+        return [line]

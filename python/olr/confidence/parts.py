@@ -1,7 +1,7 @@
 """Trials in parts, which differ in how different their maps and how far off their references are."""
 
 import random
-import tempfile
+import shutil
 from collections.abc import Iterator, Mapping, Sequence
 from itertools import islice
 from pathlib import Path
@@ -23,6 +23,7 @@ from olr.outputs import writing
 from olr.profiles import as_arguments
 from olr.progress import progress
 from olr.regions.reading import read_reference
+from olr.regions.scratch import new_scratch_folder
 from olr.road_map import RoadMap
 from olr.trials.changing import changed_points
 from olr.trials.differing import Difference, differing
@@ -148,12 +149,14 @@ class _Trials:
 
 def ask(road_map: RoadMap, texts: Sequence[str], asking: Asking) -> Answered:
     """What a map answers to references. Raises `ToolError`."""
-    with tempfile.TemporaryDirectory(prefix="olr-calibrate-") as place:
-        scratch = Path(place)
+    scratch = new_scratch_folder()
+    try:
         with writing(scratch):
             write_records(road_map.nodes, road_map.lines, road_map.bans, scratch)
         with asking.map_of(scratch) as asked:
             return answered_by(asked, texts, asking)
+    finally:
+        shutil.rmtree(scratch, ignore_errors=True)
 
 
 def answered_by(asked: Map, texts: Sequence[str], asking: Asking) -> Answered:

@@ -49,7 +49,7 @@ def reasons_of(evidence: Evidence) -> list[str]:
 
 def _of_route(turns_back: bool, lines: int) -> Iterator[_Reason]:
     if turns_back:
-        yield _Reason(100, "it turns back at a dead end")
+        yield _Reason(100, "it turns back")
     if lines >= MANY_LINES:
         yield _Reason(0, f"{lines} lines, any of which may be missing")
 

@@ -3,7 +3,7 @@
 The order of the program is that of totals, which count a metre by which a leg misses its length as much as a metre between a point and its
 line, and nothing for where on its line a point lies. On maps whose true places are known this order was better (docs/CONFIDENCE.md says
 how it was found): by a **likely cost**, the penalty points of the points, a fifth of those of the legs, a third of a point for each metre
-that a point lies from the proper end of its line, and `TURNING_BACK` for a route that turns back at a dead end.
+that a point lies from the proper end of its line, and `TURNING_BACK` for a route that turns back.
 """
 
 from collections.abc import Mapping

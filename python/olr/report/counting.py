@@ -94,7 +94,7 @@ class PlaceCounts:
         """So many references that fit somewhere have no margin."""
         self.probabilities = Probabilities()
         self.turning_back = 0
-        """So many likeliest places turn back at a dead end."""
+        """So many likeliest places turn back."""
         self.cut_off = 0
         """So many references may have more places: looking was cut off."""
 

@@ -45,7 +45,7 @@ def _differ(confidence: Confidence, name: str) -> Iterator[str]:
 def remarks(counts: PlaceCounts) -> Iterator[str]:
     """Further lines of a summary, on places that are to be looked at."""
     if counts.turning_back:
-        yield f"turn back at a dead end: {counts.turning_back:,} likeliest places"
+        yield f"turn back: {counts.turning_back:,} likeliest places"
     cut_off = cut_off_line(counts.cut_off)
     if cut_off is not None:
         yield cut_off

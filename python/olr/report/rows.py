@@ -27,7 +27,7 @@ ORDER = ("none", "refused", "unique", "open", "ambiguous", "lacking")
 GEOMETRIES = ("route", "outer", "inner")
 DIGITS_OF_PROBABILITY = 3
 TURNS_BACK = "turns back"
-"""What the table says of a likeliest place that turns back at a dead end."""
+"""What the table says of a likeliest place that turns back."""
 
 Row = dict[str, Any]
 Steps = list[int]

@@ -60,6 +60,8 @@ class Paths:
             failures = failures + 1 if found is None else 0
             if found is not None:
                 yield found
+        if not self._seen:
+            raise ToolError("the map has no path of the wanted classes and lengths")
         raise ToolError(
             "the map has too few paths of the wanted classes and lengths: "
             f"{len(self._seen):,} were found, so name a larger map or fewer references"

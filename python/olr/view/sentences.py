@@ -89,7 +89,7 @@ def place_texts(place: JudgedPlace) -> list[str]:
     """What speaks for and against a place, whether it has a probability or not."""
     texts = [f"points {place.ends:.1f} m from the ends of their lines"]
     if place.turns_back:
-        texts.append("turns back at a dead end")
+        texts.append("turns back")
     if place.rank != place.likely:
         texts.append(f"rank {place.rank} by penalty")
     return texts
