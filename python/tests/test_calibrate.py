@@ -15,10 +15,12 @@ import numpy as np
 import pytest
 
 from conftest import TOP, Program
+from olr.arrays import Floats
 from olr.confidence.calibrating import Wanted, calibrated
 from olr.confidence.confidence import Confidence
 from olr.confidence.contents import text_of as text_of_file
 from olr.confidence.messages import read_feed
+from olr.confidence.pair import is_right_by_geometry
 from olr.confidence.parts import Asking, Drawing, answered_by, right_places
 from olr.confidence.weights import WEIGHTS
 from olr.counts import Counts
@@ -355,6 +357,25 @@ def test_feeds_and_checked_answers_that_say_too_little(
     assert re.search(error, shown) and not out.exists()
     if lines < 80:
         assert calibrate(tempe, out, *words, "--differ", 0.5) == 0
+
+
+def test_a_place_on_another_map_is_right_by_its_geometry() -> None:
+    """Each covers 90 percent of the other one by what lies within 15 m of it, also beyond its ends. A degree is 111,320 m there."""
+
+    def straight(east: float, north: float = 0.0) -> Floats:
+        return np.array([(0, north), (east, north)]) / 111_320
+
+    for east, north, is_right_place in (
+        (1000, 0, True),
+        (910, 14, True),
+        (890, 0, True),
+        (880, 0, False),
+        (1120, 0, True),
+        (1135, 0, False),
+        (1000, 17, False),
+    ):
+        assert is_right_by_geometry(straight(1000), straight(east, north)) == is_right_place
+    assert not is_right_by_geometry(straight(1000), np.zeros((0, 2)))
 
 
 def moved(node: Node) -> Node:

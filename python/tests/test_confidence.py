@@ -14,14 +14,26 @@ import olr
 from conftest import REFERENCE, TOP, Program
 from olr.arrays import Floats
 from olr.client.questions import TOLERANCES
+from olr.confidence.calibrating import level_of
 from olr.confidence.confidence import Confidence
 from olr.confidence.contents import text_of
+from olr.confidence.feed import Answered
 from olr.confidence.fitting import NONE, Trial, fitted
 from olr.confidence.judged import Judging, judged
-from olr.confidence.likeness import Likeness, Range, alike, range_of
+from olr.confidence.likeness import RIDGE, Likeness, Range, alike, range_of
+from olr.confidence.parts import Part, right_places
 from olr.confidence.shifting import Checked, shift_of, shifted
-from olr.confidence.weights import OF_NONE, OF_PLACE, WEIGHTS, Differences, probabilities
+from olr.confidence.weights import (
+    OF_NONE,
+    OF_PLACE,
+    WEIGHTS,
+    Differences,
+    differences_of,
+    probabilities,
+)
 from olr.errors import ToolError
+from olr.likely.evidence import Evidence, Fit
+from olr.likely.listed import Listed
 from olr.likely.order import LIST, Shown
 from olr.profiles import FEED, tolerances_of
 from olr.regions.reading import read_reference
@@ -56,6 +68,81 @@ def test_probabilities_by_hand() -> None:
         [one[0] / sum(one), one[1] / sum(one), other[0] / sum(other)]
     )
     assert told.of_none.tolist() == pytest.approx([one[2] / sum(one), other[1] / sum(other)])
+
+
+def test_what_weights_count() -> None:
+    """An answer with two places of three points, of which the second is the likelier one; one without; and one with a place of two points
+    on one line, which is a tenth longer than is told."""
+    fit = Fit(
+        counts=np.array([3, 3, 2]),
+        from_end=np.zeros(8),
+        point_penalty=np.zeros(3, int),
+        leg_penalty=np.zeros(3, int),
+        turns_back=np.array([False, True, False]),
+        lines=np.array([4, 9, 1]),
+    )
+    evidence = Evidence(
+        fit=fit,
+        distance=np.arange(1.0, 9.0),
+        sectors=np.array([0, 0, 0, 1, 0, 2, 0, 0.0]),
+        classes=np.zeros(8, int),
+        other_form=np.zeros(8, np.bool_),
+        told=np.full(5, 500.0),
+        length=np.array([490, 490, 490, 490, 550.0]),
+    )
+    found = differences_of(Listed(np.array([2, 0, 1]), [], fit, np.array([30, 10, 5.0])), evidence)
+    assert found.sizes.tolist() == [2, 1]
+    expected = [[6, 0, 0, 20, 0], [15, 3, 0, 0, 1], [15, 0, 10, 0, 0]]
+    assert found.of_place == pytest.approx(np.array(expected, dtype=float))
+    assert found.of_none == pytest.approx(np.array([[1, 1, math.log(9)], [1, 0, 0]]))
+
+
+def found_places(sizes: list[int], costs: Floats) -> Listed:
+    """Places of two points on one line, which differ in nothing but their likely costs."""
+    count = len(costs)
+    fit = Fit(
+        counts=np.full(count, 2),
+        from_end=np.zeros(2 * count),
+        point_penalty=np.zeros(count, int),
+        leg_penalty=np.zeros(count, int),
+        turns_back=np.zeros(count, np.bool_),
+        lines=np.ones(count, int),
+    )
+    return Listed(np.array(sizes), [], fit, costs)
+
+
+def test_the_right_place_of_an_answer() -> None:
+    """The likeliest of those that are right, of equal ones the first. An answer without a place has none."""
+    found = found_places([3, 1, 0, 2], np.array([5, 1, 3, 2, 4, 4.0]))
+    right = right_places(found, [True, False, True, False, True, True])
+    assert right.tolist() == [2, NONE, 4]
+
+
+def part_of(count: int, right: int) -> Part:
+    """A part with so many answers of one place, of which so many are right."""
+    found = found_places([1] * count, np.zeros(count))
+    evidence = Evidence(
+        fit=found.fit,
+        distance=np.zeros(2 * count),
+        sectors=np.zeros(2 * count),
+        classes=np.zeros(2 * count, int),
+        other_form=np.zeros(2 * count, np.bool_),
+        told=np.full(count, 500.0),
+        length=np.full(count, 470.0),
+    )
+    numbers = np.arange(count)
+    are_right = np.where(numbers < right, numbers, NONE)
+    return Part(0.0, 0.0, Answered([None] * count, found, evidence), are_right)
+
+
+def test_how_far_the_level_is_off() -> None:
+    """A half is told of each place. Of a part 60 of 100 are right, which is .1 too many, and .05 would be so by chance; of another one,
+    which counts a third of that, 50 of 100. Less than chance is nothing."""
+    weights = np.zeros(len(WEIGHTS))
+    parts = [part_of(100, 60), part_of(100, 50)]
+    found = level_of(parts, np.array([3.0, 1.0]), weights)
+    assert found == pytest.approx(math.sqrt((3 * (0.1**2 - 0.05**2) - 0.05**2) / 4))
+    assert level_of(parts[1:], np.ones(1), weights) == 0
 
 
 def test_they_add_up_to_1_however_large_weights_are() -> None:
@@ -140,6 +227,8 @@ def test_checked_answers_shift_the_level() -> None:
         again = shifted(weights, shift_of(weights, checked))
         told.append(float(probabilities(again, differences).of_place[0]))
         assert (again[:5] == weights[:5]).all() and (again[6:] == weights[6:]).all()
+        # At the optimum what the answers pull is what a normal curve of deviation a half holds.
+        assert 4 * (again[5] - weights[5]) == pytest.approx(40 * told[-1] - right, abs=0.05)
     assert told[0] > 0.85 and told[1] == pytest.approx(29 / 40, abs=0.01) and told[2] < 0.3
 
 
@@ -155,6 +244,19 @@ def test_parts_that_are_alike() -> None:
     weights = alike(likeness.said, said, np.array([0.3, 0.3]))
     nearest = np.argmin(((likeness.said - said) ** 2).sum(axis=1))
     assert weights.argmax() == nearest and weights.max() == 1 and (weights >= 0).all()
+
+
+def test_what_is_said_of_a_part_is_said_without_it() -> None:
+    """As a regression says it that hasn't that part, with the same scales."""
+    draws = np.random.default_rng(4)
+    statistics, known = draws.normal(size=(12, 3)), draws.normal(size=(12, 2))
+    said, middle = Likeness(statistics, known).said, known.mean(axis=0)
+    scaled = (statistics - statistics.mean(axis=0)) / statistics.std(axis=0)
+    for part in range(12):
+        others = np.delete(scaled, part, axis=0)
+        square = others.T @ others + RIDGE * np.eye(3)
+        slopes = np.linalg.solve(square, others.T @ (np.delete(known, part, axis=0) - middle))
+        assert said[part] == pytest.approx(scaled[part] @ slopes + middle)
 
 
 def test_a_range() -> None:

@@ -3,7 +3,7 @@
 import math
 import random
 from collections.abc import Mapping, Sequence
-from itertools import islice
+from itertools import islice, product
 from pathlib import Path
 from typing import Any
 
@@ -26,7 +26,6 @@ from olr.likely.evidence import INTERVAL, evidence_of, fit_of
 from olr.likely.listed import listed
 from olr.likely.order import (
     LIST,
-    TURNING_BACK,
     Shown,
     are_shown,
     is_cut_off,
@@ -124,6 +123,25 @@ def test_evidence_by_hand(street: Network) -> None:
     assert likely_costs(fit).tolist() == pytest.approx([95 + 54 / 5 + 100 / 3])
 
 
+def test_forms_of_lines_and_points(tmp_path: Path) -> None:
+    """Equal ones cost nothing, an undefined one 10 points, four pairs 15, and all others 30. What is left of a penalty are sectors."""
+    nodes = [Node(id, Position(round(200 * (id - 1) * METRE), 0)) for id in (1, 2)]
+    lines = [Line(form + 1, 1, 2, 3, form, 2000, ()) for form in range(8)]
+    write_map(RoadMap(nodes, lines), tmp_path / "map", {})
+    network = Network.read(tmp_path / "map")
+    for form, other in product(range(8), repeat=2):
+        pair = {form, other}
+        like = 15 if pair in ({1, 2}, {2, 3}, {3, 6}, {4, 5}) else 30
+        penalty = 0 if form == other else 10 if 0 in pair else like
+        first = point(0, 0, form=other, interval=2, lowest=4)
+        reference = Reference("line", (first, point(200, 0, form=other)))
+        points = [(at, form + 1, 30 + penalty) for at in (0, 2000)]
+        found = matching(points, [(2000, 0)], [(form + 1, 0, 2000)])
+        evidence = evidence_of([found], fit_of([found], network), [reference], network, RADIUS)
+        assert evidence.sectors.tolist() == [3, 3]
+        assert evidence.other_form.tolist() == [form != other] * 2
+
+
 def test_a_leg_that_is_too_short(street: Network) -> None:
     """Told to be 293 m or longer, and 200 m long."""
     reference = Reference("line", (point(0, 0, interval=5, lowest=3), point(200, 0, sector=24)))
@@ -141,7 +159,7 @@ def test_ends_count_up_to_fifty_metres_a_point_and_turning_back_costs(street: Ne
     fit = fit_of([far, back], street)
     assert fit.ends().tolist() == [100, 0]
     assert fit.turns_back.tolist() == [False, True]
-    assert likely_costs(fit).tolist() == pytest.approx([100 / 3, TURNING_BACK])
+    assert likely_costs(fit).tolist() == pytest.approx([100 / 3, 120])
 
 
 def listing(

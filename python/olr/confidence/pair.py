@@ -60,11 +60,16 @@ def parts_of_pair(folder: Path, sender: Path, drawing: Drawing, asking: Asking) 
             places = np.split(lines.points, np.cumsum(lines.sizes)[:-1]) if outers else []
             true = [_points_of(one.path, geometry) for one in drawn]
             are_right = [
-                len(place) > 1 and agreement(true[owner], place, ACROSS) >= RIGHT
+                is_right_by_geometry(true[owner], place)
                 for owner, place in zip(found.owners().tolist(), places)
             ]
             yield Part(0.0, references, answered, right_places(found, are_right))
             advance(behind - first)
+
+
+def is_right_by_geometry(path: Floats, place: Floats) -> bool:
+    """Whether a true path and a place, by their points in degrees, cover enough of each other."""
+    return len(place) > 1 and agreement(path, place, ACROSS) >= RIGHT
 
 
 def _points_of(path: Sequence[Stretch], geometry: Geometry) -> Floats:
