@@ -10,7 +10,7 @@ import sys
 from pathlib import Path
 
 sys.path.insert(0, str(Path(__file__).parents[1] / "python"))
-from olr.client.questions import NUMBERS as NUMBERS_OF, TOLERANCES
+from olr.model.questions import NUMBERS as NUMBERS_OF, TOLERANCES
 
 NUMBERS = [0, 1, 2, 7, 8, 9, 10, 63, 64, 65, 255, 256, 586, 1000, 65535, 65536, 80_000_000, 80_000_001, 180_000_000, 180_000_001]
 NUMBERS += [9_999_999, 10_000_000, 10_000_001, 2**31 - 1, 2**31, 2**32 - 1, 2**32, 2**53, 2**53 + 1, 10**16 - 1, 10**16, 2**63, 2**64]

@@ -26,16 +26,16 @@ HERE = Path(__file__).resolve().parent
 sys.path[:0] = [str(HERE.parent / "python"), str(HERE.parent / "python/tests")]
 
 from olr.client.map_client import Map  # noqa: E402
-from olr.client.questions import NUMBERS  # noqa: E402
-from olr.comparing.agreement import ACROSS, AGREE  # noqa: E402
+from olr.model.questions import NUMBERS  # noqa: E402
+from olr.geometry.agreement import ACROSS, AGREE  # noqa: E402
 from olr.comparing.asking import Comparison  # noqa: E402
 from olr.comparing.places import Limits  # noqa: E402
-from olr.confidence.options import judging_for  # noqa: E402
+from olr.confidence.choosing import judging_for  # noqa: E402
 from olr.counts import Counts  # noqa: E402
-from olr.map_folder import read_map, write_map  # noqa: E402
+from olr.model.map_folder import read_map, write_map  # noqa: E402
 from olr.messages.message import Message  # noqa: E402
 from olr.osm.importing import Options, import_osm  # noqa: E402
-from olr.profiles import FEED, as_arguments, tolerances_of  # noqa: E402
+from olr.model.profiles import FEED, as_arguments, tolerances_of  # noqa: E402
 from olr.trials.changing import changed_points  # noqa: E402
 from olr.trials.differing import Difference, differing  # noqa: E402
 from olr.trials.encoder import Network, text_of  # noqa: E402

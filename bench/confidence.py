@@ -31,9 +31,9 @@ from olr.confidence.calibrating import Wanted, calibrated  # noqa: E402
 from olr.confidence.parts import Asking, Drawing, answered_by  # noqa: E402
 from olr.confidence.shifting import Checked, shift_of, shifted  # noqa: E402
 from olr.confidence.weights import WEIGHTS, differences_of, probabilities  # noqa: E402
-from olr.map_folder import read_map, write_records  # noqa: E402
-from olr.profiles import tolerances_of  # noqa: E402
-from olr.regions.reading import read_reference  # noqa: E402
+from olr.model.map_folder import read_map, write_records  # noqa: E402
+from olr.model.profiles import tolerances_of  # noqa: E402
+from olr.model.reference import read_reference  # noqa: E402
 from olr.trials.changing import changed_points  # noqa: E402
 from olr.trials.differing import Difference, differing  # noqa: E402
 from olr.trials.encoder import Network, text_of  # noqa: E402
@@ -74,7 +74,7 @@ def tempe(folder):
 def town(folder):
     """A drawn town."""
     from olr.counts import Counts
-    from olr.map_folder import write_map
+    from olr.model.map_folder import write_map
     from olr.osm.importing import Options, import_osm
 
     file = folder.with_suffix(".osm.pbf")

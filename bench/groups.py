@@ -17,7 +17,7 @@ sys.path.insert(0, str(Path(__file__).resolve().parents[1] / "python"))
 from olr.messages.message import Reading  # noqa: E402
 from olr.regions.options import Options  # noqa: E402
 from olr.regions.plane import Discs  # noqa: E402
-from olr.regions.reading import read_points  # noqa: E402
+from olr.model.reference import read_points  # noqa: E402
 from olr.regions.region import discs_of_each  # noqa: E402
 from olr.regions.store import Store  # noqa: E402
 from olr.running.grouping import read_group, write_groups  # noqa: E402

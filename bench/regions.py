@@ -19,7 +19,7 @@ sys.path.insert(0, str(Path(__file__).resolve().parents[1] / "python"))
 
 from olr.regions.making import make_store_of_folder  # noqa: E402
 from olr.regions.options import Options  # noqa: E402
-from olr.regions.reading import read_reference  # noqa: E402
+from olr.model.reference import read_reference  # noqa: E402
 from olr.regions.region import discs_of  # noqa: E402
 from olr.regions.store import Store  # noqa: E402
 

@@ -23,12 +23,12 @@ HERE = Path(__file__).resolve().parent
 sys.path[:0] = [str(HERE.parent / "python"), str(HERE.parent / "python/tests")]
 
 from olr.counts import Counts  # noqa: E402
-from olr.map_folder import write_map  # noqa: E402
+from olr.model.map_folder import write_map  # noqa: E402
 from olr.osm.importing import Options as OsmOptions  # noqa: E402
 from olr.osm.importing import import_osm  # noqa: E402
-from olr.road_map import MICRODEGREE  # noqa: E402
+from olr.model.road_map import MICRODEGREE  # noqa: E402
 from olr.trials.encoder import COVERED, Network, drawn_references, share_covered, text_of  # noqa: E402
-from olr.u_turns import UTurns  # noqa: E402
+from olr.importing.u_turns import UTurns  # noqa: E402
 from olr.vector.fields import Fields  # noqa: E402
 from olr.vector.importing import import_vector  # noqa: E402
 from olr.vector.options import Options as VectorOptions  # noqa: E402

@@ -4,93 +4,88 @@
 `olr.to_geodataframe` have the answers as geometries, and `olr.Confidence` says how probable places are. They are imported when they are
 first named: all but the last three need Python alone.
 
-| module | subject |
+| package | subject |
 |---|---|
-| `road_map` | what a map is: nodes, lines, bans, where each line came from, and the limits |
-| `outputs` | files that are written whole or not at all |
-| `map_folder` | a map as files in a folder: written whole or not at all, and read again |
-| `sources` | where each line came from: the file `ids.csv`, and a store's table |
-| `content` | what files have in them, by digests |
-| `curve` | places along a space-filling curve |
-| `measure` | microdegrees, and lengths on the ellipsoid |
-| `roads` | roads, as polylines that share vertices, cut into the lines of a map |
-| `u_turns`, `u_turns_command` | bans on turning back |
-| `turning_back` | which routes turn back |
-| `imports` | what all imports have in common |
-| `osm` | maps from OpenStreetMap files |
-| `vector` | maps from other vector files |
-| `box` | the part of a file that an import takes |
-| `checking` | what is wrong with a map's files, and what a map should be looked at for |
-| `client` | `olr.Map`, `olr.decode`, answers and faults: the program as objects |
-| `profiles` | tolerances that go together, by a name |
-| `asked_with` | with which numbers was asked, as a text and as a command of the program |
-| `extras` | the modules of others that commands and geometries need, and what is said where one is missing |
-| `network`, `geodataframe` | `olr.Network`, `olr.to_geodataframe`, `olr.to_pieces`: answers as geometries |
-| `store_network` | `olr.Network` of a store |
+| `model` | what the tools speak of: maps and their files, references, questions, answers |
+| `asking` | how the program is asked |
+| `client` | `olr.Map`: the program as objects |
+| `regions` | maps of any size, and the part of one that a reference needs |
+| `geometry` | `olr.Network`: maps and answers as geometries |
 | `messages` | `olr.read_messages`: files of messages, in all formats |
-| `parts` | pieces of many matchings as arrays |
+| `osm`, `vector`, `importing` | maps from OpenStreetMap files and from other vector files; what both have in common |
+| `checking` | what is wrong with a map's files, and what a map should be looked at for |
 | `likely` | which place of an answer the sender meant, as far as that can be said without trials: the likely order |
-| `confidence` | how probable it is that a place is the right one, by trials; `olr-tools calibrate` |
+| `confidence` | `olr.Confidence`: how probable it is that a place is the right one, by trials |
 | `trials` | references whose true path is known, and maps that differ as those of two makers do |
-| `matching` | `olr-tools match`: a file of messages to a file of geometries |
-| `comparing` | `olr-tools compare`: what changes for references with another map |
-| `regions` | `olr-tools regions`: maps of any size, and the part of one that a reference needs |
-| `running` | `olr-tools run`: any number of references on a map of any size, by Dask |
 | `near_paths` | other paths of a matching, nearly as short or on worse roads |
-| `pages` | what pages share: how one is put together, pictures, tables, maps |
-| `view` | `olr-tools view`: a page that shows a reference and what it fits |
-| `report` | `olr-tools report`: a page on a whole file of messages |
-| `serving` | `olr-tools serve`: answers by HTTP, and their page |
-| `sphere`, `arrays` | positions in metres, to find what is near; types of arrays |
-| `counts`, `progress`, `errors` | what is said to the user |
-| `tools`, `setup` | the command `olr-tools`, and the Debian packages that it needs |
-| `version` | the version, which is that of the program |
+| `matching` | answers as rows, tables and files with geometries |
+| `comparing` | what changes for references with another map |
+| `running` | any number of references on a map of any size, by Dask |
+| `pages` | the pages of `view`, `report` and `compare`, and what all pages share |
+| `serving` | answers by HTTP, and their page |
+| `commands` | the commands of `olr-tools`; `tools` has their names |
+
+The modules beside them serve all of these: `outputs` (files that are written whole or not at all), `content` (what files have in them, by
+digests), `curve` and `sphere` (places along a space-filling curve, and in metres), `arrays`, `counts`, `progress`, `errors`, `extras` and
+`setup` (the modules of others that are needed), `version`. docs/ARCHITECTURE.md says which package may lean on which.
 """
 
 import importlib
 from typing import TYPE_CHECKING, Any
 
 if TYPE_CHECKING:
-    from olr.client.answers import Candidates as Candidates
-    from olr.client.answers import Matching as Matching
-    from olr.client.answers import Page as Page
-    from olr.client.answers import Places as Places
-    from olr.client.answers import Reference as Reference
-    from olr.client.answers import Why as Why
-    from olr.client.decoding import decode as decode
-    from olr.client.fault import Fault as Fault
-    from olr.client.map_client import Map as Map
-    from olr.client.pieces import Piece as Piece
-    from olr.client.pieces import Place as Place
-    from olr.client.written import answers as answers
-    from olr.confidence.confidence import Confidence as Confidence
-    from olr.geodataframe import to_geodataframe as to_geodataframe
-    from olr.geodataframe import to_pieces as to_pieces
-    from olr.messages.reading import read_messages as read_messages
-    from olr.network import Network as Network
-    from olr.errors import MapRefused as MapRefused
-    from olr.errors import ProgramEnded as ProgramEnded
-    from olr.errors import ProgramNotFound as ProgramNotFound
-    from olr.errors import TimedOut as TimedOut
-    from olr.errors import ToolError as ToolError
+    from olr.asking.decoding import decode
+    from olr.client.map_client import Map
+    from olr.client.written import answers
+    from olr.confidence.confidence import Confidence
+    from olr.errors import MapRefused, ProgramEnded, ProgramNotFound, TimedOut, ToolError
+    from olr.geometry.network import Network
+    from olr.matching.geodataframe import to_geodataframe, to_pieces
+    from olr.messages.reading import read_messages
+    from olr.model.answers import Candidates, Matching, Page, Places, Reference, Why
+    from olr.model.fault import Fault
+    from olr.model.pieces import Piece, Place
 
     __version__: str
 
+__all__ = [
+    "Candidates",
+    "Confidence",
+    "Fault",
+    "Map",
+    "MapRefused",
+    "Matching",
+    "Network",
+    "Page",
+    "Piece",
+    "Place",
+    "Places",
+    "ProgramEnded",
+    "ProgramNotFound",
+    "Reference",
+    "TimedOut",
+    "ToolError",
+    "Why",
+    "answers",
+    "decode",
+    "read_messages",
+    "to_geodataframe",
+    "to_pieces",
+]
 _MODULES = {
-    "olr.client.answers": ("Candidates", "Matching", "Page", "Places", "Reference", "Why"),
-    "olr.client.decoding": ("decode",),
-    "olr.client.fault": ("Fault",),
+    "olr.asking.decoding": ("decode",),
     "olr.client.map_client": ("Map",),
-    "olr.client.pieces": ("Piece", "Place"),
     "olr.client.written": ("answers",),
     "olr.confidence.confidence": ("Confidence",),
-    "olr.geodataframe": ("to_geodataframe", "to_pieces"),
-    "olr.messages.reading": ("read_messages",),
-    "olr.network": ("Network",),
     "olr.errors": ("MapRefused", "ProgramEnded", "ProgramNotFound", "TimedOut", "ToolError"),
+    "olr.geometry.network": ("Network",),
+    "olr.matching.geodataframe": ("to_geodataframe", "to_pieces"),
+    "olr.messages.reading": ("read_messages",),
+    "olr.model.answers": ("Candidates", "Matching", "Page", "Places", "Reference", "Why"),
+    "olr.model.fault": ("Fault",),
+    "olr.model.pieces": ("Piece", "Place"),
 }
 _MODULE_OF = {name: module for module, names in _MODULES.items() for name in names}
-__all__ = sorted(_MODULE_OF)
 
 
 def __getattr__(name: str) -> Any:

@@ -15,11 +15,9 @@ With pip the extras of the wheel bring it: olr[maps], olr[geo] or olr[scale]."""
 def main() -> None:
     """Runs the command line. Ends the process: status 0, 1 for a failure, 2 for words that weren't understood."""
     try:
-        import click  # noqa: F401
+        from olr.tools import run
     except ModuleNotFoundError as missing:
         sys.exit(_without_click(sys.argv[1:], missing))
-    from olr.tools import run
-
     # What is half written is deleted, and processes are ended, as by an interrupt.
     signal.signal(signal.SIGTERM, signal.default_int_handler)
     if signal.getsignal(signal.SIGHUP) == signal.SIG_DFL:

@@ -70,13 +70,7 @@ def _bar(what: str, total: Optional[int]) -> Iterator[_Shown]:
     """A bar, which is gone at the end, and lines above it."""
     # A terminal alone needs them: olr.Map is there sooner.
     from rich.console import Console
-    from rich.progress import (
-        BarColumn,
-        MofNCompleteColumn,
-        Progress,
-        TextColumn,
-        TimeElapsedColumn,
-    )
+    from rich.progress import BarColumn, MofNCompleteColumn, Progress, TextColumn, TimeElapsedColumn
 
     columns = (TextColumn("{task.description}"), BarColumn(), MofNCompleteColumn())
     console = Console(stderr=True)

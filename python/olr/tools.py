@@ -10,9 +10,9 @@ from typing import Any, Optional
 
 import click
 
-from olr import __version__
 from olr.errors import MissingModule, ToolError
 from olr.extras import lacking
+from olr.version import VERSION
 
 
 class LateGroup(click.Group):
@@ -65,38 +65,38 @@ def _words(ctx: click.Context, name: str) -> str:
 tools = LateGroup(
     {
         "calibrate": (
-            "olr.confidence.command",
+            "olr.commands.calibrate",
             "Find by trials how probable places are, on a map of one's own.",
         ),
-        "check": ("olr.checking.command", "Find what is wrong with a map."),
+        "check": ("olr.commands.check", "Find what is wrong with a map."),
         "compare": (
-            "olr.comparing.command",
+            "olr.commands.compare",
             "Say what changes for references with another map.",
         ),
-        "match": ("olr.matching.command", "Match a file of references, and write geometries."),
-        "regions": ("olr.regions.command", "Make a store of a map of any size."),
+        "match": ("olr.commands.match", "Match a file of references, and write geometries."),
+        "regions": ("olr.commands.regions", "Make a store of a map of any size."),
         "report": (
-            "olr.report.command",
+            "olr.commands.report",
             "Say what is wrong with a feed, or with a map, as a page.",
         ),
-        "serve": ("olr.serving.command", "Answer questions about references, by HTTP."),
-        "run": ("olr.running.command", "Match any number of references, on many machines."),
-        "view": ("olr.view.command", "Show a reference on a map, as a page."),
-        "u-turns": ("olr.u_turns_command", "Add bans on turning back to a map."),
+        "serve": ("olr.commands.serve", "Answer questions about references, by HTTP."),
+        "run": ("olr.commands.run", "Match any number of references, on many machines."),
+        "view": ("olr.commands.view", "Show a reference on a map, as a page."),
+        "u-turns": ("olr.commands.u_turns", "Add bans on turning back to a map."),
     },
     name="olr-tools",
     help="Tools around olr, an OpenLR dereferencer.",
     # Commands have the settings of their group.
     context_settings={"help_option_names": ["-h", "--help"]},
 )
-tools = click.version_option(__version__, prog_name="olr-tools")(tools)
+tools = click.version_option(VERSION, prog_name="olr-tools")(tools)
 
 tools.add_command(
     LateGroup(
         {
-            "osm": ("olr.osm.command", "Make a map from an OpenStreetMap file."),
+            "osm": ("olr.commands.import_osm", "Make a map from an OpenStreetMap file."),
             "vector": (
-                "olr.vector.command",
+                "olr.commands.import_vector",
                 "Make a map from a GeoPackage, Shapefile or GeoJSON file.",
             ),
         },

@@ -11,7 +11,7 @@ from pathlib import Path
 from typing import Any
 
 from conftest import TOP, Program, Tools
-from olr.client.late import Late
+from olr.model.late import Late
 
 
 @cache

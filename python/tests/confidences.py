@@ -5,14 +5,14 @@ from math import log
 from pathlib import Path
 from typing import Any, Optional
 
-from olr.client.questions import NUMBERS
 from olr.confidence.confidence import Confidence
 from olr.confidence.contents import text_of
 from olr.confidence.likeness import Range
 from olr.confidence.weights import WEIGHTS
-from olr.map_folder import read_map
-from olr.profiles import PROGRAM, tolerances_of
-from olr.road_map import Line
+from olr.model.map_folder import read_map
+from olr.model.profiles import PROGRAM, tolerances_of
+from olr.model.questions import NUMBERS
+from olr.model.road_map import Line
 
 OF_NONE = 0.6
 """How often none of an answer's places is the right one, beside each of them, by an even confidence."""

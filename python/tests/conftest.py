@@ -14,9 +14,9 @@ import pytest
 
 from drawing import Drawing
 from olr.counts import Counts
-from olr.map_folder import write_map
+from olr.model.map_folder import write_map
+from olr.model.road_map import Line, RoadMap
 from olr.osm.importing import Options, import_osm
-from olr.road_map import Line, RoadMap
 
 if TYPE_CHECKING:
     from runs import Runs, Town
@@ -142,6 +142,6 @@ def here(tmp_path: Path, program: Program, monkeypatch: pytest.MonkeyPatch) -> N
     scratch = tmp_path / "scratch"
     scratch.mkdir()
     monkeypatch.setattr("olr.running.answering._local_folder", lambda: os.fspath(scratch))
-    monkeypatch.setattr("olr.running.command.connected", lambda *words: nullcontext())
-    monkeypatch.setattr("olr.running.command.answer_all", answer_all_here)
+    monkeypatch.setattr("olr.commands.run.connected", lambda *words: nullcontext())
+    monkeypatch.setattr("olr.commands.run.answer_all", answer_all_here)
     monkeypatch.setenv("OLR_PROGRAM", os.fspath(program.path))

@@ -10,8 +10,8 @@ from typing import Any, NamedTuple
 
 from asking import draw_map, draw_references
 from conftest import Program
-from olr.map_folder import read_map, write_csv
-from olr.road_map import Line, Node, Position
+from olr.model.map_folder import read_map, write_csv
+from olr.model.road_map import Line, Node, Position
 
 CROWDED = "CwAAAAAAABtoAQBkAAAbGA=="
 """Two points at longitudes 0 and 0.001, between which more than 64 lines lie."""

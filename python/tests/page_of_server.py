@@ -9,7 +9,7 @@ import pytest
 
 from browser import Browser
 from conftest import TOP, Program
-from olr.profiles import FEED, tolerances_of
+from olr.model.profiles import FEED, tolerances_of
 from servers import Server, serving, wait_until
 
 ROADWORKS = "CwVGnSN2zhvHCgDX/tIzAw=="

@@ -8,7 +8,7 @@ from pathlib import Path
 
 from browser import Browser
 from conftest import TOP
-from olr.client.program import find_program
+from olr.asking.program import find_program
 from page_of_server import Page
 from servers import serving
 

@@ -4,7 +4,7 @@ from collections.abc import Sequence
 from pathlib import Path
 
 from conftest import TOP
-from olr.client.questions import TOLERANCES
+from olr.model.questions import TOLERANCES
 from olr.tools import run
 
 EXAMPLES = TOP / "examples"

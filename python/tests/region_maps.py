@@ -10,15 +10,15 @@ from pathlib import Path
 from typing import NamedTuple, Optional
 
 from conftest import Program
-from olr.client.answers import Reference
-from olr.client.questions import What
+from olr.model.answers import Reference
+from olr.model.questions import What
+from olr.model.reference import read_reference
+from olr.model.road_map import MICRODEGREE
 from olr.regions import region
 from olr.regions.making import Records, make_store
 from olr.regions.options import Options
 from olr.regions.plane import scale_at
-from olr.regions.reading import read_reference
 from olr.regions.store import Store
-from olr.road_map import MICRODEGREE
 
 Spot = tuple[int, int]
 """Microdegrees: longitude, latitude."""

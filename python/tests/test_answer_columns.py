@@ -19,7 +19,7 @@ from shapely.ops import substring
 import olr
 from asking import batch_of, draw_map, draw_references
 from conftest import REFERENCE, TOP, Program
-from olr.map_folder import read_map
+from olr.model.map_folder import read_map
 
 ELLIPSOID = Geod(ellps="WGS84")
 KIOSK = "KwVGnCN20HPDBwFCATFjT5Y="

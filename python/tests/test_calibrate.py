@@ -25,11 +25,11 @@ from olr.confidence.parts import Asking, Drawing, answered_by, right_places
 from olr.confidence.weights import WEIGHTS
 from olr.counts import Counts
 from olr.errors import ToolError
-from olr.map_folder import read_map, write_map, write_records
 from olr.messages.message import Reading
+from olr.model.map_folder import read_map, write_map, write_records
+from olr.model.profiles import FEED, tolerances_of
+from olr.model.road_map import Ban, Node
 from olr.osm.importing import Options, import_osm
-from olr.profiles import FEED, tolerances_of
-from olr.road_map import Ban, Node
 from olr.tools import run
 from olr.trials.changing import changed_points
 from olr.trials.differing import Difference, differing

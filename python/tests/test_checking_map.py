@@ -11,8 +11,8 @@ from olr.checking.files import check_files
 from olr.checking.lengths import Lengths, likely_unit, look_at_lengths
 from olr.checking.map_arrays import MapArrays, arrays_of
 from olr.checking.network import Network, look_at_network
-from olr.map_folder import write_map
-from olr.road_map import Ban, Line, Node, Position, RoadMap
+from olr.model.map_folder import write_map
+from olr.model.road_map import Ban, Line, Node, Position, RoadMap
 from olr.tools import run
 
 

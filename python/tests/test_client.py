@@ -2,19 +2,19 @@
 
 import os
 import pickle
-import tomllib
 from pathlib import Path
 from typing import Any
 
 import pytest
+import tomllib
 
 import olr
 from asking import as_json, batch_of, draw_map, draw_references, said
 from conftest import REFERENCE, TOP, Program
-from olr.client.batch import PIPE_BYTES
+from olr.asking.batch import PIPE_BYTES
+from olr.asking.program import find_program
 from olr.client.map_client import AHEAD
-from olr.client.program import find_program
-from olr.client.questions import NUMBERS, TOLERANCES, What
+from olr.model.questions import NUMBERS, TOLERANCES, What
 
 DATA = TOP / "crates/olr_conformance/data"
 REFERENCES = 2000
@@ -218,8 +218,8 @@ def test_where_the_program_is_looked_for(
     own, built, released = (tmp_path / name / "olr" for name in ("own", "built", "released"))
     monkeypatch.delenv("OLR_PROGRAM", raising=False)
     monkeypatch.setenv("PATH", f"{tmp_path}:/usr/bin:/bin")
-    monkeypatch.setattr("olr.client.program.OWN", own)
-    monkeypatch.setattr("olr.client.program.OF_REPOSITORY", (built, released))
+    monkeypatch.setattr("olr.asking.program.OWN", own)
+    monkeypatch.setattr("olr.asking.program.OF_REPOSITORY", (built, released))
     with pytest.raises(olr.ProgramNotFound, match="no program olr: install its package, build it"):
         olr.decode(REFERENCE)
     (tmp_path / "olr").write_text(f'#!/bin/sh\nexec {program.path} "$@"\n')

@@ -15,8 +15,8 @@ import pytest
 import olr
 from asking import as_json, said
 from conftest import REFERENCE, TOP, Program
-from olr.client.questions import NUMBERS, TOLERANCES, Number
 from olr.content import Content, digest_of
+from olr.model.questions import NUMBERS, TOLERANCES, Number
 
 EXAMPLES = TOP / "examples"
 BREAKDOWN = "CwVF+yN2yhpnBAFdAAsaFg=="

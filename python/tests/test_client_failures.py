@@ -16,9 +16,9 @@ import pytest
 import olr
 from asking import as_json
 from conftest import REFERENCE, TOP, Program
-from olr.client.fault_table import ROWS
 from olr.client.map_client import AHEAD
 from olr.errors import ToolError
+from olr.model.fault_table import ROWS
 
 ROADWORKS = "CwVGnSN2zhvHCgDX/tIzAw=="
 
@@ -154,10 +154,10 @@ def test_an_interrupted_question(program: Program, monkeypatch: pytest.MonkeyPat
         real = os.read
 
         def interrupted(descriptor: int, size: int) -> bytes:
-            monkeypatch.setattr("olr.client.batch.os.read", real)
+            monkeypatch.setattr("olr.asking.batch.os.read", real)
             raise KeyboardInterrupt
 
-        monkeypatch.setattr("olr.client.batch.os.read", interrupted)
+        monkeypatch.setattr("olr.asking.batch.os.read", interrupted)
         with pytest.raises(KeyboardInterrupt):
             asked.match(REFERENCE)
         assert asked.match(ROADWORKS) == expected
@@ -288,7 +288,7 @@ def test_numbers_out_of_range(program: Program) -> None:
 def test_another_program(
     line: str, error: type[Exception], words: str, tmp_path: Path, monkeypatch: pytest.MonkeyPatch
 ) -> None:
-    monkeypatch.setattr("olr.client.batch.SECONDS_TO_END", 0.5)
+    monkeypatch.setattr("olr.asking.batch.SECONDS_TO_END", 0.5)
     path = script(tmp_path, line)
     with olr.Map.of_folder(TOP / "examples", program=path) as asked:
         with pytest.raises(error, match=re.escape(words)):

@@ -16,16 +16,16 @@ import pytest
 from asking import draw_map, draw_references
 from compared_maps import ALONG, HALFWAY, STRAIGHT, Pair, at, metres, pairs, road
 from conftest import REFERENCE, TOP, Program
-from olr.client.answers import Matching, PlaceOfReference, Places
-from olr.client.fault import Fault
 from olr.client.map_client import Map
-from olr.client.pieces import Pieces
 from olr.comparing.changes import Side, compared
 from olr.comparing.places import Limits, Stretch
 from olr.counts import Counts
-from olr.map_folder import write_map
 from olr.messages.message import Message
-from olr.road_map import MICRODEGREE, RoadMap
+from olr.model.answers import Matching, PlaceOfReference, Places
+from olr.model.fault import Fault
+from olr.model.map_folder import write_map
+from olr.model.pieces import Pieces
+from olr.model.road_map import MICRODEGREE, RoadMap
 from olr.trials.encoder import Network, drawn_references
 from olr.trials.encoder import text_of as text_of_points
 from olr.vector.fields import Fields

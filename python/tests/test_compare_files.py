@@ -26,7 +26,7 @@ from compared_maps import (
 )
 from conftest import ASKED_WITH_PROGRAM, OF_PROGRAM, REFERENCE, TOP, Program
 from olr.client.map_client import AHEAD
-from olr.comparing import command as compare_command
+from olr.commands import compare as compare_command
 from olr.comparing.asking import CHUNK, Comparison
 from olr.comparing.columns import CHANGES
 from olr.comparing.places import Limits

@@ -8,10 +8,10 @@ import numpy as np
 import pytest
 from shapely.geometry import LineString
 
-from olr.comparing.agreement import agreement
 from olr.comparing.places import Limits, Spot, Stretch, difference
-from olr.comparing.plane import DEGREE, Plane, Segments
-from olr.comparing.stretches import hausdorff, longest_lacking, share_within, within
+from olr.geometry.agreement import agreement
+from olr.geometry.plane import DEGREE, Plane, Segments
+from olr.geometry.stretches import hausdorff, longest_lacking, share_within, within
 
 LIMITS = Limits(across=10, apart=75)
 Spots = list[tuple[float, float]]

@@ -13,7 +13,6 @@ import pytest
 import olr
 from conftest import REFERENCE, TOP, Program
 from olr.arrays import Floats
-from olr.client.questions import TOLERANCES
 from olr.confidence.calibrating import level_of
 from olr.confidence.confidence import Confidence
 from olr.confidence.contents import text_of
@@ -35,8 +34,9 @@ from olr.errors import ToolError
 from olr.likely.evidence import Evidence, Fit
 from olr.likely.listed import Listed
 from olr.likely.order import LIST, Shown
-from olr.profiles import FEED, tolerances_of
-from olr.regions.reading import read_reference
+from olr.model.profiles import FEED, tolerances_of
+from olr.model.questions import TOLERANCES
+from olr.model.reference import read_reference
 from test_extras import run_without
 
 EXAMPLES = TOP / "examples"

@@ -10,14 +10,14 @@ import pytest
 
 from conftest import Import, Program, Tools
 from drawing import Drawing
-from olr.client.answers import ReferencePoint
 from olr.counts import Counts
-from olr.map_folder import read_map
+from olr.importing.u_turns import BEYOND, BEYOND_AT_DEAD_ENDS, TOO_MANY, u_turn_bans
+from olr.model.answers import ReferencePoint
+from olr.model.map_folder import read_map
+from olr.model.road_map import Ban, Line, Node, Position, RoadMap
 from olr.osm.importing import Options
-from olr.road_map import Ban, Line, Node, Position, RoadMap
 from olr.tools import run
 from olr.trials.encoder import text_of
-from olr.u_turns import BEYOND, BEYOND_AT_DEAD_ENDS, TOO_MANY, u_turn_bans
 from test_u_turns import Bans, bans, copy_examples, one_way, two_way
 
 
@@ -140,7 +140,7 @@ def test_dead_ends_come_last_where_there_is_no_room(monkeypatch: pytest.MonkeyPa
         (5, [], {BEYOND_AT_DEAD_ENDS: 3}),
     ]
     for most, at_dead_ends, beyond in by_room:
-        monkeypatch.setattr("olr.u_turns.MOST_BANS", most)
+        monkeypatch.setattr("olr.importing.u_turns.MOST_BANS", most)
         counts = Counts()
         added = u_turn_bans(RoadMap([], lines), "dead-ends", counts, "ban")
         assert added == sorted([*junctions, *at_dead_ends])
@@ -150,7 +150,7 @@ def test_dead_ends_come_last_where_there_is_no_room(monkeypatch: pytest.MonkeyPa
         rest = u_turn_bans(RoadMap([], lines, usual), "dead-ends", Counts(), "ban")
         assert rest == at_dead_ends
 
-    monkeypatch.setattr("olr.u_turns.MOST_BANS", 3)
+    monkeypatch.setattr("olr.importing.u_turns.MOST_BANS", 3)
     counts = Counts()
     added = u_turn_bans(RoadMap([], lines), "dead-ends", counts, "ban")
     assert added == [Ban(20, 21), Ban(30, 31), Ban(41, 40)]
@@ -158,8 +158,8 @@ def test_dead_ends_come_last_where_there_is_no_room(monkeypatch: pytest.MonkeyPa
 
 
 def test_a_map_that_becomes_a_store_has_room_for_all(monkeypatch: pytest.MonkeyPatch) -> None:
-    monkeypatch.setattr("olr.u_turns.MOST_BANS", 1)
-    monkeypatch.setattr("olr.road_map.MOST_LINES", 1)
+    monkeypatch.setattr("olr.importing.u_turns.MOST_BANS", 1)
+    monkeypatch.setattr("olr.model.road_map.MOST_LINES", 1)
     assert all_bans(two_way(10, 1, 2)) == {(10, 11), (11, 10)}
 
 
@@ -259,7 +259,7 @@ def test_what_import_json_says(tmp_path: Path, monkeypatch: pytest.MonkeyPatch) 
     older = {name: value for name, value in about(folder).items() if name != "dead_ends"}
     (folder / "import.json").write_text(json.dumps(older))
     assert after("--dead-ends", "allow") == ("dead-ends", "allow", 3)
-    monkeypatch.setattr("olr.u_turns.MOST_BANS", 4)
+    monkeypatch.setattr("olr.importing.u_turns.MOST_BANS", 4)
     assert after("--dead-ends", "ban") == ("dead-ends", "ban", 4)
     assert about(folder)["left_out"] == {BEYOND_AT_DEAD_ENDS: 2}
     assert after("--dead-ends", "allow") == ("dead-ends", "ban", 4)
@@ -275,7 +275,7 @@ def test_another_default(tmp_path: Path, monkeypatch: pytest.MonkeyPatch) -> Non
     file, folder = str(stub().write(tmp_path / "drawn.osm")), tmp_path / "map"
     importing = ["import", "osm", file, "--out", str(folder), "--force"]
     for default, bans in (("allow", 3), ("ban", 6)):
-        monkeypatch.setattr("olr.u_turns_command.DEAD_ENDS", default)
+        monkeypatch.setattr("olr.commands.u_turns.DEAD_ENDS", default)
         assert run([*importing]) == 0
         assert settings(folder) == ("dead-ends", default, bans)
         assert run([*importing, "--u-turns", "plain"]) == 0

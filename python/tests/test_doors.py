@@ -18,16 +18,16 @@ from confidences import FEED as OF_FEED
 from confidences import write_confidence
 from conftest import Program
 from feeds import data_of, point_along_line
-from olr.client.answers import AnswerOrFault, Places
-from olr.client.fault import Fault
 from olr.comparing.columns import CHANGES
 from olr.confidence.expected import Expected
 from olr.confidence.likeness import Range
 from olr.confidence.sentences import probability_text
 from olr.likely.order import LIST
-from olr.map_folder import read_map
 from olr.matching.columns import ANSWERS
-from olr.profiles import FEED
+from olr.model.answers import AnswerOrFault, Places
+from olr.model.fault import Fault
+from olr.model.map_folder import read_map
+from olr.model.profiles import FEED
 from olr.regions.making import make_store_of_folder
 from olr.tools import run
 from olr.trials.changing import changed_points
@@ -205,8 +205,8 @@ def test_run_on_a_store(case: Case, tmp_path: Path, monkeypatch: pytest.MonkeyPa
     (tmp_path / "scratch").mkdir()
     scratch = os.fspath(tmp_path / "scratch")
     monkeypatch.setattr("olr.running.answering._local_folder", lambda: scratch)
-    monkeypatch.setattr("olr.running.command.connected", lambda *words: nullcontext())
-    monkeypatch.setattr("olr.running.command.answer_all", answer_all_here)
+    monkeypatch.setattr("olr.commands.run.connected", lambda *words: nullcontext())
+    monkeypatch.setattr("olr.commands.run.answer_all", answer_all_here)
     rows = tmp_path / "rows.csv"
     words = ["--places", "--store", case.store, "--out", tmp_path / "out", "--geometries", rows]
     assert run(case.words("run", *words)) == 0

@@ -9,9 +9,9 @@ import pytest
 
 from conftest import Program
 from olr.counts import Counts
-from olr.map_folder import write_map
+from olr.model.map_folder import write_map
+from olr.model.road_map import RoadMap
 from olr.osm.importing import Options, import_osm
-from olr.road_map import RoadMap
 
 FOLDER = Path("/usr/share/doc/python-osmnx-doc/examples/tests/input_data")
 EXTRACTS = ["West-Oakland.osm.bz2", "planet_10.068,48.135_10.071,48.137.osm"]

@@ -4,12 +4,12 @@ import ast
 import re
 import subprocess
 import sys
-import tomllib
 from collections.abc import Iterator
 from pathlib import Path
 
 import click
 import pytest
+import tomllib
 
 import olr
 from conftest import REFERENCE, TOP, Program

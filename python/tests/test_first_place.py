@@ -7,7 +7,7 @@ from pathlib import Path
 
 from conftest import Program
 from olr.counts import Counts
-from olr.map_folder import write_map
+from olr.model.map_folder import write_map
 from olr.trials.encoder import COVERED, Network, drawn_references, share_covered, text_of
 from olr.vector.fields import Fields
 from olr.vector.importing import import_vector

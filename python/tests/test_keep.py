@@ -10,9 +10,9 @@ import pytest
 
 from conftest import TOP, Program
 from drawing import Drawing
+from olr.model.road_map import Origin
+from olr.model.sources import COLUMNS, Sources
 from olr.regions.store import Store
-from olr.road_map import Origin
-from olr.sources import COLUMNS, Sources
 from olr.tools import run
 from vector_files import STREETS, about, assert_refused
 
@@ -237,7 +237,7 @@ def test_an_import_beyond_the_limits_keeps_them(
     file = streets(tmp_path / "streets.osm") if kind == "osm" else STREETS
     words = ["--keep", {"osm": "surface", "vector": "Length"}[kind]]
     small = imported(kind, file, tmp_path / "small", *words)
-    monkeypatch.setattr("olr.road_map.MOST_LINES", 1)
+    monkeypatch.setattr("olr.model.road_map.MOST_LINES", 1)
     large = imported(kind, file, tmp_path / "large", *words)
     assert (tmp_path / "large/map.gpkg").exists()
     with Store.open(tmp_path / "large") as store:
@@ -292,7 +292,7 @@ def test_check_compares_lines_and_sources_of_a_store(
 
     place = tmp_path / "map"
     imported("osm", streets(tmp_path / "streets.osm"), place)
-    monkeypatch.setattr("olr.road_map.MOST_LINES", most_lines)
+    monkeypatch.setattr("olr.model.road_map.MOST_LINES", most_lines)
     file = place / "ids.csv"
     file.write_text(file.read_text(encoding="utf-8").replace("\n80001,", "\n170001,"))
     assert [line for line in said(place) if "record" in line] == [

@@ -1,8 +1,9 @@
 """The licence, and that what is bundled is named with its own."""
 
 import re
-import tomllib
 from pathlib import Path
+
+import tomllib
 
 from conftest import TOP
 

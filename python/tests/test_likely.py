@@ -12,16 +12,8 @@ import pytest
 
 import olr
 from conftest import Program
-from olr.client.answers import (
-    Candidate,
-    Leg,
-    Matching,
-    PlaceOfReference,
-    Places,
-    Reference,
-    ReferencePoint,
-)
-from olr.client.pieces import Piece, Pieces
+from olr.geometry.network import Network
+from olr.geometry.store_network import StoreNetwork
 from olr.likely.evidence import INTERVAL, evidence_of, fit_of
 from olr.likely.listed import listed
 from olr.likely.order import (
@@ -33,11 +25,19 @@ from olr.likely.order import (
     listed_within,
     verdict_within,
 )
-from olr.map_folder import read_map, write_map
-from olr.network import Network
-from olr.regions.reading import read_reference
-from olr.road_map import Line, Node, Position, RoadMap
-from olr.store_network import StoreNetwork
+from olr.model.answers import (
+    Candidate,
+    Leg,
+    Matching,
+    PlaceOfReference,
+    Places,
+    Reference,
+    ReferencePoint,
+)
+from olr.model.map_folder import read_map, write_map
+from olr.model.pieces import Piece, Pieces
+from olr.model.reference import read_reference
+from olr.model.road_map import Line, Node, Position, RoadMap
 from olr.trials.changing import changed_points
 from olr.trials.encoder import Network as Encoder
 from olr.trials.encoder import text_of

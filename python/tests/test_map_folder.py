@@ -11,10 +11,10 @@ from typing import Any
 import pytest
 
 from conftest import Program
-from olr import map_folder
 from olr.errors import ToolError
-from olr.map_folder import read_map, write_map
-from olr.road_map import Ban, Line, Node, Origin, Position, RoadMap, require_within_limits
+from olr.model import map_folder
+from olr.model.map_folder import read_map, write_map
+from olr.model.road_map import Ban, Line, Node, Origin, Position, RoadMap, require_within_limits
 
 FILES = {"nodes.csv", "lines.csv", "bans.csv", "ids.csv", "import.json"}
 SMALL = RoadMap(

@@ -11,8 +11,8 @@ import pytest
 
 from conftest import ASKED_WITH_PROGRAM, OF_PROGRAM, REFERENCE, TOP, Program, Tools
 from olr import tools as command_line
-from olr.client.questions import TOLERANCES
 from olr.matching import columns as columns_of
+from olr.model.questions import TOLERANCES
 
 EXAMPLES = TOP / "examples"
 

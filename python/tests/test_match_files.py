@@ -17,7 +17,7 @@ import pytest
 import olr
 from asking import draw_map, draw_references
 from conftest import OF_PROGRAM, REFERENCE, TOP, Program
-from olr.map_folder import read_map
+from olr.model.map_folder import read_map
 from olr.tools import run
 from olr.trials.encoder import Network, drawn_references, text_of
 from test_outputs import contents, full_disk

@@ -12,16 +12,16 @@ import olr
 from asking import draw_map, draw_references
 from conftest import Program
 from drawn_maps import draw_files
-from olr.client.answers import Matching, Reference
-from olr.map_folder import read_map
+from olr.model.answers import Matching, Reference
+from olr.model.map_folder import read_map
+from olr.model.road_map import Ban, Line, RoadMap
 from olr.near_paths import notes as notes_module
 from olr.near_paths.notes import APART, LegNote, apart_from, legs_of, near_paths, streets_of
 from olr.near_paths.searching import Ends, least_length, other_walk
 from olr.near_paths.streets import Lines, Streets
+from olr.pages.view.notes import note_texts
+from olr.pages.view.scene import scene_of
 from olr.regions.making import make_store
-from olr.road_map import Ban, Line, RoadMap
-from olr.view.notes import note_texts
-from olr.view.scene import scene_of
 from region_maps import EAST, WEST, Drawing, Point, hostile_map, hostile_text, text_of
 
 NORTH, SOUTH = [2, 3], [4, 5]

@@ -10,11 +10,11 @@ import pytest
 import olr
 from browser import Browser
 from conftest import REFERENCE, Program, Tools
+from olr.pages.view.scene import scene_of
 from olr.regions.making import make_store
 from olr.serving.folder_map import FolderMap
 from olr.serving.limits import Limits
 from olr.serving.served import Known, Versions
-from olr.view.scene import scene_of
 from servers import path_of, serving, wait_until
 from test_near_paths import block
 

@@ -14,9 +14,9 @@ import olr
 from asking import draw_map, draw_references
 from conftest import REFERENCE, TOP, Program
 from olr.errors import ToolError
-from olr.map_folder import read_map
-from olr.network import middle
-from olr.client.pieces import Pieces, Place
+from olr.geometry.network import middle
+from olr.model.map_folder import read_map
+from olr.model.pieces import Pieces, Place
 
 ELLIPSOID = Geod(ellps="WGS84")
 KIOSK = "KwVGnCN20HPDBwFCATFjT5Y="

@@ -4,10 +4,10 @@ import pytest
 
 from conftest import Import
 from drawing import Drawing
-from olr.box import Box
 from olr.errors import ToolError
+from olr.model.box import Box
+from olr.model.road_map import Position
 from olr.osm.importing import Options
-from olr.road_map import Position
 
 
 def test_ways_are_cut_where_they_meet(imported: Import) -> None:

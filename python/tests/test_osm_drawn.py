@@ -10,9 +10,9 @@ import pytest
 from conftest import Import
 from drawing import Drawing
 from olr.errors import ToolError
+from olr.importing.u_turns import UTurns
+from olr.model.road_map import Position, RoadMap
 from olr.osm.importing import Options
-from olr.road_map import Position, RoadMap
-from olr.u_turns import UTurns
 
 Step = tuple[Position, Position]
 ONE_WAY = {"yes": (True, False), "-1": (False, True), "no": (True, True)}

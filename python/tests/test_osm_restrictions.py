@@ -6,7 +6,7 @@ import pytest
 
 from conftest import Import, Result
 from drawing import Drawing
-from olr.box import Box
+from olr.model.box import Box
 from olr.osm.importing import Options
 
 # A crossing of two-way streets: node 1 in the middle, 2 to the north, 3 east, 4 south, 5 west.

@@ -76,7 +76,7 @@ def test_a_full_disk(
 ) -> None:
     """The old file stays; where there is none, nothing is left, nor a folder that was made for it."""
     if name == "store":
-        monkeypatch.setattr("olr.road_map.MOST_LINES", 1)
+        monkeypatch.setattr("olr.model.road_map.MOST_LINES", 1)
     # SQLite doesn't tell which error it had.
     stores = name in ("store", "town.gpkg")
     reason = "Input/output error" if stores else "File too large"
@@ -113,7 +113,7 @@ def test_a_disk_without_room_for_a_store(
     monkeypatch: pytest.MonkeyPatch,
 ) -> None:
     """SQLite says so in its own words. Here it may make its file no longer."""
-    monkeypatch.setattr("olr.road_map.MOST_LINES", 1)
+    monkeypatch.setattr("olr.model.road_map.MOST_LINES", 1)
     make_tables = geopackage.make_tables
 
     def make_last_tables(connection: sqlite3.Connection) -> None:

@@ -14,11 +14,11 @@ import olr
 from asking import batch_of
 from conftest import REFERENCE, TOP, Program
 from feeds import data_of
-from olr.asked_with import command_text, numbers_text
 from olr.client.map_client import Map
-from olr.client.questions import TOLERANCES
 from olr.matching.lacking import Lacking, Other
-from olr.profiles import FEED, PROFILES, PROGRAM, as_arguments, resolved, tolerances_of
+from olr.model.asked_with import command_text, numbers_text
+from olr.model.profiles import FEED, PROFILES, PROGRAM, as_arguments, resolved, tolerances_of
+from olr.model.questions import TOLERANCES
 from olr.tools import run
 from profiled import DEFAULTS, EXAMPLES, LACKING, MESSAGES, UNMATCHED, texts_of, tools, words_of
 from runs import Town
@@ -232,7 +232,7 @@ def test_what_would_help(
 ) -> None:
     """Asked one by one, and together."""
     monkeypatch.setattr("olr.matching.lacking.CHUNK", kept)
-    monkeypatch.setattr("olr.report.asking.CHUNK", kept)
+    monkeypatch.setattr("olr.pages.report.asking.CHUNK", kept)
     out = tmp_path / ("out.html" if name == "report" else "out.csv")
     command, *more = name.split()
     words = [command, UNMATCHED, "--map", EXAMPLES, *more, "--out", out, "--profile", profile]

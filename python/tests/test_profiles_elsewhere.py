@@ -14,8 +14,8 @@ import olr
 from asking import as_json, said
 from conftest import REFERENCE, Program
 from feeds import data_of
-from olr.client.questions import TOLERANCES
-from olr.profiles import FEED, PROFILES, PROGRAM, tolerances_of
+from olr.model.profiles import FEED, PROFILES, PROGRAM, tolerances_of
+from olr.model.questions import TOLERANCES
 from olr.regions.making import make_store_of_folder
 from profiled import DEFAULTS, EXAMPLES, LACKING, MESSAGES, texts_of, tools, words_of
 from servers import Server, expected_of, path_of, serving

@@ -12,9 +12,9 @@ import pytest
 from conftest import Program
 from olr import progress as shown
 from olr.content import Content, digest_of
+from olr.model.road_map import Ban, Line, Node, Position, RoadMap
 from olr.progress import progress, watched
 from olr.regions.making import make_store_of_map
-from olr.road_map import Ban, Line, Node, Position, RoadMap
 from olr.running.joining import join, lines_of
 from olr.tools import run
 from vector_files import road, write

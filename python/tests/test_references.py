@@ -9,7 +9,7 @@ import pytest
 
 from conftest import Program
 from olr.counts import Counts
-from olr.map_folder import read_map, write_map
+from olr.model.map_folder import read_map, write_map
 from olr.osm.importing import Options, import_osm
 from olr.trials.encoder import Network, drawn_references, text_of
 

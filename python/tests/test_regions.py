@@ -16,20 +16,20 @@ import pytest
 from asking import draw_map, draw_references
 from conftest import Program
 from olr.arrays import Floats
-from olr.client.decoding import decode
-from olr.client.fault import Fault
-from olr.client.questions import What
+from olr.asking.decoding import decode
 from olr.counts import Counts
-from olr.map_folder import read_map, write_map
+from olr.model.fault import Fault
+from olr.model.map_folder import read_map, write_map
+from olr.model.questions import What
+from olr.model.reference import points_of, read_points, read_reference
+from olr.model.road_map import MICRODEGREE
 from olr.osm.importing import Options as OsmOptions
 from olr.osm.importing import import_osm
 from olr.regions import region, shortness
 from olr.regions.making import make_store_of_folder
 from olr.regions.options import Options
 from olr.regions.plane import Disc, Discs, scale_at, scales_at
-from olr.regions.reading import points_of, read_points, read_reference
 from olr.regions.store import Store
-from olr.road_map import MICRODEGREE
 from olr.trials.encoder import Network, drawn_path, encode
 from olr.vector.fields import Fields
 from olr.vector.importing import import_vector

@@ -17,10 +17,10 @@ from confidences import FEED, LONG_LIST, OF_NONE, PlainOrder, write_confidence
 from conftest import OF_PROGRAM, REFERENCE, TOP, Program
 from feeds import MARKUP, Feed, data_of, jq, make_feed, tables_of
 from olr.confidence.likeness import Range
+from olr.model.map_folder import read_map
 from olr.regions.making import make_store_of_folder
 from olr.tools import run
 from olr.trials.encoder import Network, drawn_references, text_of
-from olr.map_folder import read_map
 from vector_files import STREETS
 
 WITHIN, LOOK = 200, ["--look", "20"]

@@ -7,8 +7,8 @@ import pytest
 import olr
 from olr.confidence.expected import Expected
 from olr.messages.message import Message
-from olr.report.counting import EDGES, Histogram
-from olr.report.sample import Sample, equal_shares
+from olr.pages.report.counting import EDGES, Histogram
+from olr.pages.report.sample import Sample, equal_shares
 
 
 @pytest.mark.parametrize(

@@ -8,8 +8,8 @@ import fiona
 import pytest
 from shapely.geometry import shape
 
-from olr import store_network
 from olr.arrays import Integers
+from olr.geometry import store_network
 from olr.regions.making import make_store_of_folder
 from olr.regions.store import Store
 from olr.tools import run

@@ -12,8 +12,9 @@ from typing import Any
 import pytest
 
 from conftest import OF_PROGRAM, Program
-from olr import content, road_map
+from olr import content
 from olr.errors import ProgramEnded, ProgramNotFound, ToolError
+from olr.model import road_map
 from olr.regions.making import make_store_of_folder
 from olr.regions.store import Store
 from olr.running import identity
@@ -332,7 +333,7 @@ def test_messages_that_change_while_they_are_read(
 
     words = ["run", str(messages), "--store", str(town.store), "--out", str(out)]
     with monkeypatch.context() as patch:
-        patch.setattr("olr.running.command.read_records", read_and_add)
+        patch.setattr("olr.commands.run.read_records", read_and_add)
         assert olr_tools(words) == 1
     said = f"olr-tools: {messages} changed while it was read: begin again when it is whole\n"
     assert capsys.readouterr().err == said and not out.exists()

@@ -200,7 +200,7 @@ def test_join_refuses_a_part(
         damage(copied.out)
         return outcome
 
-    monkeypatch.setattr("olr.running.command.answer_all", answer_and_damage)
+    monkeypatch.setattr("olr.commands.run.answer_all", answer_and_damage)
     copied.joined.write_text("old")
     assert olr_tools([*copied.words, "--force"]) == 1
     said = capsys.readouterr().err
@@ -266,7 +266,7 @@ def test_groups_that_are_damaged(
 
     with monkeypatch.context() as patch:
         patch.setattr("olr.running.run_folder._digests_kept", digests_of)
-        patch.setattr("olr.running.command.answer_all", damage_and_answer)
+        patch.setattr("olr.commands.run.answer_all", damage_and_answer)
         assert olr_tools(copied.words) == 1
     said = capsys.readouterr().err
     assert re.search("olr-tools: [0-9]+ of 11 groups failed, listed in .*/failed.txt: ", said)

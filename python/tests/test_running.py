@@ -15,12 +15,13 @@ import numpy as np
 import pytest
 
 from conftest import Program
-from olr import curve, road_map
+from olr import curve
 from olr.content import Content
 from olr.errors import ToolError
 from olr.messages.message import Reading
+from olr.model import road_map
+from olr.model.reference import first_position, read_reference
 from olr.outputs import PREFIX
-from olr.regions.reading import first_position, read_reference
 from olr.running import answering
 from olr.running.answering import ANSWERED, TOO_LARGE, Job, answer_groups
 from olr.running.grouping import Grouped, digests_of, read_group, usual_size, write_groups

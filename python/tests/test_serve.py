@@ -16,10 +16,10 @@ import pytest
 import olr
 from asking import draw_map, draw_references
 from conftest import OF_PROGRAM, REFERENCE, TOP, Program, Tools
-from olr.client.fault_table import ROWS
-from olr.client.questions import NUMBERS, TOLERANCES
+from olr.model.fault_table import ROWS
+from olr.model.questions import NUMBERS, TOLERANCES
+from olr.pages.view.scene import scene_of
 from olr.serving import problems
-from olr.view.scene import scene_of
 from servers import Server, ask_all, expected_of, path_of, reply_on, serving
 
 REFERENCES = 2000

@@ -13,9 +13,10 @@ from asking import batch_of, draw_map, draw_references, likeliest_of
 from bad_programs import bad_program
 from browser import Browser
 from conftest import OF_PROGRAM, Program, Tools
-from olr.client.questions import NUMBERS
 from olr.messages.reading import read_messages
+from olr.model.questions import NUMBERS
 from page_of_server import (
+    AS_PROGRAM,
     KEY,
     MARGIN,
     MESSAGES,
@@ -30,7 +31,6 @@ from page_of_server import (
     TURNS_BACK,
     UNMATCHED,
     VERDICT,
-    AS_PROGRAM,
     Page,
     folder,
     page,

@@ -13,12 +13,12 @@ from asking import said
 from bad_programs import bad_program
 from browser import Browser
 from conftest import Program
-from olr.client.questions import TOLERANCES
-from olr.network import Network
-from olr.profiles import FEED, tolerances_of
+from olr.geometry.network import Network
+from olr.model.profiles import FEED, tolerances_of
+from olr.model.questions import TOLERANCES
+from olr.pages.view.scene import scene_of
+from olr.pages.view.surroundings import Surroundings
 from olr.serving import scenes
-from olr.view.scene import scene_of
-from olr.view.surroundings import Surroundings
 from page_of_server import (
     AS_PROGRAM,
     MESSAGES,

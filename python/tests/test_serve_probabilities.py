@@ -11,10 +11,10 @@ import pytest
 
 from browser import Browser
 from conftest import Program, Tools
-from olr.client.questions import NUMBERS
 from olr.confidence.confidence import Confidence
 from olr.confidence.sentences import probability_text
-from olr.profiles import FEED, tolerances_of
+from olr.model.profiles import FEED, tolerances_of
+from olr.model.questions import NUMBERS
 from olr.regions.making import make_store_of_folder
 from page_of_server import (
     MESSAGES,

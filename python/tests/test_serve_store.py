@@ -15,7 +15,7 @@ import olr
 from asking import draw_map
 from bad_programs import bad_program
 from conftest import Program
-from olr.client.questions import NUMBERS
+from olr.model.questions import NUMBERS
 from olr.regions.making import make_store_of_folder
 from olr.serving import store_map
 from olr.serving.limits import Limits

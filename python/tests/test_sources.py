@@ -10,11 +10,11 @@ import numpy as np
 import pytest
 
 from olr.errors import ToolError
-from olr.network import Network
+from olr.geometry.network import Network
+from olr.model.road_map import Line, Node, Origin, Position, RoadMap
+from olr.model.sources import Sources, write_origins
 from olr.regions.making import make_store_of_folder, make_store_of_map
 from olr.regions.store import Store
-from olr.road_map import Line, Node, Origin, Position, RoadMap
-from olr.sources import Sources, write_origins
 from stores import folder_of as map_of
 
 HARD = (

@@ -14,8 +14,8 @@ import pytest
 from asking import draw_map
 from drawing import Drawing as Streets
 from drawn_maps import draw_files
-from olr.map_folder import read_map
-from olr.measure import lengths
+from olr.model.map_folder import read_map
+from olr.model.measure import lengths
 from olr.regions import blocks as blocks_module
 from olr.regions import packing
 from olr.regions.blocks import Blocks, Directory
@@ -313,7 +313,7 @@ def test_imports_beyond_the_limits_become_stores(
         assert run([*words, "--out", str(small)]) == 0
         assert run([*words, "--out", str(out)]) == 0
         with monkeypatch.context() as patch:
-            patch.setattr(f"olr.road_map.{limit}", -1)
+            patch.setattr(f"olr.model.road_map.{limit}", -1)
             assert run([*words, "--out", str(out), "--force"]) == 0
         assert f"{out}/map.gpkg: " in capsys.readouterr().out
         assert sorted(os.listdir(out)) == ["ids.csv", "import.json", "map.gpkg"]

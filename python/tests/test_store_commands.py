@@ -11,11 +11,11 @@ import pytest
 
 import olr
 from conftest import TOP
-from olr import road_map
-from olr.map_folder import read_map
+from olr.model import road_map
+from olr.model.map_folder import read_map
+from olr.pages.view.scene import scene_of
 from olr.regions.making import make_store_of_folder
 from olr.tools import run
-from olr.view.scene import scene_of
 from runs import Town
 from test_outputs import full_disk
 from test_store_map import references, scratch

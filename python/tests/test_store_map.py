@@ -18,13 +18,13 @@ import olr
 from asking import as_json
 from bad_programs import bad_program
 from conftest import REFERENCE, TOP, Program
-from olr import road_map
 from olr.arrays import Integers
 from olr.client import store_map
 from olr.client.store_map import CHUNK, StoreMap
-from olr.client.questions import What
 from olr.counts import Counts
-from olr.map_folder import write_map
+from olr.model import road_map
+from olr.model.map_folder import write_map
+from olr.model.questions import What
 from olr.regions.making import make_store_of_folder
 from olr.regions.store import Store
 from olr.trials.encoder import Network, drawn_path, encode

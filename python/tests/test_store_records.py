@@ -8,9 +8,9 @@ import pytest
 
 from conftest import Program
 from drawn_maps import damage, draw_files
-from olr.checking import columns
 from olr.errors import ToolError
-from olr.network import Network
+from olr.geometry.network import Network
+from olr.model import columns
 from olr.regions import geopackage, packing
 from olr.regions.making import make_store_of_folder
 from olr.regions.store import Store

@@ -11,7 +11,8 @@ import click
 import pytest
 
 from conftest import TOP, Tools
-from olr import setup, tools as command_line
+from olr import setup
+from olr import tools as command_line
 from olr.errors import ToolError
 
 STREET = """<osm version="0.6">

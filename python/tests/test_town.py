@@ -10,8 +10,8 @@ import osmium
 import pytest
 
 from conftest import REFERENCE, Program, Tools
-from olr.map_folder import read_map
-from olr.road_map import Line
+from olr.model.map_folder import read_map
+from olr.model.road_map import Line
 
 
 def key(line: Line) -> tuple[object, ...]:

@@ -12,12 +12,12 @@ import numpy as np
 import pytest
 
 from conftest import REFERENCE, Program
-from olr.client.answers import ReferencePoint
-from olr.client.pieces import Piece
 from olr.errors import ToolError
-from olr.map_folder import read_map, write_map
-from olr.regions.reading import read_reference
-from olr.road_map import MICRODEGREE, Ban, Line, Node, Position, RoadMap
+from olr.model.answers import ReferencePoint
+from olr.model.map_folder import read_map, write_map
+from olr.model.pieces import Piece
+from olr.model.reference import read_reference
+from olr.model.road_map import MICRODEGREE, Ban, Line, Node, Position, RoadMap
 from olr.trials.changing import changed_points
 from olr.trials.differing import Difference, differing, without_lines
 from olr.trials.encoder import INTERVAL, Network, points_of_legs, text_of

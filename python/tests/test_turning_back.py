@@ -12,16 +12,16 @@ import olr
 from conftest import TOP, Program
 from drawing import Drawing
 from drawn_maps import draw_files
-from olr.client.answers import ReferencePoint
-from olr.client.pieces import Piece, Pieces
 from olr.counts import Counts
 from olr.errors import MapRefused, ToolError
-from olr.map_folder import read_map, write_map
-from olr.road_map import Line, Node, Position, RoadMap
+from olr.geometry.turning_back import turn_back, turns_of
+from olr.importing.u_turns import SHARP, u_turn_bans
+from olr.model.answers import ReferencePoint
+from olr.model.map_folder import read_map, write_map
+from olr.model.pieces import Piece, Pieces
+from olr.model.road_map import Line, Node, Position, RoadMap
 from olr.tools import run
 from olr.trials.encoder import text_of
-from olr.turning_back import turn_back, turns_of
-from olr.u_turns import SHARP, u_turn_bans
 from olr.vector.fields import Fields
 from olr.vector.importing import import_vector
 from olr.vector.options import Options as VectorOptions

@@ -13,11 +13,11 @@ import pytest
 from conftest import Program, Tools
 from drawing import Drawing
 from olr.counts import Counts
-from olr.map_folder import read_map
+from olr.importing.u_turns import DeadEnds, UTurns, u_turn_bans
+from olr.model.map_folder import read_map
+from olr.model.road_map import Ban, Line, Node, Position, RoadMap
 from olr.osm.importing import Options, import_osm
-from olr.road_map import Ban, Line, Node, Position, RoadMap
 from olr.tools import run
-from olr.u_turns import DeadEnds, UTurns, u_turn_bans
 
 Bans = AbstractSet[tuple[int, int]]
 BOTH: list[UTurns] = ["dead-ends", "plain"]
@@ -214,7 +214,7 @@ def test_a_road_across_a_roundabout() -> None:
 
 def test_the_least_important_junctions_have_no_room(monkeypatch: pytest.MonkeyPatch) -> None:
     """A main road of class 2 from node 1 over 2 to 3, a side road of class 6 from node 2 over 4 to 5, and a turn restriction."""
-    monkeypatch.setattr("olr.u_turns.MOST_BANS", 5)
+    monkeypatch.setattr("olr.importing.u_turns.MOST_BANS", 5)
     lines = [
         *two_way(10, 5, 4),
         *two_way(20, 4, 2),
@@ -228,13 +228,13 @@ def test_the_least_important_junctions_have_no_room(monkeypatch: pytest.MonkeyPa
     assert kept == [Ban(10, 11), Ban(20, 21), Ban(30, 31), Ban(41, 40)]
     assert list(counts.left_out.values()) == [1]
 
-    monkeypatch.setattr("olr.u_turns.MOST_BANS", 3)
+    monkeypatch.setattr("olr.importing.u_turns.MOST_BANS", 3)
     assert u_turn_bans(road_map, "dead-ends", Counts()) == [Ban(30, 31), Ban(41, 40)]
 
 
 def test_a_map_that_becomes_a_store_has_room_for_all(monkeypatch: pytest.MonkeyPatch) -> None:
-    monkeypatch.setattr("olr.u_turns.MOST_BANS", 1)
-    monkeypatch.setattr("olr.road_map.MOST_LINES", 3)
+    monkeypatch.setattr("olr.importing.u_turns.MOST_BANS", 1)
+    monkeypatch.setattr("olr.model.road_map.MOST_LINES", 3)
     assert bans("dead-ends", two_way(10, 1, 2), two_way(20, 2, 3)) == {(10, 11), (21, 20)}
 
 
@@ -292,7 +292,7 @@ def test_the_command_says_what_it_left_out(
     monkeypatch: pytest.MonkeyPatch,
 ) -> None:
     copy_examples(top, tmp_path)
-    monkeypatch.setattr("olr.u_turns.MOST_BANS", 20)
+    monkeypatch.setattr("olr.importing.u_turns.MOST_BANS", 20)
     assert run(["u-turns", str(tmp_path)]) == 0
     said = capsys.readouterr()
     assert said.out == f"{tmp_path}: 17 bans added, 20 bans\n"
@@ -355,7 +355,7 @@ def test_the_command_says_so_in_import_json(tmp_path: Path) -> None:
 
 def test_the_command_counts_in_import_json(tmp_path: Path, monkeypatch: pytest.MonkeyPatch) -> None:
     """What has no room is that of the last run."""
-    monkeypatch.setattr("olr.u_turns.MOST_BANS", 1)
+    monkeypatch.setattr("olr.importing.u_turns.MOST_BANS", 1)
     drawing = Drawing({1: (0, 0), 2: (1000, 0), 3: (2000, 0)})
     drawing.way(1, [1, 2])
     drawing.way(2, [2, 3])
@@ -367,7 +367,7 @@ def test_the_command_counts_in_import_json(tmp_path: Path, monkeypatch: pytest.M
         return list(about["left_out"].values())
 
     assert left_out() == [1]
-    monkeypatch.setattr("olr.u_turns.MOST_BANS", 2)
+    monkeypatch.setattr("olr.importing.u_turns.MOST_BANS", 2)
     assert run(["u-turns", str(folder), "--u-turns", "allowed"]) == 0
     assert left_out() == [1]
     assert run(["u-turns", str(folder)]) == 0
@@ -393,7 +393,7 @@ def test_a_restriction_counts_once(tmp_path: Path, capsys: pytest.CaptureFixture
 
 def test_imports_say_what_they_left_out(tmp_path: Path, monkeypatch: pytest.MonkeyPatch) -> None:
     """A restriction takes precedence over bans on turning back."""
-    monkeypatch.setattr("olr.u_turns.MOST_BANS", 1)
+    monkeypatch.setattr("olr.importing.u_turns.MOST_BANS", 1)
     drawing = Drawing({1: (0, 0), 2: (1000, 0), 3: (2000, 0)})
     drawing.way(1, [1, 2])
     drawing.way(2, [2, 3])

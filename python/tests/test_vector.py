@@ -6,6 +6,7 @@ from pathlib import Path
 
 import fiona
 import pytest
+
 from conftest import Program
 from olr.checking.files import check_files
 from olr.tools import run

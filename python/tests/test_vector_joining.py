@@ -10,9 +10,9 @@ from shapely.geometry import LineString, MultiLineString
 
 from olr.checking.files import check_files
 from olr.counts import Counts
-from olr.map_folder import write_map
-from olr.road_map import RoadMap
-from olr.roads import Source, cut_roads, junctions_of, lines_of
+from olr.importing.roads import Source, cut_roads, junctions_of, lines_of
+from olr.model.map_folder import write_map
+from olr.model.road_map import RoadMap
 from olr.vector.joining import join_roads
 from olr.vector.reading import VectorRoad
 

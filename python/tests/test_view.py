@@ -17,9 +17,9 @@ from conftest import OF_PROGRAM, REFERENCE, TOP, Program, Tools
 from feeds import data_of
 from olr.confidence.likeness import Range
 from olr.errors import ToolError
+from olr.pages.view.page import html_of
+from olr.pages.view.scene import scene_of
 from olr.tools import run
-from olr.view.page import html_of
-from olr.view.scene import scene_of
 from region_maps import EAST, Drawing, Point, text_of
 
 KIOSK = "KwVGnCN20HPDBwFCATFjT5Y="

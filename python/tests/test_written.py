@@ -10,7 +10,7 @@ import pytest
 import olr
 from asking import as_json
 from conftest import TOP, Program
-from olr.client.questions import What
+from olr.model.questions import What
 from runs import Town, lines_of_batch
 
 EXAMPLES = TOP / "examples"

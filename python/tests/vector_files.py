@@ -11,7 +11,7 @@ import pytest
 from fiona.crs import CRS
 
 from olr.counts import Counts
-from olr.map_folder import write_map
+from olr.model.map_folder import write_map
 from olr.tools import run
 from olr.vector.fields import Fields
 from olr.vector.importing import import_vector

@@ -2,9 +2,6 @@
 
 | module | subject |
 |---|---|
-| `records` | the records of a CSV file, as `olr` reads them |
-| `values` | what fields spell |
-| `columns` | the same of thousands of records at once, as columns of numbers |
 | `files` | the three files: their headers, their records, their sizes |
 | `rules` | the rules for a node, a line and a ban |
 | `faults`, `remedies` | faults by the names that `olr` gives them, and what to do about each |
@@ -14,5 +11,4 @@
 | `stores` | the same of a store |
 | `sources` | whether the sources of a map are those of its lines |
 | `report` | what is printed |
-| `command` | `olr-tools check` |
 """

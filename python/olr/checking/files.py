@@ -8,11 +8,11 @@ from typing import BinaryIO, Optional
 
 from olr.checking import remedies
 from olr.checking.faults import Fault, Faults, shown
-from olr.checking.records import read_records, size_of
 from olr.checking.rules import HEADERS, Record, check_bans, check_lines, check_nodes
 from olr.checking.tables import Tables
+from olr.model.records import read_records, size_of
+from olr.model.road_map import MOST_BANS, MOST_LINES, MOST_NODES
 from olr.progress import progress
-from olr.road_map import MOST_BANS, MOST_LINES, MOST_NODES
 
 LIMITS = {"nodes": MOST_NODES, "lines": MOST_LINES, "bans": MOST_BANS}
 

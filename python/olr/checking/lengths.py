@@ -7,7 +7,7 @@ import numpy as np
 
 from olr.arrays import Floats, Integers
 from olr.checking.map_arrays import MapArrays
-from olr.measure import metres_along
+from olr.model.measure import metres_along
 
 FAR_SHARE = 0.05
 FAR_DECIMETRES = 10

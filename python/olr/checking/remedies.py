@@ -1,8 +1,8 @@
 """What to do about a fault, by what is seen of it. Each remedy is a sentence without its full stop."""
 
 from olr.checking.faults import shown
-from olr.checking.values import MOST_DIGITS
-from olr.road_map import GREATEST_LAT, MOST_SHAPE_POINTS
+from olr.model.road_map import GREATEST_LAT, MOST_SHAPE_POINTS
+from olr.model.values import MOST_DIGITS
 
 KINDS = {
     "id": "a whole number from 1 to 2^53",

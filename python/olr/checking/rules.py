@@ -11,8 +11,8 @@ from typing import NamedTuple, Optional
 from olr.checking import remedies
 from olr.checking.faults import Fault, Faults
 from olr.checking.tables import Bans, Ends, Lines, Nodes, Point, Tables
-from olr.checking.values import id_of, kind_of, lat_of, length_of, lon_of, shape_of
-from olr.map_folder import BANS_HEADER, LINES_HEADER, NODES_HEADER
+from olr.model.map_folder import BANS_HEADER, LINES_HEADER, NODES_HEADER
+from olr.model.values import id_of, kind_of, lat_of, length_of, lon_of, shape_of
 
 HEADERS = {"nodes": NODES_HEADER, "lines": LINES_HEADER, "bans": BANS_HEADER}
 

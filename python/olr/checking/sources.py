@@ -9,8 +9,8 @@ from olr.arrays import Integers
 from olr.checking.report import named
 from olr.checking.stores import all_lines
 from olr.errors import ToolError
+from olr.model.sources import IDS, Sources
 from olr.regions.store import Store
-from olr.sources import IDS, Sources
 
 
 def lines_of_folder(folder: Path, lines: Integers, most: int) -> Iterator[str]:

@@ -10,15 +10,19 @@ from pathlib import Path
 from types import TracebackType
 from typing import TYPE_CHECKING, Any, Literal, Optional, TypeVar, Union, cast, overload
 
-from olr.client.answers import Answer, AnswerOrFault, Candidates, Page, Places, Why
-from olr.client.batch import Batch
-from olr.client.fault import Fault
-from olr.client.files import MapFiles
-from olr.client.objects import page_of
-from olr.client.once import run_once
-from olr.client.patience import PATIENCE, require_patience
-from olr.client.program import PathLike, find_program
-from olr.client.questions import (
+from olr.asking.batch import Batch
+from olr.asking.files import MapFiles
+from olr.asking.once import run_once
+from olr.asking.patience import PATIENCE, require_patience
+from olr.asking.program import PathLike, find_program
+from olr.errors import TimedOut, closed_error
+from olr.extras import needed_by
+from olr.model.answers import Answer, AnswerOrFault, Candidates, Page, Places, Why
+from olr.model.fault import Fault
+from olr.model.map_folder import store_of
+from olr.model.objects import page_of
+from olr.model.profiles import PROGRAM, tolerances_of
+from olr.model.questions import (
     TOLERANCES,
     What,
     all_tolerances,
@@ -30,13 +34,9 @@ from olr.client.questions import (
     with_tolerances,
     words_of,
 )
-from olr.errors import TimedOut, closed_error
-from olr.extras import needed_by
-from olr.map_folder import store_of
-from olr.profiles import PROGRAM, tolerances_of
 
 if TYPE_CHECKING:
-    from olr.network import Network
+    from olr.geometry.network import Network
 
 Read = TypeVar("Read")
 AHEAD = 256
@@ -92,7 +92,7 @@ class Map:
     ) -> None:
         """A map of these files; or, of one path alone, that of a folder with its `nodes.csv`, its `lines.csv` and, if it is there, its
         `bans.csv`, or of a store. The tolerances are those of the program's options: those that aren't given are those of the
-        profile, which is the program's own defaults, or another one of `olr.profiles`, such as "feed". `find_program` says which
+        profile, which is the program's own defaults, or another one of `olr.model.profiles`, such as "feed". `find_program` says which
         program is run, and `patience` for how many seconds it may answer nothing; with None it is waited for without end. Raises
         `ValueError` for what is no profile.
         """
@@ -172,7 +172,7 @@ class Map:
         `MapRefused` if the files have changed since the map was first asked, and `ToolError` if they can't be read.
         """
         if self._network is None:
-            from olr.network import Network
+            from olr.geometry.network import Network
 
             with self._files.reading():
                 network = Network(self._files.nodes, self._files.lines)

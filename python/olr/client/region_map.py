@@ -5,15 +5,15 @@ import shutil
 import weakref
 from collections.abc import Mapping
 from pathlib import Path
-from typing import Any, Optional
+from typing import Any
 
 import numpy as np
 
 from olr.arrays import Integers
-from olr.client.files import MapFiles, Version
+from olr.asking.files import MapFiles, Version
 from olr.client.map_client import Map
-from olr.errors import ToolError, closed_error
-from olr.map_folder import files_read
+from olr.errors import closed_error
+from olr.model.map_folder import files_read
 from olr.regions.scratch import new_scratch_folder, write_scratch_map
 from olr.regions.store import Store
 

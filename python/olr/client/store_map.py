@@ -12,25 +12,25 @@ from typing import TYPE_CHECKING, Any, NamedTuple, Optional
 import numpy as np
 
 from olr.arrays import Integers
-from olr.client.answers import AnswerOrFault
-from olr.client.batch import Batch
-from olr.client.fault import Fault
-from olr.client.files import MapFiles
+from olr.asking.batch import Batch
+from olr.asking.files import MapFiles
+from olr.asking.program import PathLike
 from olr.client.map_client import Map, Read
-from olr.client.program import PathLike
-from olr.client.questions import What, record_text, words_of
 from olr.client.region_map import RegionMap, RegionMaps
 from olr.errors import TimedOut, ToolError, closed_error
 from olr.extras import needed_by
-from olr.map_folder import store_of
+from olr.model.answers import AnswerOrFault
+from olr.model.fault import Fault
+from olr.model.map_folder import store_of
+from olr.model.questions import What, record_text, words_of
+from olr.model.reference import Point, read_points
 from olr.regions.current import CurrentStore
 from olr.regions.options import Options
-from olr.regions.reading import Point, read_points
 from olr.regions.sharing import located, shared_regions
 from olr.regions.store import Store
 
 if TYPE_CHECKING:
-    from olr.network import Network
+    from olr.geometry.network import Network
 
 CHUNK, LEAST_CHUNK = 1024, 16
 """So many references are taken before the first of their answers is given: fewer, and at least so many, if their answers might have more
@@ -125,7 +125,7 @@ class StoreMap(Map):
         can't be read, and `MapRefused` if it has changed since the map was made."""
         if self._network is None:
             with needed_by("olr.Network", "geo"):
-                from olr.store_network import StoreNetwork
+                from olr.geometry.store_network import StoreNetwork
             network = StoreNetwork(self._store.file)
             network.require_digest(self._store.digest)
             self._network = network

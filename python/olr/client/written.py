@@ -4,10 +4,10 @@ from collections.abc import Iterator
 from pathlib import Path
 from typing import NamedTuple, Optional
 
-from olr.client.answers import AnswerOrFault
-from olr.client.objects import line_of
-from olr.client.program import PathLike
+from olr.asking.program import PathLike
 from olr.errors import ToolError
+from olr.model.answers import AnswerOrFault
+from olr.model.objects import line_of
 
 BUFFER_BYTES = 1 << 20
 

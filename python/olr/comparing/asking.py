@@ -5,17 +5,17 @@ from dataclasses import replace
 from itertools import islice, tee
 from typing import NamedTuple, Optional, cast
 
-from olr.client.answers import Places
-from olr.client.fault import Fault
 from olr.client.map_client import Map
 from olr.comparing.changes import Compared, Side, compared
 from olr.comparing.places import Answer, Limits, likeliest_places
+from olr.confidence.choosing import listing
 from olr.confidence.judged import Judged, Judging, judged
-from olr.confidence.options import listing
+from olr.geometry.network import Network
 from olr.matching.rows import Rows
 from olr.messages.message import Message
-from olr.network import Network
-from olr.regions.reading import read_reference
+from olr.model.answers import Places
+from olr.model.fault import Fault
+from olr.model.reference import read_reference
 
 CHUNK = 64
 """So many references are compared at once: each has up to 100 places on both maps."""

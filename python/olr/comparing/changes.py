@@ -23,11 +23,11 @@ is `unique`. If it is `ambiguous` there is a second place, and if it is `open` t
 
 from typing import Literal, NamedTuple, Optional, Union
 
-from olr.client.answers import Places, Why
-from olr.client.fault import Fault
 from olr.comparing.places import Answer, Difference, Limits, Shape, difference
 from olr.confidence.judged import Judged, JudgedPlace
 from olr.messages.message import Message
+from olr.model.answers import Places, Why
+from olr.model.fault import Fault
 
 Change = Literal["same", "moved", "lost", "found", "none", "refused"]
 Certainty = Literal["same", "less", "more"]

@@ -23,15 +23,15 @@ from typing import NamedTuple, Optional, Union
 import numpy as np
 
 from olr.arrays import Floats
-from olr.client.answers import Matching, Places
-from olr.client.fault import Fault
-from olr.comparing.agreement import DIGITS, agreement, agreement_of_segments
-from olr.comparing.plane import Plane, Segments
-from olr.comparing.stretches import hausdorff, longest_lacking, within
 from olr.confidence.judged import Judged
+from olr.geometry.agreement import DIGITS, agreement, agreement_of_segments
+from olr.geometry.network import Network, middle
+from olr.geometry.parts import parts_of
+from olr.geometry.plane import Plane, Segments
+from olr.geometry.stretches import hausdorff, longest_lacking, within
 from olr.matching.rows import Rows, rows_of_answers
-from olr.network import Network, middle
-from olr.parts import parts_of
+from olr.model.answers import Matching, Places
+from olr.model.fault import Fault
 
 
 class Limits(NamedTuple):

@@ -6,15 +6,15 @@ from typing import Any, Literal, Optional, TypeVar, Union
 import numpy as np
 
 from olr.arrays import Floats
-from olr.client.answers import Why
-from olr.client.fault import Fault
 from olr.comparing.asking import Chunk
 from olr.comparing.changes import Compared, Side
 from olr.comparing.columns import CHANGES
+from olr.geometry.network import Polylines
 from olr.matching.reasons import remedy_words
 from olr.matching.rows import Rows
 from olr.matching.writing import Sink
-from olr.network import Polylines
+from olr.model.answers import Why
+from olr.model.fault import Fault
 
 Item = TypeVar("Item")
 Which = Literal["old", "new"]

@@ -4,9 +4,9 @@ from collections import Counter
 from collections.abc import Iterable, Iterator
 from typing import NamedTuple, Optional
 
-from olr.client.fault import Fault
-from olr.comparing.agreement import AGREE
 from olr.comparing.changes import Compared
+from olr.geometry.agreement import AGREE
+from olr.model.fault import Fault
 
 
 class Agreeing(NamedTuple):

@@ -20,19 +20,12 @@ from olr.confidence.likeness import (
     range_of,
 )
 from olr.confidence.pair import parts_of_pair
-from olr.confidence.parts import (
-    GREATEST_DIFFERENCE,
-    Asking,
-    Drawing,
-    Part,
-    answered_by,
-    parts_of,
-)
+from olr.confidence.parts import GREATEST_DIFFERENCE, Asking, Drawing, Part, answered_by, parts_of
 from olr.confidence.shifting import LEAST_CHECKED, Checked, shift_of, shifted
 from olr.confidence.weights import WEIGHTS, Differences, differences_of, probabilities
 from olr.errors import ToolError
-from olr.map_folder import read_map, store_of
-from olr.road_map import RoadMap
+from olr.model.map_folder import read_map, store_of
+from olr.model.road_map import RoadMap
 from olr.trials.rightness import RIGHT
 from olr.version import VERSION
 

@@ -6,9 +6,9 @@ from functools import cache
 from pathlib import Path
 from typing import TYPE_CHECKING, Any, Optional
 
-from olr.client.answers import Reference
-from olr.client.questions import TOLERANCES
 from olr.extras import needed_by
+from olr.model.answers import Reference
+from olr.model.questions import TOLERANCES
 
 with needed_by("olr.Confidence", "geo"):
     import numpy as np
@@ -19,7 +19,7 @@ with needed_by("olr.Confidence", "geo"):
     from olr.likely.listed import Listed, evidence_for
 
 if TYPE_CHECKING:
-    from olr.network import Network
+    from olr.geometry.network import Network
 
 DEFAULT = Path(__file__).with_name("shipped.json")
 """The file that comes with the package."""

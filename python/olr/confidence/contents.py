@@ -5,11 +5,11 @@ import math
 from pathlib import Path
 from typing import Any, Optional
 
-from olr.client.questions import NUMBERS, TOLERANCES, Number
 from olr.confidence.confidence import Confidence
 from olr.confidence.likeness import Range
 from olr.confidence.weights import WEIGHTS
 from olr.errors import ToolError
+from olr.model.questions import NUMBERS, TOLERANCES, Number
 
 VERSION = 2
 """Of the form of the file."""

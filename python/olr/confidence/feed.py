@@ -6,10 +6,10 @@ from typing import NamedTuple, Optional
 import numpy as np
 
 from olr.arrays import Floats
-from olr.client.answers import Reference
 from olr.confidence.weights import differences_of, probabilities
 from olr.likely.evidence import INTERVAL, Evidence
 from olr.likely.listed import Listed
+from olr.model.answers import Reference
 
 LEAST_REFERENCES = 80
 """A feed of fewer references says too little."""

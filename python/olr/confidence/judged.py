@@ -7,23 +7,16 @@ from typing import TYPE_CHECKING, NamedTuple, Optional, Union
 import numpy as np
 
 from olr.arrays import Floats
-from olr.client.answers import Page, PlaceOfReference, Places, Reference
-from olr.client.fault import Fault
 from olr.confidence.confidence import Confidence
 from olr.confidence.likeness import Range
 from olr.confidence.reasons import reasons_of
 from olr.likely.listed import Listed, listed
-from olr.likely.order import (
-    Shown,
-    Verdict,
-    are_shown,
-    is_cut_off,
-    likely_order,
-    verdict_within,
-)
+from olr.likely.order import Shown, Verdict, are_shown, is_cut_off, likely_order, verdict_within
+from olr.model.answers import Page, PlaceOfReference, Places, Reference
+from olr.model.fault import Fault
 
 if TYPE_CHECKING:
-    from olr.network import Network
+    from olr.geometry.network import Network
 
 
 class JudgedPlace(NamedTuple):

@@ -6,11 +6,11 @@ from collections.abc import Iterator, Mapping
 from pathlib import Path
 from typing import NamedTuple
 
-from olr.client.answers import Reference
 from olr.errors import ToolError
 from olr.messages.message import Reading
 from olr.messages.reading import messages_of
-from olr.regions.reading import read_reference
+from olr.model.answers import Reference
+from olr.model.reference import read_reference
 
 MOST = 2_000
 """So many references of a feed are asked; of a longer one some that are drawn."""

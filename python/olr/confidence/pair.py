@@ -8,7 +8,6 @@ from pathlib import Path
 import numpy as np
 
 from olr.arrays import Floats
-from olr.comparing.agreement import agreement
 from olr.confidence.parts import (
     GREATEST_SPREAD,
     SPREADS,
@@ -18,9 +17,10 @@ from olr.confidence.parts import (
     answered_by,
     right_places,
 )
-from olr.map_folder import read_map
-from olr.network import Network as Geometry
-from olr.parts import parts_of as arrays_of
+from olr.geometry.agreement import agreement
+from olr.geometry.network import Network as Geometry
+from olr.geometry.parts import parts_of as arrays_of
+from olr.model.map_folder import read_map
 from olr.progress import progress
 from olr.trials.changing import changed_points
 from olr.trials.encoder import Network, text_of

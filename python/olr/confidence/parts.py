@@ -10,21 +10,21 @@ from typing import Any, NamedTuple, Optional
 import numpy as np
 
 from olr.arrays import Integers
-from olr.client.answers import Places
+from olr.asking.patience import PATIENCE
 from olr.client.map_client import Map
-from olr.client.patience import PATIENCE
-from olr.client.questions import NUMBERS
 from olr.confidence.feed import Answered
 from olr.confidence.fitting import NONE
 from olr.likely.listed import Listed, evidence_for, listed
 from olr.likely.order import LIST
-from olr.map_folder import write_records
+from olr.model.answers import Places
+from olr.model.map_folder import write_records
+from olr.model.profiles import as_arguments
+from olr.model.questions import NUMBERS
+from olr.model.reference import read_reference
+from olr.model.road_map import RoadMap
 from olr.outputs import writing
-from olr.profiles import as_arguments
 from olr.progress import progress
-from olr.regions.reading import read_reference
 from olr.regions.scratch import new_scratch_folder
-from olr.road_map import RoadMap
 from olr.trials.changing import changed_points
 from olr.trials.differing import Difference, differing
 from olr.trials.encoder import Network, text_of

@@ -6,13 +6,13 @@ from typing import TYPE_CHECKING, NamedTuple
 import numpy as np
 
 from olr.arrays import Booleans, Floats, Integers
-from olr.client.answers import Matching, Reference
-from olr.parts import parts_of
-from olr.road_map import MICRODEGREE
-from olr.turning_back import turn_back
+from olr.geometry.parts import parts_of
+from olr.geometry.turning_back import turn_back
+from olr.model.answers import Matching, Reference
+from olr.model.road_map import MICRODEGREE
 
 if TYPE_CHECKING:
-    from olr.network import Network
+    from olr.geometry.network import Network
 
 MOST_END = 50.0
 """Metres that a point lies from the proper end of its line at most, as it is counted: farther away is no worse."""

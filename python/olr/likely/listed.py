@@ -6,12 +6,12 @@ from typing import TYPE_CHECKING, NamedTuple, Optional
 import numpy as np
 
 from olr.arrays import Booleans, Floats, Integers
-from olr.client.answers import Matching, Places, Reference
 from olr.likely.evidence import Evidence, Fit, evidence_of, fit_of
 from olr.likely.order import likely_costs
+from olr.model.answers import Matching, Places, Reference
 
 if TYPE_CHECKING:
-    from olr.network import Network
+    from olr.geometry.network import Network
 
 
 class Listed(NamedTuple):

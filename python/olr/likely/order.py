@@ -13,9 +13,9 @@ from typing import Literal, NamedTuple, Optional
 import numpy as np
 
 from olr.arrays import Floats
-from olr.client.answers import Places
-from olr.client.questions import NUMBERS, number_words
 from olr.likely.evidence import Fit
+from olr.model.answers import Places
+from olr.model.questions import NUMBERS, number_words
 
 OF_LEGS = 1 / 5
 """What a penalty point of a leg counts beside one of a point."""

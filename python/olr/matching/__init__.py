@@ -8,8 +8,7 @@
 | `shapes` | lines and points of many rows at once, as other programs read them |
 | `geopackage`, `texts` | rows into a GeoPackage; into CSV and GeoJSON |
 | `writing` | files of rows, written whole or not at all |
-| `options` | the options that `match`, `view` and `run` share: the map, the tolerances with their profile, and the numbers of questions |
 | `lacking` | references that fit nowhere, and what would help how many of them |
+| `geodataframe` | `olr.to_geodataframe` and `olr.to_pieces`: answers as tables |
 | `asking` | references that are asked one after the other, and their rows |
-| `command` | the command |
 """

@@ -9,21 +9,21 @@ from itertools import islice, tee
 from pathlib import Path
 from typing import Optional, TypeVar
 
-from olr.client.answers import AnswerOrFault, Page, Places, Why
-from olr.client.fault import Fault
 from olr.client.map_client import Map
-from olr.client.questions import What
 from olr.confidence.judged import Judging, judged
 from olr.likely.order import listed_within
 from olr.matching.columns import Part
 from olr.matching.lacking import Lacking
-from olr.matching.reasons import Reasons, rows_of_reasons
+from olr.matching.reasons import rows_of_reasons
 from olr.matching.rows import Counted, Located, Rows, in_chunks, rows_of_answers, rows_of_pieces
 from olr.matching.writing import Sink
 from olr.messages.message import Message, Reading
 from olr.messages.reading import count_of, messages_of
+from olr.model.answers import AnswerOrFault, Page, Places, Why
+from olr.model.fault import Fault
+from olr.model.questions import What
+from olr.model.reference import read_reference
 from olr.progress import progress
-from olr.regions.reading import read_reference
 
 Item = TypeVar("Item")
 NOWHERE = "none"

@@ -6,7 +6,7 @@ Lengths and positions are in metres, and end with `_m`; penalties are in points.
 from collections.abc import Mapping
 from typing import Literal
 
-from olr.client.questions import What
+from olr.model.questions import What
 
 Part = Literal["outer", "inner"]
 Kind = Literal["int64", "float", "str"]

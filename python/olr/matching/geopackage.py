@@ -18,9 +18,9 @@ import numpy as np
 from olr.arrays import Floats, Integers
 from olr.curve import places_on_curve
 from olr.errors import ToolError
+from olr.geometry.network import Polylines
 from olr.matching.columns import Columns
 from olr.matching.shapes import blobs, boxes
-from olr.network import Polylines
 from olr.regions.geopackage import insert, os_error
 from olr.regions.index import fill_index, outwards
 

@@ -9,11 +9,11 @@ from pathlib import Path
 from types import TracebackType
 from typing import NamedTuple, Optional, Union
 
-from olr.client.answers import Page, Why
-from olr.client.fault import Fault
 from olr.client.map_client import Map
 from olr.errors import ToolError
-from olr.matching.options import Asking
+from olr.model.answers import Page, Why
+from olr.model.asked_with import Asking
+from olr.model.fault import Fault
 
 CHUNK = 1024
 """So many references are kept, of which is asked then."""

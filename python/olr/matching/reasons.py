@@ -7,12 +7,12 @@ from typing import Any, Optional, Union
 
 import numpy as np
 
-from olr.client.answers import Reference, Remedy, Why
-from olr.client.decoding import decode
-from olr.client.fault import Fault
+from olr.asking.decoding import decode
+from olr.geometry.network import Polylines
 from olr.matching.columns import REASONS
 from olr.matching.rows import Rows
-from olr.network import Polylines
+from olr.model.answers import Reference, Remedy, Why
+from olr.model.fault import Fault
 
 Reasons = Union[Why, Fault]
 

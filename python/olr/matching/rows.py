@@ -7,14 +7,14 @@ from typing import Any, NamedTuple, Optional, TypeVar, Union
 import numpy as np
 
 from olr.arrays import Integers
-from olr.client.answers import Candidates, Matching, Page, Places
-from olr.client.fault import Fault
-from olr.client.pieces import Pieces
 from olr.confidence.judged import Judged, JudgedPlace, judged
+from olr.geometry.network import Network, Polylines, between, middle
+from olr.geometry.parts import Parts, parts_of
 from olr.matching.columns import ANSWERS, PIECES, Part
-from olr.network import Network, Polylines, between, middle
-from olr.parts import Parts, parts_of
-from olr.road_map import Origin
+from olr.model.answers import Candidates, Matching, Page, Places
+from olr.model.fault import Fault
+from olr.model.pieces import Pieces
+from olr.model.road_map import Origin
 
 Located = Union[Page, Places, Fault]
 """An answer that says where a reference is."""

@@ -10,7 +10,7 @@ from typing import Optional
 import numpy as np
 
 from olr.arrays import Floats, Integers
-from olr.network import Polylines
+from olr.geometry.network import Polylines
 from olr.regions.geopackage import WGS_84
 
 _POINT, _LINE = 1, 2

@@ -10,8 +10,8 @@ from typing import Any, Optional, TextIO
 import numpy as np
 
 from olr.errors import ToolError
+from olr.geometry.network import Polylines
 from olr.matching.columns import Columns
-from olr.network import Polylines
 
 CRS = {"type": "name", "properties": {"name": "urn:ogc:def:crs:OGC:1.3:CRS84"}}
 DIGITS = 7

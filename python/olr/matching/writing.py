@@ -7,10 +7,10 @@ from pathlib import Path
 from typing import Any, Literal, NamedTuple, Protocol
 
 from olr.errors import ToolError
+from olr.geometry.network import Polylines
 from olr.matching.columns import IN_FRONT, Columns
 from olr.matching.geopackage import make, opened, require_closed
 from olr.matching.texts import geojson, table
-from olr.network import Polylines
 from olr.outputs import require_free_file, whole_file
 
 Suffix = Literal[".gpkg", ".geojson", ".csv"]

@@ -11,5 +11,4 @@
 | `members` | JSON lines and JSON arrays, with members by their path |
 | `reading` | all of these as messages, one after the other |
 | `finding` | one of them, by its key or its number |
-| `options` | the options of the commands that read them |
 """

@@ -5,7 +5,6 @@ What isn't clear is an error that names the option to give.
 
 from collections.abc import Iterator, Sequence
 
-from olr.client.questions import BLANKS
 from olr.errors import ToolError
 from olr.messages import tables
 from olr.messages.first import with_one
@@ -18,6 +17,7 @@ from olr.messages.texts import (
     names_nothing,
     shown,
 )
+from olr.model.questions import BLANKS
 
 BLANK_BYTES = BLANKS.encode()
 NOT_TEXT = "\ufffd"

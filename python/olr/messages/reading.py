@@ -7,7 +7,7 @@ from itertools import chain
 from pathlib import Path
 from typing import Literal, Optional
 
-from olr.client.program import PathLike
+from olr.asking.program import PathLike
 from olr.errors import ToolError
 from olr.messages.detecting import format_of, look_ahead, with_references
 from olr.messages.lines import messages_of_lines

@@ -3,8 +3,8 @@
 import re
 from collections.abc import Iterable
 
-from olr.client.questions import BLANKS
-from olr.regions.reading import bytes_of
+from olr.model.questions import BLANKS
+from olr.model.reference import bytes_of
 
 LEAST_BYTES = 7
 """Of a location reference: a position."""

@@ -10,17 +10,17 @@ Lengths and positions are in decimetres.
 from collections.abc import Mapping, Sequence
 from typing import NamedTuple, Optional
 
-from olr.client.answers import Candidate, Matching, Reference
-from olr.client.files import MapFiles
+from olr.asking.files import MapFiles
 from olr.client.map_client import Map
-from olr.client.pieces import Piece
 from olr.errors import ToolError
+from olr.geometry.network import Network
+from olr.geometry.store_network import StoreNetwork
+from olr.model.answers import Candidate, Matching, Reference
+from olr.model.pieces import Piece
 from olr.near_paths.searching import Ends, Walk, least_length, other_walk
 from olr.near_paths.streets import Streets
-from olr.network import Network
 from olr.regions.options import Options
 from olr.regions.region import INTERVAL, discs_of
-from olr.store_network import StoreNetwork
 
 WORST = 7
 """The greatest class."""

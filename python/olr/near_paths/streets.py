@@ -11,10 +11,10 @@ from typing import NamedTuple, Optional
 import numpy as np
 
 from olr.arrays import Integers
-from olr.checking.columns import What, joined_columns, read_columns
 from olr.errors import ToolError
-from olr.map_folder import BANS, LINES
-from olr.network import Network
+from olr.geometry.network import Network
+from olr.model.columns import What, joined_columns, read_columns
+from olr.model.map_folder import BANS, LINES
 from olr.regions.plane import Disc
 from olr.regions.scratch import scratch_map
 from olr.regions.store import Store

@@ -6,5 +6,4 @@
 | `reading` | the roads and turn restrictions of a file |
 | `restrictions` | bans on turns from turn restrictions |
 | `importing` | a map from a file |
-| `command` | `olr-tools import osm` |
 """

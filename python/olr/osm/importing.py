@@ -4,15 +4,15 @@ from dataclasses import dataclass, replace
 from pathlib import Path
 from typing import Any, Optional
 
-from olr.box import Box
 from olr.counts import Counts
 from olr.errors import ToolError
-from olr.imports import Imported, with_bans
+from olr.importing.roads import cut_roads, junctions_of, lines_of
+from olr.importing.u_turns import DEAD_ENDS, DeadEnds, UTurns
+from olr.importing.writing import Imported, with_bans
+from olr.model.box import Box
 from olr.osm.reading import Wanted, read_osm
 from olr.osm.restrictions import bans_of
 from olr.osm.tags import read_tag_table
-from olr.roads import cut_roads, junctions_of, lines_of
-from olr.u_turns import DEAD_ENDS, DeadEnds, UTurns
 
 
 @dataclass(frozen=True)

@@ -7,14 +7,14 @@ from typing import NamedTuple, Optional
 
 import osmium
 
-from olr.box import Box
 from olr.counts import Counts, ValueCounts
 from olr.errors import ToolError
+from olr.importing.roads import GREATEST_ROAD_ID, Road, Source
+from olr.model.box import Box
+from olr.model.road_map import GREATEST_ID, GREATEST_LAT, Position
+from olr.model.sources import NAME
 from olr.osm.tags import NoRoad, Tags, TagTable, first_of, folded, several, value_of
 from olr.progress import progress
-from olr.road_map import GREATEST_ID, GREATEST_LAT, Position
-from olr.roads import GREATEST_ROAD_ID, Road, Source
-from olr.sources import NAME
 
 UNREADABLE = (RuntimeError, ValueError, osmium.InvalidLocationError)
 """What pyosmium raises for a malformed file."""

@@ -12,8 +12,8 @@ from collections.abc import Iterable, Mapping, Sequence, Set
 from typing import NamedTuple, Optional
 
 from olr.counts import Counts
+from olr.model.road_map import MICRODEGREE, Ban, Line, Origin, Position, RoadMap
 from olr.osm.reading import ONLY, Restriction, Target
-from olr.road_map import MICRODEGREE, Ban, Line, Origin, Position, RoadMap
 
 ANGLES = {"left_turn": -90.0, "right_turn": 90.0, "straight_on": 0.0, "u_turn": 180.0}
 """The angle of a turn of each kind, in degrees, to the right."""

@@ -2,7 +2,6 @@
 
 | file | subject |
 |---|---|
-| `options.py` | the options of commands that write one |
 | `html.py` | a page in one file, which needs no network |
 | `picture.js` | `pictureOf`: a scene as a map and a panel; it draws one in place of the other |
 | `picture.css` | its styles |
@@ -14,10 +13,10 @@
 
 A page is a package with `page.html`, `page.css` and `page.js`, named in the package data of `pyproject.toml`:
 
-    html_of(Template("olr.report", ("bars", "map", "table")), "title", data)
+    html_of(Template("olr.pages.report", ("bars", "map", "table")), "title", data)
 
 Its `page.html` has the marks `@POLICY@`, `@TITLE@`, `@LICENCE@`, `@LEAFLET_CSS@`, `@CSS@`, `@LEAFLET_JS@`, `@DATA@` and `@JS@`, as that
-of `olr.view` has. `@CSS@` is that of `shared.css` and the page, `@JS@` that of the components and the page. The script finds the data by
+of `olr.pages.view` has. `@CSS@` is that of `shared.css` and the page, `@JS@` that of the components and the page. The script finds the data by
 `JSON.parse(document.getElementById("data").textContent)`, and calls what it needs:
 
     const map = mapOfMany({ place, legend, kinds, shapes, onChoose: (row) => table.choose(row) });

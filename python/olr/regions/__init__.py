@@ -11,11 +11,9 @@
 | `making` | how a store is made of a map's files |
 | `packing` | the blocks of a map while its store is made |
 | `shortness` | how much shorter lines are than their shapes |
-| `reading` | what a reference says, without a run of the program |
 | `options` | what was asked, with which numbers |
 | `region` | the discs that the lines of a reference meet |
 | `sharing` | references that one map has room for |
 | `scratch` | maps in scratch folders |
 | `current` | a store that is read for a long time, and stays the same map |
-| `command` | `olr-tools regions` |
 """

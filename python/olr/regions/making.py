@@ -14,16 +14,11 @@ from typing import IO, NamedTuple, Optional, Union
 import numpy as np
 
 from olr.arrays import Floats, Integers
-from olr.checking.columns import (
-    Columns,
-    Record,
-    What,
-    batched_columns,
-    read_columns,
-    require,
-)
 from olr.errors import ToolError
-from olr.map_folder import STORE, files_read, line_row
+from olr.model.columns import Columns, Record, What, batched_columns, read_columns, require
+from olr.model.map_folder import STORE, files_read, line_row
+from olr.model.road_map import MICRODEGREE, RoadMap
+from olr.model.sources import IDS, Reading, read_if_there
 from olr.outputs import require_free_file, whole_file
 from olr.progress import progress, watched
 from olr.regions import geopackage
@@ -35,8 +30,6 @@ from olr.regions.plane import scales_at
 from olr.regions.shortness import Shortness
 from olr.regions.store import VERSION, Facts, Sizes
 from olr.regions.table_of_sources import add_sources
-from olr.road_map import MICRODEGREE, RoadMap
-from olr.sources import IDS, Reading, read_if_there
 
 CACHE_KILOBYTES = 250_000
 """Of the file while it is made: ids and places come in any order."""

@@ -3,7 +3,7 @@
 from collections.abc import Mapping
 from dataclasses import dataclass, fields
 
-from olr.client.questions import NUMBERS, TOLERANCES
+from olr.model.questions import NUMBERS, TOLERANCES
 
 
 @dataclass(frozen=True)

@@ -9,8 +9,8 @@ import numpy as np
 
 from olr.arrays import Booleans, Floats, Integers, Integers32
 from olr.curve import places_on_curve
-from olr.regions.geopackage import insert
 from olr.regions.blocks import COLUMNS, LINES, Block, Directory, digest_of
+from olr.regions.geopackage import insert
 
 AT_ONCE = 100_000
 """So many lines are put along the curve at a time."""

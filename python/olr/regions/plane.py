@@ -11,7 +11,7 @@ from typing import NamedTuple, Union
 import numpy as np
 
 from olr.arrays import Floats, Integers
-from olr.road_map import GREATEST_LAT, MICRODEGREE
+from olr.model.road_map import GREATEST_LAT, MICRODEGREE
 
 SQUARE = 32_400 * 10**12
 """Of 180 degrees, in microdegrees."""

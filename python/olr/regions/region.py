@@ -14,14 +14,14 @@ from typing import NamedTuple, Optional
 import numpy as np
 
 from olr.arrays import Booleans, Floats, Integers
-from olr.client.answers import Reference
-from olr.client.questions import TOLERANCES, What
+from olr.model.answers import Reference
+from olr.model.questions import TOLERANCES, What
+from olr.model.reference import Point, points_of
+from olr.model.road_map import MICRODEGREE
 from olr.regions.options import Options
 from olr.regions.plane import Disc, Discs, scale_at, scales_at
-from olr.regions.reading import Point, points_of
 from olr.regions.shortness import Shortness
 from olr.regions.store import Store
-from olr.road_map import MICRODEGREE
 
 INTERVAL = 586
 """Decimetres in an interval of the distance to the next point."""

@@ -10,14 +10,14 @@ from typing import NamedTuple, Optional
 import numpy as np
 
 from olr.arrays import Integers
-from olr.client.questions import What
 from olr.curve import places_on_curve
+from olr.model.questions import What
+from olr.model.reference import Point
+from olr.model.road_map import Position, within_limits
 from olr.regions.options import Options
 from olr.regions.plane import Discs
-from olr.regions.reading import Point
 from olr.regions.region import discs_of_each
 from olr.regions.store import Store
-from olr.road_map import Position, within_limits
 
 
 class Located(NamedTuple):

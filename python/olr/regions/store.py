@@ -27,13 +27,13 @@ import numpy as np
 
 from olr.arrays import Floats, Integers, Integers32
 from olr.errors import ToolError
-from olr.map_folder import BANS, BANS_HEADER, LINES, LINES_HEADER, NODES, NODES_HEADER, STORE
+from olr.model.map_folder import BANS, BANS_HEADER, LINES, LINES_HEADER, NODES, NODES_HEADER, STORE
+from olr.model.road_map import within_limits
+from olr.model.sources import Sources
 from olr.regions.blocks import Blocks, Damaged, Directory, digest_of
 from olr.regions.plane import Disc, Discs
 from olr.regions.shortness import Shortness
 from olr.regions.table_of_sources import sources_in
-from olr.road_map import within_limits
-from olr.sources import Sources
 
 VERSION = 2
 """Of what a store holds. A store of another version has to be made again."""

@@ -10,9 +10,9 @@ from pathlib import Path
 from typing import Any
 
 from olr.errors import ToolError
+from olr.model.road_map import GREATEST_ID, Origin
+from olr.model.sources import COLUMNS, DIRECTIONS, IDS, Reading, Sources
 from olr.regions.geopackage import quoted
-from olr.road_map import GREATEST_ID, Origin
-from olr.sources import COLUMNS, DIRECTIONS, IDS, Reading, Sources
 
 TYPES = ("INTEGER PRIMARY KEY", "TEXT NOT NULL", "TEXT NOT NULL", "INTEGER NOT NULL")
 """Of the line, the source, the direction and the part. All other columns are texts."""

@@ -6,11 +6,10 @@
 | `grouping` | references in the order of a space-filling curve, cut into groups |
 | `question`, `identity` | what is asked; of which map and which program, and that a machine has just these |
 | `run_folder`, `parts` | the folder of a run: what was asked, the groups, the parts with what shows them whole |
-| `child`, `batching` | one run of `olr batch` over some records, which isn't waited for without end |
+| `batching` | one run of `olr batch` over some records, which isn't waited for without end |
 | `isolating` | records at which the program fails: each alone, and the others with their lines |
 | `answering` | what a worker does for a group: region, map, program, part |
 | `cluster`, `waiting` | the groups as tasks of Dask; what it waits for |
 | `geometries` | rows with geometries of its lines |
 | `joining` | the parts as one file in the order of the records |
-| `command` | the command |
 """

@@ -13,12 +13,12 @@ from typing import Optional
 
 from distributed import get_worker
 
-from olr.client.patience import PATIENCE
-from olr.client.questions import What, number_words
+from olr.asking.patience import PATIENCE
 from olr.errors import ToolError
-from olr.map_folder import LINES, LINES_HEADER, NODES, NODES_HEADER, write_rows
+from olr.model.map_folder import LINES, LINES_HEADER, NODES, NODES_HEADER, write_rows
+from olr.model.questions import What, number_words
+from olr.model.reference import read_points
 from olr.regions.options import Options
-from olr.regions.reading import read_points
 from olr.regions.sharing import located, shared_regions
 from olr.regions.store import Store
 from olr.running.batching import Asked, fault_of, with_fault

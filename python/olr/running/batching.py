@@ -9,11 +9,11 @@ from contextlib import closing
 from pathlib import Path
 from typing import NamedTuple, Optional
 
-from olr.client.program import find_program
-from olr.client.questions import What
+from olr.asking.child import NOT_STARTED, Child, PatienceOver
+from olr.asking.program import find_program
 from olr.errors import ProgramEnded, ProgramNotFound, TimedOut
 from olr.messages.lines import MOST_RECORD_BYTES
-from olr.running.child import NOT_STARTED, Child, PatienceOver
+from olr.model.questions import What
 from olr.running.records import END, Record
 
 FAULT = re.compile(rb'{"answer":null,"fault":"((\w+)[^"]*)"')

@@ -5,18 +5,18 @@ from contextlib import ExitStack
 from pathlib import Path
 from typing import NamedTuple, Optional
 
-from olr.client.answers import Page, Places
-from olr.client.fault import Fault
-from olr.client.objects import line_of
-from olr.client.questions import What
 from olr.confidence.judged import Judging, judged
+from olr.geometry.store_network import StoreNetwork
 from olr.matching.columns import ANSWERS, PIECES
 from olr.matching.rows import Located, Rows, in_chunks, rows_of_answers, rows_of_pieces
 from olr.matching.writing import Output, Sink, Where, require_writable, writing_rows
+from olr.model.answers import Page, Places
+from olr.model.fault import Fault
+from olr.model.objects import line_of
+from olr.model.questions import What
+from olr.model.reference import read_reference
 from olr.progress import watched
-from olr.regions.reading import read_reference
 from olr.running.question import Question
-from olr.store_network import StoreNetwork
 
 Line = tuple[bytes, str]
 """A line of a part, and the text of its reference."""

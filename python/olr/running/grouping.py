@@ -17,9 +17,9 @@ import numpy as np
 from olr.arrays import Integers
 from olr.curve import places_on_curve
 from olr.errors import ToolError
+from olr.model.reference import first_position
 from olr.outputs import sync
 from olr.progress import progress
-from olr.regions.reading import first_position
 from olr.running.records import END, Record, reference_of
 
 RECORDS, NUMBERS, GROUPS, DIGESTS = "records.txt", "numbers.bin", "groups.bin", "digests.bin"

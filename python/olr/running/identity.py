@@ -14,11 +14,11 @@ from functools import lru_cache
 from pathlib import Path
 from socket import gethostname
 
-from olr.client.program import find_program
+from olr.asking.child import Child, PatienceOver
+from olr.asking.program import find_program
 from olr.content import Stamp, sha256_of
 from olr.errors import ProgramEnded, ToolError
 from olr.regions.store import Store
-from olr.running.child import Child, PatienceOver
 
 SECONDS_TO_SAY_VERSION = 30
 DIGITS = 12

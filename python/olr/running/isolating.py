@@ -10,7 +10,7 @@ from collections.abc import Callable, Iterator, Sequence
 from pathlib import Path
 from typing import IO, Union
 
-from olr.errors import ProgramEnded, TimedOut, ToolError
+from olr.errors import ProgramEnded, TimedOut
 from olr.running.batching import Asked, line_without_answer, run_batch
 from olr.running.records import Record
 

@@ -4,9 +4,9 @@ from collections.abc import Mapping
 from dataclasses import asdict, dataclass
 from typing import Any, Optional
 
-from olr.client.questions import NUMBERS, TOLERANCES, What
 from olr.content import Content
 from olr.messages.message import KEY, REF, Format
+from olr.model.questions import NUMBERS, TOLERANCES, What
 from olr.running.identity import Build
 
 

@@ -22,7 +22,7 @@
 | `allowed`, `front` | who may ask, and what stands before the addresses |
 | `meters` | what is counted |
 | `connections` | connections and their limits |
-| `server`, `command` | the server, and the command `olr-tools serve` |
+| `server` | the server |
 
 The page is `assets/index.html`, with components of `olr.pages`:
 

@@ -1,14 +1,7 @@
 """The addresses, and what each answers."""
 
 import json
-from collections.abc import (
-    AsyncGenerator,
-    AsyncIterator,
-    Awaitable,
-    Callable,
-    Coroutine,
-    Iterator,
-)
+from collections.abc import AsyncGenerator, AsyncIterator, Awaitable, Callable, Coroutine, Iterator
 from typing import Any, NamedTuple, Optional
 
 from fastapi import FastAPI
@@ -17,11 +10,11 @@ from starlette.requests import Request
 from starlette.responses import Response
 from starlette.routing import Route
 
-from olr.client.fault import Fault
-from olr.client.questions import NUMBERS, What, record_text
-from olr.errors import ToolError
 from olr.confidence.confidence import Confidence
-from olr.profiles import FEED
+from olr.errors import ToolError
+from olr.model.fault import Fault
+from olr.model.profiles import FEED
+from olr.model.questions import NUMBERS, What, record_text
 from olr.serving import features, openapi
 from olr.serving.limits import Limits
 from olr.serving.lists import Lists

@@ -5,8 +5,8 @@ from asyncio.subprocess import PIPE, Process
 from collections.abc import AsyncGenerator, AsyncIterator
 from contextlib import suppress
 
-from olr.client.batch_process import why_ended
-from olr.client.ending import kill_group_of
+from olr.asking.batch_process import why_ended
+from olr.asking.ending import kill_group_of
 from olr.errors import ProgramNotFound
 from olr.serving.edition import Edition
 from olr.serving.limits import MOST_SAID

@@ -5,15 +5,15 @@ import threading
 from pathlib import Path
 from typing import TYPE_CHECKING, Optional
 
-from olr.client.batch_process import batch_words
-from olr.client.files import MapFiles, Version
-from olr.client.program import PathLike, find_program
+from olr.asking.batch_process import batch_words
+from olr.asking.files import MapFiles, Version
+from olr.asking.program import PathLike, find_program
 from olr.errors import MapRefused
 from olr.serving.queries import Kind
 
 if TYPE_CHECKING:
+    from olr.geometry.network import Network
     from olr.near_paths.streets import Streets
-    from olr.network import Network
 
 
 class Edition:
@@ -52,7 +52,7 @@ class Edition:
 
     def network(self) -> "Network":
         """The nodes and lines, which are read once. It takes seconds: call it in a thread. Raises `ToolError`."""
-        from olr.network import Network
+        from olr.geometry.network import Network
 
         with self._reading:
             if self._network is None:

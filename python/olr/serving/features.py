@@ -4,15 +4,15 @@ import asyncio
 from io import StringIO
 from typing import NamedTuple, Optional
 
-from olr.client.answers import Candidates, Page, Places
-from olr.client.fault import Fault
-from olr.client.objects import read_answer
-from olr.client.questions import TOLERANCES
 from olr.confidence.confidence import Confidence
 from olr.confidence.judged import Judging, judged
 from olr.matching.rows import Counted, rows_of_answers
 from olr.matching.texts import GeoJson
-from olr.regions.reading import read_reference
+from olr.model.answers import Candidates, Page, Places
+from olr.model.fault import Fault
+from olr.model.objects import read_answer
+from olr.model.questions import TOLERANCES
+from olr.model.reference import read_reference
 from olr.serving.judging import long_list_of
 from olr.serving.queries import Kind, Question
 from olr.serving.rooms import Room

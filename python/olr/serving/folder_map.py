@@ -7,10 +7,10 @@ from contextlib import AbstractAsyncContextManager
 from pathlib import Path
 from typing import TYPE_CHECKING, Any, Optional
 
-from olr.client.answers import Matching, Reference
-from olr.client.fault import Fault
-from olr.client.files import Version
+from olr.asking.files import Version
 from olr.errors import MapRefused, ToolError
+from olr.model.answers import Matching, Reference
+from olr.model.fault import Fault
 from olr.serving.batches import lines_of
 from olr.serving.edition import Edition
 from olr.serving.limits import Limits
@@ -21,8 +21,8 @@ from olr.serving.runs import printed_by, version_of
 from olr.serving.served import IsGone, Known
 
 if TYPE_CHECKING:
+    from olr.geometry.network import Network
     from olr.near_paths.streets import Streets
-    from olr.network import Network
 
 log = logging.getLogger("olr.serving")
 FIRST = kind_of("match", {}, 0)

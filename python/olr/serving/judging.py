@@ -2,10 +2,10 @@
 
 from typing import NamedTuple
 
-from olr.client.questions import TOLERANCES, number_words
+from olr.confidence.choosing import judging_by, listing
 from olr.confidence.confidence import Confidence
 from olr.confidence.judged import Judging
-from olr.confidence.options import judging_by, listing
+from olr.model.questions import TOLERANCES, number_words
 from olr.serving.queries import Kind
 
 

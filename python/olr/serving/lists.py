@@ -8,10 +8,10 @@ from itertools import islice
 from starlette.requests import ClientDisconnect, Request
 from starlette.responses import Response
 
-from olr.client.questions import record_text
 from olr.errors import ToolError
 from olr.messages.message import FORMATS, Message, Reading
 from olr.messages.reading import messages_in
+from olr.model.questions import record_text
 from olr.serving.limits import MIB, Limits
 from olr.serving.problems import Problem, bad_request, busy
 from olr.serving.queries import Options, options_of

@@ -1,8 +1,8 @@
 """What is counted, in the text form of Prometheus."""
 
 from prometheus_client import CollectorRegistry, Counter, Histogram, generate_latest
-from prometheus_client.registry import Collector
 from prometheus_client.core import CounterMetricFamily, GaugeMetricFamily
+from prometheus_client.registry import Collector
 
 from olr.serving.served import Served
 

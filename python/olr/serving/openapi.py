@@ -6,9 +6,9 @@ never ask with another profile.
 from collections.abc import Mapping
 from typing import Any
 
-from olr.client.questions import NUMBERS, TOLERANCES, Number, What
 from olr.messages.message import FORMATS
-from olr.profiles import FEED, PROFILE, PROFILES, PROGRAM, about_text, tolerances_of
+from olr.model.profiles import FEED, PROFILE, PROFILES, PROGRAM, about_text, tolerances_of
+from olr.model.questions import NUMBERS, TOLERANCES, Number, What
 from olr.serving import features, lists, meters, problems, streaming
 from olr.serving.limits import Limits
 from olr.serving.queries import AFTER, REF

@@ -2,7 +2,6 @@
 
 import hashlib
 import html
-import json
 import mimetypes
 import re
 from collections.abc import Iterator, Mapping
@@ -12,10 +11,10 @@ from typing import Any, NamedTuple, Optional
 from starlette.requests import Request
 from starlette.responses import Response
 
-from olr.client.fault_table import ROWS
-from olr.client.questions import NUMBERS, TOLERANCES
+from olr.model.fault_table import ROWS
+from olr.model.profiles import FEED, PROFILES, about_text, tolerances_of
+from olr.model.questions import NUMBERS, TOLERANCES
 from olr.pages.html import data_text, leaflet, leaflet_licence, origin_of
-from olr.profiles import FEED, PROFILES, about_text, tolerances_of
 from olr.serving.limits import Limits
 from olr.serving.lists import MOST_ROWS, most_bytes
 from olr.serving.problems import TITLES

@@ -7,8 +7,8 @@ from typing import Optional
 
 from starlette.responses import Response
 
-from olr.client.fault import Fault
 from olr.errors import MapRefused, ProgramEnded, ProgramNotFound, TimedOut, ToolError
+from olr.model.fault import Fault
 from olr.serving.limits import MOST_ANSWER, RETRY_AFTER
 
 MEDIA_TYPE = "application/problem+json"

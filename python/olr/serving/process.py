@@ -10,10 +10,10 @@ from collections import deque
 from collections.abc import Callable, Iterable
 from typing import NamedTuple, Optional, Protocol, cast
 
-from olr.client.batch_process import why_ended
-from olr.client.ending import kill_group_of
-from olr.client.objects import raw_line
+from olr.asking.batch_process import why_ended
+from olr.asking.ending import kill_group_of
 from olr.errors import ProgramEnded, ProgramNotFound, TimedOut, ToolError
+from olr.model.objects import raw_line
 from olr.serving.edition import Edition
 from olr.serving.limits import MOST_ANSWER, MOST_SAID, SECONDS_TO_READ
 from olr.serving.problems import AnswerTooLarge

@@ -8,17 +8,10 @@ from functools import lru_cache
 from typing import NamedTuple, Optional
 from urllib.parse import unquote_to_bytes
 
-from olr.client.fault import Fault
-from olr.client.questions import (
-    ALL,
-    NUMBERS,
-    What,
-    cursor_of,
-    number_words,
-    record_text,
-)
-from olr.profiles import PROFILE, PROFILES, PROGRAM, names_text, tolerances_of
-from olr.serving.problems import Problem, bad_request, of_fault
+from olr.model.fault import Fault
+from olr.model.profiles import PROFILE, PROFILES, PROGRAM, names_text, tolerances_of
+from olr.model.questions import ALL, NUMBERS, What, cursor_of, number_words, record_text
+from olr.serving.problems import bad_request, of_fault
 
 REF, AFTER = "ref", "after"
 NUMBER = re.compile("[0-9]{1,7}", re.ASCII)

@@ -11,15 +11,15 @@ from collections.abc import AsyncGenerator, AsyncIterator, Sequence
 from contextlib import aclosing
 from typing import Any, NamedTuple, Optional, Union
 
-from olr.client.answers import Places
-from olr.client.fault import Fault
-from olr.client.objects import line_of
 from olr.confidence.confidence import Confidence
 from olr.confidence.judged import Judged, judged
 from olr.errors import MapRefused, ProgramEnded
+from olr.geometry.network import Network
 from olr.matching.rows import DIGITS
-from olr.network import Network
-from olr.regions.reading import read_reference
+from olr.model.answers import Places
+from olr.model.fault import Fault
+from olr.model.objects import line_of
+from olr.model.reference import read_reference
 from olr.running.batching import end_of, key_of
 from olr.serving.judging import LongList, long_list_of
 from olr.serving.limits import MOST_ANSWER

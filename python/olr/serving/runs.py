@@ -6,8 +6,8 @@ from asyncio import IncompleteReadError
 from asyncio.subprocess import DEVNULL, PIPE
 from collections.abc import Sequence
 
-from olr.client.ending import kill_group_of
-from olr.client.once import read_once
+from olr.asking.ending import kill_group_of
+from olr.asking.once import read_once
 from olr.errors import ProgramNotFound, TimedOut
 from olr.serving.limits import MOST_ANSWER, MOST_SAID
 from olr.serving.problems import AnswerTooLarge

@@ -7,23 +7,23 @@ from collections.abc import Mapping
 from functools import partial
 from typing import NamedTuple, Optional, TypeVar
 
-from olr.client.answers import Answer, Candidates, Page, Places, Why
-from olr.client.fault import Fault
-from olr.client.objects import read_answer, reference
-from olr.client.questions import NUMBERS, TOLERANCES, What, record_text
 from olr.confidence.confidence import Confidence
 from olr.confidence.judged import Judging
-from olr.network import Network
-from olr.profiles import FEED, PROFILE
+from olr.geometry.network import Network
+from olr.geometry.store_network import StoreNetwork
+from olr.model.answers import Answer, Candidates, Page, Places, Why
+from olr.model.fault import Fault
+from olr.model.objects import read_answer, reference
+from olr.model.profiles import FEED, PROFILE
+from olr.model.questions import NUMBERS, TOLERANCES, What, record_text
+from olr.pages.view.notes import notes_of
+from olr.pages.view.scene import Answered, add_command, fits, judgements_of, scene_of_answers
+from olr.pages.view.surroundings import Scene, Surroundings, box_of, network_around
 from olr.serving.judging import long_list_of
 from olr.serving.limits import Limits
 from olr.serving.queries import Kind, Options, Question, kind_of, reference_of
 from olr.serving.rooms import Room
 from olr.serving.served import IsGone, Served, Versions, of_one_edition
-from olr.store_network import StoreNetwork
-from olr.view.notes import notes_of
-from olr.view.scene import Answered, add_command, fits, judgements_of, scene_of_answers
-from olr.view.surroundings import Scene, Surroundings, box_of, network_around
 
 Wanted = TypeVar("Wanted", Candidates, Page, Places, Why)
 

@@ -4,14 +4,14 @@ from collections.abc import AsyncGenerator, AsyncIterator, Awaitable, Callable, 
 from contextlib import AbstractAsyncContextManager
 from typing import TYPE_CHECKING, Any, NamedTuple, Optional, Protocol, TypeVar
 
-from olr.client.answers import Matching, Reference
-from olr.client.files import Version
+from olr.asking.files import Version
 from olr.errors import MapRefused
+from olr.model.answers import Matching, Reference
 from olr.serving.queries import Kind, Question
 
 if TYPE_CHECKING:
+    from olr.geometry.network import Network
     from olr.near_paths.streets import Streets
-    from olr.network import Network
 
 Made = TypeVar("Made")
 IsGone = Callable[[], bool]

@@ -15,21 +15,15 @@ import click
 import uvicorn
 import uvloop
 
-from olr.confidence.options import confidence_of
+from olr.confidence.choosing import confidence_of
 from olr.errors import ToolError
-from olr.map_folder import store_of
+from olr.model.map_folder import store_of
 from olr.serving.addresses import Service, application
 from olr.serving.allowed import allowed_for, in_url
 from olr.serving.connections import Connection, Connections
 from olr.serving.folder_map import FolderMap
 from olr.serving.front import Front
-from olr.serving.limits import (
-    MOST_CONNECTIONS,
-    SECONDS_IDLE,
-    SECONDS_TO_END,
-    SPARE_FILES,
-    Limits,
-)
+from olr.serving.limits import MOST_CONNECTIONS, SECONDS_IDLE, SECONDS_TO_END, SPARE_FILES, Limits
 from olr.serving.meters import Meters
 from olr.serving.pages import policy_of
 from olr.serving.served import Served

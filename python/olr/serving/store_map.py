@@ -9,14 +9,15 @@ from contextlib import asynccontextmanager
 from pathlib import Path
 from typing import TYPE_CHECKING, Any, Optional, TypeVar
 
-from olr.client.answers import Matching, Reference
-from olr.client.fault import Fault
-from olr.client.files import Version
+from olr.asking.files import Version
+from olr.asking.program import find_program
 from olr.client.map_client import Map
-from olr.client.program import find_program
-from olr.client.questions import TOLERANCES, argument
 from olr.errors import MapRefused, ToolError
-from olr.map_folder import store_of
+from olr.geometry.store_network import StoreNetwork
+from olr.model.answers import Matching, Reference
+from olr.model.fault import Fault
+from olr.model.map_folder import store_of
+from olr.model.questions import TOLERANCES, argument
 from olr.regions.current import CurrentStore
 from olr.serving.limits import Limits
 from olr.serving.problems import busy
@@ -24,11 +25,9 @@ from olr.serving.queries import Kind, Question
 from olr.serving.records import records_of
 from olr.serving.runs import printed_by, version_of
 from olr.serving.served import IsGone, Known
-from olr.store_network import StoreNetwork
 
 if TYPE_CHECKING:
     from olr.near_paths.streets import Streets
-    from olr.network import Network
 
 log = logging.getLogger("olr.serving")
 Made = TypeVar("Made")

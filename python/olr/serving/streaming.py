@@ -10,11 +10,11 @@ from contextlib import aclosing, asynccontextmanager
 from starlette.requests import Request
 from starlette.types import Receive, Scope, Send
 
-from olr.client.questions import What
 from olr.errors import ToolError
+from olr.model.profiles import PROFILE, PROGRAM
+from olr.model.questions import What
 from olr.serving.limits import Limits
 from olr.serving.problems import Problem, of_error
-from olr.profiles import PROFILE, PROGRAM
 from olr.serving.queries import Kind, kind_of, options_of
 from olr.serving.served import IsGone, Served
 

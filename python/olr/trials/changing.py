@@ -6,8 +6,8 @@ from collections.abc import Sequence
 from dataclasses import replace
 from typing import Optional
 
-from olr.client.answers import ReferencePoint
-from olr.road_map import MICRODEGREE
+from olr.model.answers import ReferencePoint
+from olr.model.road_map import MICRODEGREE
 from olr.trials.spreads import Spreads
 
 SECTORS = 32

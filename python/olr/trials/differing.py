@@ -3,10 +3,10 @@
 import math
 import random
 from collections import defaultdict
-from collections.abc import Sequence, Set
+from collections.abc import Set
 from typing import NamedTuple
 
-from olr.road_map import GREATEST_LENGTH, MICRODEGREE, Ban, Line, Node, Position, RoadMap
+from olr.model.road_map import GREATEST_LENGTH, MICRODEGREE, Ban, Line, Node, Position, RoadMap
 from olr.trials.changing import is_drawn, off_by_one, other_form
 from olr.trials.roads import Roads
 

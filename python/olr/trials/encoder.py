@@ -13,8 +13,8 @@ from collections.abc import Mapping, Sequence
 from itertools import pairwise
 from typing import NamedTuple, Optional
 
-from olr.client.answers import ReferencePoint
-from olr.road_map import MICRODEGREE, Line, Position, RoadMap
+from olr.model.answers import ReferencePoint
+from olr.model.road_map import MICRODEGREE, Line, Position, RoadMap
 
 BEARING_DISTANCE = 20.0
 """Metres from a point to where its bearing is measured to."""

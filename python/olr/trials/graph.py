@@ -9,7 +9,7 @@ from scipy.sparse import csr_matrix
 from scipy.sparse.csgraph import dijkstra
 
 from olr.arrays import Booleans, Floats, Integers
-from olr.road_map import RoadMap
+from olr.model.road_map import RoadMap
 from olr.trials.roads import Roads
 
 NONE = -1

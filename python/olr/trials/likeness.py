@@ -8,7 +8,7 @@ from itertools import accumulate
 from typing import NamedTuple, Optional, Protocol
 
 from olr.arrays import Integers
-from olr.client.answers import Reference
+from olr.model.answers import Reference
 from olr.trials.encoder import INTERVAL
 
 SHORTEST, LONGEST = 3_000, 100_000

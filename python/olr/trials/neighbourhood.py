@@ -5,7 +5,7 @@ import random
 import numpy as np
 
 from olr.arrays import Floats, Integers
-from olr.road_map import RoadMap
+from olr.model.road_map import RoadMap
 from olr.trials.differing import without_lines
 from olr.trials.roads import Roads
 

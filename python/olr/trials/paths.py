@@ -8,8 +8,8 @@ from typing import NamedTuple, Optional
 import numpy as np
 
 from olr.arrays import Integers
-from olr.client.answers import ReferencePoint
 from olr.errors import ToolError
+from olr.model.answers import ReferencePoint
 from olr.trials.encoder import Network, points_of_legs
 from olr.trials.graph import Graph
 from olr.trials.likeness import Likeness, Usual

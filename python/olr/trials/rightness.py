@@ -3,7 +3,7 @@
 from collections import defaultdict
 from collections.abc import Iterable, Mapping, Sequence
 
-from olr.client.pieces import Piece
+from olr.model.pieces import Piece
 from olr.trials.paths import Stretch
 
 RIGHT = 0.9

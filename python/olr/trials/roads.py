@@ -3,7 +3,7 @@
 from collections import defaultdict
 from collections.abc import Mapping, Sequence
 
-from olr.road_map import Line, RoadMap
+from olr.model.road_map import Line, RoadMap
 
 
 class Roads:

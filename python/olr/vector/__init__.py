@@ -10,5 +10,4 @@
 | `reading` | the roads of a layer, in degrees |
 | `joining` | roads joined where their ends meet |
 | `importing` | a map from a file |
-| `command` | `olr-tools import vector` |
 """

@@ -7,8 +7,8 @@ from typing import Any, NamedTuple, Optional
 
 from olr.counts import Counts, ValueCounts, short
 from olr.errors import ToolError
-from olr.roads import Source
-from olr.sources import NAME
+from olr.importing.roads import Source
+from olr.model.sources import NAME
 from olr.vector.table import NUMBERS, ValueTable, kept_text, kind_among, text_of
 
 UNKNOWN_FORM = 0

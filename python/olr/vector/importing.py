@@ -6,8 +6,8 @@ from typing import Any
 
 from olr.counts import Counts
 from olr.errors import ToolError
-from olr.imports import Imported, with_bans
-from olr.roads import cut_roads, junctions_of, lines_of
+from olr.importing.roads import cut_roads, junctions_of, lines_of
+from olr.importing.writing import Imported, with_bans
 from olr.vector.joining import join_roads
 from olr.vector.options import Options
 from olr.vector.reading import read_layer

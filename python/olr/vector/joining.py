@@ -15,10 +15,10 @@ from scipy.spatial import cKDTree
 
 from olr.arrays import Floats, Integers
 from olr.counts import Counts
-from olr.measure import position_of
+from olr.importing.roads import Road
+from olr.model.measure import position_of
+from olr.model.road_map import Position
 from olr.progress import Advance, progress
-from olr.road_map import Position
-from olr.roads import Road
 from olr.sphere import RADIUS, on_sphere
 from olr.vector.reading import VectorRoad
 

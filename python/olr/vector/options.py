@@ -4,8 +4,8 @@ from dataclasses import dataclass
 from pathlib import Path
 from typing import Optional
 
-from olr.box import Box
-from olr.u_turns import DEAD_ENDS, DeadEnds, UTurns
+from olr.importing.u_turns import DEAD_ENDS, DeadEnds, UTurns
+from olr.model.box import Box
 from olr.vector.fields import Fields
 
 TOLERANCE = 0.5

@@ -11,10 +11,10 @@ from fiona._err import CPLE_BaseError
 from fiona.errors import FionaError, UnsupportedGeometryTypeError
 
 from olr.arrays import Floats
-from olr.box import Box
 from olr.counts import Counts
 from olr.errors import ToolError
-from olr.roads import GREATEST_ROAD_ID, Source
+from olr.importing.roads import GREATEST_ROAD_ID, Source
+from olr.model.box import Box
 from olr.vector.fields import Attributes, Fields, Meanings, list_of, require_fields
 from olr.vector.options import Options
 from olr.vector.system import ACROSS, Area, Strays, System, why_not_on_map

@@ -11,9 +11,9 @@ from pyproj import CRS, Transformer
 from pyproj.exceptions import CRSError, ProjError
 
 from olr.arrays import Floats
-from olr.box import Box
 from olr.errors import ToolError
-from olr.road_map import GREATEST_LAT
+from olr.model.box import Box
+from olr.model.road_map import GREATEST_LAT
 
 Area = tuple[float, float, float, float]
 """West, south, east and north, in the units of the file."""

@@ -5,11 +5,12 @@ with any of the sections `class`, `form` and `oneway`.
 """
 
 import json
-import tomllib
 from collections.abc import Mapping
 from dataclasses import dataclass, field
 from pathlib import Path
 from typing import Any, Optional
+
+import tomllib
 
 from olr.errors import ToolError
 

@@ -1,0 +1,72 @@
+"""The files of a map, and the version of them that its answers are of."""
+
+import threading
+from collections.abc import Iterator
+from contextlib import contextmanager
+from pathlib import Path
+from typing import NamedTuple, Optional
+
+from olr.asking.program import PathLike
+from olr.content import digest_of
+from olr.errors import MapRefused
+from olr.model.map_folder import BANS, LINES, NODES
+
+
+class Version(NamedTuple):
+    """Which version of the files there is, by digests: None for what can't be read, or can't be read twice."""
+
+    network: Optional[str]
+    """Of nodes and lines."""
+    bans: Optional[str]
+
+
+class MapFiles:
+    """The files of a map. When they were read once they have to stay as they are: all answers are of one version."""
+
+    def __init__(self, nodes: PathLike, lines: PathLike, bans: Optional[PathLike]) -> None:
+        self.nodes, self.lines = Path(nodes), Path(lines)
+        self.bans = None if bans is None else Path(bans)
+        self._kept: Optional[Version] = None
+        self._lock = threading.Lock()
+
+    @classmethod
+    def of_folder(cls, folder: Path) -> "MapFiles":
+        """The files of a folder: that of the bans if it is there."""
+        there = (folder / BANS).exists()
+        return cls(folder / NODES, folder / LINES, folder / BANS if there else None)
+
+    def paths(self) -> list[Path]:
+        """The files: those of nodes, lines and, if there are any, bans."""
+        return [self.nodes, self.lines, *([] if self.bans is None else [self.bans])]
+
+    def words(self) -> list[str]:
+        """The words that name them to the program."""
+        pairs = zip(("--nodes", "--lines", "--bans"), map(str, self.paths()))
+        return [word for pair in pairs for word in pair]
+
+    def found(self) -> Version:
+        """The version that is there. Raises `MapRefused` if another one was read before."""
+        network = digest_of(self.nodes, self.lines)
+        version = Version(network, None if self.bans is None else digest_of(self.bans))
+        if self._kept not in (None, version):
+            raise self._changed()
+        return version
+
+    def keep(self, version: Version) -> None:
+        """Notes that the version which was found was read since. Raises `MapRefused` if the files were changed meanwhile."""
+        with self._lock:
+            if self.found() != version:
+                raise self._changed()
+            self._kept = version
+
+    @contextmanager
+    def reading(self) -> Iterator[Version]:
+        """The version that is read within. Raises `MapRefused` if it isn't the one that was read before, or is changed meanwhile."""
+        version = self.found()
+        yield version
+        self.keep(version)
+
+    def _changed(self) -> MapRefused:
+        return MapRefused(
+            f"the files of the map {self.lines.parent} have changed since they were read: make another Map"
+        )

@@ -1,0 +1,63 @@
+"""One run of the program `olr`, for what isn't asked of `olr batch`."""
+
+import subprocess
+from collections.abc import Callable, Sequence
+from pathlib import Path
+from typing import Optional, TypeVar
+
+from olr.asking.ending import kill_group
+from olr.asking.patience import PATIENCE
+from olr.errors import ProgramEnded, ProgramNotFound, TimedOut
+from olr.model.fault import refusal_of
+
+Made = TypeVar("Made")
+
+
+def run_once(
+    program: Path,
+    words: Sequence[str],
+    read: Callable[[bytes], Made],
+    patience: Optional[float] = PATIENCE,
+) -> Made:
+    """What the program prints, read by a function that raises `ValueError` for what is no answer. `patience` is how many seconds it
+    may take; None for as long as it takes.
+
+    Raises `Fault`, `MapRefused`, `ProgramNotFound` if it can't be started, `ProgramEnded` if it isn't the program, or was killed, and
+    `TimedOut`.
+    """
+    command = [str(program), *words]
+    try:
+        with subprocess.Popen(
+            command,
+            stdin=subprocess.DEVNULL,
+            stdout=subprocess.PIPE,
+            stderr=subprocess.PIPE,
+            process_group=0,
+        ) as process:
+            try:
+                printed, errors = process.communicate(timeout=patience)
+            finally:
+                kill_group(process)
+    except OSError as error:
+        raise ProgramNotFound(f"{program} can't be started: {error.strerror}") from error
+    except subprocess.TimeoutExpired as error:
+        raise TimedOut(
+            f"olr {words[0]} didn't end within {patience:g} seconds", words[-1]
+        ) from error
+    return read_once(words[0], process.returncode, printed, errors, read)
+
+
+def read_once(
+    command: str, status: int, printed: bytes, errors: bytes, read: Callable[[bytes], Made]
+) -> Made:
+    """What a run of a command of the program printed that has ended. Raises as `run_once`."""
+    said = errors.decode("utf-8", errors="replace").strip()
+    if status == 1 and said.startswith("olr: "):
+        raise refusal_of(said.splitlines()[0].removeprefix("olr: "))
+    wrong = f"olr {command} ended with status {status}: is it the program olr?"
+    if status:
+        raise ProgramEnded(wrong)
+    try:
+        return read(printed)
+    except ValueError as error:
+        raise ProgramEnded(f"{wrong} ({error})") from error

@@ -1,0 +1,7 @@
+"""The commands of `olr-tools`, a module for each. `olr.tools` has their names.
+
+| module | subject |
+|---|---|
+| `options` | the options that several commands have |
+| `import_options` | those that the commands of imports have |
+"""

@@ -1,0 +1,177 @@
+"""The command `olr-tools calibrate`."""
+
+from collections.abc import Iterator
+from pathlib import Path
+from typing import Optional, Union
+
+import click
+
+from olr.commands.options import (
+    number_options,
+    of_question,
+    patience_option,
+    reading_options,
+    tolerance_options,
+)
+from olr.confidence.calibrating import Wanted, calibrated
+from olr.confidence.confidence import Confidence
+from olr.confidence.contents import text_of
+from olr.confidence.messages import Feed, read_checked, read_feed
+from olr.confidence.parts import GREATEST_DIFFERENCE, Asking, Drawing
+from olr.confidence.weights import WEIGHTS
+from olr.errors import ToolError
+from olr.messages.message import Reading
+from olr.model.map_folder import inputs_of
+from olr.model.profiles import resolved
+from olr.model.questions import NUMBERS
+from olr.outputs import require_free_file, write_whole
+from olr.trials.likeness import LikeMessages
+
+MOST_REFERENCES = 1_000_000
+
+
+@click.command()
+@click.option(
+    "--map",
+    "folder",
+    metavar="DIR",
+    required=True,
+    type=click.Path(path_type=Path),
+    help="The map that is asked: a folder with nodes.csv, lines.csv and perhaps bans.csv.",
+)
+@click.option(
+    "--for",
+    "messages",
+    metavar="MESSAGES",
+    type=click.Path(path_type=Path),
+    help="A file of messages, as match reads it. Trial paths are like theirs, and their answers say how different the sender's map is: 80 line "
+    "references or more. By default nothing is known of the messages, and trials of all differences count.",
+)
+@click.option(
+    "--differ",
+    type=click.FloatRange(0, GREATEST_DIFFERENCE),
+    metavar="D",
+    help=f"How different the sender's map is: from 0, the same one, to {GREATEST_DIFFERENCE:g}; 1 is that of another vendor. By default the "
+    "messages of --for say so.",
+)
+@click.option(
+    "--pair",
+    metavar="OTHER",
+    type=click.Path(path_type=Path),
+    help="The sender's map, in a folder, if you have it: trials are drawn on it. By default it is made up of the map of --map.",
+)
+@click.option(
+    "--checked",
+    "checked_file",
+    metavar="FILE",
+    type=click.Path(path_type=Path),
+    help="Answers that somebody checked: lines of a key of --for, a comma or a tab, and right or wrong, of the likeliest place: 20 or more. They "
+    "shift all probabilities. By default none is known.",
+)
+@click.option(
+    "--out",
+    "file",
+    metavar="FILE.json",
+    required=True,
+    type=click.Path(path_type=Path),
+    help="The file to write, for --confidence. Folders above are made as needed.",
+)
+@click.option(
+    "--force",
+    is_flag=True,
+    help="Replace the file of --out, if it is there. By default a file that is there is refused.",
+)
+@click.option(
+    "--references",
+    type=click.IntRange(1, MOST_REFERENCES),
+    default=Drawing().references,
+    show_default=True,
+    metavar="N",
+    help="How many trial references are drawn and asked.",
+)
+@click.option(
+    "--seed",
+    type=click.IntRange(0),
+    default=Drawing().seed,
+    show_default=True,
+    metavar="N",
+    help="What is drawn: the same seed draws the same references, and makes the same file.",
+)
+@reading_options
+@tolerance_options
+@number_options({name: NUMBERS["places"][name] for name in ("apart", "look")})
+@patience_option("Then the command ends, and names the reference.")
+def command(
+    folder: Path,
+    messages: Optional[Path],
+    differ: Optional[float],
+    pair: Optional[Path],
+    checked_file: Optional[Path],
+    file: Path,
+    force: bool,
+    references: int,
+    seed: int,
+    reading: Reading,
+    patience: float,
+    **options: Union[int, str, None],
+) -> None:
+    """Find by trials how probable it is that a place is the one that the sender meant, and write it for --confidence.
+
+    References to paths that are known are drawn on the map in DIR, changed as they come from another map, and asked. Trials count that look
+    like the messages of --for. docs/CONFIDENCE.md says what the probabilities mean, and where they fail.
+    """
+    asking = of_question("places", options)
+    if messages is None and reading != Reading():
+        raise click.UsageError("--format, --ref and --key are for --for")
+    if messages is None and checked_file is not None:
+        raise click.UsageError("--checked is for --for: it names its messages by their keys")
+    if differ is not None and pair is not None:
+        raise click.UsageError(
+            "--pair has the sender's map, and --differ makes one up: give one of them"
+        )
+    given = [one for one in (messages, checked_file) if one is not None]
+    inputs = [*inputs_of(folder), *given, *([] if pair is None else inputs_of(pair))]
+    require_free_file(file, force, inputs)
+    keys = {} if checked_file is None else read_checked(checked_file)
+    feed = None if messages is None else read_feed(messages, reading, keys, seed)
+    wanted = Wanted(
+        feed=[] if feed is None else feed.texts(),
+        messages=0 if feed is None else feed.total,
+        differ=differ,
+        checked=[] if feed is None else _with_texts(feed, keys, checked_file),
+        pair=pair,
+    )
+    likeness = None if feed is None else LikeMessages(one.reference for one in feed.messages)
+    numbers = asking.all_numbers()
+    confidence = calibrated(
+        folder,
+        Drawing(references, seed, likeness),
+        Asking(resolved(asking.profile, asking.given), numbers["apart"], numbers["look"], patience),
+        wanted,
+    )
+    write_whole(file, text_of(confidence).encode(), force, inputs)
+    for line in (f"{file}: {references:,} trial references", *_lines(confidence), asking.line()):
+        click.echo(line)
+
+
+def _with_texts(feed: Feed, keys: dict[str, bool], file: Optional[Path]) -> list[tuple[str, bool]]:
+    """Checked answers with the texts of their messages. Raises `ToolError` for a key that no message with a line reference has."""
+    for key in keys:
+        if key not in feed.by_key:
+            raise ToolError(f"{file}: no message with a line reference has the key {key!r}")
+    return [(feed.by_key[key].text, right) for key, right in keys.items()]
+
+
+def _lines(confidence: Confidence) -> Iterator[str]:
+    """What is said of a confidence: how different the maps are, what was checked, and the weights."""
+    differs, checked = confidence.map_differs, confidence.about["checked"]
+    if differs is not None:
+        between = f"{differs.low:.1f} to {differs.high:.1f}"
+        yield f"map differs: {differs.value:.1f} ({between}), 1 as that of another vendor"
+    if checked is not None:
+        yield (
+            f"checked: {checked['right']:,} of {checked['answers']:,} right, which shifts \"none of these\" by "
+            f"{checked['shift']:+.2f}"
+        )
+    for name, weight in WEIGHTS.items():
+        yield f"weight {name}: {confidence.weights[name]:.4g} for {weight.unit}"

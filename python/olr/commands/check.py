@@ -1,0 +1,80 @@
+"""The command `olr-tools check`."""
+
+from collections.abc import Iterator
+from pathlib import Path
+
+import click
+
+from olr.checking import report, sources, stores
+from olr.checking.files import check_files
+from olr.checking.lengths import look_at_lengths
+from olr.checking.map_arrays import MapArrays, arrays_of
+from olr.checking.network import look_at_network
+from olr.model.map_folder import store_of
+from olr.regions.scratch import scratch_map
+from olr.regions.store import Store
+
+
+@click.command()
+@click.argument("folder", metavar="DIR|STORE", type=click.Path(path_type=Path))
+@click.option(
+    "--most",
+    metavar="N",
+    type=click.IntRange(min=0),
+    default=10,
+    show_default=True,
+    help="How many faults of each kind, and examples of each remark, are shown at most: 0 or more.",
+)
+def command(folder: Path, most: int) -> None:
+    """Find what is wrong with a map: the nodes.csv, lines.csv and bans.csv of the folder DIR, or a STORE of olr-tools regions.
+
+    Each fault is a line that begins as olr reports it, and the first one is that which olr stops at. The status is 0 if there is no
+    fault, and olr reads the map, and 1 if there is one. A map without a fault is then described: what its network, its lengths and
+    its classes should be looked at for, and whether its ids.csv has the same lines. The records of a store were checked when it was
+    made: it is seen whether they are as they were written, and its map is described if it isn't beyond the limits of olr.
+    """
+    store = store_of(folder)
+    lines = _of_folder(folder, most) if store is None else _of_store(store, most)
+    last = ""
+    for line in lines:
+        click.echo(line)
+        last = last or (line if line.startswith("faults ") else "")
+    if last != "faults 0":
+        raise SystemExit(1)
+
+
+def _of_folder(folder: Path, most: int) -> Iterator[str]:
+    """What is said of a folder's map."""
+    faults, tables = check_files(folder, max(most, 1))
+    yield from report.count_lines(tables)
+    yield from report.fault_lines(faults)
+    if not faults.total():
+        road_map = arrays_of(tables)
+        yield from _described(road_map, most)
+        yield from sources.lines_of_folder(folder, road_map.line_id, most)
+
+
+def _of_store(file: Path, most: int) -> Iterator[str]:
+    """What is said of a store."""
+    with Store.open(file) as store:
+        yield from stores.size_lines(store)
+        faults = list(stores.fault_lines(store, max(most, 1)))
+        yield from faults
+        if faults[-1] != "faults 0":
+            return
+        if store.sizes.within_limits():
+            # But for nodes without a line, which are in no block.
+            with scratch_map(store, stores.all_lines(store)) as folder:
+                _, tables = check_files(folder, max(most, 1))
+                yield from _described(arrays_of(tables), most)
+        else:
+            yield "    the network and the lengths of a map of this size aren't looked at"
+        yield from sources.lines_of_store(store, most)
+
+
+def _described(road_map: MapArrays, most: int) -> Iterator[str]:
+    """What a map without a fault should be looked at for."""
+    yield from report.box_lines(road_map)
+    yield from report.kind_lines(road_map)
+    yield from report.length_lines(road_map, look_at_lengths(road_map), most)
+    yield from report.network_lines(road_map, look_at_network(road_map), most)

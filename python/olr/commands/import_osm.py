@@ -1,0 +1,48 @@
+"""The command `olr-tools import osm`."""
+
+from pathlib import Path
+from typing import Optional
+
+import click
+
+from olr.commands.import_options import import_options
+from olr.counts import Counts
+from olr.importing.u_turns import DeadEnds, UTurns
+from olr.importing.writing import write_import
+from olr.model.box import Box
+from olr.model.map_folder import require_free
+from olr.osm.importing import Options, import_osm
+
+
+@click.command()
+@click.argument("file", type=click.Path(path_type=Path))
+@import_options
+@click.option(
+    "--service",
+    is_flag=True,
+    help="Take service roads in: drives, car parks, yards. By default they are left out.",
+)
+@click.option(
+    "--tags",
+    metavar="TABLE.toml",
+    type=click.Path(path_type=Path),
+    help="A table of which tags are roads, and of what class and form they are: docs/IMPORT.md. By default tags.toml of this package.",
+)
+def command(
+    file: Path,
+    folder: Path,
+    force: bool,
+    box: Optional[Box],
+    service: bool,
+    tags: Optional[Path],
+    u_turns: UTurns,
+    dead_ends: DeadEnds,
+    keep: tuple[str, ...],
+) -> None:
+    """Make a map from an OpenStreetMap file: FILE is .osm, .osm.pbf, .osm.bz2 or .osm.gz.
+
+    What was left out or changed is counted on standard error, and in the map's import.json."""
+    require_free(folder, force, [file] if tags is None else [file, tags])
+    counts = Counts()
+    options = Options(box, service, tags, u_turns, keep, dead_ends)
+    write_import(import_osm(file, options, counts), folder, force, counts)

@@ -1,0 +1,164 @@
+"""The command `olr-tools match`."""
+
+import os
+from contextlib import ExitStack
+from pathlib import Path
+from typing import Any, Optional, Union
+
+import click
+
+from olr.client.map_client import Map
+from olr.commands.options import (
+    confidence_option,
+    map_options,
+    number_options,
+    of_question,
+    patience_option,
+    reading_options,
+)
+from olr.confidence.choosing import Chosen, cut_off_line, judging_for, listing
+from olr.confidence.judged import Judging
+from olr.matching.asking import Asked
+from olr.matching.columns import OF_QUESTION, PIECES
+from olr.matching.lacking import Lacking, Other
+from olr.matching.writing import Output, Where, require_writable, writing_rows
+from olr.messages.message import Reading
+from olr.model.asked_with import Asking
+from olr.model.map_folder import inputs_of
+from olr.model.questions import NUMBERS, What
+
+
+@click.command()
+@click.argument("file", type=click.Path(path_type=Path))
+@map_options
+@click.option(
+    "--places",
+    "what",
+    flag_value="places",
+    help="Write the places of each reference, with a verdict. By default its matchings are written.",
+)
+@number_options(NUMBERS["places"], "with --places, ")
+@click.option(
+    "--why",
+    "what",
+    flag_value="why",
+    help="Write why each reference has no matching, and what helps. By default its matchings are written.",
+)
+@number_options(NUMBERS["match"], "without --places and --why, ")
+@click.option(
+    "--part",
+    type=click.Choice(["outer", "inner"]),
+    default="outer",
+    show_default=True,
+    help="The part of a location to draw: what it covers at most, or what at least.",
+)
+@confidence_option
+@patience_option("Then the command ends, and names the reference.")
+@reading_options
+@click.option(
+    "--out",
+    metavar="OUT",
+    required=True,
+    type=click.Path(path_type=Path),
+    help="The file to write: .gpkg, .geojson, or .csv, which has no geometries. Folders above are made as needed.",
+)
+@click.option(
+    "--pieces",
+    metavar="PIECES",
+    type=click.Path(path_type=Path),
+    help="A second file to write, with a row for each piece of a line that is covered: .csv, .gpkg or .geojson. By default "
+    "there is none.",
+)
+@click.option(
+    "--force",
+    is_flag=True,
+    help="Replace the files to write, if they are there. By default a file that is there is refused.",
+)
+@click.option(
+    "--append",
+    is_flag=True,
+    help="Add the rows to the files to write, if they are there: .gpkg or .csv, with the same columns. By default a "
+    "file that is there is refused.",
+)
+def command(
+    file: Path,
+    folder: Path,
+    what: Optional[What],
+    part: Any,
+    confidence: Optional[Path],
+    patience: float,
+    reading: Reading,
+    out: Path,
+    pieces: Optional[Path],
+    force: bool,
+    append: bool,
+    **options: Union[int, str, None],
+) -> None:
+    """Match the references of FILE on a map, and write what they fit as geometries.
+
+    FILE has a key, a tab and a reference on each line, or is CSV or JSON; - is standard input. A summary is printed. A reference
+    that fits nothing has a row without a geometry. `record` is its number in FILE. OUT is written whole or not at all, and so is
+    PIECES. docs/COLUMNS.md says what is in each column.
+    """
+    question: What = what or "match"
+    asking = of_question(question, options)
+    where = _where(force, append)
+    outputs = _outputs(question, out, pieces)
+    sure = _judging(confidence, asking)
+    inputs = [file, *inputs_of(folder), *([] if confidence is None else [confidence])]
+    for output in outputs:
+        require_writable(output.file, where, inputs)
+    with ExitStack() as maps:
+        asked = maps.enter_context(Map.of_folder(folder, **asking.tolerances, patience=patience))
+        other = Other.of(asking, folder, patience)
+        lacking = maps.enter_context(Lacking(asked, other))
+        with ExitStack() as stack:
+            within = None if sure.judging.shown is None else sure.judging.shown.within
+            nowhere_to = None if question == "why" else lacking
+            messages = Asked(asked, file, reading, nowhere_to, within)
+            written = [stack.enter_context(writing_rows(one, where, inputs)) for one in outputs]
+            if question == "why":
+                messages.write_reasons(asking.numbers, written[0])
+            else:
+                second = written[1] if len(written) > 1 else None
+                numbers = listing(asking.numbers) if question == "places" else asking.numbers
+                messages.write_answers(question, numbers, part, sure.judging, written[0], second)
+        nowhere = lacking.line()
+    references = sum(messages.outcomes.values())
+    click.echo(f"{out}: {written[0].rows:,} rows of {references:,} references")
+    for output, sink in zip(outputs[1:], written[1:]):
+        click.echo(f"{output.file}: {sink.rows:,} rows")
+    for line in messages.summary():
+        click.echo(line)
+    for more in (asking.line(), nowhere, cut_off_line(messages.cut_off), sure.note):
+        if more:
+            click.echo(more)
+
+
+def _where(force: bool, append: bool) -> Where:
+    """Where rows go. Raises `UsageError` for two answers."""
+    if force and append:
+        raise click.UsageError("--force replaces a file, and --append adds to it: give one of them")
+    return "force" if force else "append" if append else "new"
+
+
+def _judging(file: Optional[Path], asking: Asking) -> Chosen:
+    """By what answers to a question are judged: matchings aren't. Raises `UsageError` for a file where none is used, and `ToolError` if it
+    isn't one of these tolerances."""
+    if asking.question == "places":
+        return judging_for(file, asking.tolerances, asking.numbers)
+    if file is not None:
+        raise click.UsageError("--confidence is for --places")
+    return Chosen(Judging(), "")
+
+
+def _outputs(question: What, out: Path, pieces: Optional[Path]) -> list[Output]:
+    """The files to write. Raises `UsageError` for one file in place of two, and for pieces of what has none."""
+    outputs = [Output(out, question, OF_QUESTION[question])]
+    if pieces is not None:
+        if question == "why":
+            raise click.UsageError("--pieces is for matchings and places, not for --why")
+        if os.path.realpath(pieces) == os.path.realpath(out):
+            raise click.UsageError("--pieces and --out name one file: name two")
+        outputs.append(Output(pieces, "pieces", PIECES))
+    return outputs

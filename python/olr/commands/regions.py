@@ -1,0 +1,58 @@
+"""The command `olr-tools regions`."""
+
+from pathlib import Path
+
+import click
+
+from olr.counts import Counts
+from olr.errors import ToolError
+from olr.model.map_folder import NODES, files_read
+from olr.outputs import require_free_file
+from olr.regions.making import make_store_of_folder, make_store_of_map
+from olr.regions.store import Sizes
+
+
+@click.command()
+@click.argument("source", metavar="DIR|FILE", type=click.Path(path_type=Path))
+@click.option(
+    "--out",
+    "file",
+    metavar="STORE",
+    required=True,
+    type=click.Path(path_type=Path),
+    help="The store to write: one file, such as country.gpkg. Folders above are made as needed.",
+)
+@click.option(
+    "--force",
+    is_flag=True,
+    help="Replace the file of --out, if it is there. By default a file that is there is refused.",
+)
+def command(source: Path, file: Path, force: bool) -> None:
+    """Make a store of a map of any size: one GeoPackage, of which olr-tools run reads what a reference needs.
+
+    DIR has nodes.csv, lines.csv and perhaps bans.csv. The limits of olr don't hold for it. FILE is an OpenStreetMap file, and the
+    map is the one that olr-tools import osm makes of it without options."""
+    require_free_file(file, force, [source, *files_read(source)])
+    if source.is_file():
+        sizes = _store_of_osm(source, file, force)
+    elif (source / NODES).exists():
+        sizes = make_store_of_folder(source, file, force)
+    else:
+        raise ToolError(f"there is no map in {source}: name a folder with {NODES} and lines.csv")
+    click.echo(f"{file}: {sizes.nodes:,} nodes, {sizes.lines:,} lines, {sizes.bans:,} bans")
+
+
+def _store_of_osm(source: Path, file: Path, force: bool) -> Sizes:
+    """Makes a store of an OpenStreetMap file, and tells its size. Raises `ToolError`."""
+    if ".osm" not in source.suffixes and source.suffix != ".pbf":
+        raise ToolError(
+            f"{source} isn't an OpenStreetMap file: make a map of it first, by olr-tools import"
+        )
+    # Its modules of Debian are needed for such files alone.
+    from olr.osm.importing import Options, import_osm
+
+    counts = Counts()
+    imported = import_osm(source, Options(), counts)
+    sizes = make_store_of_map(imported.road_map, file, force, [source])
+    counts.report()
+    return sizes

@@ -1,0 +1,103 @@
+"""The command `olr-tools report`."""
+
+from contextlib import ExitStack
+from pathlib import Path
+from typing import Optional, Union
+
+import click
+
+from olr.client.map_client import Map
+from olr.commands.options import (
+    confidence_option,
+    map_options,
+    number_options,
+    of_question,
+    page_options,
+    patience_option,
+    reading_options,
+)
+from olr.confidence.choosing import judging_for
+from olr.likely.order import Shown
+from olr.matching.asking import Asked
+from olr.matching.lacking import Lacking, Other
+from olr.messages.message import Reading
+from olr.messages.opening import name_of
+from olr.model.asked_with import name_for_program
+from olr.model.map_folder import inputs_of
+from olr.model.questions import NUMBERS
+from olr.outputs import require_free_file, write_whole
+from olr.pages.html import html_of, require_html
+from olr.pages.report.asking import count
+from olr.pages.report.expectation import about_probabilities, expectations, remarks, sentence
+from olr.pages.report.page import TEMPLATE, About, page_of
+from olr.pages.report.rows import rows_of
+from olr.pages.view.scene import add_command
+
+ROWS = 2000
+
+
+@click.command()
+@click.argument("messages", metavar="MESSAGES", type=click.Path(path_type=Path))
+@map_options
+@number_options(NUMBERS["places"])
+@patience_option("Then the command ends, and names the reference.")
+@reading_options
+@confidence_option
+@click.option(
+    "--rows",
+    type=click.IntRange(min=1),
+    default=ROWS,
+    show_default=True,
+    metavar="N",
+    help="How many references the table and the map have at most: 1 or more. All are counted.",
+)
+@page_options
+def command(
+    messages: Path,
+    folder: Path,
+    patience: float,
+    reading: Reading,
+    confidence: Optional[Path],
+    rows: int,
+    tiles: Optional[str],
+    file: Path,
+    force: bool,
+    **options: Union[int, str, None],
+) -> None:
+    """Say what is wrong with a feed, or with a map: where the references of MESSAGES fit and how well, how many of their places are
+    expected to be right, and why others don't fit. The page is one file of HTML that needs no network, written whole or not at all.
+
+    MESSAGES has a key, a tab and a reference on each line, or is CSV or JSON; - is standard input. All are counted; the table of
+    references and the map have at most --rows of them, with an equal share of each verdict and fault. A summary is printed.
+    """
+    asking = of_question("places", options)
+    inputs = [messages, *inputs_of(folder), *([] if confidence is None else [confidence])]
+    require_html(file)
+    require_free_file(file, force, inputs)
+    sure = judging_for(confidence, asking.tolerances, asking.numbers)
+    html_of(TEMPLATE, "", {}, tiles)  # What is missing is said before anything is asked.
+    with ExitStack() as stack:
+        asked = stack.enter_context(Map.of_folder(folder, **asking.tolerances, patience=patience))
+        lacking = stack.enter_context(Lacking(asked, Other.of(asking, folder, patience)))
+        within = Shown.of(asking.numbers).within
+        questions = Asked(asked, messages, reading, within=within)
+        counted = count(questions, asked, asking.numbers, rows, sure.judging, lacking)
+        found = rows_of(counted.sample, asked, asking.numbers, sure.judging)
+    for scene in found.scenes:
+        if scene is not None:
+            add_command(scene, name_for_program(folder), asking.all_numbers())
+    expected = expectations(counted.places, sure, confidence)
+    about = About(
+        Path(name_of(messages)).name,
+        folder.resolve().name,
+        asking.text(),
+        [sentence(text) for text in expected or [sure.note] if text],
+        about_probabilities(sure, confidence),
+    )
+    page = page_of(about, counted, found, tiles)
+    write_whole(file, page.encode(), force, inputs)
+    click.echo(f"{file}: {len(found.rows):,} rows of {counted.places.references():,} references")
+    more = (asking.line(), lacking.line(), *remarks(counted.places), sure.note)
+    for line in (*expected, *questions.summary(), *more):
+        if line:
+            click.echo(line)

@@ -1,0 +1,327 @@
+"""The command `olr-tools run`."""
+
+import os
+import tempfile
+from collections import Counter
+from collections.abc import Iterator, Sequence
+from contextlib import contextmanager
+from pathlib import Path
+from typing import TYPE_CHECKING, Optional, Union
+
+import click
+
+from olr.asking.program import find_program
+from olr.client.map_client import Map
+from olr.commands.options import (
+    confidence_option,
+    number_options,
+    of_question,
+    patience_option,
+    reading_options,
+    tolerance_options,
+)
+from olr.confidence.choosing import cut_off_line, judging_for
+from olr.content import Content, Stamp
+from olr.errors import ToolError
+from olr.extras import needed_by
+from olr.likely.order import LIST
+from olr.messages.message import KEY, REF, Reading
+from olr.messages.opening import as_file, name_of
+from olr.messages.reading import format_in
+from olr.model.asked_with import Asking
+from olr.model.map_folder import LINES, LINES_HEADER, NODES, NODES_HEADER, write_rows
+from olr.model.questions import NUMBERS, What
+from olr.outputs import require_free_file
+from olr.regions.store import Store
+from olr.running.answering import ANSWERED, Job
+from olr.running.cluster import Outcome, answer_all, connected
+from olr.running.grouping import Grouped
+from olr.running.identity import Build
+from olr.running.isolating import FAILURES
+from olr.running.joining import join
+from olr.running.question import Question, all_numbers
+from olr.running.records import of_one_edition, read_records
+from olr.running.run_folder import FAILED, RUN, RunFolder
+
+if TYPE_CHECKING:
+    from olr.running.geometries import Geometries
+
+ROWS = (".csv", ".geojson", ".gpkg", ".parquet")
+"""Endings of files of rows."""
+OF_ROWS, OF_LINES = (
+    {name: one for name, one in NUMBERS["places"].items() if (name in LIST) == are_of_rows}
+    for are_of_rows in (True, False)
+)
+"""The numbers of `places` that say which places rows show, and those on which lines depend: these have all places."""
+SCRATCH_FILES, SCRATCH_BYTES = 64, 4096
+"""So many scratch files of so many bytes are written before a run begins, and deleted. Where they can't be, Dask couldn't start either, and
+wouldn't say why."""
+
+
+@click.command()
+@click.argument("messages", type=click.Path(path_type=Path))
+@reading_options
+@click.option(
+    "--store",
+    metavar="STORE",
+    required=True,
+    type=click.Path(path_type=Path),
+    help="The map: a store, made by olr-tools regions, or the folder to which an import wrote one.",
+)
+@click.option(
+    "--out",
+    metavar="DIR",
+    required=True,
+    type=click.Path(path_type=Path),
+    help="The folder of the run: a new or an empty one.",
+)
+@click.option(
+    "--scheduler",
+    metavar="ADDRESS",
+    help="The address of a scheduler of Dask, such as tcp://host:8786. By default the run has processes of its own on this machine.",
+)
+@click.option(
+    "--workers",
+    type=click.IntRange(1),
+    metavar="N",
+    help="How many processes a run without a scheduler has on this machine: 1 or more. By default one for each processor.",
+)
+@click.option(
+    "--resume",
+    is_flag=True,
+    help="Go on with the run that the folder of --out holds. By default a folder that holds one is refused.",
+)
+@click.option(
+    "--join",
+    "joined",
+    metavar="FILE",
+    type=click.Path(path_type=Path),
+    help="Write the lines of all parts to one file too, in the order of the records. By default there are the parts alone.",
+)
+@click.option(
+    "--geometries",
+    metavar="FILE",
+    type=click.Path(path_type=Path),
+    help="Write the rows of olr-tools match too, part by part: .gpkg, .geojson or .csv. By default no geometries are written.",
+)
+@click.option(
+    "--pieces",
+    metavar="FILE",
+    type=click.Path(path_type=Path),
+    help="Write a row for each piece of a line too, as olr-tools match --pieces. By default none are written.",
+)
+@click.option(
+    "--force",
+    is_flag=True,
+    help="Replace the files of --join, --geometries and --pieces, if they are there. By default a file that is there is refused.",
+)
+@click.option(
+    "--places",
+    "what",
+    flag_value="places",
+    help="Ask for the places of each reference, with a verdict. By default its matchings are asked for.",
+)
+@click.option(
+    "--why",
+    "what",
+    flag_value="why",
+    help="Ask why each reference has no matching, and what helps. By default its matchings are asked for.",
+)
+@click.option(
+    "--candidates",
+    "what",
+    flag_value="candidates",
+    help="Ask for the candidates of each point of a reference. By default its matchings are asked for.",
+)
+@number_options(NUMBERS["match"], "without --places, --why and --candidates, ")
+@number_options(OF_LINES, "with --places, ")
+@number_options(OF_ROWS, "with --places, in the rows of --geometries and --pieces, ")
+@number_options(NUMBERS["why"], "with --why, ")
+@tolerance_options
+@confidence_option
+@patience_option("Then a record that stands alone gets the fault TimedOut.")
+@click.option(
+    "--per-group",
+    type=click.IntRange(1),
+    metavar="N",
+    help="How many records a group, and so a part, has at most: 1 or more. By default 50 to 4,000, by how many records there are.",
+)
+def command(
+    messages: Path,
+    reading: Reading,
+    store: Path,
+    out: Path,
+    scheduler: Optional[str],
+    workers: Optional[int],
+    resume: bool,
+    joined: Optional[Path],
+    geometries: Optional[Path],
+    pieces: Optional[Path],
+    force: bool,
+    what: Optional[What],
+    confidence: Optional[Path],
+    patience: float,
+    per_group: Optional[int],
+    **options: Union[int, str, None],
+) -> None:
+    """Match any number of references on a map of any size, on many processors or machines.
+
+    MESSAGES has a key, a tab and a reference on each line, or is CSV or JSON; - is standard input. DIR gets files with the lines of
+    olr batch, parts/000000.jsonl and so on; with --places those of olr batch places --within 14620 --most 100. A part is complete or absent:
+    whatever happens, --resume goes on after what is written.
+    """
+    question: What = what or "match"
+    asking = of_question(question, options)
+    numbers = asking.tolerances | asking.numbers
+    given = {name.removesuffix("_"): value for name, value in numbers.items()}
+    if scheduler is not None and workers is not None:
+        raise click.UsageError("--workers is for a run without --scheduler")
+    others = [one for one in (joined, geometries, pieces) if one is not None]
+    if force and not others:
+        raise click.UsageError("--force is for --join, --geometries and --pieces")
+    if len({os.path.realpath(one) for one in others}) < len(others):
+        raise click.UsageError("--join, --geometries and --pieces name one file: name several")
+    with Store.open(store) as opened:
+        file, digest = opened.file.absolute(), opened.digest
+    inputs = [messages, file, out / RUN, *([] if confidence is None else [confidence])]
+    if joined is not None:
+        require_free_file(joined, force, inputs)
+        if joined.suffix.lower() in ROWS:
+            raise click.UsageError("--join writes lines of JSON: --geometries writes rows")
+    rows = _rows(question, geometries, pieces, force, inputs)
+    if confidence is not None and (geometries is None or question != "places"):
+        raise click.UsageError("--confidence is for --geometries with --places")
+    sure = None
+    if question == "places":
+        given |= LIST
+        if rows is not None:
+            sure = judging_for(confidence, asking.tolerances, asking.numbers)
+            rows = rows._replace(judging=sure.judging)
+    _require_numbers(asking)
+    if rows is None and not OF_ROWS.keys().isdisjoint(asking.numbers):
+        raise click.UsageError(
+            "--within and --most are for --geometries and --pieces: the lines of --places have all places"
+        )
+    copy, name = click.get_current_context().with_resource(as_file(messages)), name_of(messages)
+    stamp = Stamp.of(copy)
+    asked = Question(
+        messages=Content.of(copy),
+        store=digest,
+        program=Build.of(find_program()),
+        what=question,
+        options=all_numbers(question, given),
+        per_group=per_group,
+        format=format_in(copy, reading, name),
+        ref=reading.ref or REF,
+        key=reading.key or KEY,
+    )
+    run = RunFolder(out)
+    records = of_one_edition(read_records(copy, reading, name), copy, stamp, name)
+    with run.begun(asked, records, resume) as grouped:
+        job = Job(out.absolute(), file, asked, grouped.sha256, patience)
+        outcome = Outcome(Counter(), {})
+        if grouped.groups:
+            with _scratch_files(), connected(scheduler, workers, grouped.groups) as client:
+                outcome = answer_all(client, job, grouped)
+        run.sync()
+        _report(run, grouped, outcome, asking)
+        if joined is not None:
+            lines = [run.lines(asked, grouped, group) for group in range(grouped.groups)]
+            parts = map(run.file_of, range(grouped.groups))
+            join(lines, joined, grouped.records, force, [*inputs, *parts])
+            click.echo(f"{joined}: {grouped.records:,} lines")
+        if rows is not None:
+            from olr.running.geometries import write_geometries
+
+            numbered = range(grouped.groups)
+            asked_lines = [run.asked_lines(asked, grouped, group) for group in numbered]
+            written = write_geometries(rows, asked, file, asked_lines)
+            for made, count in written.files:
+                click.echo(f"{made}: {count:,} rows")
+            for more in (cut_off_line(written.cut_off), sure and sure.note):
+                if more:
+                    click.echo(more)
+        _require_answers(run, outcome.counts)
+
+
+def _rows(
+    question: What,
+    geometries: Optional[Path],
+    pieces: Optional[Path],
+    force: bool,
+    inputs: Sequence[Path],
+) -> "Optional[Geometries]":
+    """The files of rows to write, if any are. Raises `UsageError` for a question whose answers aren't on lines, and `ToolError` if a file
+    can't be written there, or a module is missing."""
+    if geometries is None and pieces is None:
+        return None
+    if question not in ("match", "places"):
+        raise click.UsageError("--geometries and --pieces are for matchings and places")
+    with needed_by("olr-tools run --geometries", "geo"):
+        from olr.running.geometries import Geometries
+    rows = Geometries(geometries, pieces, "force" if force else "new", inputs)
+    rows.require_writable()
+    return rows
+
+
+def _require_numbers(asking: Asking) -> None:
+    """Raises `Fault` where the program refuses a number, and `ProgramNotFound`: before anything is written."""
+    with _scratch_files(), tempfile.TemporaryDirectory(prefix="olr-run.") as folder:
+        write_rows(Path(folder, NODES), NODES_HEADER, [])
+        write_rows(Path(folder, LINES), LINES_HEADER, [])
+        with Map.of_folder(folder, **asking.tolerances) as asked:
+            list(asked.answers(asking.question, [""], **asking.numbers))
+
+
+@contextmanager
+def _scratch_files() -> Iterator[None]:
+    """Raises `ToolError` for each error of the system's files: scratch files of the command, or what Dask needs before the first group, can't
+    be written."""
+    try:
+        with tempfile.TemporaryDirectory(prefix="olr-run.") as folder:
+            for number in range(SCRATCH_FILES):
+                Path(folder, str(number)).write_bytes(bytes(SCRATCH_BYTES))
+        yield
+    except OSError as error:
+        if error.errno is None:
+            raise
+        about = f"scratch files can't be written: {error.strerror}"
+        raise ToolError(f"{about}: name another folder by TMPDIR") from error
+
+
+def _report(run: RunFolder, grouped: Grouped, outcome: Outcome, asking: Asking) -> None:
+    """Prints what was answered. Raises `ToolError` if groups failed, or there isn't one line for each record."""
+    counts, failed = outcome
+    parts = grouped.groups - len(failed)
+    run.note_failed(failed)
+    click.echo(f"{run.path}: {counts.total():,} lines of {grouped.records:,} in {parts:,} parts")
+    for name, number in sorted(counts.items(), key=lambda pair: (-pair[1], pair[0])):
+        click.echo(f"{_kind(name)}: {number:,}")
+    click.echo(asking.line())
+    if failed:
+        reasons = Counter(failed.values()).most_common()
+        more = f", and {len(reasons) - 1} other reasons" if len(reasons) > 1 else ""
+        raise ToolError(
+            f"{len(failed):,} of {grouped.groups:,} groups failed, listed in {run.path / FAILED}: "
+            f"{reasons[0][0]}{more}: go on by --resume"
+        )
+    if counts.total() != grouped.records:
+        raise ToolError(f"{run.path} hasn't one line for each record: go on by --resume")
+
+
+def _kind(name: str) -> str:
+    """What lines are called that have an answer, or a fault of that name."""
+    if name == ANSWERED:
+        return name
+    return f"{'failed' if name in FAILURES else 'refused'}, {name}"
+
+
+def _require_answers(run: RunFolder, counts: Counter[str]) -> None:
+    """Raises `ToolError` if the program failed at records: their lines say so, in place of an answer or a fault of the program."""
+    failed = {name: counts[name] for name in FAILURES if counts[name]}
+    if failed:
+        names = ", ".join(f"{name}: {number:,}" for name, number in failed.items())
+        raise ToolError(
+            f"the program failed at {sum(failed.values()):,} of {counts.total():,} records, and their lines in {run.path} say so ({names}): "
+            "to ask them again, delete their parts, and go on by --resume"
+        )

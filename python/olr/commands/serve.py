@@ -1,0 +1,171 @@
+"""The command `olr-tools serve`."""
+
+import logging
+import os
+import re
+import sys
+from pathlib import Path
+from typing import Optional
+
+import click
+
+from olr.commands.options import MAP, confidence_option
+from olr.model.questions import NUMBERS
+from olr.serving.allowed import LOOPBACK
+from olr.serving.limits import MIB, Limits
+from olr.serving.server import Settings, serve
+
+NAME = re.compile(r"([A-Za-z0-9._-]+|\[[0-9A-Fa-f:.]+\])(:[0-9]{1,5})?")
+ORIGIN = re.compile(r"https?://" + NAME.pattern)
+LIMITS = Limits()
+
+
+def _names(
+    context: click.Context, parameter: click.Parameter, values: tuple[str, ...]
+) -> tuple[str, ...]:
+    """Names of hosts. Raises `BadParameter`."""
+    return _all_match(NAME, "a name of a host", context, parameter, values)
+
+
+def _origins(
+    context: click.Context, parameter: click.Parameter, values: tuple[str, ...]
+) -> tuple[str, ...]:
+    """Origins. Raises `BadParameter`."""
+    about = "an origin, such as https://maps.example"
+    return _all_match(ORIGIN, about, context, parameter, values)
+
+
+def _all_match(
+    pattern: re.Pattern[str],
+    about: str,
+    context: click.Context,
+    parameter: click.Parameter,
+    values: tuple[str, ...],
+) -> tuple[str, ...]:
+    for value in values:
+        if not pattern.fullmatch(value):
+            raise click.BadParameter(f"{value!r} isn't {about}", context, parameter)
+    return values
+
+
+@click.command()
+@MAP
+@click.option(
+    "--host",
+    default="127.0.0.1",
+    show_default=True,
+    metavar="ADDRESS",
+    help="The address to listen to. There is no login and no encryption: what others reach belongs behind a server that has them.",
+)
+@click.option(
+    "--port",
+    type=click.IntRange(0, 65_535),
+    default=8000,
+    show_default=True,
+    metavar="N",
+    help="The port to listen to; 0 for any that is free. It is printed.",
+)
+@click.option(
+    "--workers",
+    type=click.IntRange(1, 1000),
+    metavar="N",
+    help="So many processes of the program at most, each of which holds the map in memory. By default as many as there are processors. "
+    "A store is asked by one.",
+)
+@click.option(
+    "--time-limit",
+    "time",
+    type=click.FloatRange(0, 86_400, min_open=True),
+    default=LIMITS.time,
+    show_default=True,
+    metavar="SECONDS",
+    help="How long a process may work at one answer, a request may wait for a process, and nothing may move in a stream.",
+)
+@click.option(
+    "--body-limit",
+    "body",
+    type=click.IntRange(1, 1_000_000),
+    default=LIMITS.body // MIB,
+    show_default=True,
+    metavar="MIB",
+    help="The most that the body of a request has, in MiB of 1048576 bytes.",
+)
+@click.option(
+    "--look-limit",
+    "look",
+    type=click.IntRange(1, NUMBERS["places"]["look"].greatest),
+    default=LIMITS.look,
+    show_default=True,
+    metavar="N",
+    help="The greatest look that may be asked for, in matchings.",
+)
+@click.option(
+    "--allow-host",
+    "names",
+    multiple=True,
+    callback=_names,
+    metavar="NAME",
+    help="Another name by which the server is called, as a server in front of it passes it on. May be given several times. By default "
+    "it answers to localhost, 127.0.0.1, [::1] and ADDRESS alone, with its port.",
+)
+@click.option(
+    "--allow-origin",
+    "origins",
+    multiple=True,
+    callback=_origins,
+    metavar="ORIGIN",
+    help="A site whose pages may ask, such as https://maps.example. May be given several times. By default those of the server alone.",
+)
+@click.option(
+    "--tiles",
+    metavar="URL",
+    help="The URL of tiles to draw behind the map's lines on the page, with {z}, {x} and {y} in it. By default none are, and no network is "
+    "needed.",
+)
+@confidence_option
+@click.option(
+    "--log",
+    "logged",
+    type=click.Choice(["events", "requests"]),
+    default="events",
+    show_default=True,
+    help="What is written on standard error: what fails or changes, or each request too, without its reference.",
+)
+def command(
+    folder: Path,
+    host: str,
+    port: int,
+    workers: Optional[int],
+    time: float,
+    body: int,
+    look: int,
+    names: tuple[str, ...],
+    origins: tuple[str, ...],
+    tiles: Optional[str],
+    confidence: Optional[Path],
+    logged: str,
+) -> None:
+    """Answer questions about references on a map by HTTP, for browsers and other programs.
+
+    A line with the URL is printed once it listens. SIGHUP reads the map anew, SIGTERM and SIGINT end the server when what runs is
+    answered. docs/SERVE.md has the addresses.
+    """
+    _log(logged == "requests")
+    if host not in LOOPBACK:
+        click.echo(
+            f"olr-tools: {host} can be reached by others, and there is no login and no encryption: put a server that has them in front, and "
+            "name it by --allow-host",
+            err=True,
+        )
+    limits = Limits(time, body * MIB, look)
+    many = workers or len(os.sched_getaffinity(0))
+    serve(Settings(folder, host, port, many, limits, names, origins, tiles, confidence))
+
+
+def _log(requests: bool) -> None:
+    """Writes what happens to standard error."""
+    logging.basicConfig(stream=sys.stderr, level=logging.WARNING, format="olr-tools: %(message)s")
+    # What isn't HTTP is a client's fault, and there may be much of it.
+    logging.getLogger("uvicorn.error").setLevel(logging.ERROR)
+    if requests:
+        logging.getLogger("olr.serving.requests").setLevel(logging.INFO)

@@ -1,0 +1,100 @@
+"""The command `olr-tools view`."""
+
+from pathlib import Path
+from typing import Optional, Union
+
+import click
+
+from olr.client.map_client import Map
+from olr.commands.options import (
+    confidence_option,
+    map_options,
+    number_options,
+    of_question,
+    page_options,
+    patience_option,
+    reading_options,
+)
+from olr.confidence.choosing import cut_off_line, judging_for
+from olr.messages.finding import message_of_key, message_of_record
+from olr.messages.message import Reading
+from olr.model.asked_with import name_for_program
+from olr.model.map_folder import inputs_of
+from olr.model.questions import NUMBERS
+from olr.outputs import require_free_file, write_whole
+from olr.pages.html import require_html
+from olr.pages.view.page import html_of
+from olr.pages.view.scene import add_command, scene_of
+
+
+@click.command()
+@click.argument("reference", metavar="[REF]", required=False)
+@map_options
+@number_options(NUMBERS["places"])
+@confidence_option
+@patience_option("Then the command ends, and names the reference.")
+@click.option(
+    "--messages",
+    metavar="FILE",
+    type=click.Path(path_type=Path),
+    help="A file of messages, from which the reference is taken: REF is the key of one. By default REF is the reference.",
+)
+@click.option(
+    "--record",
+    type=click.IntRange(1),
+    metavar="N",
+    help="The number of a message in the file of --messages: 1 or more. By default the message is found by its key, REF.",
+)
+@reading_options
+@page_options
+def command(
+    reference: Optional[str],
+    folder: Path,
+    confidence: Optional[Path],
+    patience: float,
+    messages: Optional[Path],
+    record: Optional[int],
+    reading: Reading,
+    file: Path,
+    force: bool,
+    tiles: Optional[str],
+    **options: Union[int, str, None],
+) -> None:
+    """Show a reference on a map: its points and their directions, the candidates, where it fits, one place or matching at a time, the
+    likeliest one first, or else why it doesn't. The page is one file of HTML that needs no network, written whole or not at all.
+
+    REF is a reference, a text in base64, or with --messages the key of a message in a file as match reads it.
+    """
+    asking = of_question("places", options)
+    text = _text(reference, messages, record, reading)
+    inputs = [*inputs_of(folder), *(one for one in (messages, confidence) if one is not None)]
+    require_html(file)
+    require_free_file(file, force, inputs)
+    sure = judging_for(confidence, asking.tolerances, asking.numbers)
+    with Map.of_folder(folder, **asking.tolerances, patience=patience) as asked:
+        scene = scene_of(text, asked, sure.judging.confidence, **asking.numbers)
+    add_command(scene, name_for_program(folder), asking.all_numbers())
+    page = html_of(scene, tiles)
+    write_whole(file, page.encode(), force, inputs)
+    click.echo(f"{file}: {scene['verdict']['word']}")
+    click.echo(asking.line())
+    for more in (cut_off_line(int(bool(scene["looking"]))), scene["entries"] and sure.note):
+        if more:
+            click.echo(more)
+
+
+def _text(
+    reference: Optional[str], messages: Optional[Path], record: Optional[int], reading: Reading
+) -> str:
+    """The reference that was asked for. Raises `UsageError`, and `ToolError` if the file hasn't it."""
+    if messages is None:
+        if record is not None or reading != Reading():
+            raise click.UsageError("--record, --format, --ref and --key are for --messages")
+        if reference is None:
+            raise click.UsageError("give a reference, or a file of them by --messages")
+        return reference
+    if reference is not None and record is None:
+        return message_of_key(messages, reading, reference).reference
+    if record is not None and reference is None:
+        return message_of_record(messages, reading, record).reference
+    raise click.UsageError("with --messages give a key as REF, or a number by --record")

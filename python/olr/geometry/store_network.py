@@ -1,0 +1,110 @@
+"""A map behind a store, to draw what is on it: its lines are read when they are asked for."""
+
+import threading
+from collections.abc import Iterable, Iterator
+from contextlib import contextmanager
+from pathlib import Path
+from typing import TYPE_CHECKING, Optional, Union
+
+import numpy as np
+
+from olr.arrays import Floats, Integers
+from olr.errors import MapRefused
+from olr.geometry.network import Network, Polylines
+from olr.model.map_folder import LINES, NODES, store_of
+from olr.model.road_map import MICRODEGREE
+from olr.model.sources import Sources
+from olr.regions.current import CurrentStore
+from olr.regions.plane import Disc, scale_at
+from olr.regions.scratch import scratch_map
+from olr.regions.store import Store
+
+if TYPE_CHECKING:
+    from shapely.geometry import LineString
+
+
+class PartOfNetwork(Network):
+    """Some lines of a store, as arrays. Its `digest` is that of the store, as those of the answers of a `Map` of it."""
+
+    def __init__(self, store: Store, lines: Integers) -> None:
+        """Reads lines by their ids. Raises `ToolError` if the store can't be read, or scratch files can't be written."""
+        with scratch_map(store, lines) as folder:
+            super().__init__(folder / NODES, folder / LINES)
+        self.folder, self.digest = store.file, store.digest
+
+    def has(self, lines: Integers) -> bool:
+        """Whether it has all of some lines."""
+        return bool(np.isin(lines, self.line_id).all())
+
+
+class StoreNetwork(Network):
+    """The lines of a store, as a `Network`: `line`, `geometry` and `point` are those of any. It has no arrays of the whole map: `having` and
+    `around` give a `Network` of the lines that are asked for. Threads wait for one another."""
+
+    def __init__(self, path: Path) -> None:
+        """Opens a store. Raises `ToolError` if it isn't one, or can't be read."""
+        self._store = CurrentStore(store_of(path) or path)
+        self.folder, self.digest = self._store.file, self._store.digest
+        self._asking = threading.Lock()
+        self._last: Optional[PartOfNetwork] = None
+
+    def __repr__(self) -> str:
+        sizes = self._store.sizes
+        return f"<Network of {self.folder}: {sizes.nodes:,} nodes, {sizes.lines:,} lines>"
+
+    def require_digest(self, digest: str) -> None:
+        """Raises `MapRefused` if the store isn't the one of this digest."""
+        if self.digest != digest:
+            raise MapRefused(
+                f"the store {self.folder} has changed since it was opened: make another Map"
+            )
+
+    @contextmanager
+    def reading(self) -> Iterator[Store]:
+        """The open store, while no other thread uses it. Raises `MapRefused` if it changed."""
+        with self._asking, self._store.reading() as store:
+            yield store
+
+    def having(self, lines: Union[Integers, Iterable[int]]) -> Network:
+        """A network that has these lines, by their ids, and perhaps others. Raises `ToolError` if the map hasn't one of them, and
+        `MapRefused` if the store changed."""
+        wanted: Integers = np.unique(np.fromiter(lines, dtype=np.int64))
+        with self._asking:
+            if self._last is None or not self._last.has(wanted):
+                with self._store.reading() as store:
+                    self._last = PartOfNetwork(store, wanted)
+            return self._last
+
+    def around(self, low: Floats, high: Floats) -> Network:
+        """A network that has the lines within a box, and others near it: `low` has the least latitude and longitude in degrees, `high` the
+        greatest. Raises `ToolError` as `having`."""
+        return self.around_all([(low, high)])
+
+    def around_all(self, boxes: Iterable[tuple[Floats, Floats]]) -> Network:
+        """As `around`, of many boxes at once."""
+        discs = []
+        for low, high in boxes:
+            (lat, lon), (north, east) = (low + high) / 2e-6, (high - low) / 2e-6
+            scale = scale_at(lat)
+            radius = max(north, east * scale / 10_000) * MICRODEGREE
+            discs.append(Disc(lon, lat, radius, scale))
+        with self._asking, self._store.reading() as store:
+            return PartOfNetwork(store, store.lines_meeting(discs))
+
+    def line(self, id: int) -> "LineString":
+        """The whole polyline of a line. Raises `ToolError` if the map hasn't this line."""
+        return self.having([id]).line(id)
+
+    def polylines(self, pieces: Integers, counts: Integers) -> Polylines:
+        """As `Network.polylines`."""
+        return self.having(pieces[:, 0]).polylines(pieces, counts)
+
+    def points_at(self, places: Integers) -> Floats:
+        """As `Network.points_at`."""
+        return self.having(places[:, 0]).points_at(places)
+
+    def sources(self) -> Sources:
+        """Where the lines came from, which is looked up when it is asked for; none if the store doesn't say so. Ask anew for each lot of
+        lines: the file may be opened again. Raises as `having`."""
+        with self._asking, self._store.reading() as store:
+            return Sources.of_store(store)

@@ -1,0 +1,8 @@
+"""What all imports have in common.
+
+| module | subject |
+|---|---|
+| `roads` | roads, as polylines that share vertices, cut into the lines of a map |
+| `u_turns` | bans on turning back |
+| `writing` | bans on a map, and how a map is written |
+"""

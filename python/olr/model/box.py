@@ -1,0 +1,19 @@
+"""The part of a file that an import takes."""
+
+from typing import NamedTuple
+
+from olr.model.road_map import Position
+
+
+class Box(NamedTuple):
+    """A part of the earth, edges included, in microdegrees. It doesn't cross longitude 180."""
+
+    west: int
+    south: int
+    east: int
+    north: int
+
+    def holds(self, position: Position) -> bool:
+        """Whether a position is in the box."""
+        lon, lat = position
+        return self.west <= lon <= self.east and self.south <= lat <= self.north

@@ -1,0 +1,269 @@
+"""From the JSON of the program to the objects of `answers`."""
+
+import json
+from collections.abc import Callable, Iterator, Mapping, Sequence
+from contextlib import contextmanager
+from typing import Any, NamedTuple, Optional, TypeVar
+
+from olr.model.answers import (
+    Answer,
+    AnswerOrFault,
+    Better,
+    Candidate,
+    Candidates,
+    Leg,
+    Matching,
+    NearLine,
+    Page,
+    Pair,
+    PlaceOfReference,
+    Places,
+    Reference,
+    ReferencePoint,
+    Remedy,
+    Verdict,
+    Why,
+    WhyLeg,
+    WhyPoint,
+)
+from olr.model.fault import Fault
+from olr.model.late import Late
+from olr.model.pieces import Pieces, Place
+from olr.model.questions import What
+
+Json = dict[str, Any]
+Made = TypeVar("Made")
+
+_RENAMED = {"class": "class_", "from": "from_", "not": "not_"}
+_new = object.__new__
+_set = object.__setattr__
+
+
+class Lists(NamedTuple):
+    """What is read late: texts, by their numbers, and the digest of the map's nodes and lines."""
+
+    texts: Sequence[bytes]
+    digest: Optional[str]
+
+
+def _made(kind: type[Made], members: Json) -> Made:
+    """An object of a frozen dataclass with these members. Its own `__init__` sets one after the other, and takes four times as
+    long: an answer has fifty objects or more."""
+    made = _new(kind)
+    _set(made, "__dict__", members)
+    return made
+
+
+def _all_made(kind: type[Made], all_members: Sequence[Json]) -> tuple[Made, ...]:
+    """Objects of a frozen dataclass, as `_made` makes one: a call for each would take a third of the time."""
+    made = []
+    for members in all_members:
+        one = _new(kind)
+        _set(one, "__dict__", members)
+        made.append(one)
+    return tuple(made)
+
+
+def _renamed(members: Json, **others: Any) -> Json:
+    """Members with the names of the dataclasses, and others in place of some."""
+    return {_RENAMED.get(name, name): value for name, value in members.items()} | others
+
+
+def _pieces(number: Optional[int], lists: Lists) -> Optional[Pieces]:
+    return None if number is None else Pieces(lists.texts[number], lists.digest)
+
+
+def _matching(found: Json, lists: Lists) -> Matching:
+    found["legs"] = _all_made(Leg, found["legs"])
+    found["points"] = _all_made(Candidate, found["points"])
+    found["route"] = Pieces(lists.texts[found["route"]], lists.digest)
+    if "outer" in found:
+        found["outer"] = _pieces(found["outer"], lists)
+        found["inner"] = _pieces(found["inner"], lists)
+    else:
+        found["earliest"] = Place._make(found["earliest"])
+        found["latest"] = Place._make(found["latest"])
+    return _made(Matching, found)
+
+
+class Matchings(Late[Matching]):
+    """The matchings of a page."""
+
+    __slots__ = ()
+
+    def _read(self, text: bytes) -> tuple[Matching, ...]:
+        found, texts = _taken_apart(text)
+        lists = Lists(texts, self.digest)
+        return tuple([_matching(one, lists) for one in json.loads(found)])
+
+
+def _page(found: Json, lists: Lists) -> Page:
+    return Page(Matchings(lists.texts[found["matchings"]], lists.digest), found["next"])
+
+
+def _candidates(found: Json, _: Lists) -> Candidates:
+    points = [tuple([_made(Candidate, one) for one in point]) for point in found["points"]]
+    return Candidates(tuple(points))
+
+
+def _places(found: Json, lists: Lists) -> Places:
+    listed = tuple(
+        PlaceOfReference(one["gap"], _matching(one["matching"], lists), one["members"])
+        for one in found["places"]
+    )
+    return Places(**_renamed(found, places=listed))
+
+
+def _near(found: Json) -> NearLine:
+    return NearLine(**_renamed(found, not_=tuple(found["not"])))
+
+
+def _pair(found: Json) -> Pair:
+    better = None if found["better"] is None else Better(**_renamed(found["better"]))
+    return Pair(**_renamed(found, better=better))
+
+
+def _why(found: Json, _: Lists) -> Why:
+    legs = tuple(
+        WhyLeg(**_renamed(leg, pairs=tuple(map(_pair, leg["pairs"])))) for leg in found["legs"]
+    )
+    points = tuple(
+        WhyPoint(tuple(map(_near, point["nearest"])), point["candidates"])
+        for point in found["points"]
+    )
+    remedies = tuple(Remedy(**remedy) for remedy in found["remedies"])
+    return Why(legs, points, remedies, Verdict(**found["verdict"]))
+
+
+_READERS: Mapping[What, Callable[[Json, Lists], Answer]] = {
+    "candidates": _candidates,
+    "match": _page,
+    "places": _places,
+    "why": _why,
+}
+
+
+def reference(text: bytes) -> Reference:
+    """What `show` prints. Raises `ValueError` if it is something else."""
+    with _as_answer("show"):
+        found = json.loads(text)
+        points = tuple(ReferencePoint(**_renamed(point)) for point in found["points"])
+        return Reference(**_renamed(found, points=points))
+
+
+def page_of(text: bytes, digest: Optional[str]) -> Page:
+    """What `match` prints for a page, of a map of that digest. Raises `ValueError` if it is something else."""
+    with _as_answer("match"):
+        line, texts = _without_matchings(text)
+        return _page(json.loads(line), Lists(texts, digest))
+
+
+def answer_of(what: What, line: bytes, key: str, digest: Optional[str]) -> AnswerOrFault:
+    """What a line of `olr batch` answers to a question, of a map of that digest. Raises `ValueError` if it isn't the line of a record
+    with that key.
+
+    What is read late is taken out of the text before it is read, and a number put in its place.
+    """
+    texts: Sequence[bytes] = ()
+    if what == "match":
+        line, texts = _without_matchings(line)
+    elif what == "places":
+        line, texts = _taken_apart(line)
+    with _as_answer(what):
+        found = json.loads(line)
+        if found["key"] != key:
+            raise ValueError(f"the key is {found['key']!r}, not {key!r}")
+        if found["fault"] is not None:
+            return Fault(found["fault"])
+        return _READERS[what](found["answer"], Lists(texts, digest))
+
+
+_BEGINNINGS: Mapping[bytes, What] = {
+    b'{"points"': "candidates",
+    b'{"matchings"': "match",
+    b'{"looked"': "places",
+    b'{"legs"': "why",
+}
+"""How an answer to each question begins."""
+_ANSWER, _BEHIND = b'{"answer":', b',"fault":'
+
+
+class RawLine(NamedTuple):
+    """A line of `olr batch` taken apart."""
+
+    answer: bytes
+    """The program's JSON, `null` where there is a fault."""
+    fault: Optional[str]
+    key: Optional[str]
+    record: int
+
+
+def raw_line(line: bytes) -> RawLine:
+    """A line of `olr batch`, of which the answer isn't read. Raises `ValueError` if it isn't such a line."""
+    # No text within has these bytes, whose quotes would be escaped there.
+    head, found, tail = line.rpartition(_BEHIND)
+    answer = head.removeprefix(_ANSWER)
+    if not found or answer == head:
+        raise ValueError("it doesn't begin as one")
+    with _as_answer("a record"):
+        about = json.loads(b'{"fault":' + tail)
+        raw = RawLine(answer, about["fault"], about["key"], about["record"])
+        texts = all(isinstance(it, (str, type(None))) for it in (raw.fault, raw.key))
+        if not texts or not isinstance(raw.record, int):
+            raise ValueError("it has no record")
+        if (raw.fault is None) == (answer == b"null"):
+            raise ValueError("it has an answer and a fault, or neither")
+        return raw
+
+
+def line_of(line: bytes, digest: Optional[str] = None) -> tuple[Optional[str], int, AnswerOrFault]:
+    """What a line of `olr batch` has: the key, the number of the record, and the answer to whichever question, of a map of that digest.
+    Raises `ValueError` if it isn't such a line."""
+    raw = raw_line(line)
+    if raw.fault is not None:
+        return raw.key, raw.record, Fault(raw.fault)
+    what = _BEGINNINGS.get(raw.answer.partition(b":")[0])
+    if what is None:
+        raise ValueError("it doesn't begin as one")
+    return raw.key, raw.record, read_answer(what, raw.answer, digest)
+
+
+def read_answer(what: What, answer: bytes, digest: Optional[str]) -> Answer:
+    """What the JSON of an answer says, of a map of that digest. Raises `ValueError` if it isn't an answer to that question."""
+    texts: Sequence[bytes] = ()
+    with _as_answer(what):
+        if what == "match":
+            answer, texts = _without_matchings(answer)
+        elif what == "places":
+            answer, texts = _taken_apart(answer)
+        return _READERS[what](json.loads(answer), Lists(texts, digest))
+
+
+@contextmanager
+def _as_answer(what: str) -> Iterator[None]:
+    """Raises `ValueError` for all that is wrong with an answer."""
+    try:
+        yield
+    except (KeyError, TypeError, IndexError, AttributeError) as error:
+        raise ValueError(f"{what} isn't answered so: {error!r}") from error
+
+
+def _taken_apart(line: bytes) -> tuple[bytes, list[bytes]]:
+    """A line with numbers in place of its lists of pieces, from 0, and these lists."""
+    lists: list[bytes] = []
+    text, *parts = line.split(b"[[")
+    texts = [text]
+    for number, part in enumerate(parts):
+        pieces, _, behind = part.partition(b"]]")
+        lists.append(b"[[%b]]" % pieces)
+        texts.append(b"%d%b" % (number, behind))
+    return b"".join(texts), lists
+
+
+def _without_matchings(line: bytes) -> tuple[bytes, list[bytes]]:
+    """A line with 0 in place of its list of matchings, and that list; or a line that has none as it is."""
+    front, found, behind = line.rpartition(b'],"next":')
+    head, found_too, matchings = front.partition(b'"matchings":[')
+    if not (found and found_too):
+        return line, []
+    return b'%b"matchings":0,"next":%b' % (head, behind), [b"[%b]" % matchings]

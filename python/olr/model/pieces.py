@@ -1,0 +1,41 @@
+"""Places on lines, and pieces of lines."""
+
+import json
+from typing import NamedTuple
+
+from olr.model.late import Late
+
+
+class Place(NamedTuple):
+    """A position on a line of the map, in decimetres from its start."""
+
+    line: int
+    at: int
+
+
+class Piece(NamedTuple):
+    """The part of a line between two positions, in decimetres from its start."""
+
+    line: int
+    from_: int
+    to: int
+
+
+class Pieces(Late[Piece]):
+    """Pieces of lines, one behind the other."""
+
+    __slots__ = ()
+
+    def _read(self, text: bytes) -> tuple[Piece, ...]:
+        return tuple(map(Piece._make, json.loads(text)))
+
+    def text(self) -> bytes:
+        """The pieces as the program's JSON has them."""
+        held = self._held
+        if isinstance(held, bytes):
+            return held
+        return json.dumps([list(map(int, piece)) for piece in held]).encode()
+
+    def length(self) -> int:
+        """The length of all pieces together, in decimetres."""
+        return sum(piece.to - piece.from_ for piece in self)

@@ -1,0 +1,188 @@
+"""What can be asked about a reference on a map, with which numbers; and a reference as the text of a record."""
+
+import inspect
+import re
+from collections.abc import Callable, Iterable, Mapping
+from keyword import iskeyword
+from numbers import Integral
+from typing import Any, Literal, NamedTuple, TypeVar
+
+from olr.model.fault import Fault
+
+What = Literal["candidates", "match", "places", "why"]
+Item = TypeVar("Item")
+Call = TypeVar("Call", bound=Callable[..., Any])
+
+
+class Number(NamedTuple):
+    """A number of a question: its range, what it is where it is left out, what it counts, and what it is for. The default of a tolerance
+    is that of the program: `olr.model.profiles` has others."""
+
+    least: int
+    greatest: int
+    default: int
+    unit: str
+    purpose: str
+
+    def span_text(self) -> str:
+        """Its range, with its unit."""
+        return f"{self.least} to {self.greatest} {self.unit}"
+
+    def range_text(self) -> str:
+        """Its range, with its unit and its default."""
+        return f"{self.span_text()}, by default {self.default}"
+
+    def tolerance_text(self) -> str:
+        """The range of a tolerance, with its unit and where its default comes from."""
+        return f"{self.span_text()}, by default that of the profile"
+
+
+TOLERANCES: Mapping[str, Number] = {
+    "radius": Number(1, 1000, 100, "metres", "admit lines this far from a point"),
+    "bearing": Number(
+        0, 16, 4, "sectors of 11.25 degrees", "admit lines whose direction differs by so much"
+    ),
+    "class": Number(0, 7, 7, "classes", "admit lines whose class differs by so much"),
+    "lowest": Number(
+        0, 7, 0, "classes", "admit roads less important than the reference allows by so much"
+    ),
+    "percent": Number(0, 100, 30, "percent", "admit paths shorter or longer by this share"),
+    "slack": Number(0, 10_000, 300, "decimetres", "admit paths shorter or longer by so much again"),
+}
+NUMBERS: Mapping[What, Mapping[str, Number]] = {
+    "candidates": {},
+    "match": {"page": Number(1, 1000, 10, "matchings", "list so many of each reference")},
+    "places": {
+        "apart": Number(
+            0, 1_000_000, 750, "decimetres", "put matchings together that differ by so much at most"
+        ),
+        "within": Number(
+            0,
+            14_620,
+            30,
+            "penalty points",
+            "list places that cost at most so much more than the best one",
+        ),
+        "look": Number(1, 1_000_000, 1000, "matchings", "look at so many"),
+        "most": Number(1, 100, 10, "places", "list so many"),
+    },
+    "why": {"nearest": Number(0, 64, 8, "lines", "show so many near each point")},
+}
+"""The numbers of each question besides the tolerances."""
+ALL = {
+    name: number for numbers in (TOLERANCES, *NUMBERS.values()) for name, number in numbers.items()
+}
+BLANKS = " \t\r\n"
+CURSOR = re.compile("[0-9.:]+(@[0-9a-f]{64})?")
+"""What a cursor looks like: of such texts the program says which is one."""
+MOST_CURSOR = 166
+"""Letters of the longest one."""
+MOST_BYTES = 344
+"""Of a reference without the blanks at its ends."""
+
+
+def record_text(reference: str) -> bytes:
+    """A text as a part of one record, so that its answer or fault is that of the text itself.
+
+    Blanks at the ends don't count. A line end within is no base64, and neither is a blank. A text that is too long is too long
+    whatever it has, and a short one stands for it. Raises `TypeError` if it isn't a text.
+    """
+    if isinstance(reference, (bytes, bytearray)):
+        raise TypeError(
+            "a reference is a text in base64, not bytes: give data.decode() if they are that text, and "
+            "base64.b64encode(data).decode() if they are its binary form"
+        )
+    if not isinstance(reference, str):
+        raise TypeError(
+            f"a reference is a text, not {type(reference).__name__}: give an empty text where there is none"
+        )
+    text = reference.strip(BLANKS).encode("utf-8", errors="replace")
+    if len(text) > MOST_BYTES:
+        return b"A" * (MOST_BYTES + 1)
+    return text.replace(b"\n", b" ").replace(b"\0", b" ")
+
+
+def many(call: str, items: Iterable[Item], instead: str) -> Iterable[Item]:
+    """What a call takes many of. Raises `TypeError` for a text, whose items would be its letters."""
+    if isinstance(items, (str, bytes, bytearray)):
+        raise TypeError(f"{call}, not one text: {instead}")
+    return items
+
+
+def number_words(name: str, value: int) -> list[str]:
+    """The words of a number, which may be one of numpy. Raises `TypeError` for what isn't one, and `Fault` for one that is out of its
+    range, as the program does."""
+    least, greatest, _, unit, _ = ALL[name]
+    wanted = f"{name} is a whole number of {unit} from {least} to {greatest}, not {value!r}"
+    if isinstance(value, bool) or not issubclass(type(value), Integral):
+        raise TypeError(wanted)
+    number = int(value)
+    if not least <= number <= greatest:
+        raise Fault(_fault_of(name, number), wanted)
+    return [f"--{name}", str(number)]
+
+
+def argument(name: str) -> str:
+    """The name of a number as an argument in Python, where `class` is a word of the language: `class_`."""
+    return f"{name}_" if iskeyword(name) else name
+
+
+def all_tolerances(given: Mapping[str, int], others: Mapping[str, int]) -> dict[str, int]:
+    """All tolerances by their names: those that were given as arguments, and the `others` by their names. Raises `TypeError` for what is
+    no tolerance, as a call in Python does."""
+    names = {argument(name): name for name in TOLERANCES}
+    for name in given:
+        if name not in names:
+            raise TypeError(
+                f"Map() got an unexpected keyword argument {name!r}: the tolerances are {', '.join(names)}"
+            )
+    return {name: given.get(key, others[name]) for key, name in names.items()}
+
+
+def with_tolerances(call: Call) -> Call:
+    """A call that has tolerances as its `**` arguments: help shows each by its name, with the program's default, and what it is."""
+    signature, kind = inspect.signature(call), inspect.Parameter.KEYWORD_ONLY
+    others = list(signature.parameters.values())[:-1]
+    tolerances = [
+        inspect.Parameter(argument(name), kind, default=number.default, annotation=int)
+        for name, number in TOLERANCES.items()
+    ]
+    lines = [
+        f"`{argument(name)}`: {number.purpose}: {number.tolerance_text()}."
+        for name, number in TOLERANCES.items()
+    ]
+    call.__doc__ = "\n".join([f"{inspect.getdoc(call) or ''}\n", *lines])
+    setattr(call, "__signature__", signature.replace(parameters=[*others, *tolerances]))
+    return call
+
+
+def words_of(what: What, given: Mapping[str, int]) -> list[str]:
+    """The words of all numbers of a question: those that were given, and the others as they are where they are left out. Raises
+    `ValueError` for what is no question, `TypeError` for a number that it doesn't have, and as `number_words`.
+    """
+    if what not in NUMBERS:
+        raise ValueError(f"{what!r} is no question: ask {', '.join(NUMBERS)}")
+    numbers = NUMBERS[what]
+    for name in given:
+        if name not in numbers:
+            raise TypeError(f"{what} has no number {name}: it has {', '.join(numbers) or 'none'}")
+    pairs = [
+        number_words(name, given.get(name, number.default)) for name, number in numbers.items()
+    ]
+    return [word for pair in pairs for word in pair]
+
+
+def _fault_of(name: str, value: int) -> str:
+    """What the program says of a number that is out of its range."""
+    if name == "page":
+        return f"BadPage {value}"
+    return f"BadTolerance {name}" if name in TOLERANCES else f"BadNumber {name}"
+
+
+def cursor_of(text: str) -> str:
+    """A text that looks like a cursor. Raises `TypeError` for what is no text, and else the fault of the program."""
+    if not isinstance(text, str):
+        raise TypeError(f"after is a cursor, such as the next of a page, not {type(text).__name__}")
+    if not CURSOR.fullmatch(text) or len(text) > MOST_CURSOR:
+        raise Fault("BadCursor")
+    return text

@@ -1,0 +1,93 @@
+"""A file of messages, asked and counted."""
+
+from collections.abc import Iterable, Iterator, Mapping
+from typing import NamedTuple, Union
+
+from olr.client.map_client import Map
+from olr.confidence.choosing import listing
+from olr.confidence.judged import Judging, judged
+from olr.matching.asking import Asked
+from olr.matching.lacking import Lacking
+from olr.matching.rows import Located, in_chunks
+from olr.messages.message import Message
+from olr.model.answers import AnswerOrFault, Places
+from olr.model.fault import Fault
+from olr.model.reference import read_reference
+from olr.pages.report.counting import PlaceCounts
+from olr.pages.report.reasons import ReasonCounts
+from olr.pages.report.sample import Drawn, Sample
+
+CHUNK = 1024
+"""So many references are kept, of which `why` is asked then."""
+CROWDED = "TooManyCandidates"
+
+
+class Counted(NamedTuple):
+    """What was counted of a file of messages."""
+
+    places: PlaceCounts
+    reasons: ReasonCounts
+    sample: list[Drawn]
+    lacking: Lacking
+    """Those that fit nowhere."""
+
+
+def count(
+    messages: Asked,
+    asked: Map,
+    numbers: Mapping[str, int],
+    rows: int,
+    judging: Judging,
+    lacking: Lacking,
+) -> Counted:
+    """Asks where the references of messages are, and why some fit nothing, judges the answers, and counts them. `rows` is how many messages
+    are in the sample at most. Those that fit nowhere are added to `lacking`. Raises `ToolError`."""
+    places, reasons, sample = PlaceCounts(), ReasonCounts(), Sample(rows)
+    network = asked.network()
+    kept: list[_Kept] = []
+    for chunk, answers in in_chunks(_located(messages.answered("places", listing(numbers)))):
+        references = [read_reference(message.reference) for message in chunk]
+        judgements = judged(answers, references, network, judging)
+        for message, answer, judgement in zip(chunk, answers, judgements):
+            assert isinstance(answer, (Places, Fault))
+            places.add(answer, judgement)
+            sample.add(message, answer)
+            if _is_without_place(answer):
+                kept.append(_Kept(message.reference, isinstance(answer, Places)))
+            if len(kept) == CHUNK:
+                _count_reasons(kept, asked, reasons, lacking)
+    _count_reasons(kept, asked, reasons, lacking)
+    return Counted(places, reasons, sample.chosen(), lacking)
+
+
+def _located(
+    answered: Iterable[tuple[Message, AnswerOrFault]]
+) -> Iterator[tuple[Message, Located]]:
+    """Messages with their answers, which say where they are."""
+    for message, answer in answered:
+        assert isinstance(answer, (Places, Fault))
+        yield message, answer
+
+
+class _Kept(NamedTuple):
+    """A reference of which `why` is asked."""
+
+    text: str
+    fits_nowhere: bool
+
+
+def _is_without_place(answer: Union[Places, Fault]) -> bool:
+    """Whether `why` says more of a reference."""
+    if isinstance(answer, Fault):
+        return answer.name == CROWDED
+    return answer.verdict == "none"
+
+
+def _count_reasons(kept: list[_Kept], asked: Map, reasons: ReasonCounts, lacking: Lacking) -> None:
+    """Asks why references fit nothing, and forgets them."""
+    answers = list(asked.answers("why", (one.text for one in kept)))
+    for answer in answers:
+        reasons.add(answer)
+    nowhere = [(one.text, answer) for one, answer in zip(kept, answers) if one.fits_nowhere]
+    lacking.add_answered([text for text, _ in nowhere], [answer for _, answer in nowhere])
+    kept.clear()

@@ -1,0 +1,251 @@
+"""Messages as rows of the table of references, with what the map shows of them, and the scene of each one's page."""
+
+from collections.abc import Iterable, Iterator, Mapping, Sequence
+from typing import Any, NamedTuple, Optional, Union
+
+import numpy as np
+
+from olr.client.map_client import Map
+from olr.confidence.judged import Judged, Judging
+from olr.geometry.network import Network
+from olr.geometry.store_network import StoreNetwork
+from olr.model.answers import Candidates, Page, Places, Why
+from olr.model.fault import Fault
+from olr.model.reference import read_reference
+from olr.pages.report.sample import Drawn
+from olr.pages.view.scene import Answered, answers_about, judgements_of, scene_of_answers
+from olr.pages.view.sentences import why_texts
+from olr.pages.view.surroundings import DIGITS, Scene, Surroundings, box_of, network_around
+from olr.progress import watched
+
+CHUNK = 100
+"""So many references are asked at once."""
+MOST_LINES = 20_000
+"""Of the map, in a page."""
+ORDER = ("none", "refused", "unique", "open", "ambiguous", "lacking")
+"""Of what the map shows: the last ones are seen best."""
+GEOMETRIES = ("route", "outer", "inner")
+DIGITS_OF_PROBABILITY = 3
+TURNS_BACK = "turns back"
+"""What the table says of a likeliest place that turns back."""
+
+Row = dict[str, Any]
+Steps = list[int]
+
+
+class Rows(NamedTuple):
+    """The rows of the table, and what belongs to them."""
+
+    rows: list[Row]
+    scenes: list[Optional[Scene]]
+    """Of each row; None where a text is no reference."""
+    shapes: list[Row]
+    """What the map shows."""
+    lines: list[Scene]
+    """The lines of the map around scenes, the more important ones first."""
+    cut: int
+    """How many more there are."""
+
+
+def rows_of(
+    drawn: Sequence[Drawn], asked: Map, numbers: Mapping[str, int], judging: Judging
+) -> Rows:
+    """Asks about messages, and makes rows of the answers, which are judged. Raises `ToolError`."""
+    network, lines = asked.network(), _Lines()
+    rows: list[Row] = []
+    scenes: list[Optional[Scene]] = []
+    shapes: list[Row] = []
+    for chunk in _chunks(watched(drawn, "references drawn", len(drawn))):
+        answers = _answers_about(chunk, asked, numbers)
+        made = _scenes(answers, network, judging)
+        lines.add(network, [scene for scene, _ in made if scene is not None])
+        for one, answered, (scene, judgement) in zip(chunk, answers, made):
+            if answered is not None and scene is not None:
+                _pack(scene)
+                shapes += _shapes(len(rows), answered, scene)
+            rows.append(_row(one, answered, judgement))
+            scenes.append(scene)
+    # What is drawn last is seen.
+    shapes.sort(key=lambda shape: ORDER.index(shape["kind"]))
+    return Rows(rows, scenes, shapes, *lines.chosen())
+
+
+def _scenes(
+    answers: Sequence[Optional[Answered]], network: Network, judging: Judging
+) -> list[tuple[Optional[Scene], Optional[Judged]]]:
+    """The scene of each answer, and how its places are judged; None where a text is no reference."""
+    known = [one for one in answers if one is not None]
+    part = _network_of(known, network)
+    judgements = judgements_of(known, part, judging)
+    found = iter(
+        [
+            (scene_of_answers(one, part, judgement, judging.confidence), judgement)
+            for one, judgement in zip(known, judgements)
+        ]
+    )
+    return [(None, None) if one is None else next(found) for one in answers]
+
+
+def _chunks(drawn: Iterable[Drawn]) -> Iterator[list[Drawn]]:
+    """Messages, some at a time."""
+    chunk: list[Drawn] = []
+    for one in drawn:
+        chunk.append(one)
+        if len(chunk) == CHUNK:
+            yield chunk
+            chunk = []
+    if chunk:
+        yield chunk
+
+
+def _answers_about(
+    chunk: Sequence[Drawn], asked: Map, numbers: Mapping[str, int]
+) -> list[Optional[Answered]]:
+    """What is answered about each of some messages; None where a text is no reference."""
+    references = [read_reference(one.message.reference) for one in chunk]
+    known = [
+        (one.message.reference, reference)
+        for one, reference in zip(chunk, references)
+        if reference is not None
+    ]
+    answers = iter(answers_about(known, asked, **numbers))
+    return [None if reference is None else next(answers) for reference in references]
+
+
+def _network_of(answers: Iterable[Answered], network: Network) -> Network:
+    """A network with all lines of answers. Those of a store are read at once."""
+    if not isinstance(network, StoreNetwork):
+        return network
+    return network.having(line for answered in answers for line in _lines_of(answered))
+
+
+def _lines_of(answered: Answered) -> Iterator[int]:
+    """The lines of an answer, by their ids."""
+    if isinstance(answered.candidates, Candidates):
+        yield from (one.line for point in answered.candidates.points for one in point)
+    if isinstance(answered.places, Places):
+        yield from (it.line for one in answered.places.places for it in one.matching.route)
+    if isinstance(answered.page, Page):
+        yield from (it.line for one in answered.page.matchings for it in one.route)
+    if isinstance(answered.why, Why):
+        yield from (line.line for point in answered.why.points for line in point.nearest)
+
+
+class _Lines:
+    """Lines of the map around scenes: the most important ones of all that were added."""
+
+    def __init__(self) -> None:
+        self._found: dict[int, Scene] = {}
+        self._seen: set[int] = set()
+        self._last: Optional[tuple[Network, Surroundings]] = None
+
+    def add(self, network: Network, scenes: Sequence[Scene]) -> None:
+        """Adds the lines around scenes, and to each scene its box, and how many lines there are in it."""
+        if not scenes:
+            return
+        boxes = [box_of(scene) for scene in scenes]
+        around = self._around(network_around(network, boxes))
+        for scene, box in zip(scenes, boxes):
+            near = around.within(box)
+            scene |= {"box": [*box.low.tolist(), *box.high.tolist()], "near": len(near)}
+            for index in near.tolist():
+                line = around.id(index)
+                if line not in self._seen:
+                    self._seen.add(line)
+                    self._found[line] = around.line(index)
+        if len(self._found) > 2 * MOST_LINES:
+            self._cut()
+
+    def _around(self, network: Network) -> Surroundings:
+        """The lines of a network by their boxes, which are computed once."""
+        if self._last is None or self._last[0] is not network:
+            self._last = network, Surroundings(network)
+        return self._last[1]
+
+    def _cut(self) -> None:
+        """Keeps the most important lines."""
+        by_class = sorted(self._found.values(), key=lambda line: (line["class"], line["id"]))
+        self._found = {line["id"]: line for line in by_class[:MOST_LINES]}
+
+    def chosen(self) -> tuple[list[Scene], int]:
+        """The most important lines, and how many more there are."""
+        self._cut()
+        lines = [line | {"path": _steps(line["path"])} for line in self._found.values()]
+        return lines, len(self._seen) - len(lines)
+
+
+def _row(drawn: Drawn, answered: Optional[Answered], judgement: Optional[Judged]) -> Row:
+    """A row of the table: its numbers are those of the likeliest place. Lengths are in metres."""
+    row: Row = {"record": drawn.message.record, "key": drawn.message.key, "verdict": "refused"}
+    if answered is None:
+        return row | _cause(drawn.fault)
+    row["points"] = len(answered.reference.points)
+    if isinstance(answered.places, Fault):
+        return row | _cause(answered.places)
+    assert judgement is not None
+    row |= {"verdict": judgement.verdict, "margin": judgement.margin}
+    if not judgement.places:
+        return row | _cause(answered.why)
+    likeliest = judgement.places[0]
+    matching = likeliest.place.matching
+    row["total"] = matching.total
+    if matching.outer is not None:
+        row["length"] = matching.outer.length() / 10
+    if likeliest.turns_back:
+        row["turns_back"] = TURNS_BACK
+    if likeliest.probability is not None and judgement.none_of_these is not None:
+        row["probability"] = round(likeliest.probability, DIGITS_OF_PROBABILITY)
+        row["none_of_these"] = round(judgement.none_of_these, DIGITS_OF_PROBABILITY)
+    return row
+
+
+def _cause(cause: Union[Why, Fault, None]) -> Row:
+    """Why a reference fits nothing, in a word and as a text."""
+    if cause is None:
+        return {}
+    if isinstance(cause, Why):
+        return {"cause": cause.verdict.word, "reason": why_texts(cause)[0]}
+    return {"cause": cause.name, "reason": ": ".join(filter(None, [cause.text, cause.meaning]))}
+
+
+def _shapes(row: int, answered: Answered, scene: Scene) -> list[Row]:
+    """What the map shows of a row: the outer part of the likeliest place, as the number of one of the scene's paths, or a spot; else the
+    straight line through the points of the reference, and those of them that have no candidate."""
+    kind = scene["verdict"]["word"]
+    spots = [point["spot"] for point in scene["points"]]
+    if scene["entries"]:
+        return [{"row": row, "kind": kind} | _place(scene["entries"][0], scene["paths"], spots)]
+    found: list[Row] = [{"row": row, "kind": kind, "path": spots}]
+    if isinstance(answered.why, Why):
+        found += [
+            {"row": row, "kind": "lacking", "spot": spot}
+            for spot, point in zip(spots, answered.why.points)
+            if point.candidates == 0
+        ]
+    return found
+
+
+def _place(entry: Scene, paths: Sequence[Steps], spots: Sequence[list[float]]) -> Row:
+    """Where an entry is."""
+    if entry["spot"]:
+        return {"spot": entry["spot"]}
+    there = [entry[name] for name in ("outer", "route") if entry[name] is not None]
+    drawn = [number for number in there if len(paths[number]) > 2]
+    return {"path": drawn[0]} if drawn else {"spot": spots[0]}
+
+
+def _pack(scene: Scene) -> None:
+    """Puts numbers in place of the geometries of a scene's entries, and these into `paths`, each once: many of them are equal."""
+    numbers: dict[tuple[int, ...], int] = {}
+    for entry in scene["entries"]:
+        for name in GEOMETRIES:
+            if entry[name] is not None:
+                entry[name] = numbers.setdefault(tuple(_steps(entry[name])), len(numbers))
+    scene["paths"] = list(numbers)
+
+
+def _steps(path: Sequence[Sequence[float]]) -> Steps:
+    """A path as steps of latitude and longitude, from 0 on, in units of the last digit: a third of the letters."""
+    whole = np.rint(np.array(path).reshape(-1, 2) * 10**DIGITS).astype(np.int64)
+    steps: Steps = np.diff(whole, axis=0, prepend=0).ravel().tolist()
+    return steps

@@ -1,0 +1,265 @@
+"""All that a page draws, as data for its script. Positions are `[latitude, longitude]` in degrees."""
+
+from collections.abc import Iterator, Mapping, Sequence
+from functools import partial
+from typing import Any, NamedTuple, Optional, Union
+
+import numpy as np
+
+from olr.asking.decoding import decode
+from olr.client.map_client import Map
+from olr.confidence.confidence import Confidence
+from olr.confidence.judged import Judged, JudgedPlace, Judging, judged
+from olr.geometry.network import Network, OnLine, middle
+from olr.likely.order import LIST, Shown
+from olr.model.answers import Candidate, Candidates, Matching, Page, Places, Reference, Why
+from olr.model.asked_with import command_text
+from olr.model.fault import Fault
+from olr.model.pieces import Pieces
+from olr.model.questions import What
+from olr.near_paths.notes import streets_of
+from olr.pages.view import sentences
+from olr.pages.view.notes import notes_of
+from olr.pages.view.surroundings import Scene, Surroundings, box_of, network_around, path_of
+
+MOST_IDS = 6
+
+
+class Answered(NamedTuple):
+    """A reference with what the program answers about it."""
+
+    text: str
+    reference: Reference
+    candidates: Union[Candidates, Fault]
+    places: Union[Places, Fault]
+    page: Union[Page, Fault]
+    why: Union[Why, Fault, None] = None
+    """None where it fits somewhere."""
+
+
+def scene_of(
+    text: str, asked: Map, confidence: Optional[Confidence] = None, **numbers: int
+) -> Scene:
+    """What a reference says, where it fits and how well; or why it doesn't. With a confidence it says how probable each place is. The
+    numbers are those of `places`. Raises `Fault` if it is no reference, or a number is out of its range, and `MapRefused` if the map's
+    files change meanwhile."""
+    judging = Judging(confidence, Shown.of(numbers))
+    reference = decode(text)
+    network = asked.network()
+    (answered,) = answers_about([(text, reference)], asked, **numbers)
+    if isinstance(answered.why, Fault):
+        raise answered.why
+    (judgement,) = judgements_of([answered], network, judging)
+    scene = scene_of_answers(answered, network, judgement, confidence)
+    lowest = asked.tolerances["lowest"]
+    scene |= notes_of(scene, answered, network, lowest, partial(streets_of, asked))
+    box = box_of(scene)
+    scene["lines"], scene["cut"] = Surroundings(network_around(network, [box])).lines(box)
+    return scene
+
+
+def answers_about(
+    references: Sequence[tuple[str, Reference]], asked: Map, **numbers: int
+) -> list[Answered]:
+    """What scenes of references are made from. The numbers are those of `places`: a longer list is asked for, so that what is shown of it
+    doesn't depend on its length. Raises `Fault` for a number that is out of its range, and `MapRefused` if the map's files change
+    meanwhile."""
+    texts = [text for text, _ in references]
+    candidates = asked.answers("candidates", texts)
+    places: Iterator[Any] = asked.answers("places", texts, **{**numbers, **LIST})
+    pages = asked.answers("match", texts)
+    answers = zip(references, candidates, places, pages, strict=True)
+    found = [Answered(*about, one, two, three) for about, one, two, three in answers]
+    reasons = asked.answers("why", (one.text for one in found if not fits(one)))
+    return [one if fits(one) else one._replace(why=next(reasons)) for one in found]
+
+
+def fits(answered: Answered) -> bool:
+    """Whether there is a place, or a matching."""
+    places, page = answered.places, answered.page
+    if isinstance(places, Fault) or isinstance(page, Fault):
+        return False
+    return bool(places.places or page.matchings)
+
+
+def judgements_of(
+    answers: Sequence[Answered], network: Network, judging: Judging
+) -> list[Optional[Judged]]:
+    """Which places of answers are shown, and how probable they are; None where there is no answer. Raises as `scene_of_answers`."""
+    return judged(
+        [one.places for one in answers], [one.reference for one in answers], network, judging
+    )
+
+
+def scene_of_answers(
+    answered: Answered,
+    network: Network,
+    judgement: Optional[Judged],
+    confidence: Optional[Confidence] = None,
+) -> Scene:
+    """The scene of a reference that was asked about, without the lines around. `judgement` is that of its places, by a confidence if there
+    is one. Raises `MapRefused` if the network is of another version of the map, and `ToolError` if it lacks a line of an answer.
+    """
+    reference, candidates, places, page = answered[1:5]
+    scene: Scene = {
+        "reference": answered.text.strip(),
+        "kind": reference.kind.replace("-", " "),
+        "offsets": sentences.offsets_text(reference),
+        "points": _points(reference),
+        "candidates": [],
+        "entries": [],
+        "why": None,
+        "command": "",
+        "verdict": {"word": "refused", "text": ""},
+        "probability": [],
+        "looking": "",
+    }
+    if isinstance(candidates, Candidates):
+        scene["candidates"] = [_ranked(point, network) for point in candidates.points]
+    if isinstance(places, Places) and isinstance(page, Page):
+        assert judgement is not None
+        scene["verdict"] = {
+            "word": judgement.verdict,
+            "text": sentences.verdict_text(judgement.verdict, judgement.margin),
+        }
+        if confidence is not None and judgement.places:
+            scene["probability"] = sentences.probability_texts(judgement, confidence)
+        if judgement.is_cut_off:
+            scene["looking"] = sentences.CUT_OFF
+        scene["entries"] = _entries(judgement.places, page, network)
+    else:
+        fault = next(one for one in (places, page) if isinstance(one, Fault))
+        scene["verdict"]["text"] = f"{fault.text}: {fault.meaning}."
+    if answered.why is not None:
+        scene["why"] = _why(answered.why, network)
+    return scene
+
+
+def add_command(scene: Scene, map_name: Optional[str], numbers: Mapping[str, int]) -> None:
+    """Adds the command of the program `olr` that gives the same answer, with all its places: an empty text if there is none, as the
+    program doesn't read the map. The numbers are all tolerances and the numbers of `places`, by the names of the program's options.
+    """
+    question: What = "places" if scene["why"] is None else "why"
+    scene["command"] = command_text(question, scene["reference"], map_name, {**numbers, **LIST})
+
+
+def _points(reference: Reference) -> list[Scene]:
+    """The points of a reference. The direction at the last one is that back along the road."""
+    return [
+        {
+            "spot": [point.lat / 1e6, point.lon / 1e6],
+            "direction": [
+                point.sector * sentences.SECTOR,
+                (point.sector + 1) * sentences.SECTOR,
+            ],
+            "text": sentences.point_text(point),
+            "leg": sentences.leg_text(point),
+        }
+        for point in reference.points
+    ]
+
+
+def _ranked(candidates: Sequence[Candidate], network: Network) -> list[Scene]:
+    """The candidates of a point."""
+    return [
+        {"rank": rank, "line": one.line, "at": one.at, "penalty": one.penalty, "spot": spot}
+        for rank, (one, spot) in enumerate(zip(candidates, _spots(candidates, network)), 1)
+    ]
+
+
+def _entries(places: Sequence[JudgedPlace], page: Page, network: Network) -> list[Scene]:
+    """The places, the likeliest one first, and then those of the first matchings that don't open one."""
+    entries = []
+    for one in places:
+        members = one.place.members
+        entry = _entry(one.place.matching, network) | {
+            "title": f"Place {one.likely}",
+            "gap": one.place.gap,
+            "members": "1 matching" if members == 1 else f"{members} matchings",
+            "probability": sentences.place_probability_text(one),
+            "facts": sentences.place_texts(one),
+            "reasons": one.reasons,
+        }
+        entries.append(entry)
+    openers = {one.place.matching.cursor for one in places}
+    for number, matching in enumerate(page.matchings, 1):
+        if matching.cursor not in openers:
+            entry = _entry(matching, network) | {
+                "title": f"Matching {number}",
+                "gap": matching.total - page.matchings[0].total,
+                "members": None,
+                "probability": "",
+                "facts": [],
+                "reasons": "",
+            }
+            entries.append(entry)
+    return entries
+
+
+def _entry(matching: Matching, network: Network) -> Scene:
+    """A matching with its geometries."""
+    paths = _Paths(network)
+    entry: Scene = {
+        "cursor": matching.cursor,
+        "total": matching.total,
+        "ranks": [int(rank) for rank in matching.cursor.split(":")[1].split(".")],
+        "legs": sentences.legs_text(matching.legs),
+        "lines": _ids([piece.line for piece in matching.route]),
+        "route": paths.of(matching.route),
+        "outer": paths.of(matching.outer),
+        "inner": paths.of(matching.inner),
+        "spot": None,
+        "ends": [],
+        "length": "",
+    }
+    if matching.earliest is not None and matching.latest is not None:
+        ends = [matching.earliest, matching.latest]
+        halfway = middle(matching.route, *ends)
+        entry["spot"], *entry["ends"] = _spots([halfway, *ends], network)
+    elif matching.outer is not None:
+        entry["length"] = sentences.metres(matching.outer.length())
+    return entry
+
+
+class _Paths:
+    """The geometries of pieces. Those of a matching are often the same ones."""
+
+    def __init__(self, network: Network) -> None:
+        self._network = network
+        self._found: dict[Pieces, list[list[float]]] = {}
+
+    def of(self, pieces: Optional[Pieces]) -> Optional[list[list[float]]]:
+        """The geometry of pieces, if there are any."""
+        if pieces is None:
+            return None
+        if pieces not in self._found:
+            self._found[pieces] = path_of(self._network.path(pieces))
+        return self._found[pieces]
+
+
+def _ids(lines: list[int]) -> str:
+    """The ids of lines, the first ones if there are many."""
+    more = f" and {len(lines) - MOST_IDS} more" if len(lines) > MOST_IDS else ""
+    return " ".join(map(str, lines[:MOST_IDS])) + more
+
+
+def _why(why: Union[Why, Fault], network: Network) -> Scene:
+    """Why nothing fits, and the lines near the points."""
+    if isinstance(why, Fault):
+        return {"texts": [f"{why.text}: {why.meaning}."], "remedies": [], "near": []}
+    lines = [line for point in why.points for line in point.nearest]
+    near = [
+        {"line": line.line, "not": list(line.not_), "spot": spot}
+        for line, spot in zip(lines, _spots(lines, network))
+    ]
+    return {
+        "texts": sentences.why_texts(why),
+        "remedies": [sentences.remedy_text(remedy) for remedy in why.remedies],
+        "near": near,
+    }
+
+
+def _spots(places: Sequence[OnLine], network: Network) -> list[list[float]]:
+    """Where places on lines are."""
+    rows = np.array([(one.line, one.at) for one in places], dtype=np.int64)
+    return path_of(network.points_at(rows)) if len(rows) else []
