@@ -5,7 +5,7 @@ import time
 from dataclasses import dataclass
 from functools import lru_cache, partial
 from pathlib import Path
-from typing import NamedTuple, Optional
+from typing import NamedTuple
 
 from olr.errors import ToolError
 from olr.progress import watched
@@ -67,7 +67,7 @@ class Stamp(NamedTuple):
         return min(max(SETTLED - (time.time_ns() - self.changed), 0), SETTLED)
 
 
-def digest_of(*files: Path) -> Optional[str]:
+def digest_of(*files: Path) -> str | None:
     """A name of what files have in them together: the digest of their digests. None if one of them can't be read, or can't be read
     twice, as a pipe. Files that haven't changed since, by the system's time of their last change, aren't read again.
     """

@@ -1,7 +1,5 @@
 """The errors that a user sees."""
 
-from typing import Optional
-
 
 class ToolError(Exception):
     """Something is wrong with what the user gave. The text is one line without a full stop: what is wrong, where, and what to do.
@@ -25,9 +23,7 @@ class TimedOut(ToolError):
     that isn't known.
     """
 
-    def __init__(
-        self, text: str, reference: Optional[str] = None, number: Optional[int] = None
-    ) -> None:
+    def __init__(self, text: str, reference: str | None = None, number: int | None = None) -> None:
         super().__init__(text)
         self.reference, self.number = reference, number
 

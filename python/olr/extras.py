@@ -6,7 +6,6 @@ Debian's package and the extra that have it.
 
 from collections.abc import Iterator
 from contextlib import contextmanager
-from typing import Optional
 
 from olr.errors import MissingModule
 from olr.setup import MODULES
@@ -48,7 +47,7 @@ COMES_WITH = {"dask": "distributed", "pandas": "geopandas", "starlette": "fastap
 """Modules that come with another one, which alone is named."""
 
 
-def lacking(user: str, missing: ModuleNotFoundError, extra: Optional[str] = None) -> MissingModule:
+def lacking(user: str, missing: ModuleNotFoundError, extra: str | None = None) -> MissingModule:
     """What is said where `user`, a command or a public name, lacks a module. `extra` is the one of the user; by default it is that
     of the command. Raises `missing` itself if it is no module of others."""
     module = (missing.name or "olr").partition(".")[0]

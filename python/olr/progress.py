@@ -5,7 +5,7 @@ import threading
 import time
 from collections.abc import Callable, Iterable, Iterator
 from contextlib import contextmanager
-from typing import NamedTuple, Optional, TypeVar
+from typing import NamedTuple, TypeVar
 
 SECONDS_OF_BAR = 0.1
 """The bar moves no more often."""
@@ -37,9 +37,9 @@ class _Shown(NamedTuple):
 @contextmanager
 def progress(
     what: str,
-    total: Optional[int] = None,
+    total: int | None = None,
     clock: Clock = time.monotonic,
-    waiting: Optional[Waiting] = None,
+    waiting: Waiting | None = None,
 ) -> Iterator[Advance]:
     """Shows how far a piece of work is, on standard error. Gives the function to call when steps were done. Without a total it
     only shows how many there were. Where no step ends for a minute, it is said what `waiting` answers.
@@ -55,8 +55,8 @@ def progress(
 def watched(
     items: Iterable[Item],
     what: str,
-    total: Optional[int] = None,
-    waiting: Optional[Waiting] = None,
+    total: int | None = None,
+    waiting: Waiting | None = None,
 ) -> Iterator[Item]:
     """Items, while it is shown how many of them are done."""
     with progress(what, total, waiting=waiting) as advance:
@@ -66,7 +66,7 @@ def watched(
 
 
 @contextmanager
-def _bar(what: str, total: Optional[int]) -> Iterator[_Shown]:
+def _bar(what: str, total: int | None) -> Iterator[_Shown]:
     """A bar, which is gone at the end, and lines above it."""
     # A terminal alone needs them: olr.Map is there sooner.
     from rich.console import Console
@@ -82,7 +82,7 @@ def _bar(what: str, total: Optional[int]) -> Iterator[_Shown]:
         )
 
 
-def _lines(what: str, total: Optional[int]) -> _Shown:
+def _lines(what: str, total: int | None) -> _Shown:
     """Lines of standard error."""
     of_total = "" if total is None else f" of {total:,}"
 
@@ -97,7 +97,7 @@ class _Pace:
     take long. It says what is waited for."""
 
     def __init__(
-        self, shown: _Shown, seconds: float, clock: Clock, waiting: Optional[Waiting]
+        self, shown: _Shown, seconds: float, clock: Clock, waiting: Waiting | None
     ) -> None:
         self._shown, self._seconds, self._clock, self._waiting = shown, seconds, clock, waiting
         self._done = 0

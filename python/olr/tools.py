@@ -6,7 +6,7 @@ asked for, so a module that isn't installed stops only the commands that need it
 
 import importlib
 import sys
-from typing import Any, Optional
+from typing import Any
 
 import click
 
@@ -28,7 +28,7 @@ class LateGroup(click.Group):
     def list_commands(self, ctx: click.Context) -> list[str]:
         return sorted([*self.modules, *self.commands])
 
-    def get_command(self, ctx: click.Context, cmd_name: str) -> Optional[click.Command]:
+    def get_command(self, ctx: click.Context, cmd_name: str) -> click.Command | None:
         """The command of that name. Raises `MissingModule` if a module that it needs isn't installed."""
         if cmd_name not in self.modules:
             return super().get_command(ctx, cmd_name)
@@ -115,7 +115,7 @@ def setup(tests: bool) -> None:
     raise SystemExit(set_up(tests=tests))
 
 
-def run(words: Optional[list[str]] = None) -> int:
+def run(words: list[str] | None = None) -> int:
     """Runs the command line on `words`, by default those of the process. Answers the status: 0, 1 for a failure, 2 for words
     that weren't understood."""
     try:

@@ -11,7 +11,7 @@ from collections.abc import Iterator
 from contextlib import contextmanager
 from pathlib import Path
 from types import TracebackType
-from typing import Any, Optional
+from typing import Any
 from urllib.parse import urlsplit
 
 PROGRAM = "/usr/bin/chromium"
@@ -53,7 +53,7 @@ class Browser:
         os.close(read)
         os.close(write)
         self._number = 0
-        self._session: Optional[str] = None
+        self._session: str | None = None
         self._data = b""
         self._origin = "file:"
         self.errors: list[str] = []
@@ -70,9 +70,9 @@ class Browser:
 
     def __exit__(
         self,
-        kind: Optional[type[BaseException]],
-        error: Optional[BaseException],
-        trace: Optional[TracebackType],
+        kind: type[BaseException] | None,
+        error: BaseException | None,
+        trace: TracebackType | None,
     ) -> None:
         self._session = None
         try:

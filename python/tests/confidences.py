@@ -3,7 +3,7 @@
 from collections.abc import Mapping, Sequence
 from math import log
 from pathlib import Path
-from typing import Any, Optional
+from typing import Any
 
 from olr.confidence.confidence import Confidence
 from olr.confidence.contents import text_of
@@ -24,8 +24,8 @@ FEED = {"references": 1000, "statistics": {}}
 
 def write_confidence(
     file: Path,
-    differs: Optional[Range] = None,
-    feed: Optional[Mapping[str, Any]] = None,
+    differs: Range | None = None,
+    feed: Mapping[str, Any] | None = None,
     profile: str = PROGRAM,
     **weights: float,
 ) -> Path:

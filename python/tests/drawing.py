@@ -2,7 +2,6 @@
 
 from collections.abc import Mapping, Sequence
 from pathlib import Path
-from typing import Optional
 from xml.sax.saxutils import quoteattr
 
 
@@ -18,7 +17,7 @@ class Drawing:
         self._relations: list[str] = []
 
     def way(
-        self, id: int, nodes: Sequence[int], highway: Optional[str] = "residential", **tags: str
+        self, id: int, nodes: Sequence[int], highway: str | None = "residential", **tags: str
     ) -> None:
         """Adds a way. In the names of tags `__` stands for a colon. Without a highway it is none."""
         members = [f'<nd ref="{node}"/>' for node in nodes]

@@ -7,7 +7,7 @@ import random
 import subprocess
 from collections.abc import Sequence
 from pathlib import Path
-from typing import NamedTuple, Optional
+from typing import NamedTuple
 
 from conftest import Program
 from olr.model.answers import Reference
@@ -73,7 +73,7 @@ class Drawing:
         """The id of the node of a spot."""
         return self.nodes.setdefault(spot, len(self.nodes) + 1)
 
-    def line(self, *spots: Spot, length: Optional[int] = None, road_class: int = 3) -> int:
+    def line(self, *spots: Spot, length: int | None = None, road_class: int = 3) -> int:
         """Adds a line through spots, of the length in decimetres that its shape has, rounded up, or of another one. Answers its id."""
         shape = ";".join(f"{lon} {lat}" for lon, lat in spots[1:-1])
         ends = self.node(spots[0]), self.node(spots[-1])

@@ -10,7 +10,7 @@ from contextlib import suppress
 from dataclasses import replace
 from ipaddress import IPv4Address, IPv6Address, ip_address
 from pathlib import Path
-from typing import NamedTuple, Optional, Union
+from typing import NamedTuple
 
 from asking import draw_map, draw_references
 from conftest import OF_PROGRAM, TOP, Program
@@ -110,7 +110,7 @@ class Begun:
         """Whether there is a file with the lines of a group."""
         return self.folder.file_of(group).exists()
 
-    def answer(self, groups: Sequence[int], job: Optional[Job] = None, together: int = 1) -> int:
+    def answer(self, groups: Sequence[int], job: Job | None = None, together: int = 1) -> int:
         """Answers groups, so many together. Tells how many lines they have."""
         tasks = [groups[first : first + together] for first in range(0, len(groups), together)]
         return sum(answer_groups(job or self.job, task).total() for task in tasks)
@@ -146,7 +146,7 @@ class Runs:
         self.joined = folder / "answers.jsonl"
         self.scratch = folder / "scratch"
 
-    def words(self, *words: object, messages: Optional[Path] = None) -> list[str]:
+    def words(self, *words: object, messages: Path | None = None) -> list[str]:
         """The words of a run."""
         given = ["run", messages or self.town.messages, "--store", self.town.store]
         given += ["--out", self.out, *OF_PROGRAM, *words]
@@ -155,8 +155,8 @@ class Runs:
     def run(
         self,
         *words: object,
-        messages: Optional[Path] = None,
-        program: Optional[Path] = None,
+        messages: Path | None = None,
+        program: Path | None = None,
         before: Callable[[], None] = lambda: None,
         given: bytes = b"",
     ) -> Ended:
@@ -181,7 +181,7 @@ class Runs:
         self.await_end()
         return Ended(ended.returncode, ended.stdout.decode(), ended.stderr.decode())
 
-    def environment(self, program: Optional[Path] = None) -> dict[str, str]:
+    def environment(self, program: Path | None = None) -> dict[str, str]:
         """The variables of a run's processes."""
         self.scratch.mkdir(exist_ok=True)
         return os.environ | {
@@ -220,9 +220,7 @@ class Runs:
         """The names of all that is in the folder of parts."""
         return sorted(os.listdir(self.out / "parts"))
 
-    def expected(
-        self, *words: object, what: str = "match", messages: Optional[Path] = None
-    ) -> bytes:
+    def expected(self, *words: object, what: str = "match", messages: Path | None = None) -> bytes:
         """What one `olr batch` on the whole map says."""
         command = [self.program.path, "batch", what, "--map", self.town.folder, *words]
         with (messages or self.town.messages).open("rb") as records:
@@ -274,7 +272,7 @@ exec {self.program.path} "$@"
         return self.folder / f"killed-{sign}"
 
 
-def listened_on(processes: Iterable[int]) -> list[Union[IPv4Address, IPv6Address]]:
+def listened_on(processes: Iterable[int]) -> list[IPv4Address | IPv6Address]:
     """The addresses on which processes listen for connections, one for each socket: the kernel has them in words of four bytes."""
     sockets = {file for process in processes for file in open_files(process)}
     found = []
@@ -305,8 +303,8 @@ def identities(runs: Runs) -> dict[str, tuple[int, int]]:
 def assert_resumes(
     runs: Runs,
     *words: object,
-    messages: Optional[Path] = None,
-    program: Optional[Path] = None,
+    messages: Path | None = None,
+    program: Path | None = None,
 ) -> None:
     """A run goes on, keeps the parts that are there, and has all answers."""
     before = {

@@ -6,7 +6,6 @@ import signal
 import subprocess
 import time
 from pathlib import Path
-from typing import Optional
 
 from runs import Runs
 
@@ -16,7 +15,7 @@ HIDDEN = ["--no-dashboard", "--dashboard-address", "127.0.0.1:0"]
 class Scheduler:
     """A scheduler, and its workers. They end with the `with` statement."""
 
-    def __init__(self, runs: Runs, program: Optional[Path] = None) -> None:
+    def __init__(self, runs: Runs, program: Path | None = None) -> None:
         """Starts it. Its workers ask a program."""
         self._file, self._local = runs.folder / "scheduler.json", str(runs.folder / "local")
         self._environment = runs.environment(program)
@@ -49,7 +48,7 @@ class Scheduler:
         nowhere = subprocess.DEVNULL
         return subprocess.Popen(words, env=self._environment, stdout=nowhere, stderr=nowhere)
 
-    def _found(self) -> Optional[str]:
+    def _found(self) -> str | None:
         """The address in the scheduler's file, or None until all of the file is written."""
         try:
             return str(json.loads(self._file.read_text())["address"])

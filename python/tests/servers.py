@@ -10,7 +10,7 @@ import time
 from collections.abc import Callable, Iterator, Sequence
 from contextlib import contextmanager
 from pathlib import Path
-from typing import Any, NamedTuple, Optional
+from typing import Any, NamedTuple
 from urllib.parse import quote
 
 from conftest import TOP, Program
@@ -170,7 +170,7 @@ class Expected(NamedTuple):
     """What `olr batch` answers to a reference."""
 
     answer: bytes
-    fault: Optional[str]
+    fault: str | None
 
     def agrees(self, reply: Reply) -> bool:
         """Whether an answer of the server is the same."""
@@ -199,7 +199,7 @@ def expected_of(
 async def ask_all(server: Server, paths: Sequence[str], clients: int = 16) -> list[Reply]:
     """The answers to requests, of which so many are asked at once, each on a connection that stays open. A connection that is closed has
     the status 0."""
-    replies: list[Optional[Reply]] = [None] * len(paths)
+    replies: list[Reply | None] = [None] * len(paths)
     left = iter(enumerate(paths))
 
     async def ask() -> None:

@@ -8,7 +8,7 @@ from collections.abc import Iterator, Mapping, Sequence
 from contextlib import nullcontext
 from itertools import islice
 from pathlib import Path
-from typing import Any, NamedTuple, Optional, TypeGuard, Union
+from typing import Any, NamedTuple, TypeGuard
 
 import pandas
 import pytest
@@ -145,7 +145,7 @@ def only(rows: Sequence[Row], names: Sequence[str] = COLUMNS) -> list[Row]:
     return [{name: row[name] for name in names} for row in rows]
 
 
-def texts_of(rounded: Optional[float], before: str = "probability ") -> set[str]:
+def texts_of(rounded: float | None, before: str = "probability ") -> set[str]:
     """What a picture may say of a probability that a table rounds so: it has fewer digits."""
     if rounded is None:
         return {""}
@@ -317,7 +317,7 @@ def test_python(case: Case, program: Program) -> None:
         assert only(rows[key], list(ANSWERS)) == only(expected, list(ANSWERS))
 
 
-def is_place(answer: AnswerOrFault) -> TypeGuard[Union[Places, Fault]]:
+def is_place(answer: AnswerOrFault) -> TypeGuard[Places | Fault]:
     """Whether an answer is one to `places`."""
     return isinstance(answer, (Places, Fault))
 

@@ -3,7 +3,7 @@
 import random
 from collections.abc import Iterator, Sequence
 from pathlib import Path
-from typing import NamedTuple, Optional
+from typing import NamedTuple
 
 import numpy as np
 import pytest
@@ -166,7 +166,7 @@ def test_a_class_limit_that_bends(
     tmp_path: Path,
     south: tuple[int, int],
     road_class: int,
-    expected: Optional[tuple[int, int]],
+    expected: tuple[int, int] | None,
 ) -> None:
     _, (note,) = notes_on(block(south=south, south_class=road_class), tmp_path, program)
     assert (note.limit, note.shorter, note.equal) == (3, expected, None)

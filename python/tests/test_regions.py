@@ -8,7 +8,7 @@ from collections.abc import Callable
 from fractions import Fraction
 from itertools import product
 from pathlib import Path
-from typing import NamedTuple, Optional
+from typing import NamedTuple
 
 import numpy as np
 import pytest
@@ -83,11 +83,11 @@ def tip(
     options: Options,
     *,
     interval: int = 9,
-    longest: Optional[int] = None,
+    longest: int | None = None,
     stretch: float = 1.0,
     displaced: bool = True,
-    first: Optional[list[Spot]] = None,
-    drawing: Optional[Drawing] = None,
+    first: list[Spot] | None = None,
+    drawing: Drawing | None = None,
     detour: bool = False,
 ) -> Case:
     """A leg to the east whose path goes as far to the west as its length admits, and comes back. With `displaced` both places lie

@@ -4,7 +4,7 @@ import csv
 import json
 from collections.abc import Iterator
 from pathlib import Path
-from typing import Any, NamedTuple, Optional
+from typing import Any, NamedTuple
 from urllib.parse import quote
 
 import pytest
@@ -60,7 +60,7 @@ def rows_of_match(tools: Tools, on: Path, folder: Path, *words: object) -> Any:
     return rows
 
 
-def number_of(text: str) -> Optional[Any]:
+def number_of(text: str) -> Any | None:
     """What a cell has: a number, a text or nothing."""
     try:
         return json.loads(text) if text else None

@@ -10,7 +10,6 @@ import time
 from collections.abc import Iterable, Iterator, Sequence
 from contextlib import contextmanager
 from pathlib import Path
-from typing import Optional
 
 from olr.asking.batch_process import batch_words, why_ended
 from olr.asking.ending import kill_group
@@ -39,7 +38,7 @@ class Batch:
         what: What,
         files: MapFiles,
         options: Sequence[str],
-        patience: Optional[float] = PATIENCE,
+        patience: float | None = PATIENCE,
     ) -> None:
         """Starts the process for one question on the map of files. `patience` is how many seconds whoever waits for an answer waits for
         the next line of the process; None for as long as it takes. Raises `ProgramNotFound` if it can't be started, and `MapRefused` if
@@ -64,7 +63,7 @@ class Batch:
         self._poll = select.poll()
         self._poll.register(self._answers, select.POLLIN)
         self._owner = os.getpid()
-        self._outbox: queue.SimpleQueue[Optional[bytes]] = queue.SimpleQueue()
+        self._outbox: queue.SimpleQueue[bytes | None] = queue.SimpleQueue()
         self._asking = threading.Lock()
         self._reading = threading.Lock()
         self._asked = 0
@@ -72,7 +71,7 @@ class Batch:
         self._unfinished = bytearray()
         self._arrived: dict[int, bytes] = {}
         self._dropped: set[int] = set()
-        self._error: Optional[ToolError] = None
+        self._error: ToolError | None = None
         self.users = 0
         """How many wait for answers: the map counts them."""
         self._writer = threading.Thread(target=self._write, name="olr batch", daemon=True)

@@ -7,7 +7,7 @@ import subprocess
 import time
 from collections.abc import Iterator, Sequence
 from types import TracebackType
-from typing import IO, Optional
+from typing import IO
 
 from olr.asking.ending import kill_group
 from olr.errors import ProgramEnded, ProgramNotFound
@@ -36,7 +36,7 @@ class Child:
         command: Sequence[str],
         given: IO[bytes],
         said: IO[bytes],
-        patience: Optional[float],
+        patience: float | None,
     ) -> None:
         """Starts it. It reads `given` and writes its errors to `said`. `patience` is how many seconds it may take for a line, or to
         end; None for as long as it takes. Raises `ProgramNotFound` if it can't be started."""
@@ -61,9 +61,9 @@ class Child:
 
     def __exit__(
         self,
-        kind: Optional[type[BaseException]],
-        error: Optional[BaseException],
-        trace: Optional[TracebackType],
+        kind: type[BaseException] | None,
+        error: BaseException | None,
+        trace: TracebackType | None,
     ) -> None:
         self.kill()
 
@@ -121,5 +121,5 @@ class Child:
             if b"\n" in data:
                 begin = time.monotonic()
 
-    def _not_started(self, reason: Optional[str]) -> ProgramNotFound:
+    def _not_started(self, reason: str | None) -> ProgramNotFound:
         return ProgramNotFound(f"{self._program} can't be started: {reason}")

@@ -1,6 +1,5 @@
 """What a reference says, by `olr show`."""
 
-from typing import Optional
 
 from olr.asking.once import run_once
 from olr.asking.program import PathLike, find_program
@@ -9,7 +8,7 @@ from olr.model.objects import reference
 from olr.model.questions import record_text
 
 
-def decode(ref: str, program: Optional[PathLike] = None) -> Reference:
+def decode(ref: str, program: PathLike | None = None) -> Reference:
     """What a reference says: its kind, its points and its offsets. It needs no map. `ref` is the text of one in base64.
 
     Raises `Fault` if the text isn't a reference, `TypeError` if it is no text, `ProgramNotFound` if the program isn't built, and

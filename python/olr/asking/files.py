@@ -4,7 +4,7 @@ import threading
 from collections.abc import Iterator
 from contextlib import contextmanager
 from pathlib import Path
-from typing import NamedTuple, Optional
+from typing import NamedTuple
 
 from olr.asking.program import PathLike
 from olr.content import digest_of
@@ -15,18 +15,18 @@ from olr.model.map_folder import BANS, LINES, NODES
 class Version(NamedTuple):
     """Which version of the files there is, by digests: None for what can't be read, or can't be read twice."""
 
-    network: Optional[str]
+    network: str | None
     """Of nodes and lines."""
-    bans: Optional[str]
+    bans: str | None
 
 
 class MapFiles:
     """The files of a map. When they were read once they have to stay as they are: all answers are of one version."""
 
-    def __init__(self, nodes: PathLike, lines: PathLike, bans: Optional[PathLike]) -> None:
+    def __init__(self, nodes: PathLike, lines: PathLike, bans: PathLike | None) -> None:
         self.nodes, self.lines = Path(nodes), Path(lines)
         self.bans = None if bans is None else Path(bans)
-        self._kept: Optional[Version] = None
+        self._kept: Version | None = None
         self._lock = threading.Lock()
 
     @classmethod

@@ -3,7 +3,7 @@
 import subprocess
 from collections.abc import Callable, Sequence
 from pathlib import Path
-from typing import Optional, TypeVar
+from typing import TypeVar
 
 from olr.asking.ending import kill_group
 from olr.asking.patience import PATIENCE
@@ -17,7 +17,7 @@ def run_once(
     program: Path,
     words: Sequence[str],
     read: Callable[[bytes], Made],
-    patience: Optional[float] = PATIENCE,
+    patience: float | None = PATIENCE,
 ) -> Made:
     """What the program prints, read by a function that raises `ValueError` for what is no answer. `patience` is how many seconds it
     may take; None for as long as it takes.

@@ -1,14 +1,13 @@
 """How long the program is waited for."""
 
 from numbers import Real
-from typing import Optional
 
 PATIENCE = 60.0
 """Seconds, if nothing else is asked for."""
 MOST_PATIENCE = 1_000_000
 
 
-def require_patience(seconds: Optional[float]) -> Optional[float]:
+def require_patience(seconds: float | None) -> float | None:
     """A patience. Raises `TypeError` and `ValueError` for what is none."""
     wanted = f"patience is a number of seconds above 0, {MOST_PATIENCE:,} at most, or None to wait for ever, not {seconds!r}"
     if seconds is None:

@@ -3,7 +3,6 @@
 import os
 import shutil
 from pathlib import Path
-from typing import Optional, Union
 
 from olr.errors import ProgramNotFound
 
@@ -14,10 +13,10 @@ OWN = PACKAGE / "bin/olr"
 OF_REPOSITORY = tuple(PACKAGE.parents[1] / name for name in ("crates/olr/out/olr", "released/olr"))
 """The built and the released program of the repository that this package lies in, if it lies in one."""
 
-PathLike = Union[str, "os.PathLike[str]"]
+PathLike = str | os.PathLike[str]
 
 
-def find_program(given: Optional[PathLike] = None) -> Path:
+def find_program(given: PathLike | None = None) -> Path:
     """The program: the given one; else the one that the environment variable OLR_PROGRAM names; else the one that came with this
     package; else of the built and the released one of the repository that this package lies in the newer one; else `olr` on
     the path of commands. Raises `ProgramNotFound`.

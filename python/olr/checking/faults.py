@@ -2,7 +2,7 @@
 
 from collections import Counter
 from dataclasses import dataclass, field
-from typing import NamedTuple, Optional
+from typing import NamedTuple
 
 
 class Fault(NamedTuple):
@@ -16,13 +16,13 @@ class Fault(NamedTuple):
     """What is wrong, as a part of a sentence."""
     remedy: str
     """What to do, as a sentence without its full stop."""
-    record: Optional[int] = None
+    record: int | None = None
     """The number of the record, from 1 behind the header; None for the whole file."""
-    line: Optional[int] = None
+    line: int | None = None
     """The line of the file on which the record begins, from 1."""
-    column: Optional[int] = None
+    column: int | None = None
     """The number of the column, from 1, if the fault is that of a field."""
-    subject: Optional[str] = None
+    subject: str | None = None
     """What the record is: `id 104`, or the lines of a ban, `109,901`."""
 
     def program_text(self) -> str:
@@ -46,7 +46,7 @@ class Fault(NamedTuple):
             where += f" {self.subject}"
         return f"{self.program_text()}: {where}: {self.what}. {self.remedy}."
 
-    def kind(self) -> tuple[str, str, Optional[int]]:
+    def kind(self) -> tuple[str, str, int | None]:
         """Faults of one kind have the same remedy: the file, the name and the column."""
         return self.file, self.name, self.column
 
@@ -57,7 +57,7 @@ class Faults:
 
     most: int
     kept: list[Fault] = field(default_factory=list)
-    counts: Counter[tuple[str, str, Optional[int]]] = field(default_factory=Counter)
+    counts: Counter[tuple[str, str, int | None]] = field(default_factory=Counter)
 
     def add(self, fault: Fault) -> None:
         """Counts a fault, and keeps it if there aren't as many of its kind."""
@@ -70,7 +70,7 @@ class Faults:
         """How many were found."""
         return self.counts.total()
 
-    def left_out(self) -> dict[tuple[str, str, Optional[int]], int]:
+    def left_out(self) -> dict[tuple[str, str, int | None], int]:
         """How many of each kind aren't kept, where there are any."""
         return {kind: count - self.most for kind, count in self.counts.items() if count > self.most}
 

@@ -4,7 +4,7 @@ import os
 from collections.abc import Callable, Iterator
 from contextlib import ExitStack
 from pathlib import Path
-from typing import BinaryIO, Optional
+from typing import BinaryIO
 
 from olr.checking import remedies
 from olr.checking.faults import Fault, Faults, shown
@@ -68,10 +68,10 @@ def _check_file(stream: BinaryIO, file: str, faults: Faults, tables: Tables, che
 
 def _behind_header(
     records: Iterator[tuple[int, list[str]]], file: str, faults: Faults
-) -> Optional[Iterator[tuple[int, list[str]]]]:
+) -> Iterator[tuple[int, list[str]]] | None:
     """The records behind the header. Where the header is wrong that is a fault, and None if the columns can't be known."""
     wanted = HEADERS[file]
-    first: tuple[Optional[int], list[str]] = next(records, (None, []))
+    first: tuple[int | None, list[str]] = next(records, (None, []))
     line, fields = first
     if tuple(fields) == wanted:
         return records

@@ -1,7 +1,6 @@
 """How long the lines of a map say they are, and how long their shapes are on the earth (WGS 84)."""
 
 from dataclasses import dataclass
-from typing import Optional
 
 import numpy as np
 
@@ -35,11 +34,11 @@ class Lengths:
     """Of each line's shape, in decimetres."""
     far: Integers
     """The indices of lines whose length is far from that of their shape, the greatest difference first."""
-    ratio: Optional[float]
+    ratio: float | None
     """The median of length by measured length; None without lines."""
-    shorter: Optional[Shorter]
+    shorter: Shorter | None
     """The greatest share by which a line is shorter than its shape; None if none is shorter."""
-    shorter_long: Optional[Shorter]
+    shorter_long: Shorter | None
     """The same among lines of `LONG_DECIMETRES` or more."""
 
 
@@ -62,7 +61,7 @@ def look_at_lengths(road_map: MapArrays) -> Lengths:
     )
 
 
-def _greatest(share: Floats, among: Integers) -> Optional[Shorter]:
+def _greatest(share: Floats, among: Integers) -> Shorter | None:
     """The line of the greatest share among some; None if there is none above 0."""
     if not len(among):
         return None
@@ -85,7 +84,7 @@ def measure(road_map: MapArrays) -> Floats:
     return metres_along(lon / 1e6, lat / 1e6, counts) * 10.0
 
 
-def likely_unit(ratio: float, latitude: float) -> Optional[str]:
+def likely_unit(ratio: float, latitude: float) -> str | None:
     """What lengths of such a ratio to their shapes may have been meant in; None if they look like decimetres.
 
     `latitude` is the middle of the map in degrees.

@@ -6,7 +6,7 @@ follows from another fault isn't one: a line whose node has a faulty latitude is
 
 from collections.abc import Iterator, Sequence
 from operator import eq
-from typing import NamedTuple, Optional
+from typing import NamedTuple
 
 from olr.checking import remedies
 from olr.checking.faults import Fault, Faults
@@ -27,10 +27,10 @@ class _Checked(NamedTuple):
     """Where its faults go."""
     file: str
     record: Record
-    subject: Optional[str] = None
+    subject: str | None = None
     """What the record is, as in `Fault`."""
 
-    def add(self, name: str, what: str, remedy: str, column: Optional[int] = None) -> None:
+    def add(self, name: str, what: str, remedy: str, column: int | None = None) -> None:
         """Adds a fault of the record."""
         number, line, _ = self.record
         self.faults.add(Fault(name, self.file, what, remedy, number, line, column, self.subject))
@@ -101,7 +101,7 @@ def check_lines(records: Iterator[Record], faults: Faults, tables: Tables) -> No
             lines.add((v for v in values[:6] if v is not None), shape or [])
 
 
-def _add_ends(checked: _Checked, ends: Ends, nodes: Optional[Nodes]) -> None:
+def _add_ends(checked: _Checked, ends: Ends, nodes: Nodes | None) -> None:
     """Adds the fault of a line whose nodes aren't in the file of nodes."""
     if nodes is None or all(end is None or end in nodes.records for end in ends):
         return
@@ -115,7 +115,7 @@ def _add_ends(checked: _Checked, ends: Ends, nodes: Optional[Nodes]) -> None:
     checked.add("UnknownNode", what, remedy)
 
 
-def _add_repeated(checked: _Checked, ends: Ends, shape: list[int], nodes: Optional[Nodes]) -> None:
+def _add_repeated(checked: _Checked, ends: Ends, shape: list[int], nodes: Nodes | None) -> None:
     """Adds the fault of a line that has equal neighbours among its points."""
     known = nodes.points if nodes is not None else {}
     first, last = (known.get(end) if end is not None else None for end in ends)
@@ -127,9 +127,7 @@ def _add_repeated(checked: _Checked, ends: Ends, shape: list[int], nodes: Option
         checked.add("Degenerate", twice, remedy)
 
 
-def _repeated(
-    shape: list[int], first: Optional[Point], last: Optional[Point], ends: Ends
-) -> Optional[str]:
+def _repeated(shape: list[int], first: Point | None, last: Point | None, ends: Ends) -> str | None:
     """Which neighbours among the points of a line are equal, in words; None if none are. An end that isn't known is None."""
     if not shape:
         if ends[0] is not None and ends[0] == ends[1]:

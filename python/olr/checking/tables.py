@@ -3,14 +3,13 @@
 from array import array
 from collections.abc import Iterable
 from dataclasses import dataclass, field
-from typing import Optional
 
 COLUMNS = 7
 """Of a row of `Lines`."""
 
 Point = tuple[int, int]
 """Longitude and latitude in microdegrees."""
-Ends = tuple[Optional[int], Optional[int]]
+Ends = tuple[int | None, int | None]
 """The nodes where a line starts and ends, where its record has them."""
 
 
@@ -60,8 +59,8 @@ class Bans:
 class Tables:
     """What the files have. A file that can't be told apart into columns is None."""
 
-    nodes: Optional[Nodes] = None
-    lines: Optional[Lines] = None
-    bans: Optional[Bans] = None
+    nodes: Nodes | None = None
+    lines: Lines | None = None
+    bans: Bans | None = None
     counts: dict[str, int] = field(default_factory=dict)
     """For each file that was read how many records it has."""

@@ -8,7 +8,7 @@ from contextlib import contextmanager
 from itertools import islice
 from pathlib import Path
 from types import TracebackType
-from typing import TYPE_CHECKING, Any, Literal, Optional, TypeVar, Union, cast, overload
+from typing import TYPE_CHECKING, Any, Literal, TypeVar, cast, overload
 
 from olr.asking.batch import Batch
 from olr.asking.files import MapFiles
@@ -63,11 +63,11 @@ class Map:
     def __new__(
         cls,
         nodes: PathLike,
-        lines: Optional[PathLike] = None,
-        bans: Optional[PathLike] = None,
+        lines: PathLike | None = None,
+        bans: PathLike | None = None,
         *,
-        program: Optional[PathLike] = None,
-        patience: Optional[float] = PATIENCE,
+        program: PathLike | None = None,
+        patience: float | None = PATIENCE,
         profile: str = PROGRAM,
         **tolerances: int,
     ) -> "Map":
@@ -82,11 +82,11 @@ class Map:
     def __init__(
         self,
         nodes: PathLike,
-        lines: Optional[PathLike] = None,
-        bans: Optional[PathLike] = None,
+        lines: PathLike | None = None,
+        bans: PathLike | None = None,
         *,
-        program: Optional[PathLike] = None,
-        patience: Optional[float] = PATIENCE,
+        program: PathLike | None = None,
+        patience: float | None = PATIENCE,
         profile: str = PROGRAM,
         **tolerances: int,
     ) -> None:
@@ -102,15 +102,13 @@ class Map:
         words = [number_words(name, value) for name, value in self._given.items()]
         self._tolerances = [word for pair in words for word in pair]
         self._program = None if program is None else Path(program)
-        self._network: "Optional[Network]" = None
+        self._network: "Network | None" = None
         self._batches: "Processes" = {}
         self._lock = threading.Lock()
         self._closed = False
         self._end = weakref.finalize(self, _end_all, self._batches)
 
-    def _files_of(
-        self, nodes: PathLike, lines: Optional[PathLike], bans: Optional[PathLike]
-    ) -> MapFiles:
+    def _files_of(self, nodes: PathLike, lines: PathLike | None, bans: PathLike | None) -> MapFiles:
         """The files of the map: those that are named, or those of a folder."""
         if lines is not None:
             return MapFiles(nodes, lines, bans)
@@ -122,8 +120,8 @@ class Map:
         cls,
         folder: PathLike,
         *,
-        program: Optional[PathLike] = None,
-        patience: Optional[float] = PATIENCE,
+        program: PathLike | None = None,
+        patience: float | None = PATIENCE,
         profile: str = PROGRAM,
         **tolerances: int,
     ) -> "Map":
@@ -145,9 +143,9 @@ class Map:
 
     def __exit__(
         self,
-        kind: Optional[type[BaseException]],
-        error: Optional[BaseException],
-        trace: Optional[TracebackType],
+        kind: type[BaseException] | None,
+        error: BaseException | None,
+        trace: TracebackType | None,
     ) -> None:
         self.close()
 
@@ -179,7 +177,7 @@ class Map:
             self._network = network
         return self._network
 
-    def match(self, ref: str, *, page: int = 10, after: Optional[str] = None) -> Page:
+    def match(self, ref: str, *, page: int = 10, after: str | None = None) -> Page:
         """The first matchings of a reference, best first, or the first ones behind that of a cursor, such as the `next` of a page.
         They are `page` at most, from 1 to 1000.
 
@@ -190,14 +188,14 @@ class Map:
             return cast(Page, self._answer("match", ref, {"page": page}))
         return self._page_after(ref, words_of("match", {"page": page}), cursor_of(after))
 
-    def pages(self, ref: str, *, page: int = 10, after: Optional[str] = None) -> Iterator[Page]:
+    def pages(self, ref: str, *, page: int = 10, after: str | None = None) -> Iterator[Page]:
         """All pages of the matchings of a reference, from the first on or from a cursor on, of `page` matchings each: see `match`. If
         nothing fits there is one page, without matchings. A page is found when it is asked for."""
         record_text(ref)
         words_of("match", {"page": page})
         return self._pages(ref, page, None if after is None else cursor_of(after))
 
-    def matches(self, refs: Iterable[str], *, page: int = 10) -> Iterator[Union[Page, Fault]]:
+    def matches(self, refs: Iterable[str], *, page: int = 10) -> Iterator[Page | Fault]:
         """The first pages of many references, in their order: see `answers`."""
         texts = many("matches takes many references", refs, "ask match about one")
         return self.answers("match", texts, page=page)
@@ -222,7 +220,7 @@ class Map:
     @overload
     def answers(
         self, what: Literal["match"], refs: Iterable[str], *, page: int = ...
-    ) -> Iterator[Union[Page, Fault]]:
+    ) -> Iterator[Page | Fault]:
         ...
 
     @overload
@@ -235,19 +233,19 @@ class Map:
         within: int = ...,
         look: int = ...,
         most: int = ...,
-    ) -> Iterator[Union[Places, Fault]]:
+    ) -> Iterator[Places | Fault]:
         ...
 
     @overload
     def answers(
         self, what: Literal["why"], refs: Iterable[str], *, nearest: int = ...
-    ) -> Iterator[Union[Why, Fault]]:
+    ) -> Iterator[Why | Fault]:
         ...
 
     @overload
     def answers(
         self, what: Literal["candidates"], refs: Iterable[str]
-    ) -> Iterator[Union[Candidates, Fault]]:
+    ) -> Iterator[Candidates | Fault]:
         ...
 
     @overload
@@ -317,7 +315,7 @@ class Map:
         words: list[str],
         waiting: deque[bytes],
         read: Callable[[Batch, int], Read],
-        before: Optional[int] = None,
+        before: int | None = None,
     ) -> Iterator[Read]:
         """Answers to waiting references by a process of their own, each of which is asked when the one before is answered. `before` is
         how many came before them. Raises `TimedOut`, with the reference."""
@@ -333,7 +331,7 @@ class Map:
                 before = None if before is None else before + 1
                 yield answer
 
-    def _timed_out(self, text: bytes, number: Optional[int] = None) -> TimedOut:
+    def _timed_out(self, text: bytes, number: int | None = None) -> TimedOut:
         """The error of a reference that was waited for."""
         reference = text.decode()
         which = repr(reference) if number is None else f"reference {number}, {reference!r}"
@@ -344,7 +342,7 @@ class Map:
         )
 
     def raw_answer(
-        self, what: What, ref: str, *, after: Optional[str] = None, **numbers: int
+        self, what: What, ref: str, *, after: str | None = None, **numbers: int
     ) -> bytes:
         """The JSON of an answer as the program has it, for those who pass it on: what the method of that question gives, without the
         objects. `after` is for `match`. Raises as that method."""
@@ -382,7 +380,7 @@ class Map:
             finally:
                 batch.drop(keys)
 
-    def _pages(self, ref: str, page: int, after: Optional[str]) -> Iterator[Page]:
+    def _pages(self, ref: str, page: int, after: str | None) -> Iterator[Page]:
         """The pages from a cursor on."""
         found = self.match(ref, page=page, after=after)
         yield found
@@ -399,7 +397,7 @@ class Map:
         ref: str,
         numbers: list[str],
         cursor: str,
-        read: Callable[[bytes, Optional[str]], Read],
+        read: Callable[[bytes, str | None], Read],
     ) -> Read:
         """What is read of the page behind a cursor, by a run of the program of its own: `olr batch` has first pages alone."""
         text = record_text(ref).decode()
@@ -475,7 +473,7 @@ class Map:
                 pair[1].end()
 
 
-def _raw_page(shown: bytes, digest: Optional[str]) -> bytes:
+def _raw_page(shown: bytes, digest: str | None) -> bytes:
     """A page as the program prints it, without the line end. Raises `ValueError` if it is something else."""
     page_of(shown, digest)
     return shown.rstrip(b"\n")

@@ -7,7 +7,7 @@ from collections.abc import Callable, Generator, Iterator, Mapping, Sequence
 from contextlib import closing, contextmanager
 from itertools import islice
 from pathlib import Path
-from typing import TYPE_CHECKING, Any, NamedTuple, Optional
+from typing import TYPE_CHECKING, Any, NamedTuple
 
 import numpy as np
 
@@ -50,7 +50,7 @@ class _Asked(NamedTuple):
     words: list[str]
     """Of the numbers of the question."""
     texts: Sequence[str]
-    points: Sequence[Optional[list[Point]]]
+    points: Sequence[list[Point] | None]
     """None for a text that the program refuses."""
 
     @classmethod
@@ -69,7 +69,7 @@ class _Group(NamedTuple):
     """References by their indices, and a map that has their regions, if one has room for them."""
 
     numbers: list[int]
-    region: Optional[RegionMap]
+    region: RegionMap | None
 
 
 class _Answered(NamedTuple):
@@ -95,8 +95,8 @@ class StoreMap(Map):
     def __init__(
         self,
         nodes: PathLike,
-        lines: Optional[PathLike] = None,
-        bans: Optional[PathLike] = None,
+        lines: PathLike | None = None,
+        bans: PathLike | None = None,
         **options: Any,
     ) -> None:
         """A map of a store alone, with the options of `Map`. Raises `ToolError` if it isn't a store, or can't be read."""
@@ -106,9 +106,7 @@ class StoreMap(Map):
         self._asking = threading.RLock()
         self._owner = os.getpid()
 
-    def _files_of(
-        self, nodes: PathLike, lines: Optional[PathLike], bans: Optional[PathLike]
-    ) -> MapFiles:
+    def _files_of(self, nodes: PathLike, lines: PathLike | None, bans: PathLike | None) -> MapFiles:
         """The file of the store."""
         return _StoreFile(Path(nodes))
 
@@ -144,7 +142,7 @@ class StoreMap(Map):
         ref: str,
         numbers: list[str],
         cursor: str,
-        read: Callable[[bytes, Optional[str]], Read],
+        read: Callable[[bytes, str | None], Read],
     ) -> Read:
         """What is read of the page behind a cursor. The cursor of the next one has no mark, as those of first pages: it would name the part
         of the map."""

@@ -2,7 +2,7 @@
 
 from collections.abc import Iterator
 from pathlib import Path
-from typing import NamedTuple, Optional
+from typing import NamedTuple
 
 from olr.asking.program import PathLike
 from olr.errors import ToolError
@@ -15,7 +15,7 @@ BUFFER_BYTES = 1 << 20
 class Answered(NamedTuple):
     """The answer to a record."""
 
-    key: Optional[str]
+    key: str | None
     """The record's key, or None if it has none."""
     record: int
     """Its number in the file of messages, from 1."""

@@ -2,7 +2,6 @@
 
 from collections.abc import Iterator
 from pathlib import Path
-from typing import Optional, Union
 
 import click
 
@@ -103,17 +102,17 @@ MOST_REFERENCES = 1_000_000
 @patience_option("Then the command ends, and names the reference.")
 def command(
     folder: Path,
-    messages: Optional[Path],
-    differ: Optional[float],
-    pair: Optional[Path],
-    checked_file: Optional[Path],
+    messages: Path | None,
+    differ: float | None,
+    pair: Path | None,
+    checked_file: Path | None,
     file: Path,
     force: bool,
     references: int,
     seed: int,
     reading: Reading,
     patience: float,
-    **options: Union[int, str, None],
+    **options: int | str | None,
 ) -> None:
     """Find by trials how probable it is that a place is the one that the sender meant, and write it for --confidence.
 
@@ -154,7 +153,7 @@ def command(
         click.echo(line)
 
 
-def _with_texts(feed: Feed, keys: dict[str, bool], file: Optional[Path]) -> list[tuple[str, bool]]:
+def _with_texts(feed: Feed, keys: dict[str, bool], file: Path | None) -> list[tuple[str, bool]]:
     """Checked answers with the texts of their messages. Raises `ToolError` for a key that no message with a line reference has."""
     for key in keys:
         if key not in feed.by_key:

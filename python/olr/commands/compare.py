@@ -2,7 +2,6 @@
 
 from contextlib import ExitStack
 from pathlib import Path
-from typing import Optional, Union
 
 import click
 
@@ -101,14 +100,14 @@ def command(
     old: Path,
     new: Path,
     across: int,
-    confidence: Optional[Path],
+    confidence: Path | None,
     patience: float,
     reading: Reading,
     out: Path,
-    page_file: Optional[Path],
+    page_file: Path | None,
     most: int,
     force: bool,
-    **options: Union[int, str, None],
+    **options: int | str | None,
 ) -> None:
     """Say what changes for the references of MESSAGES with another map: where each one has its place on the map OLD and on the map
     NEW, whether that is the same stretch of road, how far both maps agree, and why it has no place any more.
@@ -158,7 +157,7 @@ def command(
             click.echo(line)
 
 
-def _probable_by(file: Optional[Path]) -> str:
+def _probable_by(file: Path | None) -> str:
     """What the page says of the file by which places have probabilities."""
     return "by the file that comes with olr-tools" if file is None else f"by {file}"
 

@@ -2,7 +2,6 @@
 
 from collections.abc import Callable
 from pathlib import Path
-from typing import Optional
 
 import click
 
@@ -17,7 +16,7 @@ class BoxParameter(click.ParamType):
     name = "box"
 
     def convert(
-        self, value: object, param: Optional[click.Parameter], ctx: Optional[click.Context]
+        self, value: object, param: click.Parameter | None, ctx: click.Context | None
     ) -> Box:
         """The box of a text. Ends with a usage error if it isn't one."""
         if isinstance(value, Box):

@@ -1,7 +1,6 @@
 """The command `olr-tools import osm`."""
 
 from pathlib import Path
-from typing import Optional
 
 import click
 
@@ -32,9 +31,9 @@ def command(
     file: Path,
     folder: Path,
     force: bool,
-    box: Optional[Box],
+    box: Box | None,
     service: bool,
-    tags: Optional[Path],
+    tags: Path | None,
     u_turns: UTurns,
     dead_ends: DeadEnds,
     keep: tuple[str, ...],

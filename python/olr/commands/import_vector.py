@@ -1,7 +1,6 @@
 """The command `olr-tools import vector`."""
 
 from pathlib import Path
-from typing import Optional
 
 import click
 
@@ -91,15 +90,15 @@ def command(
     file: Path,
     folder: Path,
     force: bool,
-    layer: Optional[str],
+    layer: str | None,
     road_class: str,
     form: str,
-    oneway: Optional[str],
-    id_field: Optional[str],
-    name_field: Optional[str],
-    mapping: Optional[Path],
-    crs: Optional[str],
-    box: Optional[Box],
+    oneway: str | None,
+    id_field: str | None,
+    name_field: str | None,
+    mapping: Path | None,
+    crs: str | None,
+    box: Box | None,
     tolerance: float,
     join_vertices: bool,
     u_turns: UTurns,

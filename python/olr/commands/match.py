@@ -3,7 +3,7 @@
 import os
 from contextlib import ExitStack
 from pathlib import Path
-from typing import Any, Optional, Union
+from typing import Any
 
 import click
 
@@ -83,16 +83,16 @@ from olr.model.questions import NUMBERS, What
 def command(
     file: Path,
     folder: Path,
-    what: Optional[What],
+    what: What | None,
     part: Any,
-    confidence: Optional[Path],
+    confidence: Path | None,
     patience: float,
     reading: Reading,
     out: Path,
-    pieces: Optional[Path],
+    pieces: Path | None,
     force: bool,
     append: bool,
-    **options: Union[int, str, None],
+    **options: int | str | None,
 ) -> None:
     """Match the references of FILE on a map, and write what they fit as geometries.
 
@@ -142,7 +142,7 @@ def _where(force: bool, append: bool) -> Where:
     return "force" if force else "append" if append else "new"
 
 
-def _judging(file: Optional[Path], asking: Asking) -> Chosen:
+def _judging(file: Path | None, asking: Asking) -> Chosen:
     """By what answers to a question are judged: matchings aren't. Raises `UsageError` for a file where none is used, and `ToolError` if it
     isn't one of these tolerances."""
     if asking.question == "places":
@@ -152,7 +152,7 @@ def _judging(file: Optional[Path], asking: Asking) -> Chosen:
     return Chosen(Judging(), "")
 
 
-def _outputs(question: What, out: Path, pieces: Optional[Path]) -> list[Output]:
+def _outputs(question: What, out: Path, pieces: Path | None) -> list[Output]:
     """The files to write. Raises `UsageError` for one file in place of two, and for pieces of what has none."""
     outputs = [Output(out, question, OF_QUESTION[question])]
     if pieces is not None:

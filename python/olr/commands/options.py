@@ -3,7 +3,7 @@
 import functools
 from collections.abc import Callable, Mapping
 from pathlib import Path
-from typing import Any, Optional
+from typing import Any
 
 import click
 
@@ -118,7 +118,7 @@ def reading_options(command: Callable[..., None]) -> Callable[..., None]:
     )
     @functools.wraps(command)
     def reading(
-        *words: Any, kind: Optional[Format], ref: Optional[str], key: Optional[str], **others: Any
+        *words: Any, kind: Format | None, ref: str | None, key: str | None, **others: Any
     ) -> None:
         command(*words, reading=Reading(kind, ref, key), **others)
 

@@ -2,7 +2,6 @@
 
 from contextlib import ExitStack
 from pathlib import Path
-from typing import Optional, Union
 
 import click
 
@@ -57,12 +56,12 @@ def command(
     folder: Path,
     patience: float,
     reading: Reading,
-    confidence: Optional[Path],
+    confidence: Path | None,
     rows: int,
-    tiles: Optional[str],
+    tiles: str | None,
     file: Path,
     force: bool,
-    **options: Union[int, str, None],
+    **options: int | str | None,
 ) -> None:
     """Say what is wrong with a feed, or with a map: where the references of MESSAGES fit and how well, how many of their places are
     expected to be right, and why others don't fit. The page is one file of HTML that needs no network, written whole or not at all.

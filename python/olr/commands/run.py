@@ -6,7 +6,7 @@ from collections import Counter
 from collections.abc import Iterator, Sequence
 from contextlib import contextmanager
 from pathlib import Path
-from typing import TYPE_CHECKING, Optional, Union
+from typing import TYPE_CHECKING
 
 import click
 
@@ -151,18 +151,18 @@ def command(
     reading: Reading,
     store: Path,
     out: Path,
-    scheduler: Optional[str],
-    workers: Optional[int],
+    scheduler: str | None,
+    workers: int | None,
     resume: bool,
-    joined: Optional[Path],
-    geometries: Optional[Path],
-    pieces: Optional[Path],
+    joined: Path | None,
+    geometries: Path | None,
+    pieces: Path | None,
     force: bool,
-    what: Optional[What],
-    confidence: Optional[Path],
+    what: What | None,
+    confidence: Path | None,
     patience: float,
-    per_group: Optional[int],
-    **options: Union[int, str, None],
+    per_group: int | None,
+    **options: int | str | None,
 ) -> None:
     """Match any number of references on a map of any size, on many processors or machines.
 
@@ -246,11 +246,11 @@ def command(
 
 def _rows(
     question: What,
-    geometries: Optional[Path],
-    pieces: Optional[Path],
+    geometries: Path | None,
+    pieces: Path | None,
     force: bool,
     inputs: Sequence[Path],
-) -> "Optional[Geometries]":
+) -> "Geometries | None":
     """The files of rows to write, if any are. Raises `UsageError` for a question whose answers aren't on lines, and `ToolError` if a file
     can't be written there, or a module is missing."""
     if geometries is None and pieces is None:

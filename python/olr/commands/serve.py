@@ -5,7 +5,6 @@ import os
 import re
 import sys
 from pathlib import Path
-from typing import Optional
 
 import click
 
@@ -135,14 +134,14 @@ def command(
     folder: Path,
     host: str,
     port: int,
-    workers: Optional[int],
+    workers: int | None,
     time: float,
     body: int,
     look: int,
     names: tuple[str, ...],
     origins: tuple[str, ...],
-    tiles: Optional[str],
-    confidence: Optional[Path],
+    tiles: str | None,
+    confidence: Path | None,
     logged: str,
 ) -> None:
     """Answer questions about references on a map by HTTP, for browsers and other programs.

@@ -2,7 +2,7 @@
 
 from collections.abc import Mapping
 from pathlib import Path
-from typing import Any, Optional, get_args
+from typing import Any, get_args
 
 import click
 
@@ -20,7 +20,7 @@ from olr.model.map_folder import read_about, read_map, store_of, write_bans
 from olr.model.road_map import require_within_limits
 
 
-def _dead_ends(ctx: click.Context, _option: click.Parameter, given: Optional[DeadEnds]) -> DeadEnds:
+def _dead_ends(ctx: click.Context, _option: click.Parameter, given: DeadEnds | None) -> DeadEnds:
     """What becomes of turning back at dead ends. Raises `UsageError` if it is to be banned there, but not at all junctions."""
     u_turns = ctx.params["u_turns"]
     if given == "ban" and u_turns != "dead-ends":

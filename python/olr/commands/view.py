@@ -1,7 +1,6 @@
 """The command `olr-tools view`."""
 
 from pathlib import Path
-from typing import Optional, Union
 
 import click
 
@@ -48,17 +47,17 @@ from olr.pages.view.scene import add_command, scene_of
 @reading_options
 @page_options
 def command(
-    reference: Optional[str],
+    reference: str | None,
     folder: Path,
-    confidence: Optional[Path],
+    confidence: Path | None,
     patience: float,
-    messages: Optional[Path],
-    record: Optional[int],
+    messages: Path | None,
+    record: int | None,
     reading: Reading,
     file: Path,
     force: bool,
-    tiles: Optional[str],
-    **options: Union[int, str, None],
+    tiles: str | None,
+    **options: int | str | None,
 ) -> None:
     """Show a reference on a map: its points and their directions, the candidates, where it fits, one place or matching at a time, the
     likeliest one first, or else why it doesn't. The page is one file of HTML that needs no network, written whole or not at all.
@@ -84,7 +83,7 @@ def command(
 
 
 def _text(
-    reference: Optional[str], messages: Optional[Path], record: Optional[int], reading: Reading
+    reference: str | None, messages: Path | None, record: int | None, reading: Reading
 ) -> str:
     """The reference that was asked for. Raises `UsageError`, and `ToolError` if the file hasn't it."""
     if messages is None:

@@ -3,7 +3,7 @@
 from collections.abc import Iterable, Iterator, Mapping, Sequence
 from dataclasses import replace
 from itertools import islice, tee
-from typing import NamedTuple, Optional, cast
+from typing import NamedTuple, cast
 
 from olr.client.map_client import Map
 from olr.comparing.changes import Compared, Side, compared
@@ -96,7 +96,7 @@ class _Asked(NamedTuple):
         return _Located(sides, rows)
 
 
-def _shown(answer: Answer, judgement: Optional[Judged]) -> Answer:
+def _shown(answer: Answer, judgement: Judged | None) -> Answer:
     """An answer with the verdict on the places that are shown."""
     if judgement is None or isinstance(answer, Fault):
         return answer

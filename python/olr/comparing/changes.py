@@ -21,7 +21,7 @@ is `unique`. If it is `ambiguous` there is a second place, and if it is `open` t
 | `ambiguous` | more | same | same |
 """
 
-from typing import Literal, NamedTuple, Optional, Union
+from typing import Literal, NamedTuple
 
 from olr.comparing.places import Answer, Difference, Limits, Shape, difference
 from olr.confidence.judged import Judged, JudgedPlace
@@ -38,14 +38,14 @@ class Side(NamedTuple):
 
     answer: Answer
     """With the verdict on the places that are shown."""
-    shape: Optional[Shape]
+    shape: Shape | None
     """Of the likeliest place, if there is one."""
-    why: Union[Why, Fault, None] = None
+    why: Why | Fault | None = None
     """Of a reference that has no place there."""
-    judged: Optional[Judged] = None
+    judged: Judged | None = None
     """How probable its places are; None for a fault."""
 
-    def place(self) -> Optional[JudgedPlace]:
+    def place(self) -> JudgedPlace | None:
         """The likeliest place, if there is one."""
         return self.judged.places[0] if self.judged and self.judged.places else None
 
@@ -55,15 +55,15 @@ class Compared(NamedTuple):
 
     message: Message
     change: Change
-    certainty: Optional[Certainty]
+    certainty: Certainty | None
     """None where a map has no place."""
-    difference: Optional[Difference]
+    difference: Difference | None
     """None where a map has no place."""
     old: Side
     new: Side
 
     @property
-    def agreement(self) -> Optional[float]:
+    def agreement(self) -> float | None:
         """How far both maps agree on it, 0 to 1. None where a map has no place, or neither place has a length."""
         return None if self.difference is None else self.difference.agreement
 

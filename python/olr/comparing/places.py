@@ -18,7 +18,7 @@ The place of a reference on a map is the likeliest one.
 """
 
 from collections.abc import Sequence
-from typing import NamedTuple, Optional, Union
+from typing import NamedTuple
 
 import numpy as np
 
@@ -58,27 +58,27 @@ class Spot(NamedTuple):
     route: Floats
 
 
-Shape = Union[Stretch, Spot]
-Answer = Union[Places, Fault]
+Shape = Stretch | Spot
+Answer = Places | Fault
 
 
 class Difference(NamedTuple):
     """How the places of one reference on two maps differ."""
 
     is_same: bool
-    moved: Optional[float] = None
+    moved: float | None = None
     """How far they are apart, in metres. None where one of them has no geometry."""
-    old_alone: Optional[float] = None
+    old_alone: float | None = None
     """The longest run that the old one has and the new one lacks, in metres. None for a point along a line."""
-    new_alone: Optional[float] = None
+    new_alone: float | None = None
     """The other way round."""
-    agreement: Optional[float] = None
+    agreement: float | None = None
     """What they cover of each other, 0 to 1, as it is shown: rounded. None where neither has a length."""
 
 
 def likeliest_places(
-    answers: Sequence[Answer], judgements: Sequence[Optional[Judged]], network: Network
-) -> tuple[Rows, list[Optional[Shape]]]:
+    answers: Sequence[Answer], judgements: Sequence[Judged | None], network: Network
+) -> tuple[Rows, list[Shape | None]]:
     """A row for each answer, of its likeliest place if it has one, and the shapes of these. Raises as `rows_of_answers`."""
     firsts = [one and one._replace(places=one.places[:1]) for one in judgements]
     rows = rows_of_answers(answers, network, judgements=firsts)
@@ -93,7 +93,7 @@ def likeliest_places(
     ]
 
 
-def _matching(judgement: Optional[Judged]) -> Optional[Matching]:
+def _matching(judgement: Judged | None) -> Matching | None:
     """That of the likeliest place of an answer."""
     return judgement.places[0].place.matching if judgement and judgement.places else None
 

@@ -1,7 +1,7 @@
 """Changes as rows with geometries: two for each reference, of the old map and of the new one."""
 
 from collections.abc import Mapping, Sequence
-from typing import Any, Literal, Optional, TypeVar, Union
+from typing import Any, Literal, TypeVar
 
 import numpy as np
 
@@ -65,19 +65,19 @@ def _row(reference: Compared, which: Which, side: Side) -> dict[str, Any]:
     }
 
 
-def reason_of(why: Union[Why, Fault, None]) -> Optional[str]:
+def reason_of(why: Why | Fault | None) -> str | None:
     """What stands in the way of a reference, such as `leg 1`."""
     if not isinstance(why, Why):
         return None
     return why.verdict.word if why.verdict.at is None else f"{why.verdict.word} {why.verdict.at}"
 
 
-def remedy_of(why: Union[Why, Fault, None]) -> Optional[str]:
+def remedy_of(why: Why | Fault | None) -> str | None:
     """The remedy to try first, such as `lowest 2`."""
     return remedy_words(why.remedies[0]) if isinstance(why, Why) and why.remedies else None
 
 
-def rounded(metres: Optional[float]) -> Optional[float]:
+def rounded(metres: float | None) -> float | None:
     """A length to a centimetre."""
     return None if metres is None else round(metres, DIGITS)
 

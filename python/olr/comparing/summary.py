@@ -2,7 +2,7 @@
 
 from collections import Counter
 from collections.abc import Iterable, Iterator
-from typing import NamedTuple, Optional
+from typing import NamedTuple
 
 from olr.comparing.changes import Compared
 from olr.geometry.agreement import AGREE
@@ -63,11 +63,11 @@ class Summary:
         """Likewise how certain places are."""
         return _by_count(self._certainties)
 
-    def agreeing(self) -> Optional[Agreeing]:
+    def agreeing(self) -> Agreeing | None:
         """On how many references both maps agree: None if they place none."""
         return self._agreeing if self._agreeing.placed else None
 
-    def moved(self) -> Optional[Moved]:
+    def moved(self) -> Moved | None:
         """How far places moved: None if none did."""
         if not self._moved:
             return None

@@ -2,7 +2,7 @@
 
 from collections.abc import Mapping, Sequence
 from pathlib import Path
-from typing import Any, NamedTuple, Optional
+from typing import Any, NamedTuple
 
 import numpy as np
 
@@ -42,11 +42,11 @@ class Wanted(NamedTuple):
     """The references of a feed: parts that look like it count, if there are enough of them."""
     messages: int = 0
     """How many line references the feed has."""
-    differ: Optional[float] = None
+    differ: float | None = None
     """How different the maps are, where it is stated."""
     checked: Sequence[tuple[str, bool]] = ()
     """Some references, and whether their likeliest places are right."""
-    pair: Optional[Path] = None
+    pair: Path | None = None
     """The map of the sender, on which trials are drawn then."""
 
 
@@ -54,7 +54,7 @@ class Chosen(NamedTuple):
     """Which parts count, and how much."""
 
     weights: Floats
-    statistics: Optional[Floats]
+    statistics: Floats | None
     """Of the feed, if it says something."""
 
 
@@ -126,7 +126,7 @@ def _require_feed(wanted: Wanted) -> None:
         )
 
 
-def _checked(folder: Path, wanted: Wanted, asking: Asking) -> Optional[Checked]:
+def _checked(folder: Path, wanted: Wanted, asking: Asking) -> Checked | None:
     """The answers that somebody checked, asked again. None if there are none. Raises `ToolError` if too few of them have a place."""
     if not wanted.checked:
         return None
@@ -144,7 +144,7 @@ def _checked(folder: Path, wanted: Wanted, asking: Asking) -> Optional[Checked]:
     return Checked(differences_of(found, answered.evidence), first, right)
 
 
-def answered_feed(folder: Path, texts: Sequence[str], asking: Asking) -> Optional[Answered]:
+def answered_feed(folder: Path, texts: Sequence[str], asking: Asking) -> Answered | None:
     """What a map answers to a feed; None for no feed. It is asked about something in any case: raises `ToolError` for a map that can't be
     read."""
     with asking.map_of(folder) as asked:
@@ -152,7 +152,7 @@ def answered_feed(folder: Path, texts: Sequence[str], asking: Asking) -> Optiona
     return found if texts else None
 
 
-def chosen_parts(parts: Sequence[Part], feed: Optional[Answered], wanted: Wanted) -> Chosen:
+def chosen_parts(parts: Sequence[Part], feed: Answered | None, wanted: Wanted) -> Chosen:
     """How much each part counts: those that look like the feed, and whose maps are as different as is stated. Without either all count
     alike."""
     said: list[Floats] = []
@@ -214,7 +214,7 @@ def _about(
     wanted: Wanted,
 ) -> dict[str, Any]:
     """How it was made."""
-    feed: Optional[Mapping[str, Any]] = None
+    feed: Mapping[str, Any] | None = None
     if wanted.feed:
         values = chosen.statistics
         numbers = None if values is None else dict(zip(STATISTICS, rounded(values)))

@@ -2,7 +2,7 @@
 
 from collections.abc import Mapping
 from pathlib import Path
-from typing import Any, NamedTuple, Optional
+from typing import Any, NamedTuple
 
 from olr.confidence.confidence import Confidence
 from olr.confidence.judged import Judging
@@ -26,13 +26,13 @@ class Chosen(NamedTuple):
         return f"no probabilities: {self.others}: {REMEDY}" if self.others else ""
 
 
-def confidence_of(file: Optional[Path]) -> Confidence:
+def confidence_of(file: Path | None) -> Confidence:
     """That of a file, by default the one that comes with the package. Raises `ToolError` if the file is none."""
     return Confidence.default() if file is None else Confidence.of_file(file)
 
 
 def judging_for(
-    file: Optional[Path], tolerances: Mapping[str, Any], numbers: Mapping[str, int]
+    file: Path | None, tolerances: Mapping[str, Any], numbers: Mapping[str, int]
 ) -> Chosen:
     """By what answers are judged that are asked with tolerances and numbers of `places`: those that were given. Without a file and with
     other numbers than those of the one that comes with the package there are no probabilities. Raises `ToolError` if the file is none, or
@@ -57,7 +57,7 @@ def listing(numbers: Mapping[str, int]) -> dict[str, int]:
     return {**numbers, **LIST}
 
 
-def cut_off_line(count: int) -> Optional[str]:
+def cut_off_line(count: int) -> str | None:
     """The line of a summary on answers for which looking was cut off before a place that might be shown; None if there is none."""
     if not count:
         return None

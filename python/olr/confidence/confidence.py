@@ -4,7 +4,7 @@ from collections.abc import Mapping, Sequence
 from dataclasses import dataclass
 from functools import cache
 from pathlib import Path
-from typing import TYPE_CHECKING, Any, Optional
+from typing import TYPE_CHECKING, Any
 
 from olr.extras import needed_by
 from olr.model.answers import Reference
@@ -38,7 +38,7 @@ class Confidence:
     """In decimetres."""
     weights: Mapping[str, float]
     """By the names of `WEIGHTS`."""
-    map_differs: Optional[Range]
+    map_differs: Range | None
     """How different the sender's map is, 1 as that of another maker, with an interval of 95 percent. None if it is known otherwise."""
     about: Mapping[str, Any]
     """How it was made: with this it can be made again."""
@@ -73,7 +73,7 @@ class Confidence:
         return "; ".join(others)
 
     def evidence(
-        self, found: Listed, references: Sequence[Optional[Reference]], network: "Network"
+        self, found: Listed, references: Sequence[Reference | None], network: "Network"
     ) -> Evidence:
         """What speaks for and against places. There is a reference for each answer that has one. Raises `ToolError` if the network hasn't
         a line."""

@@ -3,7 +3,7 @@
 import json
 import math
 from pathlib import Path
-from typing import Any, Optional
+from typing import Any
 
 from olr.confidence.confidence import Confidence
 from olr.confidence.likeness import Range
@@ -110,7 +110,7 @@ def _weights(content: Any) -> dict[str, float]:
     return found
 
 
-def _range(content: Any) -> Optional[Range]:
+def _range(content: Any) -> Range | None:
     """How different the maps are. Raises `ValueError` for what is none."""
     if content is None:
         return None

@@ -1,7 +1,7 @@
 """What the answers to a feed show of how different its sender's map is: some numbers of all of them together."""
 
 from collections.abc import Sequence
-from typing import NamedTuple, Optional
+from typing import NamedTuple
 
 import numpy as np
 
@@ -22,7 +22,7 @@ FAR_END = 10.0
 class Answered(NamedTuple):
     """Answers to references with what speaks for and against their places."""
 
-    references: Sequence[Optional[Reference]]
+    references: Sequence[Reference | None]
     """None for a text that is none."""
     found: Listed
     evidence: Evidence

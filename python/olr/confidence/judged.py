@@ -2,7 +2,7 @@
 
 import math
 from collections.abc import Sequence
-from typing import TYPE_CHECKING, NamedTuple, Optional, Union
+from typing import TYPE_CHECKING, NamedTuple
 
 import numpy as np
 
@@ -30,7 +30,7 @@ class JudgedPlace(NamedTuple):
     ends: float
     """How far its points lie from the proper ends of their lines together, in metres, 50 at most of each."""
     turns_back: bool
-    probability: Optional[float] = None
+    probability: float | None = None
     """None where there is no confidence, or the reference is a point along a line."""
     reasons: str = ""
     """Why it is as probable."""
@@ -42,10 +42,10 @@ class Judged(NamedTuple):
     places: Sequence[JudgedPlace]
     """Those that are shown, the likeliest one first."""
     verdict: Verdict
-    margin: Optional[int]
-    none_of_these: Optional[float] = None
+    margin: int | None
+    none_of_these: float | None = None
     """How probable it is that none of all places that were found is the right one."""
-    map_differs: Optional[Range] = None
+    map_differs: Range | None = None
     """How different the sender's map seems, if there is a probability."""
     is_cut_off: bool = False
     """Whether looking ended before a place that might be shown."""
@@ -54,8 +54,8 @@ class Judged(NamedTuple):
 class Judging(NamedTuple):
     """By what answers are judged."""
 
-    confidence: Optional[Confidence] = None
-    shown: Optional[Shown] = None
+    confidence: Confidence | None = None
+    shown: Shown | None = None
     """Which places of a longer list are shown: all of them for None."""
 
 
@@ -67,15 +67,15 @@ class _Probable(NamedTuple):
     """Of each answer."""
     reasons: Sequence[str]
     """Of each place."""
-    map_differs: Optional[Range]
+    map_differs: Range | None
 
 
 def judged(
-    answers: Sequence[Union[Places, Page, Fault]],
-    references: Sequence[Optional[Reference]],
+    answers: Sequence[Places | Page | Fault],
+    references: Sequence[Reference | None],
     network: "Network",
     judging: Judging = Judging(),
-) -> list[Optional[Judged]]:
+) -> list[Judged | None]:
     """Answers to references, of which there is one for each; None for what isn't an answer to `places`. Where a reference isn't known its
     answer has no probabilities. Raises `ToolError` if the network hasn't a line, and `MapRefused` if it is of another version of the map.
     """
@@ -84,7 +84,7 @@ def judged(
     ends = found.fit.ends()
     probable = _probable(found, references, network, judging.confidence)
     behind = np.cumsum(found.sizes).tolist()
-    result: list[Optional[Judged]] = []
+    result: list[Judged | None] = []
     for number, (one, end) in enumerate(zip(places, behind)):
         if one is None:
             result.append(None)
@@ -133,9 +133,9 @@ def _place(
 
 def _probable(
     found: Listed,
-    references: Sequence[Optional[Reference]],
+    references: Sequence[Reference | None],
     network: "Network",
-    confidence: Optional[Confidence],
+    confidence: Confidence | None,
 ) -> _Probable:
     """How probable places are. Nothing is said of points along a line: no trial is of one."""
     of_place = np.full(len(found.matchings), np.nan)

@@ -5,7 +5,7 @@ import shutil
 from collections.abc import Iterator, Mapping, Sequence
 from itertools import islice
 from pathlib import Path
-from typing import Any, NamedTuple, Optional
+from typing import Any, NamedTuple
 
 import numpy as np
 
@@ -95,7 +95,7 @@ class Drawing(NamedTuple):
 
     references: int = 10_000
     seed: int = 1
-    likeness: Optional[Likeness] = None
+    likeness: Likeness | None = None
     """What paths are like: usual ones for None."""
 
     def parts(self) -> int:

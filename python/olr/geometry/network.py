@@ -6,7 +6,7 @@ objects: these are shapely's.
 
 from collections.abc import Iterable, Sequence
 from pathlib import Path
-from typing import TYPE_CHECKING, NamedTuple, Optional, Protocol, Union
+from typing import TYPE_CHECKING, NamedTuple, Protocol
 
 from olr.content import digest_of
 from olr.errors import MapRefused, ToolError
@@ -79,10 +79,10 @@ class Network:
         """How far each point is along its line, as a share of the line's polyline: from 0 to 1."""
         self._by_id: Integers = np.argsort(self.line_id, kind="stable")
         self._ids: Integers = self.line_id[self._by_id]
-        self._sources: Optional[Sources] = None
+        self._sources: Sources | None = None
 
     @classmethod
-    def read(cls, folder: Union[str, Path]) -> "Network":
+    def read(cls, folder: str | Path) -> "Network":
         """The nodes and lines of a map's folder, or of a store, whose lines are read when they are asked for. Raises `ToolError` if they
         can't be read. `Map.network` reads those of a map that is asked."""
         if store_of(Path(folder)) is not None:
@@ -95,7 +95,7 @@ class Network:
         sizes = f"{len(self.node_id):,} nodes, {len(self.line_id):,} lines"
         return f"<Network of {self.folder}: {sizes}>"
 
-    def having(self, lines: Union[Integers, Iterable[int]]) -> "Network":
+    def having(self, lines: Integers | Iterable[int]) -> "Network":
         """A network with arrays that has these lines, by their ids, and perhaps others: this one, but for the network of a store."""
         return self
 
@@ -121,7 +121,7 @@ class Network:
             self._sources = Sources.of_folder(self.folder)
         return self._sources
 
-    def geometry(self, pieces: Union[Pieces, Iterable[Sequence[int]]]) -> "LineString":
+    def geometry(self, pieces: Pieces | Iterable[Sequence[int]]) -> "LineString":
         """The line of pieces, one behind the other; an empty one for no pieces. A piece is a line's id and two positions.
 
         A position is a share of the line's length, and the same share of its polyline, as the program counts. Raises `MapRefused`
@@ -129,7 +129,7 @@ class Network:
         """
         return _line_string(self.path(pieces))
 
-    def path(self, pieces: Union[Pieces, Iterable[Sequence[int]]]) -> Floats:
+    def path(self, pieces: Pieces | Iterable[Sequence[int]]) -> Floats:
         """The points of what `geometry` makes of pieces; none for no pieces. Raises as `geometry`."""
         if isinstance(pieces, Pieces):
             self.require_version_of(pieces)
@@ -179,7 +179,7 @@ class Network:
                 f"the map in {self.folder} is another version than the answer is of: take the network of the Map that was asked, by network()"
             )
 
-    def point(self, place: Union[OnLine, tuple[int, int]]) -> "Point":
+    def point(self, place: OnLine | tuple[int, int]) -> "Point":
         """The point of a place, or of a candidate. Raises `ToolError` if the map hasn't this line, or it ends before."""
         id, at = place if isinstance(place, tuple) else (place.line, place.at)
         (point,) = self.points_at(np.array([[id, at]]))
@@ -282,7 +282,7 @@ def _line_string(points: Floats) -> "LineString":
     return LineString(points) if len(points) else LineString()
 
 
-def _sums(values: Union[Integers, Booleans], sizes: Integers) -> Integers:
+def _sums(values: Integers | Booleans, sizes: Integers) -> Integers:
     """The sums of values, in rows of these sizes, which may be 0."""
     sums = np.concatenate([[0], np.cumsum(values, dtype=np.int64)])
     behind = np.cumsum(sizes)

@@ -1,7 +1,7 @@
 """Parts of lines of many matchings as arrays: pieces, one behind the other."""
 
 from collections.abc import Sequence
-from typing import NamedTuple, Optional
+from typing import NamedTuple
 
 import numpy as np
 
@@ -20,7 +20,7 @@ class Parts(NamedTuple):
     """How many pieces each part has."""
 
 
-def parts_of(parts: Sequence[Optional[Pieces]]) -> Parts:
+def parts_of(parts: Sequence[Pieces | None]) -> Parts:
     """Parts as arrays. None has no pieces. Most are texts of the program, which are read all at once."""
     texts = [b"" if part is None else part.text() for part in parts]
     counts = np.array([max(0, text.count(b"]") - 1) for text in texts], dtype=np.int64)

@@ -1,7 +1,7 @@
 """Polylines in a plane with metres."""
 
 import math
-from typing import NamedTuple, Union
+from typing import NamedTuple
 
 import numpy as np
 
@@ -53,7 +53,7 @@ class Segments(NamedTuple):
         directions = steps[there] / lengths[there, None]
         return cls(points[:-1][there], directions, lengths[there])
 
-    def taken(self, which: Union[slice, Booleans, Integers]) -> "Segments":
+    def taken(self, which: slice | Booleans | Integers) -> "Segments":
         """Some of them."""
         return Segments(self.starts[which], self.directions[which], self.lengths[which])
 

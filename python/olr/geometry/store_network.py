@@ -4,7 +4,7 @@ import threading
 from collections.abc import Iterable, Iterator
 from contextlib import contextmanager
 from pathlib import Path
-from typing import TYPE_CHECKING, Optional, Union
+from typing import TYPE_CHECKING
 
 import numpy as np
 
@@ -46,7 +46,7 @@ class StoreNetwork(Network):
         self._store = CurrentStore(store_of(path) or path)
         self.folder, self.digest = self._store.file, self._store.digest
         self._asking = threading.Lock()
-        self._last: Optional[PartOfNetwork] = None
+        self._last: PartOfNetwork | None = None
 
     def __repr__(self) -> str:
         sizes = self._store.sizes
@@ -65,7 +65,7 @@ class StoreNetwork(Network):
         with self._asking, self._store.reading() as store:
             yield store
 
-    def having(self, lines: Union[Integers, Iterable[int]]) -> Network:
+    def having(self, lines: Integers | Iterable[int]) -> Network:
         """A network that has these lines, by their ids, and perhaps others. Raises `ToolError` if the map hasn't one of them, and
         `MapRefused` if the store changed."""
         wanted: Integers = np.unique(np.fromiter(lines, dtype=np.int64))

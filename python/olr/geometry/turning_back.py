@@ -2,7 +2,7 @@
 
 import math
 from collections.abc import Iterable, Sequence
-from typing import TYPE_CHECKING, Union
+from typing import TYPE_CHECKING
 
 import numpy as np
 
@@ -31,7 +31,7 @@ def turn_back(pieces: Integers, counts: Integers, network: "Network") -> Boolean
     return result
 
 
-def turns_of(route: Union[Pieces, Iterable[Sequence[int]]], network: "Network") -> list[int]:
+def turns_of(route: Pieces | Iterable[Sequence[int]], network: "Network") -> list[int]:
     """Where a route turns back: the numbers, from 0, of the pieces behind which it does. Raises as `turn_back`, and `MapRefused` if the
     route is of another version of the map."""
     if isinstance(route, Pieces):

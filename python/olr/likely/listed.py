@@ -1,7 +1,7 @@
 """The places of many answers at once, with what speaks for and against each of them."""
 
 from collections.abc import Sequence
-from typing import TYPE_CHECKING, NamedTuple, Optional
+from typing import TYPE_CHECKING, NamedTuple
 
 import numpy as np
 
@@ -43,7 +43,7 @@ class Listed(NamedTuple):
         return np.repeat(np.arange(len(self.sizes)), self.sizes)
 
 
-def listed(answers: Sequence[Optional[Places]], network: "Network") -> Listed:
+def listed(answers: Sequence[Places | None], network: "Network") -> Listed:
     """The places of answers; None has none. Raises `ToolError` if the network hasn't a line of one, and `MapRefused` if it is of another
     version of the map."""
     matchings = [place.matching for answer in answers if answer for place in answer.places]
@@ -55,7 +55,7 @@ def listed(answers: Sequence[Optional[Places]], network: "Network") -> Listed:
 
 
 def evidence_for(
-    found: Listed, references: Sequence[Optional[Reference]], network: "Network", radius: int
+    found: Listed, references: Sequence[Reference | None], network: "Network", radius: int
 ) -> Evidence:
     """What speaks for and against the places of answers to references, of which there is one for each answer that has a place. `radius` is
     the tolerance with which was asked, in metres. Raises as `listed`."""

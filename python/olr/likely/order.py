@@ -8,7 +8,7 @@ that a point lies from the proper end of its line, and `TURNING_BACK` for a rout
 
 from collections.abc import Mapping
 from dataclasses import replace
-from typing import Literal, NamedTuple, Optional
+from typing import Literal, NamedTuple
 
 import numpy as np
 
@@ -96,6 +96,6 @@ def is_cut_off(places: Places, costs: Floats, shown: Shown) -> bool:
     return is_listed or OF_LEGS * reached <= float(costs.min()) + shown.within
 
 
-def _total_reached(places: Places) -> Optional[int]:
+def _total_reached(places: Places) -> int | None:
     """The total of the last matching that was looked at, where there may be others behind it. It is what its cursor begins with."""
     return None if places.next is None else int(places.next.partition(":")[0])

@@ -7,7 +7,7 @@ from collections import Counter, deque
 from collections.abc import Iterable, Iterator, Mapping, Sequence
 from itertools import islice, tee
 from pathlib import Path
-from typing import Optional, TypeVar
+from typing import TypeVar
 
 from olr.client.map_client import Map
 from olr.confidence.judged import Judging, judged
@@ -40,8 +40,8 @@ class Asked:
         asked: Map,
         file: Path,
         reading: Reading,
-        lacking: Optional[Lacking] = None,
-        within: Optional[int] = None,
+        lacking: Lacking | None = None,
+        within: int | None = None,
     ) -> None:
         """The messages of a file that are asked of a map. They are counted, if they can be read twice: so what isn't understood is
         said before the first one is asked. Those that fit nowhere go to `lacking`. Verdicts on places are those with `within`, where a
@@ -62,7 +62,7 @@ class Asked:
         part: Part,
         judging: Judging,
         rows: Sink,
-        pieces: Optional[Sink],
+        pieces: Sink | None,
     ) -> None:
         """Asks where the references are, and writes rows of the answers, judged, and of their pieces. Raises `ToolError`."""
         network = self._map.network()

@@ -1,7 +1,7 @@
 """Answers as tables with geometries. docs/COLUMNS.md says what is in each column."""
 
 from collections.abc import Iterable, Iterator, Mapping, Sequence
-from typing import Any, Optional, TypeVar
+from typing import Any, TypeVar
 
 from olr.extras import needed_by
 from olr.model.answers import Page, Places
@@ -30,13 +30,13 @@ CRS = "EPSG:4326"
 def to_geodataframe(
     answers: Iterable[Located],
     network: Network,
-    keys: Optional[Iterable[object]] = None,
+    keys: Iterable[object] | None = None,
     part: Part = "outer",
-    candidates: Optional[Iterable[Counted]] = None,
-    confidence: Optional["Confidence"] = None,
-    references: Optional[Iterable[str]] = None,
-    within: Optional[int] = None,
-    most: Optional[int] = None,
+    candidates: Iterable[Counted] | None = None,
+    confidence: "Confidence | None" = None,
+    references: Iterable[str] | None = None,
+    within: int | None = None,
+    most: int | None = None,
 ) -> "geopandas.GeoDataFrame":
     """A row for each matching of pages, and for each place of answers to `places`, the likeliest one first, in metres and degrees
     (EPSG:4326).
@@ -73,7 +73,7 @@ def to_geodataframe(
     return _table(chunks, ANSWERS, keys is None)
 
 
-def _shown(within: Optional[int], most: Optional[int]) -> Optional[Shown]:
+def _shown(within: int | None, most: int | None) -> Shown | None:
     """Which places are shown: all for None."""
     if within is None and most is None:
         return None
@@ -82,7 +82,7 @@ def _shown(within: Optional[int], most: Optional[int]) -> Optional[Shown]:
 
 
 def to_pieces(
-    answers: Iterable[Located], network: Network, keys: Optional[Iterable[object]] = None
+    answers: Iterable[Located], network: Network, keys: Iterable[object] | None = None
 ) -> "geopandas.GeoDataFrame":
     """A row for each piece of a line that an answer covers, in metres and degrees (EPSG:4326): those of the outer part of each matching
     or place, then those of its inner part. A point along a line has the part `point`: what lies between its two positions.
@@ -105,7 +105,7 @@ def _require_many(call: str, answers: object) -> None:
 
 
 def _keyed(
-    call: str, answers: Iterable[Located], keys: Optional[Iterable[object]]
+    call: str, answers: Iterable[Located], keys: Iterable[object] | None
 ) -> Iterator[tuple[object, Located]]:
     """Answers with their keys. Raises `TypeError` for one key, and `ValueError` where there are more or fewer."""
     if keys is None:
@@ -115,8 +115,8 @@ def _keyed(
 
 
 def _beside(
-    what: str, keyed: Iterator[tuple[Item, Located]], others: Optional[Iterable[Other]]
-) -> Iterator[tuple[tuple[Item, Optional[Other]], Located]]:
+    what: str, keyed: Iterator[tuple[Item, Located]], others: Iterable[Other] | None
+) -> Iterator[tuple[tuple[Item, Other | None], Located]]:
     """Answers with what they have already, and with others, one for each; None where there are no others. Raises `TypeError` for one text,
     and `ValueError` where there are more or fewer."""
     if others is None:
@@ -134,7 +134,7 @@ def _table(
     """A table of rows, with the keys of their answers in front of these columns."""
     keys: list[object] = []
     values: Mapping[str, list[Any]] = {name: [] for name in columns}
-    geometries: list[Optional[bytes]] = []
+    geometries: list[bytes | None] = []
     for items, rows in chunks:
         keys.extend([items[number] for number in rows.answers])
         for name, found in rows.values.items():

@@ -7,7 +7,7 @@ from collections import Counter
 from collections.abc import Callable, Iterable, Iterator, Sequence
 from pathlib import Path
 from types import TracebackType
-from typing import NamedTuple, Optional, Union
+from typing import NamedTuple
 
 from olr.client.map_client import Map
 from olr.errors import ToolError
@@ -27,7 +27,7 @@ class Other(NamedTuple):
     """Who calls it closes the map."""
 
     @classmethod
-    def of(cls, asking: Asking, folder: Path, patience: float) -> "Optional[Other]":
+    def of(cls, asking: Asking, folder: Path, patience: float) -> "Other | None":
         """That of a question: None if the other profile has the same tolerances, or they were all given."""
         other = asking.other()
         if other is None:
@@ -40,12 +40,12 @@ class Lacking:
     """References that fit nowhere. It owns the map of another profile, which is opened when that is first asked, and closed by the `with`
     statement."""
 
-    def __init__(self, asked: Map, other: Optional[Other]) -> None:
+    def __init__(self, asked: Map, other: Other | None) -> None:
         """They were asked of a map. With `other` they are asked with another profile too."""
         self._asked, self._other = asked, other
-        self._map: Optional[Map] = None
+        self._map: Map | None = None
         self._kept: list[str] = []
-        self._failure: Optional[ToolError] = None
+        self._failure: ToolError | None = None
         self.count = 0
         self.by_profile = 0
         """So many of them have a matching with the other profile."""
@@ -58,13 +58,13 @@ class Lacking:
         if len(self._kept) >= CHUNK:
             self._ask()
 
-    def add_answered(self, references: Sequence[str], reasons: Iterable[Union[Why, Fault]]) -> None:
+    def add_answered(self, references: Sequence[str], reasons: Iterable[Why | Fault]) -> None:
         """Adds references, of each of which it is known why it fits nowhere."""
         self.count += len(references)
         self._count_reasons(reasons)
         self._unless_failed(lambda: self._count_others(references))
 
-    def line(self) -> Optional[str]:
+    def line(self) -> str | None:
         """The line of a summary: None if all fit somewhere. Where asking more failed it says how many there are, and why no more is known:
         what was asked in the first place is answered."""
         self._ask()
@@ -93,9 +93,9 @@ class Lacking:
 
     def __exit__(
         self,
-        kind: Optional[type[BaseException]],
-        error: Optional[BaseException],
-        trace: Optional[TracebackType],
+        kind: type[BaseException] | None,
+        error: BaseException | None,
+        trace: TracebackType | None,
     ) -> None:
         if self._map is not None:
             self._map.close()
@@ -119,7 +119,7 @@ class Lacking:
         except ToolError as error:
             self._failure = error
 
-    def _count_reasons(self, reasons: Iterable[Union[Why, Fault]]) -> None:
+    def _count_reasons(self, reasons: Iterable[Why | Fault]) -> None:
         for reason in reasons:
             helping = [] if isinstance(reason, Fault) else reason.remedies
             options = [it.option for it in helping if it.matching is not None]

@@ -3,7 +3,7 @@
 import os
 from collections.abc import Sequence
 from concurrent.futures import ThreadPoolExecutor
-from typing import Any, Optional, Union
+from typing import Any
 
 import numpy as np
 
@@ -14,7 +14,7 @@ from olr.matching.rows import Rows
 from olr.model.answers import Reference, Remedy, Why
 from olr.model.fault import Fault
 
-Reasons = Union[Why, Fault]
+Reasons = Why | Fault
 
 
 def rows_of_reasons(texts: Sequence[str], answers: Sequence[Reasons]) -> Rows:
@@ -30,7 +30,7 @@ def rows_of_reasons(texts: Sequence[str], answers: Sequence[Reasons]) -> Rows:
     return Rows(range(len(rows)), values, Polylines(points, np.array(list(map(len, lines)), int)))
 
 
-def _reference(text: str, answer: Reasons) -> Optional[Reference]:
+def _reference(text: str, answer: Reasons) -> Reference | None:
     """What a reference says, if it is one."""
     return None if isinstance(answer, Fault) else decode(text)
 

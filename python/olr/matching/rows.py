@@ -2,7 +2,7 @@
 
 from collections.abc import Callable, Iterable, Iterator, Mapping, Sequence
 from itertools import repeat
-from typing import Any, NamedTuple, Optional, TypeVar, Union
+from typing import Any, NamedTuple, TypeVar
 
 import numpy as np
 
@@ -16,9 +16,9 @@ from olr.model.fault import Fault
 from olr.model.pieces import Pieces
 from olr.model.road_map import Origin
 
-Located = Union[Page, Places, Fault]
+Located = Page | Places | Fault
 """An answer that says where a reference is."""
-Counted = Union[Candidates, Fault, None]
+Counted = Candidates | Fault | None
 """An answer to `candidates`; None where nobody asked."""
 Item = TypeVar("Item")
 DIGITS = 3
@@ -44,16 +44,16 @@ class _Row(NamedTuple):
     """What a row has of its answer."""
 
     answer: int
-    rank: Optional[int]
+    rank: int | None
     verdict: str
-    gap: Optional[int] = None
-    margin: Optional[int] = None
-    members: Optional[int] = None
-    fault: Optional[str] = None
-    matching: Optional[Matching] = None
-    place: Optional[JudgedPlace] = None
+    gap: int | None = None
+    margin: int | None = None
+    members: int | None = None
+    fault: str | None = None
+    matching: Matching | None = None
+    place: JudgedPlace | None = None
     """Of a place."""
-    of_first: Optional[Judged] = None
+    of_first: Judged | None = None
     """The answer, in the row of its likeliest place."""
 
 
@@ -90,8 +90,8 @@ def rows_of_answers(
     answers: Sequence[Located],
     network: Network,
     part: Part = "outer",
-    candidates: Optional[Sequence[Counted]] = None,
-    judgements: Optional[Sequence[Optional[Judged]]] = None,
+    candidates: Sequence[Counted] | None = None,
+    judgements: Sequence[Judged | None] | None = None,
 ) -> Rows:
     """A row for each matching of pages, and for each place of answers to `places` that is shown, the likeliest one first; one for an answer
     that has none. `judgements` are those of the answers: without them nothing is said of how probable places are. Raises `MapRefused` if
@@ -146,12 +146,12 @@ _WHICH: tuple[Part, Part] = ("outer", "inner")
 def rows_of_pieces(
     answers: Sequence[Located],
     network: Network,
-    judgements: Optional[Sequence[Optional[Judged]]] = None,
+    judgements: Sequence[Judged | None] | None = None,
 ) -> Rows:
     """A row for each piece of the outer and of the inner part of each matching or place that is shown; of a point along a line for each
     piece between its two positions, as the part `point`. Raises as `rows_of_answers`."""
     of_parts: list[tuple[_Row, str]] = []
-    parts: list[Optional[Pieces]] = []
+    parts: list[Pieces | None] = []
     for row in _all_rows(answers, network, judgements):
         if row.matching is None:
             continue
@@ -188,7 +188,7 @@ def rows_of_pieces(
 def _all_rows(
     answers: Sequence[Located],
     network: Network,
-    judgements: Optional[Sequence[Optional[Judged]]],
+    judgements: Sequence[Judged | None] | None,
 ) -> list[_Row]:
     """The rows of answers."""
     if judgements is None:
@@ -200,7 +200,7 @@ def _all_rows(
     ]
 
 
-def _rows(number: int, answer: Located, judgement: Optional[Judged]) -> Iterator[_Row]:
+def _rows(number: int, answer: Located, judgement: Judged | None) -> Iterator[_Row]:
     """The rows of an answer."""
     if isinstance(answer, Fault):
         yield _Row(number, None, "fault", fault=answer.text)
@@ -247,12 +247,12 @@ def _judgements(rows: Sequence[_Row]) -> dict[str, Sequence[Any]]:
     }
 
 
-def _rounded(value: Optional[float]) -> Optional[float]:
+def _rounded(value: float | None) -> float | None:
     """A probability, or how different maps are, with the digits that are shown."""
     return None if value is None else round(value, DIGITS)
 
 
-def _part(matching: Optional[Matching], which: Part) -> Optional[Pieces]:
+def _part(matching: Matching | None, which: Part) -> Pieces | None:
     """A part of a matching. Of a point along a line the outer one is what lies between its two positions."""
     if matching is None:
         return None
@@ -263,20 +263,18 @@ def _part(matching: Optional[Matching], which: Part) -> Optional[Pieces]:
     return Pieces(between(matching.route, matching.earliest, matching.latest))
 
 
-def _chosen(matching: Optional[Matching], part: Part) -> Optional[Pieces]:
+def _chosen(matching: Matching | None, part: Part) -> Pieces | None:
     """The part that a row is about."""
     is_point = matching is not None and matching.earliest is not None
     return _part(matching, "outer" if is_point else part)
 
 
-def _number_of(counted: Counted) -> Optional[int]:
+def _number_of(counted: Counted) -> int | None:
     """How many candidates all points of a reference have together."""
     return sum(map(len, counted.points)) if isinstance(counted, Candidates) else None
 
 
-def _each(
-    matchings: Sequence[Optional[Matching]], value: Callable[[Matching], Any]
-) -> Sequence[Any]:
+def _each(matchings: Sequence[Matching | None], value: Callable[[Matching], Any]) -> Sequence[Any]:
     """A value of each matching."""
     return [None if one is None else value(one) for one in matchings]
 
@@ -295,8 +293,8 @@ def _metres(parts: Parts) -> list[float]:
 
 
 def _inner_metres(
-    inners: Sequence[Optional[Pieces]],
-    outers: Sequence[Optional[Pieces]],
+    inners: Sequence[Pieces | None],
+    outers: Sequence[Pieces | None],
     outer_m: Sequence[float],
 ) -> list[float]:
     """The lengths of inner parts. Most references have no offsets, so that they are the outer ones, which needn't be read twice."""
@@ -332,13 +330,13 @@ def _along(parts: Parts, sources: Mapping[int, Origin]) -> dict[str, Sequence[An
 
 
 def _joined(
-    codes: Integers, texts: Sequence[Optional[str]], counts: Integers, once: bool = True
-) -> list[Optional[str]]:
+    codes: Integers, texts: Sequence[str | None], counts: Integers, once: bool = True
+) -> list[str | None]:
     """The texts of each part: `codes` has the number of that of each piece. A text is there once where several in a row are the same.
     None where a part has none."""
     if not any(texts):
         return [None] * len(counts)
-    numbers: dict[Optional[str], int] = {}
+    numbers: dict[str | None, int] = {}
     of_text = np.array([numbers.setdefault(text, len(numbers)) if text else -1 for text in texts])
     found = of_text[codes]
     owner = np.repeat(np.arange(len(counts)), counts)[found >= 0]
@@ -357,7 +355,7 @@ def _joined(
 
 
 def _shapes(
-    matchings: Sequence[Optional[Matching]],
+    matchings: Sequence[Matching | None],
     points: Sequence[bool],
     parts: Parts,
     network: Network,

@@ -5,7 +5,6 @@ A row has a line of two points or more, one point, or, with the size 0, nothing.
 
 import struct
 from functools import cache
-from typing import Optional
 
 import numpy as np
 
@@ -19,7 +18,7 @@ _WITH_BOX = 3
 """Of a blob of a GeoPackage: little endian, with an envelope of four numbers."""
 
 
-def wkb(shapes: Polylines) -> list[Optional[bytes]]:
+def wkb(shapes: Polylines) -> list[bytes | None]:
     """The geometries as well-known binary."""
     data = np.ascontiguousarray(shapes.points, dtype="<f8").tobytes()
     behind = 16 * np.cumsum(shapes.sizes)
@@ -46,7 +45,7 @@ def boxes(shapes: Polylines) -> Floats:
     return np.stack([least[:, 0], greatest[:, 0], least[:, 1], greatest[:, 1]], axis=1)
 
 
-def blobs(shapes: Polylines) -> list[Optional[bytes]]:
+def blobs(shapes: Polylines) -> list[bytes | None]:
     """The geometries as blobs of a GeoPackage, in degrees (WGS 84)."""
     of_rows = iter(boxes(shapes).tolist())
     return [

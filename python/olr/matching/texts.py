@@ -5,7 +5,7 @@ import json
 from collections.abc import Iterator, Mapping, Sequence
 from contextlib import contextmanager
 from pathlib import Path
-from typing import Any, Optional, TextIO
+from typing import Any, TextIO
 
 import numpy as np
 
@@ -65,7 +65,7 @@ class GeoJson:
 _COMMA = ",\n"
 
 
-def _geometry(points: Sequence[Sequence[float]]) -> Optional[Mapping[str, Any]]:
+def _geometry(points: Sequence[Sequence[float]]) -> Mapping[str, Any] | None:
     """The geometry of a row."""
     if not points:
         return None

@@ -2,7 +2,7 @@
 
 import json
 from collections.abc import Iterable, Iterator, Sequence
-from typing import Any, NamedTuple, Optional
+from typing import Any, NamedTuple
 
 from olr.errors import ToolError
 from olr.messages.first import with_one
@@ -93,7 +93,7 @@ def _member(members: dict[str, Any], path: str) -> Any:
     return found
 
 
-def _text(value: Any) -> Optional[str]:
+def _text(value: Any) -> str | None:
     """A value as a text: what is none has that of its JSON. Raises `UnicodeEncodeError` for half a surrogate pair."""
     if value is None:
         return None

@@ -1,6 +1,6 @@
 """A message, and what was said of a file of them."""
 
-from typing import Literal, NamedTuple, Optional, get_args
+from typing import Literal, NamedTuple, get_args
 
 Format = Literal["tab", "csv", "jsonl", "json"]
 FORMATS: tuple[Format, ...] = get_args(Format)
@@ -13,7 +13,7 @@ class Message(NamedTuple):
 
     record: int
     """Its number, from 1: of its line, in CSV of the record behind the header, in a JSON array of the element."""
-    key: Optional[str]
+    key: str | None
     """None where there is none."""
     reference: str
     """A text without line feeds: whether it is a reference the program says."""
@@ -22,9 +22,9 @@ class Message(NamedTuple):
 class Reading(NamedTuple):
     """What was said of a file of messages, None for what was left out."""
 
-    format: Optional[Format] = None
-    ref: Optional[str] = None
-    key: Optional[str] = None
+    format: Format | None = None
+    ref: str | None = None
+    key: str | None = None
 
     def names_columns(self) -> bool:
         """Whether a column or a member was named, so that the file has some."""

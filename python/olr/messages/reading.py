@@ -5,7 +5,7 @@ from collections.abc import Iterator
 from contextlib import contextmanager
 from itertools import chain
 from pathlib import Path
-from typing import Literal, Optional
+from typing import Literal
 
 from olr.asking.program import PathLike
 from olr.errors import ToolError
@@ -21,10 +21,10 @@ Errors = Literal["strict", "surrogateescape"]
 
 def read_messages(
     file: PathLike,
-    ref: Optional[str] = None,
-    key: Optional[str] = None,
-    format: Optional[Format] = None,
-) -> Iterator[tuple[Optional[str], str]]:
+    ref: str | None = None,
+    key: str | None = None,
+    format: Format | None = None,
+) -> Iterator[tuple[str | None, str]]:
     """The keys and the references of a file, or of standard input for `-`, one after the other. A record without a key has None.
 
     The file has lines of a key, a tab and a reference, or CSV, or JSON; docs/MESSAGES.md says how its format is detected,
@@ -38,7 +38,7 @@ def read_messages(
 
 
 def messages_of(
-    file: Path, reading: Reading, name: Optional[str] = None, errors: Errors = "strict"
+    file: Path, reading: Reading, name: str | None = None, errors: Errors = "strict"
 ) -> Iterator[Message]:
     """The messages of a file, empty records left out. It holds one of them at a time, but for a JSON array.
 
@@ -56,7 +56,7 @@ def messages_in(stream: io.BufferedIOBase, reading: Reading, name: str) -> Itera
         yield from _messages(pieces_of(stream), reading, name, "strict")
 
 
-def format_in(file: Path, reading: Reading, name: Optional[str] = None) -> Format:
+def format_in(file: Path, reading: Reading, name: str | None = None) -> Format:
     """The format of a file, as it was said or as its first line shows it. Raises `ToolError` if the file can't be read, or it isn't
     clear."""
     called = name or name_of(file)
@@ -64,7 +64,7 @@ def format_in(file: Path, reading: Reading, name: Optional[str] = None) -> Forma
         return format_of(look_ahead(pieces)[1], reading, called)
 
 
-def count_of(file: Path, reading: Reading) -> Optional[int]:
+def count_of(file: Path, reading: Reading) -> int | None:
     """How many messages a file has: None if it can't be read twice. So what isn't understood is said before the first one is asked.
     Raises `ToolError`."""
     if file == STANDARD_INPUT or not file.is_file():

@@ -6,7 +6,7 @@ docs/specification has what each of them means.
 
 from collections.abc import Sequence
 from dataclasses import dataclass
-from typing import Literal, Optional, Union
+from typing import Literal
 
 from olr.model.fault import Fault
 from olr.model.pieces import Pieces, Place
@@ -21,9 +21,9 @@ class ReferencePoint:
     lat: int
     lon: int
     sector: int
-    interval: Optional[int] = None
+    interval: int | None = None
     """None at the last point, as `lowest`."""
-    lowest: Optional[int] = None
+    lowest: int | None = None
 
 
 @dataclass(frozen=True)
@@ -32,11 +32,11 @@ class Reference:
 
     kind: Literal["line", "point-along-line"]
     points: tuple[ReferencePoint, ...]
-    positive: Optional[int] = None
-    negative: Optional[int] = None
-    orientation: Optional[int] = None
+    positive: int | None = None
+    negative: int | None = None
+    orientation: int | None = None
     """None for a line, as `side`."""
-    side: Optional[int] = None
+    side: int | None = None
 
 
 @dataclass(frozen=True)
@@ -72,11 +72,11 @@ class Matching:
     points: tuple[Candidate, ...]
     route: Pieces
     total: int
-    outer: Optional[Pieces] = None
-    inner: Optional[Pieces] = None
-    earliest: Optional[Place] = None
+    outer: Pieces | None = None
+    inner: Pieces | None = None
+    earliest: Place | None = None
     """Of a point along a line, as `latest`; None for a line."""
-    latest: Optional[Place] = None
+    latest: Place | None = None
 
 
 @dataclass(frozen=True)
@@ -84,7 +84,7 @@ class Page:
     """The first matchings, best first."""
 
     matchings: Sequence[Matching]
-    next: Optional[str] = None
+    next: str | None = None
     """A cursor if there are more."""
 
 
@@ -104,8 +104,8 @@ class Places:
     looked: int
     places: tuple[PlaceOfReference, ...]
     verdict: Literal["unique", "ambiguous", "open", "none"]
-    margin: Optional[int] = None
-    next: Optional[str] = None
+    margin: int | None = None
+    next: str | None = None
 
 
 @dataclass(frozen=True)
@@ -118,8 +118,8 @@ class NearLine:
     form: int
     line: int
     not_: tuple[str, ...]
-    penalty: Optional[int] = None
-    sector: Optional[int] = None
+    penalty: int | None = None
+    sector: int | None = None
 
 
 @dataclass(frozen=True)
@@ -127,7 +127,7 @@ class WhyPoint:
     """What is near a point."""
 
     nearest: tuple[NearLine, ...]
-    candidates: Optional[int] = None
+    candidates: int | None = None
     """None for more than 64."""
 
 
@@ -145,10 +145,10 @@ class Pair:
 
     first: int
     second: int
-    length: Optional[int] = None
-    long: Optional[int] = None
-    short: Optional[int] = None
-    better: Optional[Better] = None
+    length: int | None = None
+    long: int | None = None
+    short: int | None = None
+    better: Better | None = None
 
 
 @dataclass(frozen=True)
@@ -168,8 +168,8 @@ class Remedy:
     """One change that helps."""
 
     option: str
-    matching: Optional[str] = None
-    value: Optional[int] = None
+    matching: str | None = None
+    value: int | None = None
 
 
 @dataclass(frozen=True)
@@ -177,7 +177,7 @@ class Verdict:
     """The first thing that stands in the way, or the word `match`."""
 
     word: Literal["crowded", "point", "leg", "chain", "match"]
-    at: Optional[int] = None
+    at: int | None = None
 
 
 @dataclass(frozen=True)
@@ -190,5 +190,5 @@ class Why:
     verdict: Verdict
 
 
-Answer = Union[Candidates, Page, Places, Why]
-AnswerOrFault = Union[Candidates, Page, Places, Why, Fault]
+Answer = Candidates | Page | Places | Why
+AnswerOrFault = Candidates | Page | Places | Why | Fault

@@ -3,7 +3,7 @@
 import shlex
 from collections.abc import Mapping
 from pathlib import Path
-from typing import Any, NamedTuple, Optional
+from typing import Any, NamedTuple
 
 from olr.model.map_folder import store_of
 from olr.model.profiles import PROFILE, as_arguments, other_profile, resolved, tolerances_of
@@ -56,13 +56,13 @@ def is_for_program(folder: Path) -> bool:
     return store_of(folder) is None
 
 
-def name_for_program(folder: Path) -> Optional[str]:
+def name_for_program(folder: Path) -> str | None:
     """The name of a map's folder, without those above, as a page for others has it. None for a store, which the program doesn't read."""
     return folder.resolve().name if is_for_program(folder) else None
 
 
 def command_text(
-    question: What, reference: str, map_name: Optional[str], numbers: Mapping[str, int]
+    question: What, reference: str, map_name: str | None, numbers: Mapping[str, int]
 ) -> str:
     """The command of `olr` that asks about a reference so, for a shell: with the numbers of the question and the tolerances that aren't the
     program's defaults, by the names of its options. An empty text if the program doesn't read the map.
@@ -92,7 +92,7 @@ class Asking(NamedTuple):
         """All tolerances, by their names as arguments of `olr.Map`."""
         return as_arguments(resolved(self.profile, self.given))
 
-    def other(self) -> Optional[tuple[str, dict[str, Any]]]:
+    def other(self) -> tuple[str, dict[str, Any]] | None:
         """The other profile, and all tolerances with it, by their names as arguments: None if they are the same ones."""
         profile = other_profile(self.profile)
         found = as_arguments(resolved(profile, self.given))

@@ -8,7 +8,7 @@ import re
 from collections.abc import Callable, Iterable, Iterator, Sequence
 from itertools import chain, islice
 from pathlib import Path
-from typing import Literal, NamedTuple, Optional, Union
+from typing import Literal, NamedTuple
 
 import numpy as np
 
@@ -48,15 +48,15 @@ class _File(NamedTuple):
     """Any number of them, as most files have them, each with a line feed."""
     limits: tuple[tuple[int, int], ...]
     """The least and the greatest value of each number before the shape."""
-    fields: tuple[Callable[[str], Union[int, list[int], None]], ...]
+    fields: tuple[Callable[[str], int | list[int] | None], ...]
     """What reads each field."""
 
 
 def _file(
-    header: Sequence[str], pattern: str, *fields: tuple[int, int, Callable[[str], Optional[int]]]
+    header: Sequence[str], pattern: str, *fields: tuple[int, int, Callable[[str], int | None]]
 ) -> _File:
     """A file whose records have these numbers first."""
-    readers: list[Callable[[str], Union[int, list[int], None]]] = [field[2] for field in fields]
+    readers: list[Callable[[str], int | list[int] | None]] = [field[2] for field in fields]
     readers += [shape_of] if pattern.endswith(_SHAPE) else []
     limits = tuple(field[:2] for field in fields)
     usual = re.compile(f"(?:{pattern}\n)*".encode())
@@ -154,7 +154,7 @@ def _columns(what: What, records: Sequence[Record], number: int) -> Columns:
     return usual
 
 
-def _usual_columns(what: What, text: bytes, number: int) -> Optional[Columns]:
+def _usual_columns(what: What, text: bytes, number: int) -> Columns | None:
     """The columns of records in a text; None if they aren't as most files have them."""
     file = _FILES[what]
     text = text if text.endswith(b"\n") or not text else text + b"\n"

@@ -2,7 +2,6 @@
 
 import re
 from collections.abc import Mapping
-from typing import Optional, Union
 
 from olr.errors import MapRefused, ToolError
 from olr.model.fault_table import ROWS
@@ -21,10 +20,10 @@ class Fault(ToolError):
 
     __module__ = "olr"
 
-    def __init__(self, text: str, remedy: Optional[str] = None) -> None:
+    def __init__(self, text: str, remedy: str | None = None) -> None:
         self.text = text
         self.name = text.split(" ")[0]
-        self.number: Optional[int] = _number(text)
+        self.number: int | None = _number(text)
         self.meaning, usual = _meaning(text)
         self.remedy = usual if remedy is None else remedy
         known = [part for part in (self.meaning, self.remedy) if part]
@@ -40,7 +39,7 @@ class Fault(ToolError):
         return hash(self.text)
 
 
-def refusal_of(text: str) -> Union[Fault, MapRefused]:
+def refusal_of(text: str) -> Fault | MapRefused:
     """What the program says before it ends, as an error: `MapRefused` if it is about the files of the map, else `Fault`."""
     fault = Fault(text)
     if fault.name in OF_THE_MAP:
@@ -48,7 +47,7 @@ def refusal_of(text: str) -> Union[Fault, MapRefused]:
     return fault
 
 
-def _number(text: str) -> Optional[int]:
+def _number(text: str) -> int | None:
     last = text.split(" ")[-1]
     return int(last) if last.isdecimal() else None
 

@@ -2,7 +2,7 @@
 
 from abc import abstractmethod
 from collections.abc import Iterable, Iterator, Sequence
-from typing import Generic, Optional, TypeVar, Union, overload
+from typing import Generic, TypeVar, overload
 
 Item = TypeVar("Item")
 
@@ -16,8 +16,8 @@ class Late(Sequence[Item], Generic[Item]):
 
     __slots__ = ("_held", "digest")
 
-    def __init__(self, items: Union[bytes, Iterable[Item]], digest: Optional[str] = None) -> None:
-        self._held: Union[bytes, tuple[Item, ...]]
+    def __init__(self, items: bytes | Iterable[Item], digest: str | None = None) -> None:
+        self._held: bytes | tuple[Item, ...]
         self._held = items if isinstance(items, bytes) else tuple(items)
         self.digest = digest
 
@@ -40,7 +40,7 @@ class Late(Sequence[Item], Generic[Item]):
     def __getitem__(self, index: slice) -> tuple[Item, ...]:
         ...
 
-    def __getitem__(self, index: Union[int, slice]) -> Union[Item, tuple[Item, ...]]:
+    def __getitem__(self, index: int | slice) -> Item | tuple[Item, ...]:
         return self._all()[index]
 
     def __len__(self) -> int:

@@ -11,7 +11,7 @@ from collections.abc import Iterable, Iterator, Mapping, Sequence
 from contextlib import ExitStack, contextmanager
 from itertools import chain, islice
 from pathlib import Path
-from typing import Any, Callable, Optional, TypeVar
+from typing import Any, Callable, TypeVar
 
 from olr.errors import ToolError
 from olr.model.records import read_records
@@ -47,7 +47,7 @@ def inputs_of(path: Path) -> list[Path]:
     return files_read(path) if store is None else [store]
 
 
-def store_of(path: Path) -> Optional[Path]:
+def store_of(path: Path) -> Path | None:
     """The store that a path names: a file, or that of a folder to which an import wrote one. None for a folder with a map's files, or
     for what isn't there."""
     if path.is_dir():
@@ -139,7 +139,7 @@ def _moved(source: Path, folder: Path, names: Iterable[str]) -> Iterator[None]:
         raise
 
 
-def write_bans(bans: Sequence[Ban], folder: Path, about: Optional[Mapping[str, Any]]) -> None:
+def write_bans(bans: Sequence[Ban], folder: Path, about: Mapping[str, Any] | None) -> None:
     """Puts other bans in the place of those of a folder's map, and `about` in that of its `import.json`, or leaves that as it is.
 
     Raises `ToolError` if they can't be written. Then it is as it was; but if only the new `import.json` can't be moved to its place,
@@ -165,7 +165,7 @@ def _write_about(about: Mapping[str, Any], file: Path) -> None:
     file.write_text(text + "\n", encoding="utf-8")
 
 
-def read_about(folder: Path) -> Optional[dict[str, Any]]:
+def read_about(folder: Path) -> dict[str, Any] | None:
     """What the `import.json` of a folder says, or None if there is none of an import. Raises `ToolError` if it can't be read."""
     file = folder / IMPORT
     try:

@@ -3,7 +3,7 @@
 import json
 from collections.abc import Callable, Iterator, Mapping, Sequence
 from contextlib import contextmanager
-from typing import Any, NamedTuple, Optional, TypeVar
+from typing import Any, NamedTuple, TypeVar
 
 from olr.model.answers import (
     Answer,
@@ -43,7 +43,7 @@ class Lists(NamedTuple):
     """What is read late: texts, by their numbers, and the digest of the map's nodes and lines."""
 
     texts: Sequence[bytes]
-    digest: Optional[str]
+    digest: str | None
 
 
 def _made(kind: type[Made], members: Json) -> Made:
@@ -69,7 +69,7 @@ def _renamed(members: Json, **others: Any) -> Json:
     return {_RENAMED.get(name, name): value for name, value in members.items()} | others
 
 
-def _pieces(number: Optional[int], lists: Lists) -> Optional[Pieces]:
+def _pieces(number: int | None, lists: Lists) -> Pieces | None:
     return None if number is None else Pieces(lists.texts[number], lists.digest)
 
 
@@ -151,14 +151,14 @@ def reference(text: bytes) -> Reference:
         return Reference(**_renamed(found, points=points))
 
 
-def page_of(text: bytes, digest: Optional[str]) -> Page:
+def page_of(text: bytes, digest: str | None) -> Page:
     """What `match` prints for a page, of a map of that digest. Raises `ValueError` if it is something else."""
     with _as_answer("match"):
         line, texts = _without_matchings(text)
         return _page(json.loads(line), Lists(texts, digest))
 
 
-def answer_of(what: What, line: bytes, key: str, digest: Optional[str]) -> AnswerOrFault:
+def answer_of(what: What, line: bytes, key: str, digest: str | None) -> AnswerOrFault:
     """What a line of `olr batch` answers to a question, of a map of that digest. Raises `ValueError` if it isn't the line of a record
     with that key.
 
@@ -193,8 +193,8 @@ class RawLine(NamedTuple):
 
     answer: bytes
     """The program's JSON, `null` where there is a fault."""
-    fault: Optional[str]
-    key: Optional[str]
+    fault: str | None
+    key: str | None
     record: int
 
 
@@ -216,7 +216,7 @@ def raw_line(line: bytes) -> RawLine:
         return raw
 
 
-def line_of(line: bytes, digest: Optional[str] = None) -> tuple[Optional[str], int, AnswerOrFault]:
+def line_of(line: bytes, digest: str | None = None) -> tuple[str | None, int, AnswerOrFault]:
     """What a line of `olr batch` has: the key, the number of the record, and the answer to whichever question, of a map of that digest.
     Raises `ValueError` if it isn't such a line."""
     raw = raw_line(line)
@@ -228,7 +228,7 @@ def line_of(line: bytes, digest: Optional[str] = None) -> tuple[Optional[str], i
     return raw.key, raw.record, read_answer(what, raw.answer, digest)
 
 
-def read_answer(what: What, answer: bytes, digest: Optional[str]) -> Answer:
+def read_answer(what: What, answer: bytes, digest: str | None) -> Answer:
     """What the JSON of an answer says, of a map of that digest. Raises `ValueError` if it isn't an answer to that question."""
     texts: Sequence[bytes] = ()
     with _as_answer(what):

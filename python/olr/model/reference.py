@@ -6,7 +6,6 @@ The rules are those of docs/specification/reference.md. The program alone says w
 import binascii
 import struct
 from functools import cache
-from typing import Optional
 
 from olr.model.answers import Reference, ReferencePoint
 from olr.model.questions import BLANKS, MOST_BYTES
@@ -24,7 +23,7 @@ Point = tuple[int, int, int]
 """Longitude and latitude in microdegrees, and the interval of the leg that begins there, or -1 at the last point of a reference."""
 
 
-def read_reference(text: str) -> Optional[Reference]:
+def read_reference(text: str) -> Reference | None:
     """What a text says: what `olr show` prints, or None where the program refuses the text."""
     read = _read(text)
     if read is None:
@@ -46,7 +45,7 @@ def read_reference(text: str) -> Optional[Reference]:
     return Reference("point-along-line", tuple(points), share, None, first >> 6, second >> 6)
 
 
-def read_points(text: str) -> Optional[list[Point]]:
+def read_points(text: str) -> list[Point] | None:
     """The points of a reference, or None where the program refuses the text. It takes a quarter of the time of `read_reference`."""
     read = _read(text)
     return None if read is None else read[2]
@@ -60,7 +59,7 @@ def points_of(reference: Reference) -> list[Point]:
     ]
 
 
-def _read(text: str) -> Optional[tuple[bytes, tuple[int, ...], list[Point]]]:
+def _read(text: str) -> tuple[bytes, tuple[int, ...], list[Point]] | None:
     """The bytes of a reference, its fields up to its last attribute, and its points. None where the program refuses the text."""
     content = bytes_of(text)
     if not content:
@@ -89,7 +88,7 @@ def _read(text: str) -> Optional[tuple[bytes, tuple[int, ...], list[Point]]]:
     return content, values, points
 
 
-def first_position(text: str) -> Optional[Position]:
+def first_position(text: str) -> Position | None:
     """Where the first point of a reference is. It takes a tenth of the time of `read_reference`, and looks at less: other texts may have a
     position too."""
     content = bytes_of(text)

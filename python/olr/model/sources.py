@@ -17,7 +17,7 @@ import sys
 from collections.abc import Iterable, Iterator, Mapping, Sequence
 from contextlib import contextmanager
 from pathlib import Path
-from typing import NamedTuple, Optional, Protocol, Union
+from typing import NamedTuple, Protocol
 
 from olr.counts import short
 from olr.errors import ToolError
@@ -58,7 +58,7 @@ class Sources(Mapping[int, Origin]):
         return bool(self._origins)
 
     @classmethod
-    def of_folder(cls, folder: Union[str, Path]) -> "Sources":
+    def of_folder(cls, folder: str | Path) -> "Sources":
         """The sources of a folder's map, all in memory; none if it has no `ids.csv`. Raises `ToolError` if the file can't be read, or
         for the first record that isn't understood."""
         file = Path(folder) / IDS
@@ -120,7 +120,7 @@ def reading(file: Path) -> Iterator[Reading]:
 
 
 @contextmanager
-def read_if_there(file: Path) -> Iterator[Optional[Reading]]:
+def read_if_there(file: Path) -> Iterator[Reading | None]:
     """Reads an `ids.csv` as `reading` does; None if it isn't there."""
     if file.exists():
         with reading(file) as read:

@@ -1,7 +1,6 @@
 """What the fields of a map's files spell. Each function answers None for a text that `olr` doesn't accept."""
 
 import re
-from typing import Optional
 
 from olr.model.road_map import (
     GREATEST_ID,
@@ -19,7 +18,7 @@ _POINT = "-?[0-9]{1,16} -?[0-9]{1,16}"
 _SHAPE = re.compile(f"{_POINT}(?:;{_POINT})*")
 
 
-def number_of(text: str, least: int, greatest: int) -> Optional[int]:
+def number_of(text: str, least: int, greatest: int) -> int | None:
     """A number: 1 to 16 decimal digits, within its limits."""
     if len(text) <= MOST_DIGITS and text.isdigit() and text.isascii():
         number = int(text)
@@ -28,38 +27,38 @@ def number_of(text: str, least: int, greatest: int) -> Optional[int]:
     return None
 
 
-def signed_of(text: str, limit: int) -> Optional[int]:
+def signed_of(text: str, limit: int) -> int | None:
     """A signed number from -limit to limit: a number with one `-` before it, or none."""
     number = number_of(text[1:] if text.startswith("-") else text, 0, limit)
     return -number if number is not None and text.startswith("-") else number
 
 
-def id_of(text: str) -> Optional[int]:
+def id_of(text: str) -> int | None:
     """The id of a node or a line."""
     return number_of(text, 1, GREATEST_ID)
 
 
-def lon_of(text: str) -> Optional[int]:
+def lon_of(text: str) -> int | None:
     """A longitude in microdegrees."""
     return signed_of(text, GREATEST_LON)
 
 
-def lat_of(text: str) -> Optional[int]:
+def lat_of(text: str) -> int | None:
     """A latitude in microdegrees."""
     return signed_of(text, GREATEST_LAT)
 
 
-def kind_of(text: str) -> Optional[int]:
+def kind_of(text: str) -> int | None:
     """A class or a form."""
     return number_of(text, 0, GREATEST_KIND)
 
 
-def length_of(text: str) -> Optional[int]:
+def length_of(text: str) -> int | None:
     """A length in decimetres. 0 is a number here, and a fault of its own."""
     return number_of(text, 0, GREATEST_LENGTH)
 
 
-def shape_of(text: str) -> Optional[list[int]]:
+def shape_of(text: str) -> list[int] | None:
     """The points between a line's ends: longitude, latitude, longitude and so on, in microdegrees."""
     if not text:
         return []

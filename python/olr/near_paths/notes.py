@@ -8,7 +8,7 @@ Lengths and positions are in decimetres.
 """
 
 from collections.abc import Mapping, Sequence
-from typing import NamedTuple, Optional
+from typing import NamedTuple
 
 from olr.asking.files import MapFiles
 from olr.client.map_client import Map
@@ -56,8 +56,8 @@ class LegNote(NamedTuple):
 
     limit: int
     """The class limit of the leg: its roads are of this class or better."""
-    equal: Optional[OtherPath] = None
-    shorter: Optional[ShorterPath] = None
+    equal: OtherPath | None = None
+    shorter: ShorterPath | None = None
 
 
 def streets_of(asked: Map, reference: Reference, matching: Matching) -> Streets:
@@ -175,11 +175,11 @@ def _other_path(streets: Streets, ends: Ends, walk: Walk, length: int) -> OtherP
     return OtherPath((first, *between, *last), walk.length - length)
 
 
-def _shorter(streets: Streets, ends: Ends, length: int) -> Optional[ShorterPath]:
+def _shorter(streets: Streets, ends: Ends, length: int) -> ShorterPath | None:
     """The path with the least worst class beyond the limit that is shorter than a leg of that length by enough."""
     enough = length - max(LEAST_GAIN, -(-length // GAIN_SHARE))
 
-    def found_with(class_: int) -> Optional[int]:
+    def found_with(class_: int) -> int | None:
         return least_length(streets, ends._replace(class_limit=class_), enough)
 
     if ends.class_limit == WORST or found_with(WORST) is None:

@@ -6,7 +6,7 @@ Lengths are in decimetres, and lines are named by their ranks in `Streets`.
 from collections.abc import Iterator, Mapping, Sequence
 from heapq import heappop, heappush
 from itertools import accumulate
-from typing import NamedTuple, Optional
+from typing import NamedTuple
 
 from olr.near_paths.streets import Neighbours, Streets
 
@@ -51,7 +51,7 @@ class Walk(NamedTuple):
     """With those of both places."""
 
 
-def least_length(streets: Streets, ends: Ends, limit: int) -> Optional[int]:
+def least_length(streets: Streets, ends: Ends, limit: int) -> int | None:
     """The length of a shortest walk; None if it is above the limit, or there is none."""
     if not ends.are_allowed(streets):
         return None
@@ -63,7 +63,7 @@ def least_length(streets: Streets, ends: Ends, limit: int) -> Optional[int]:
 
 def other_walk(
     streets: Streets, ends: Ends, limit: int, route: Sequence[int], apart: int
-) -> Optional[Walk]:
+) -> Walk | None:
     """The shortest walk that leaves out a stretch of at least `apart` of the route, a shortest walk between the same places; of those
     that are as short, the first one by the ids of its lines. None if all of them are longer than the limit, or if it takes too long to
     find one.
@@ -175,7 +175,7 @@ def _first_apart(
     route: _Route,
     left: Mapping[int, int],
     apart: int,
-) -> Optional[Walk]:
+) -> Walk | None:
     """The walk of `other_walk`. `left` has the least length from the end of each line that such a walk may have.
 
     The shortest beginning of a walk, with the length that is left, is gone on with first, and of equal ones the first one by its lines.

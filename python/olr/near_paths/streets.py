@@ -6,7 +6,7 @@ Lines are named by their ranks here, from 0, in the order of their ids.
 import copy
 from collections.abc import Iterable
 from pathlib import Path
-from typing import NamedTuple, Optional
+from typing import NamedTuple
 
 import numpy as np
 
@@ -54,7 +54,7 @@ class Neighbours(NamedTuple):
     """Where those of each line begin among them."""
     behind: memoryview
     """Where they end."""
-    steps: Optional[Steps] = None
+    steps: Steps | None = None
     """Counts the lines that are looked at."""
 
     @classmethod
@@ -94,7 +94,7 @@ class Streets:
         self._banned = self._turns_of(bans)
 
     @classmethod
-    def of_network(cls, network: Network, bans_file: Optional[Path]) -> "Streets":
+    def of_network(cls, network: Network, bans_file: Path | None) -> "Streets":
         """All lines of a network that has them as arrays, and the bans of a file, if there is one. Raises `ToolError` if that can't be
         read."""
         columns = network.line_id, network.start, network.end, network.road_class, network.length
@@ -147,7 +147,7 @@ class Streets:
         return frozenset((first * self.count + second).tolist())
 
 
-def _bans_of(file: Optional[Path]) -> Integers:
+def _bans_of(file: Path | None) -> Integers:
     """The bans of a file, those of none where there is no file. Raises `ToolError`."""
     return np.zeros((2, 0), dtype=np.int64) if file is None else _numbers("bans", file)
 

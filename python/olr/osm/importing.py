@@ -2,7 +2,7 @@
 
 from dataclasses import dataclass, replace
 from pathlib import Path
-from typing import Any, Optional
+from typing import Any
 
 from olr.counts import Counts
 from olr.errors import ToolError
@@ -19,11 +19,11 @@ from olr.osm.tags import read_tag_table
 class Options:
     """What a user may choose."""
 
-    box: Optional[Box] = None
+    box: Box | None = None
     """The part of the file to take, or all of it."""
     service: bool = False
     """Whether service roads are taken."""
-    tags: Optional[Path] = None
+    tags: Path | None = None
     """The table of tags, or the one of this package."""
     u_turns: UTurns = "dead-ends"
     """Where turning back is banned."""

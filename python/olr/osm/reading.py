@@ -3,7 +3,7 @@
 from collections import defaultdict
 from collections.abc import Callable, Iterable, Iterator, Mapping, Sequence, Set
 from pathlib import Path
-from typing import NamedTuple, Optional
+from typing import NamedTuple
 
 import osmium
 
@@ -30,7 +30,7 @@ class Wanted(NamedTuple):
     table: TagTable
     service: bool
     """Whether service roads do."""
-    box: Optional[Box]
+    box: Box | None
     """The part of the file, or None for all of it."""
     keep: tuple[str, ...]
     """The keys of tags that are kept for each road."""
@@ -135,7 +135,7 @@ class _Ways(osmium.SimpleHandler):
             self._note_target(way)
         if "highway" not in way.tags or not way.visible:
             return
-        stretches: Optional[Sequence[Sequence[int]]] = None
+        stretches: Sequence[Sequence[int]] | None = None
         if self.wanted.box is not None:
             stretches = self._stretches(way)
             if not stretches:
@@ -241,7 +241,7 @@ class _Restrictions(osmium.SimpleHandler):
         )
 
 
-def restriction_kind(tags: Tags, table: TagTable, counts: Counts) -> Optional[str]:
+def restriction_kind(tags: Tags, table: TagTable, counts: Counts) -> str | None:
     """The kind of a turn restriction, such as no_left_turn, or None if it doesn't hold for all motor vehicles at all times:
     that is counted."""
     kind = first_of(tags, table.restriction_keys)
@@ -260,7 +260,7 @@ def restriction_kind(tags: Tags, table: TagTable, counts: Counts) -> Optional[st
     return None
 
 
-def _position(location: osmium.osm.Location) -> Optional[Position]:
+def _position(location: osmium.osm.Location) -> Position | None:
     """A location, given in steps of 1/10 microdegree, or None if the file doesn't have it or it lies beyond latitude 80."""
     if not location.valid():
         return None
@@ -272,7 +272,7 @@ Vertex = tuple[int, Position]
 """A node of a way, by its id, and where it is."""
 
 
-def _known(nodes: Sequence[tuple[int, Optional[Position]]]) -> Iterator[list[Vertex]]:
+def _known(nodes: Sequence[tuple[int, Position | None]]) -> Iterator[list[Vertex]]:
     """The stretches of a way between nodes without a position."""
     stretch: list[Vertex] = []
     for node, position in nodes:

@@ -9,7 +9,7 @@ Each restriction that isn't on the map as it is in the file is counted once.
 import math
 from collections import defaultdict
 from collections.abc import Iterable, Mapping, Sequence, Set
-from typing import NamedTuple, Optional
+from typing import NamedTuple
 
 from olr.counts import Counts
 from olr.model.road_map import MICRODEGREE, Ban, Line, Origin, Position, RoadMap
@@ -93,7 +93,7 @@ class _Arms:
         first, second = self.origins[turn.first.id], self.origins[turn.second.id]
         return (first.source, first.part) == (second.source, second.part)
 
-    def bans_from(self, first: Line, node: int, but: Optional[Line] = None) -> list[Ban]:
+    def bans_from(self, first: Line, node: int, but: Line | None = None) -> list[Ban]:
         """Bans on the turns from a line that ends at a node: on all, or on all but the one into another line."""
         return [Ban(first.id, line.id) for line in self.starting[node] if line != but]
 
@@ -226,7 +226,7 @@ def _meant(source: int, node: int, target: int, manner: str, arms: _Arms) -> Tur
     return _by_angle(manner, turns, arms) or UNDECIDED
 
 
-def _by_angle(manner: str, turns: Sequence[Turn], arms: _Arms) -> Optional[Turn]:
+def _by_angle(manner: str, turns: Sequence[Turn], arms: _Arms) -> Turn | None:
     """The turn among some whose angle fits a manner of turning, such as left_turn, clearly best, or None."""
     if manner not in ANGLES:
         return None

@@ -4,7 +4,7 @@ from collections.abc import Iterable, Mapping
 from dataclasses import dataclass
 from importlib.resources import files
 from pathlib import Path
-from typing import Any, NamedTuple, Optional
+from typing import Any, NamedTuple
 
 import tomllib
 
@@ -40,7 +40,7 @@ class Highway:
 
     road_class: int
     form: int
-    one_way_form: Optional[int] = None
+    one_way_form: int | None = None
     one_way: bool = False
     service: bool = False
 
@@ -98,7 +98,7 @@ class TagTable:
         return forward, backward
 
     def _open_directions(
-        self, tags: Tags, highway: Optional[Highway], junction: Optional[Reshaped]
+        self, tags: Tags, highway: Highway | None, junction: Reshaped | None
     ) -> tuple[bool, bool, str]:
         """Whether a way may be used forward and backward, as all its tags say, and what is in doubt."""
         forward, backward, doubt = self._directions(tags, highway, junction)
@@ -107,7 +107,7 @@ class TagTable:
         return forward, backward, doubt
 
     def _directions(
-        self, tags: Tags, highway: Optional[Highway], junction: Optional[Reshaped]
+        self, tags: Tags, highway: Highway | None, junction: Reshaped | None
     ) -> tuple[bool, bool, str]:
         """Whether a way may be used forward and backward, as its tags for one-way roads say, and what is in doubt."""
         implied = any(kind is not None and kind.one_way for kind in (highway, junction))
@@ -131,9 +131,7 @@ class TagTable:
         values = several(first_of(tags, keys) or "")
         return not values or not self.closed.issuperset(values)
 
-    def _form(
-        self, tags: Tags, highway: Highway, junction: Optional[Reshaped], one_way: bool
-    ) -> int:
+    def _form(self, tags: Tags, highway: Highway, junction: Reshaped | None, one_way: bool) -> int:
         """The form of a way."""
         if junction is not None:
             return junction.form
@@ -150,7 +148,7 @@ def value_of(tags: Tags, key: str) -> str:
     return folded(tags.get(key, ""))
 
 
-def first_of(tags: Tags, keys: Iterable[str]) -> Optional[str]:
+def first_of(tags: Tags, keys: Iterable[str]) -> str | None:
     """The value of the first key that the tags have, as `value_of` gives it."""
     return next((value_of(tags, key) for key in keys if key in tags), None)
 
@@ -165,7 +163,7 @@ def folded(text: str) -> str:
     return text.strip().casefold()
 
 
-def read_tag_table(file: Optional[Path] = None) -> TagTable:
+def read_tag_table(file: Path | None = None) -> TagTable:
     """Reads a table of tags, by default the one of this package. Raises `ToolError` if the file isn't such a table."""
     source = files(__package__).joinpath("tags.toml") if file is None else file
     try:

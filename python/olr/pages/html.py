@@ -6,7 +6,7 @@ import re
 from collections.abc import Mapping, Sequence
 from importlib import resources
 from pathlib import Path
-from typing import Any, NamedTuple, Optional
+from typing import Any, NamedTuple
 from urllib.parse import urlsplit
 
 from olr.errors import ToolError
@@ -37,7 +37,7 @@ def require_html(file: Path) -> None:
 
 
 def html_of(
-    template: Template, title: str, data: Mapping[str, Any], tiles: Optional[str] = None
+    template: Template, title: str, data: Mapping[str, Any], tiles: str | None = None
 ) -> str:
     """A page of HTML with data, which its script finds in the element `data`, and there `tiles` too. It loads nothing, but for the images
     of `tiles` if that is given: a URL with `{z}`, `{x}` and `{y}`. Raises `ToolError` if Leaflet isn't installed, or the URL isn't one.

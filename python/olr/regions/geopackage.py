@@ -7,7 +7,6 @@ import struct
 from collections.abc import Sequence
 from functools import cache
 from pathlib import Path
-from typing import Union
 
 import numpy as np
 
@@ -33,7 +32,7 @@ def make_tables(connection: sqlite3.Connection) -> None:
 
 
 def insert(
-    connection: sqlite3.Connection, table: str, *columns: Union[Sequence[object], Integers, Floats]
+    connection: sqlite3.Connection, table: str, *columns: Sequence[object] | Integers | Floats
 ) -> None:
     """Adds rows to a table, of which all columns are given. A statement adds many of them: one by one they would take thrice the time.
     Raises `sqlite3.Error`."""

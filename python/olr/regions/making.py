@@ -9,7 +9,7 @@ import tempfile
 from collections.abc import Iterable, Iterator, Sequence
 from contextlib import closing
 from pathlib import Path
-from typing import IO, NamedTuple, Optional, Union
+from typing import IO, NamedTuple
 
 import numpy as np
 
@@ -103,7 +103,7 @@ def _records_of(road_map: RoadMap) -> Records:
     return Records(nodes, map(line_row, lines), bans)
 
 
-def _sources_of(road_map: RoadMap) -> Optional[Reading]:
+def _sources_of(road_map: RoadMap) -> Reading | None:
     """Where the lines of a map came from, if it says so."""
     return Reading(tuple(road_map.kept), iter(road_map.origins)) if road_map.origins else None
 
@@ -118,7 +118,7 @@ def _columns(records: Records) -> AllColumns:
     )
 
 
-def _write(file: Path, columns: AllColumns, sources: Optional[Reading] = None) -> Sizes:
+def _write(file: Path, columns: AllColumns, sources: Reading | None = None) -> Sizes:
     """Writes a store to a new file. Raises `OSError` and `ToolError`."""
     try:
         with closing(sqlite3.connect(file, isolation_level=None)) as connection:
@@ -141,7 +141,7 @@ class _Making:
         node_columns: Iterator[Columns],
         line_columns: Iterator[Columns],
         ban_columns: Iterator[Columns],
-        sources: Optional[Reading],
+        sources: Reading | None,
     ) -> Sizes:
         """Writes everything."""
         # Nobody sees the file before it is whole.
@@ -239,7 +239,7 @@ class _Making:
             )
         return Bans(first, ids[1])
 
-    def _insert(self, what: What, *columns: Union[Sequence[object], Integers]) -> None:
+    def _insert(self, what: What, *columns: Sequence[object] | Integers) -> None:
         """Adds rows to the table of the nodes, lines or bans. Raises `ToolError` for an id that is there."""
         try:
             insert(self._connection, what, *columns)

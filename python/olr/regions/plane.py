@@ -6,7 +6,7 @@ spots lie within 1.5 cm of the positions here.
 """
 
 from collections.abc import Iterable
-from typing import NamedTuple, Union
+from typing import NamedTuple
 
 import numpy as np
 
@@ -23,7 +23,7 @@ def scale_at(lat: float) -> int:
     return int(scales_at(np.array([lat]))[0])
 
 
-def scales_at(lat: Union[Floats, Integers]) -> Integers:
+def scales_at(lat: Floats | Integers) -> Integers:
     """The scale of each of some latitudes."""
     square = np.minimum(np.ceil(np.abs(lat)), GREATEST_LAT).astype(np.int64) ** 2
     # 10,000 times the first number is beyond 64 bits: it is divided in two steps, as on paper.
@@ -63,7 +63,7 @@ class Discs(NamedTuple):
         columns = list(zip(*parts))
         return cls(*[np.concatenate(one) for one in columns]) if columns else cls.of([])
 
-    def taken(self, which: Union[Integers, slice]) -> "Discs":
+    def taken(self, which: Integers | slice) -> "Discs":
         """Those at some indices."""
         return Discs(self.lon[which], self.lat[which], self.radius[which], self.scale[which])
 

@@ -9,7 +9,7 @@ that and much more to spare.
 
 from collections.abc import Sequence
 from itertools import chain
-from typing import NamedTuple, Optional
+from typing import NamedTuple
 
 import numpy as np
 
@@ -157,7 +157,7 @@ def _bounds(middle: Discs, radius: int, path: Floats, growth: Floats) -> Floats:
 
 
 def _reaches(
-    start: Discs, radius: int, metres: Floats, shortness: Optional[Shortness]
+    start: Discs, radius: int, metres: Floats, shortness: Shortness | None
 ) -> tuple[Floats, Floats]:
     """How long the shapes of a path from near each point are in all, in metres as measured, and how much longer they are in the plane
     at most. `metres` is its length times a stretch; with `shortness` the excess of lines is added.

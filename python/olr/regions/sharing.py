@@ -5,7 +5,7 @@ them all.
 """
 
 from collections.abc import Iterator, Sequence
-from typing import NamedTuple, Optional
+from typing import NamedTuple
 
 import numpy as np
 
@@ -35,12 +35,12 @@ class Shared(NamedTuple):
     """The region of some references."""
 
     references: Sequence[Located]
-    lines: Optional[Integers]
+    lines: Integers | None
     """None for a single reference whose own region is too large for the program."""
 
 
 def located(
-    references: Sequence[Optional[Sequence[Point]]], options: Options, store: Store, what: What
+    references: Sequence[Sequence[Point] | None], options: Options, store: Store, what: What
 ) -> list[Located]:
     """The regions of references by their points, for a question asked with these numbers. None stands for a text that is no reference:
     it needs no line, and is left out. Raises `ToolError` if the store can't be read."""

@@ -21,7 +21,7 @@ from collections.abc import Iterable, Iterator, Sequence
 from contextlib import contextmanager
 from pathlib import Path
 from types import TracebackType
-from typing import NamedTuple, Optional, Union
+from typing import NamedTuple
 
 import numpy as np
 
@@ -150,9 +150,9 @@ class Store:
 
     def __exit__(
         self,
-        kind: Optional[type[BaseException]],
-        error: Optional[BaseException],
-        trace: Optional[TracebackType],
+        kind: type[BaseException] | None,
+        error: BaseException | None,
+        trace: TracebackType | None,
     ) -> None:
         self.close()
 
@@ -175,7 +175,7 @@ class Store:
         """
         return sources_in(self.file, self._connection)
 
-    def lines_meeting(self, discs: Union[Discs, Iterable[Disc]]) -> Integers:
+    def lines_meeting(self, discs: Discs | Iterable[Disc]) -> Integers:
         """The ids, sorted, of all lines that meet one of the discs, which may be those of many references. Some lines that only come
         near may be among them, none is left out: what counts are boxes around lines and discs. Raises `ToolError` if the file
         can't be read, or doesn't have what was written there."""

@@ -9,7 +9,6 @@ from contextlib import contextmanager
 from dataclasses import dataclass
 from pathlib import Path
 from socket import gethostname
-from typing import Optional
 
 from distributed import get_worker
 
@@ -48,7 +47,7 @@ class Job:
     question: Question
     groups: str
     """The digest of all groups."""
-    patience: Optional[float] = PATIENCE
+    patience: float | None = PATIENCE
     """So many seconds the program may take for a line; None for as long as it takes."""
 
     @property
@@ -103,7 +102,7 @@ def answer_groups(job: Job, groups: Sequence[int]) -> Counter[str]:
     return counts
 
 
-def reason_of(error: Optional[BaseException]) -> str:
+def reason_of(error: BaseException | None) -> str:
     """Why a group failed, as a line."""
     text = " ".join(str(error).split())
     return text if isinstance(error, ToolError) else f"{type(error).__name__}: {text}"

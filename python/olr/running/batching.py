@@ -7,7 +7,7 @@ import tempfile
 from collections.abc import Callable, Iterator, Sequence
 from contextlib import closing
 from pathlib import Path
-from typing import NamedTuple, Optional
+from typing import NamedTuple
 
 from olr.asking.child import NOT_STARTED, Child, PatienceOver
 from olr.asking.program import find_program
@@ -28,7 +28,7 @@ class Asked(NamedTuple):
     what: What
     words: Sequence[str]
     """The options of the question."""
-    patience: Optional[float]
+    patience: float | None
     """So many seconds the program may take for a line, or to end; None for as long as it takes."""
 
 
@@ -76,7 +76,7 @@ class _Lines:
         self.given = 0
         """So many were good."""
 
-    def give(self, records: Sequence[Record]) -> Optional[str]:
+    def give(self, records: Sequence[Record]) -> str | None:
         """Gives the lines, until there is one that isn't that of its record, or no more. Answers what is wrong, if a line is. Raises
         `PatienceOver`."""
         with closing(sqlite3.connect(":memory:")) as reader:

@@ -10,7 +10,7 @@ from collections.abc import Iterator, Mapping
 from contextlib import ExitStack, contextmanager, suppress
 from functools import partial
 from multiprocessing import resource_tracker
-from typing import NamedTuple, Optional
+from typing import NamedTuple
 
 import dask
 from dask.system import CPU_COUNT
@@ -47,7 +47,7 @@ class Outcome(NamedTuple):
 
 
 @contextmanager
-def connected(scheduler: Optional[str], workers: Optional[int], groups: int) -> Iterator[Client]:
+def connected(scheduler: str | None, workers: int | None, groups: int) -> Iterator[Client]:
     """A client of a scheduler; without an address one of a cluster of this machine, which ends with it. `workers` is how many
     processes it has, by default one for each processor; there are no more of them than groups. Meanwhile Dask logs nothing here.
 
@@ -77,7 +77,7 @@ def _connected_to(scheduler: str) -> Iterator[Client]:
 
 
 @contextmanager
-def _connected_to_own(workers: Optional[int], groups: int) -> Iterator[Client]:
+def _connected_to_own(workers: int | None, groups: int) -> Iterator[Client]:
     """A client of a cluster of this machine, which ends with it."""
     processes = min(workers or CPU_COUNT, groups)
     with ExitStack() as opened:

@@ -3,7 +3,7 @@
 from collections.abc import Iterable, Iterator, Sequence
 from contextlib import ExitStack
 from pathlib import Path
-from typing import NamedTuple, Optional
+from typing import NamedTuple
 
 from olr.confidence.judged import Judging, judged
 from olr.geometry.store_network import StoreNetwork
@@ -25,7 +25,7 @@ Line = tuple[bytes, str]
 class Named(NamedTuple):
     """The message of a record."""
 
-    key: Optional[str]
+    key: str | None
     number: int
     reference: str
 
@@ -33,9 +33,9 @@ class Named(NamedTuple):
 class Geometries(NamedTuple):
     """The files of rows that are asked for."""
 
-    answers: Optional[Path]
+    answers: Path | None
     """With a row for each matching or place."""
-    pieces: Optional[Path]
+    pieces: Path | None
     """With a row for each piece of a line."""
     where: Where
     inputs: Sequence[Path]
@@ -96,7 +96,7 @@ def write_geometries(
     return Written(files, cut_off)
 
 
-def _located(lines: Iterable[Line], digest: Optional[str]) -> Iterator[tuple[Named, Located]]:
+def _located(lines: Iterable[Line], digest: str | None) -> Iterator[tuple[Named, Located]]:
     """The answers of lines, with the messages of their records."""
     for line, reference in lines:
         key, record, answer = line_of(line, digest)

@@ -8,7 +8,7 @@ taken only from runs of the program that ended well.
 import random
 from collections.abc import Callable, Iterator, Sequence
 from pathlib import Path
-from typing import IO, Union
+from typing import IO
 
 from olr.errors import ProgramEnded, TimedOut
 from olr.running.batching import Asked, line_without_answer, run_batch
@@ -22,7 +22,7 @@ NO_REFERENCE = b"no reference"
 PROGRAM_FAILED, TIMED_OUT = "ProgramFailed", "TimedOut"
 """The faults of a record, asked alone: the program ended or wrote something else, or was waited for too long."""
 FAILURES = PROGRAM_FAILED, TIMED_OUT
-Failure = Union[ProgramEnded, TimedOut]
+Failure = ProgramEnded | TimedOut
 
 
 class Isolating:

@@ -2,7 +2,7 @@
 
 from collections.abc import Mapping
 from dataclasses import asdict, dataclass
-from typing import Any, Optional
+from typing import Any
 
 from olr.content import Content
 from olr.messages.message import KEY, REF, Format
@@ -22,7 +22,7 @@ class Question:
     what: What
     options: Mapping[str, int]
     """All tolerances and other numbers, by their names."""
-    per_group: Optional[int] = None
+    per_group: int | None = None
     """The most records of a group, or None for as many as there usually are of so many records."""
     format: Format = "tab"
     """Of the file of messages, as the next two."""

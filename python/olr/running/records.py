@@ -3,7 +3,7 @@
 from collections.abc import Iterable, Iterator
 from itertools import chain, islice
 from pathlib import Path
-from typing import NamedTuple, Optional
+from typing import NamedTuple
 
 from olr.content import Stamp
 from olr.errors import ToolError
@@ -26,7 +26,7 @@ class Record(NamedTuple):
     """Without the line feed and the carriage return at its end."""
 
 
-def read_records(file: Path, reading: Reading, name: Optional[str] = None) -> Iterator[Record]:
+def read_records(file: Path, reading: Reading, name: str | None = None) -> Iterator[Record]:
     """The records of a file of messages. Those of lines have the bytes that `olr batch` would read. It holds one of them at a time, but
     for a JSON array. Raises `ToolError`, with the `name` of the file: at once if the first record shows what is wrong.
     """

@@ -1,7 +1,7 @@
 """What a run waits for: what the scheduler of Dask says of its workers, as a line; and workers whose memory is limited."""
 
 from collections.abc import Mapping, Sequence
-from typing import Any, Optional
+from typing import Any
 
 from distributed import Client, Future
 
@@ -39,7 +39,7 @@ def what_is_waited_for(client: Client, groups: Mapping[Future, int]) -> str:
     return "; ".join(said)
 
 
-def limited_workers(client: Client) -> Optional[str]:
+def limited_workers(client: Client) -> str | None:
     """A line on workers that may be paused because their memory has a limit, or None if there are none. Raises `OSError`."""
     workers = _asked(client, "identity")["workers"]
     limited = [address for address, worker in workers.items() if worker["memory_limit"]]

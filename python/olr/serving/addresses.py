@@ -2,7 +2,7 @@
 
 import json
 from collections.abc import AsyncGenerator, AsyncIterator, Awaitable, Callable, Coroutine, Iterator
-from typing import Any, NamedTuple, Optional
+from typing import Any, NamedTuple
 
 from fastapi import FastAPI
 from starlette.exceptions import HTTPException
@@ -42,7 +42,7 @@ class Service(NamedTuple):
     meters: Meters
     confidence: Confidence
     """How probable places are, where it is of what is asked."""
-    tiles: Optional[str] = None
+    tiles: str | None = None
     """The URL of tiles for the page."""
 
 

@@ -1,7 +1,7 @@
 """Who may ask: the names of the server, and the sites whose pages may."""
 
 from collections.abc import Mapping, Sequence
-from typing import NamedTuple, Optional
+from typing import NamedTuple
 
 from starlette.types import Scope
 
@@ -58,7 +58,7 @@ class Head(NamedTuple):
                 fields[name] = value.lower()
         return cls(hosts, fields)
 
-    def origin(self) -> Optional[bytes]:
+    def origin(self) -> bytes | None:
         """The site whose page asks, if one does."""
         return self.fields.get(b"origin")
 

@@ -2,7 +2,7 @@
 
 import asyncio
 import logging
-from typing import Any, Optional
+from typing import Any
 
 from httptools import HttpRequestParser
 from uvicorn.config import Config
@@ -95,7 +95,7 @@ class Connection(HttpToolsProtocol):  # type: ignore[misc]
         self._heard = self._head_since = self.loop.time()
         self._is_in_head = True
         self._bytes_of_head = self._unread = 0
-        self._problem: Optional[Problem] = None
+        self._problem: Problem | None = None
 
     def is_idle(self) -> bool:
         """Whether no request is being answered."""
@@ -121,7 +121,7 @@ class Connection(HttpToolsProtocol):  # type: ignore[misc]
         super().connection_made(transport)
         self._all.add(self)
 
-    def connection_lost(self, exc: Optional[Exception]) -> None:
+    def connection_lost(self, exc: Exception | None) -> None:
         """The connection is closed."""
         self._all.discard(self)
         super().connection_lost(exc)

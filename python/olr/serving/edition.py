@@ -3,7 +3,7 @@
 import asyncio
 import threading
 from pathlib import Path
-from typing import TYPE_CHECKING, Optional
+from typing import TYPE_CHECKING
 
 from olr.asking.batch_process import batch_words
 from olr.asking.files import MapFiles, Version
@@ -19,14 +19,14 @@ if TYPE_CHECKING:
 class Edition:
     """The files of a folder's map, as they were when the first process had read them. What takes time is done in a thread."""
 
-    def __init__(self, folder: Path, program: Optional[PathLike] = None) -> None:
+    def __init__(self, folder: Path, program: PathLike | None = None) -> None:
         self.name = folder.resolve().name
         self.files = MapFiles.of_folder(folder)
         self.program = find_program(program)
-        self.version: Optional[Version] = None
+        self.version: Version | None = None
         """None until the first process has read them."""
-        self._network: "Optional[Network]" = None
-        self._streets: "Optional[Streets]" = None
+        self._network: "Network | None" = None
+        self._streets: "Streets | None" = None
         self._reading = threading.Lock()
 
     def words(self, kind: Kind) -> list[str]:

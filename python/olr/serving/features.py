@@ -2,7 +2,7 @@
 
 import asyncio
 from io import StringIO
-from typing import NamedTuple, Optional
+from typing import NamedTuple
 
 from olr.confidence.confidence import Confidence
 from olr.confidence.judged import Judging, judged
@@ -31,7 +31,7 @@ class Features(NamedTuple):
     async def of(self, question: Question, is_gone: IsGone) -> bytes:
         """A feature for each matching, or for each place that is shown, the likeliest one first; or one without a geometry. Raises as
         `Served.answer` and `Room.place`."""
-        judging: Optional[Judging] = None
+        judging: Judging | None = None
         asked = question
         if question.kind.what == "places":
             kind, judging, _ = long_list_of(question.kind, self.confidence)
@@ -70,7 +70,7 @@ def _text(
     known: Known,
     counted: Counted,
     versions: Versions,
-    judging: Optional[Judging],
+    judging: Judging | None,
 ) -> bytes:
     """The text of a collection of features. `judging` says by what places are judged."""
     network, what = versions.network(), question.kind.what

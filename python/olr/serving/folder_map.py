@@ -5,7 +5,7 @@ import logging
 from collections.abc import AsyncGenerator, AsyncIterator, Mapping
 from contextlib import AbstractAsyncContextManager
 from pathlib import Path
-from typing import TYPE_CHECKING, Any, Optional
+from typing import TYPE_CHECKING, Any
 
 from olr.asking.files import Version
 from olr.errors import MapRefused, ToolError
@@ -37,9 +37,9 @@ class FolderMap:
         self.pool = Pool(Edition(folder), workers, limits)
         self._showing = asyncio.Semaphore(workers)
         self._renewing = asyncio.Lock()
-        self._refused: Optional[str] = None
+        self._refused: str | None = None
         self._version = ""
-        self._watching: "Optional[asyncio.Task[None]]" = None
+        self._watching: "asyncio.Task[None] | None" = None
 
     async def open(self) -> None:
         """Reads the map. Raises `ToolError`."""
@@ -65,7 +65,7 @@ class FolderMap:
             self._refused = None
             log.warning("the files were read anew: %s", self.digests())
 
-    def digests(self) -> dict[str, Optional[str]]:
+    def digests(self) -> dict[str, str | None]:
         """Of the files that are served."""
         version = self.pool.edition.version
         return {} if version is None else version._asdict()
@@ -114,7 +114,7 @@ class FolderMap:
         """The lines of a process of its own. Raises as `batches.lines_of`."""
         return lines_of(self.pool.edition, kind, body)
 
-    def digest(self) -> Optional[str]:
+    def digest(self) -> str | None:
         """Of the nodes and lines that are asked now."""
         return self.digests().get("network")
 
@@ -135,7 +135,7 @@ class FolderMap:
             raise MapRefused(f"another version of the map {edition.name} is served")
         return edition.streets()
 
-    def map_name(self) -> Optional[str]:
+    def map_name(self) -> str | None:
         """The name of its folder."""
         return self.pool.edition.name
 

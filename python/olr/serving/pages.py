@@ -6,7 +6,7 @@ import mimetypes
 import re
 from collections.abc import Iterator, Mapping
 from importlib import resources
-from typing import Any, NamedTuple, Optional
+from typing import Any, NamedTuple
 
 from starlette.requests import Request
 from starlette.responses import Response
@@ -46,7 +46,7 @@ class Asset(NamedTuple):
         return Response(self.content, headers=headers, media_type=self.media_type)
 
 
-def policy_of(tiles: Optional[str] = None) -> str:
+def policy_of(tiles: str | None = None) -> str:
     """The Content-Security-Policy of all answers: pages load what the server has, and images of `tiles` if that is given, and no script or
     style within them is run. Raises `ToolError` if it isn't the URL of tiles."""
     images = "'self' data:" if tiles is None else f"'self' data: {origin_of(tiles)}"
@@ -70,7 +70,7 @@ def assets() -> dict[str, Asset]:
     return {name: Asset.of_text(name, text) for name, text in texts.items()}
 
 
-def with_data(page: Asset, limits: Limits, tiles: Optional[str]) -> Asset:
+def with_data(page: Asset, limits: Limits, tiles: str | None) -> Asset:
     """The page with what its script needs to know."""
     data = {
         "tolerances": _numbers(TOLERANCES, limits),
@@ -168,7 +168,7 @@ def _faults() -> Iterator[str]:
         there.add(name)
 
 
-def _described(name: Optional[str], line: str, text: str) -> str:
+def _described(name: str | None, line: str, text: str) -> str:
     """A line that may be led to by a name, and what it means."""
     mark = "" if name is None else f' id="{html.escape(name)}"'
     return f"<dt{mark}><code>{html.escape(line)}</code></dt><dd>{html.escape(text)}</dd>"

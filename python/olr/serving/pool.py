@@ -6,7 +6,7 @@ from collections import Counter, deque
 from collections.abc import AsyncIterator, Callable, Coroutine
 from contextlib import asynccontextmanager, suppress
 from itertools import count
-from typing import Any, Optional, Union
+from typing import Any
 
 from olr.errors import MapRefused, TimedOut, ToolError
 from olr.serving.edition import Edition
@@ -58,7 +58,7 @@ class Pool:
 
     def __init__(self, edition: Edition, workers: int, limits: Limits) -> None:
         self.edition, self.workers, self.limits = edition, workers, limits
-        self.trouble: Optional[ToolError] = None
+        self.trouble: ToolError | None = None
         """Why the last process that was started didn't read the map, or why none can be: None if all is well."""
         self.restarts: Counter[str] = Counter()
         """How many processes ended that weren't told to, by the reason."""
@@ -68,7 +68,7 @@ class Pool:
         """How many processes of their own there may be besides."""
         self._processes: list[Process] = []
         self._queues: dict[Kind, deque[Request]] = {}
-        self._claims: deque[Union[Kind, Place]] = deque()
+        self._claims: deque[Kind | Place] = deque()
         self._places = asyncio.Semaphore(max(1, workers - 1))
         self._tasks: set[asyncio.Task[None]] = set()
         self._is_looking = False
@@ -156,7 +156,7 @@ class Pool:
         """Ends all processes, and waits until they have ended. What waits is refused."""
         self._is_closed = True
         processes, self._processes = self._processes, []
-        left: list[Union[Request, Place]] = [one for one in self._claims if isinstance(one, Place)]
+        left: list[Request | Place] = [one for one in self._claims if isinstance(one, Place)]
         for requests in (*self._queues.values(), *(process.requests for process in processes)):
             left += requests
         self._claims.clear()
@@ -235,7 +235,7 @@ class Pool:
                 self._retire(victim)
                 self._serve_claims()
 
-    def _victim(self) -> Optional[Process]:
+    def _victim(self) -> Process | None:
         """The process that is to end for another kind, if one is."""
         kinds = Counter(one.kind for one in self._processes if not one.is_retiring)
         ready = [one for one in self._processes if one.is_ready and not one.is_retiring]
@@ -249,7 +249,7 @@ class Pool:
         longest = min(ready, key=lambda one: one.ready_since, default=None)
         return longest if longest is not None and longest.ready_since < begin else None
 
-    def _longest_idle(self, seconds: float) -> Optional[Process]:
+    def _longest_idle(self, seconds: float) -> Process | None:
         """The process that has been idle for longest, and for so many seconds."""
         begin = self._loop.time() - seconds
         idle = [

@@ -3,7 +3,6 @@
 import json
 from collections.abc import Mapping
 from http import HTTPStatus
-from typing import Optional
 
 from starlette.responses import Response
 
@@ -44,7 +43,7 @@ class Problem(Exception):
     """A request isn't answered as it asks. The title is a word; the detail tells a user what is wrong, and has no path of the machine."""
 
     def __init__(
-        self, status: int, title: str, detail: str, headers: Optional[Mapping[str, str]] = None
+        self, status: int, title: str, detail: str, headers: Mapping[str, str] | None = None
     ) -> None:
         super().__init__(detail)
         self.status, self.title, self.detail = status, title, detail
@@ -65,7 +64,7 @@ class Problem(Exception):
         return Response(self.document(), self.status, self.headers, MEDIA_TYPE)
 
 
-def of_status(status: int, headers: Optional[Mapping[str, str]] = None) -> Problem:
+def of_status(status: int, headers: Mapping[str, str] | None = None) -> Problem:
     """The problem of a status that says all."""
     phrase = HTTPStatus(status).phrase
     return Problem(status, phrase.title().replace(" ", "").replace("-", ""), phrase, headers)

@@ -8,7 +8,7 @@ import asyncio
 from asyncio.subprocess import PIPE
 from collections import deque
 from collections.abc import Callable, Iterable
-from typing import NamedTuple, Optional, Protocol, cast
+from typing import NamedTuple, Protocol, cast
 
 from olr.asking.batch_process import why_ended
 from olr.asking.ending import kill_group_of
@@ -31,7 +31,7 @@ class Answer(NamedTuple):
 
     json: bytes
     """The answer, `null` where there is a fault."""
-    fault: Optional[str]
+    fault: str | None
     edition: Edition
 
 
@@ -91,13 +91,13 @@ class Process(asyncio.SubprocessProtocol):
         self._loop = asyncio.get_running_loop()
         self._map_is_read: asyncio.Future[None] = self._loop.create_future()
         self._ended: asyncio.Future[None] = self._loop.create_future()
-        self._transport: Optional[asyncio.SubprocessTransport] = None
-        self._input: Optional[asyncio.WriteTransport] = None
+        self._transport: asyncio.SubprocessTransport | None = None
+        self._input: asyncio.WriteTransport | None = None
         self._written = self._read = 0
         self._parts: list[bytes] = []
         self._size = 0
         self._said = b""
-        self._error: Optional[ToolError] = None
+        self._error: ToolError | None = None
 
     async def start(self) -> None:
         """Starts it, and waits until it has read the map. Raises `MapRefused` if the files aren't those of the edition or `olr` refuses
@@ -217,13 +217,13 @@ class Process(asyncio.SubprocessProtocol):
         self.working_since = self._loop.time()
         self._owner.became_free(self)
 
-    def pipe_connection_lost(self, fd: int, exc: Optional[Exception]) -> None:
+    def pipe_connection_lost(self, fd: int, exc: Exception | None) -> None:
         """It closed a pipe: soon it has ended. What it is still asked is left."""
         if fd != STDERR:
             self.is_retiring = True
             self._loop.call_later(SECONDS_SILENT, self.kill)
 
-    def connection_lost(self, exc: Optional[Exception]) -> None:
+    def connection_lost(self, exc: Exception | None) -> None:
         """It has ended, and all that it wrote was read."""
         assert self._transport is not None
         status = self._transport.get_returncode()

@@ -5,7 +5,7 @@ that tolerances are those of the profile `program` where none is named: who asks
 import re
 from collections.abc import Mapping
 from functools import lru_cache
-from typing import NamedTuple, Optional
+from typing import NamedTuple
 from urllib.parse import unquote_to_bytes
 
 from olr.model.fault import Fault
@@ -38,7 +38,7 @@ class Question(NamedTuple):
     kind: Kind
     text: bytes
     """The reference, as a record has it."""
-    after: Optional[str]
+    after: str | None
     """A cursor, behind which a page is asked for."""
 
 

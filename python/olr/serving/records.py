@@ -2,7 +2,7 @@
 
 import json
 from collections.abc import AsyncIterator
-from typing import NamedTuple, Optional
+from typing import NamedTuple
 
 from olr.messages.lines import LONG_RECORD, MOST_RECORD_BYTES
 from olr.running.batching import end_of, key_of
@@ -16,7 +16,7 @@ class Record(NamedTuple):
     data: bytes
     """Without its line end."""
 
-    def fault(self) -> Optional[str]:
+    def fault(self) -> str | None:
         """Why it can't be asked about."""
         if len(self.data) > MOST_RECORD_BYTES:
             return "LongRecord"
@@ -31,7 +31,7 @@ class Record(NamedTuple):
         before, tab, behind = self.data.partition(b"\t")
         return (behind if tab else before).decode()
 
-    def line(self, answer: bytes, fault: Optional[str]) -> bytes:
+    def line(self, answer: bytes, fault: str | None) -> bytes:
         """The line of an answer, or of a fault."""
         end = end_of(key_of(self.data), self.number)
         word = json.dumps(fault, ensure_ascii=False).encode()

@@ -9,7 +9,7 @@ import json
 from collections import deque
 from collections.abc import AsyncGenerator, AsyncIterator, Sequence
 from contextlib import aclosing
-from typing import Any, NamedTuple, Optional, Union
+from typing import Any, NamedTuple
 
 from olr.confidence.confidence import Confidence
 from olr.confidence.judged import Judged, judged
@@ -122,9 +122,7 @@ def _text(
     )
 
 
-def _answer_of(
-    one: Asked, line: bytes, network: Network
-) -> tuple[Optional[str], Union[Places, Fault]]:
+def _answer_of(one: Asked, line: bytes, network: Network) -> tuple[str | None, Places | Fault]:
     """The key and the answer of a record, by its line. Raises `ValueError` if it isn't one."""
     if not line.endswith(one.end):
         raise ValueError("the line is that of another record")
@@ -134,7 +132,7 @@ def _answer_of(
     return key, answer
 
 
-def _row(answer: Union[Places, Fault], judgement: Optional[Judged]) -> dict[str, Any]:
+def _row(answer: Places | Fault, judgement: Judged | None) -> dict[str, Any]:
     """Columns of docs/COLUMNS.md, of the likeliest place, and whether there may be others that weren't looked at."""
     first = judgement.places[0] if judgement is not None and judgement.places else None
     return {
@@ -150,6 +148,6 @@ def _row(answer: Union[Places, Fault], judgement: Optional[Judged]) -> dict[str,
     }
 
 
-def _rounded(value: Optional[float]) -> Optional[float]:
+def _rounded(value: float | None) -> float | None:
     """A probability with the digits that are shown."""
     return None if value is None else round(value, DIGITS)

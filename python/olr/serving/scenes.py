@@ -5,7 +5,7 @@ import json
 import threading
 from collections.abc import Mapping
 from functools import partial
-from typing import NamedTuple, Optional, TypeVar
+from typing import NamedTuple, TypeVar
 
 from olr.confidence.confidence import Confidence
 from olr.confidence.judged import Judging
@@ -93,8 +93,8 @@ class Ground:
     """The lines around scenes. The boxes of a network's lines are computed once. Several threads may call it."""
 
     def __init__(self) -> None:
-        self._network: Optional[Network] = None
-        self._around: Optional[Surroundings] = None
+        self._network: Network | None = None
+        self._around: Surroundings | None = None
         self._finding = threading.Lock()
 
     def add_lines(self, scene: Scene, network: Network) -> None:

@@ -2,7 +2,7 @@
 
 from collections.abc import AsyncGenerator, AsyncIterator, Awaitable, Callable, Mapping
 from contextlib import AbstractAsyncContextManager
-from typing import TYPE_CHECKING, Any, NamedTuple, Optional, Protocol, TypeVar
+from typing import TYPE_CHECKING, Any, NamedTuple, Protocol, TypeVar
 
 from olr.asking.files import Version
 from olr.errors import MapRefused
@@ -26,7 +26,7 @@ class Known(NamedTuple):
     version: Version
 
     @property
-    def digest(self) -> Optional[str]:
+    def digest(self) -> str | None:
         """Of the map's nodes and lines."""
         return self.version.network
 
@@ -58,7 +58,7 @@ class Served(Protocol):
     def batch(self, kind: Kind, body: AsyncIterator[bytes]) -> AsyncGenerator[bytes, None]:
         """The lines of `olr batch` about the records of a body, in pieces, within a `place`. Raises as `answer`, and as the body does."""
 
-    def digest(self) -> Optional[str]:
+    def digest(self) -> str | None:
         """Of the nodes and lines that are asked now."""
 
     def network(self) -> "Network":
@@ -74,7 +74,7 @@ class Served(Protocol):
         """The lines and bans of a version that may matter for the matching of a reference, asked with these tolerances. Call it in a
         thread. Raises `ToolError`, and `MapRefused` if another version is served."""
 
-    def map_name(self) -> Optional[str]:
+    def map_name(self) -> str | None:
         """The name of its folder, without those above: None for a store, which the program doesn't read."""
 
     def sizes(self) -> dict[str, int]:

@@ -9,7 +9,7 @@ import sys
 from collections.abc import Sequence
 from functools import partial
 from pathlib import Path
-from typing import Any, NamedTuple, Optional
+from typing import Any, NamedTuple
 
 import click
 import uvicorn
@@ -48,9 +48,9 @@ class Settings(NamedTuple):
     """Other names that the server has."""
     origins: Sequence[str] = ()
     """Other sites whose pages may ask."""
-    tiles: Optional[str] = None
+    tiles: str | None = None
     """The URL of tiles for the page."""
-    confidence: Optional[Path] = None
+    confidence: Path | None = None
     """The file of a confidence: by default the one that comes with the package."""
 
 
@@ -60,7 +60,7 @@ class _Server(uvicorn.Server):  # type: ignore[misc]
     def install_signal_handlers(self) -> None:
         """The owner installs them."""
 
-    async def shutdown(self, sockets: Optional[list[socket.socket]] = None) -> None:
+    async def shutdown(self, sockets: list[socket.socket] | None = None) -> None:
         """Takes no more requests, and waits until those that run are answered, or time is over."""
 
         def force() -> None:

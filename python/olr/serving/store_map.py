@@ -7,7 +7,7 @@ from collections.abc import AsyncGenerator, AsyncIterator, Callable, Mapping
 from concurrent.futures import ThreadPoolExecutor
 from contextlib import asynccontextmanager
 from pathlib import Path
-from typing import TYPE_CHECKING, Any, Optional, TypeVar
+from typing import TYPE_CHECKING, Any, TypeVar
 
 from olr.asking.files import Version
 from olr.asking.program import find_program
@@ -47,9 +47,9 @@ class StoreMap:
         self._program = str(find_program())
         self._maps: dict[Tolerances, Map] = {}
         self._digest = ""
-        self._refused: Optional[str] = None
+        self._refused: str | None = None
         self._version = ""
-        self._network: Optional[StoreNetwork] = None
+        self._network: StoreNetwork | None = None
         self._opening = threading.Lock()
         self._turn = asyncio.Lock()
         self._showing = asyncio.Semaphore(MOST_SHOWN)
@@ -169,7 +169,7 @@ class StoreMap:
     async def _in_thread(self, call: Callable[[], Made]) -> Made:
         return await asyncio.get_running_loop().run_in_executor(self._thread, call)
 
-    def digest(self) -> Optional[str]:
+    def digest(self) -> str | None:
         """Of the nodes and lines that are asked now."""
         return self._digest
 
@@ -197,7 +197,7 @@ class StoreMap:
         network.require_digest(version.network or "")
         return streets_near(network, reference, matching, tolerances)
 
-    def map_name(self) -> Optional[str]:
+    def map_name(self) -> str | None:
         """None: the program doesn't read a store."""
         return None
 

@@ -4,7 +4,6 @@ import math
 import random
 from collections.abc import Sequence
 from dataclasses import replace
-from typing import Optional
 
 from olr.model.answers import ReferencePoint
 from olr.model.road_map import MICRODEGREE
@@ -42,7 +41,7 @@ def _changed_point(point: ReferencePoint, spreads: Spreads, draws: random.Random
     )
 
 
-def _lowest(point: ReferencePoint, road_class: int) -> Optional[int]:
+def _lowest(point: ReferencePoint, road_class: int) -> int | None:
     """The lowest class of a leg whose first road has another class there: its own, if it is the least important one of the leg."""
     if point.lowest is None or road_class == point.class_:
         return point.lowest

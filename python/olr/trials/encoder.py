@@ -11,7 +11,7 @@ import random
 from collections import Counter, defaultdict
 from collections.abc import Mapping, Sequence
 from itertools import pairwise
-from typing import NamedTuple, Optional
+from typing import NamedTuple
 
 from olr.model.answers import ReferencePoint
 from olr.model.road_map import MICRODEGREE, Line, Position, RoadMap
@@ -79,7 +79,7 @@ class Network:
                     equal.add(other)
         return Search(before, equal.union(lengths.keys() - done))
 
-    def shortest(self, first: int, last: int) -> Optional[tuple[list[int], bool]]:
+    def shortest(self, first: int, last: int) -> tuple[list[int], bool] | None:
         """The shortest path from the start of one line to the start of another one, as its lines with both, and whether no
         other path is as short. None if there is no path."""
         found = self.search(first, last)
@@ -139,7 +139,7 @@ def drawn_references(
     return drawn
 
 
-def legs_of(network: Network, path: Sequence[int]) -> Optional[list[list[int]]]:
+def legs_of(network: Network, path: Sequence[int]) -> list[list[int]] | None:
     """A path cut into legs, each of which is the only shortest path to the next one's first line. A leg begins with the line
     before which the one before ends, and has that line too. None if there are no such legs."""
     legs = []
@@ -158,7 +158,7 @@ def legs_of(network: Network, path: Sequence[int]) -> Optional[list[list[int]]]:
     return legs
 
 
-def points_of(network: Network, path: Sequence[int]) -> Optional[list[ReferencePoint]]:
+def points_of(network: Network, path: Sequence[int]) -> list[ReferencePoint] | None:
     """The points of a reference to the lines of a path, from the start of the first to the end of the last. None if the path
     can't be cut into legs, or a leg is too long or leads too far."""
     legs = legs_of(network, path)
@@ -167,7 +167,7 @@ def points_of(network: Network, path: Sequence[int]) -> Optional[list[ReferenceP
 
 def points_of_legs(
     network: Network, legs: Sequence[Sequence[int]], ends: tuple[float, float] = (0.0, 1.0)
-) -> Optional[list[ReferencePoint]]:
+) -> list[ReferencePoint] | None:
     """The points of a reference to a path that is cut into legs, as `legs_of` does. The path begins and ends at shares of the lengths of
     its first and its last line. None if the points are too many, a leg is too long, or it leads too far: near a pole one may lead over
     many degrees."""
@@ -197,8 +197,8 @@ def points_of_legs(
 def _point(
     line: Line,
     points: Sequence[Position],
-    interval: Optional[int] = None,
-    lowest: Optional[int] = None,
+    interval: int | None = None,
+    lowest: int | None = None,
 ) -> ReferencePoint:
     """A point of a reference, from which a line leads away along some points."""
     lon, lat = points[0]
@@ -227,7 +227,7 @@ def _from(points: Sequence[Position], share: float) -> list[Position]:
 def text_of(points: Sequence[ReferencePoint]) -> str:
     """The text of a line reference."""
     content = bytearray([0x0B])
-    place: Optional[tuple[int, int]] = None
+    place: tuple[int, int] | None = None
     for point in points:
         place = _put_position(content, Position(point.lon, point.lat), place)
         content.append(point.class_ << 3 | point.form)
@@ -237,14 +237,14 @@ def text_of(points: Sequence[ReferencePoint]) -> str:
     return base64.b64encode(content).decode()
 
 
-def encode(network: Network, path: Sequence[int]) -> Optional[str]:
+def encode(network: Network, path: Sequence[int]) -> str | None:
     """The text of a reference to the lines of a path. None if there is none: see `points_of`."""
     points = points_of(network, path)
     return None if points is None else text_of(points)
 
 
 def _put_position(
-    content: bytearray, position: Position, before: Optional[tuple[int, int]]
+    content: bytearray, position: Position, before: tuple[int, int] | None
 ) -> tuple[int, int]:
     """Appends a position, relative to the one before if there is one. Answers it as a decoder will read it, in microdegrees."""
     read = []

@@ -5,7 +5,7 @@ import random
 from collections import Counter
 from collections.abc import Iterable, Sequence
 from itertools import accumulate
-from typing import NamedTuple, Optional, Protocol
+from typing import NamedTuple, Protocol
 
 from olr.arrays import Integers
 from olr.model.answers import Reference
@@ -31,7 +31,7 @@ class Beginning(NamedTuple):
 class Likeness(Protocol):
     """Draws beginnings of paths."""
 
-    def beginning(self, of_class: Sequence[Integers], draws: random.Random) -> Optional[Beginning]:
+    def beginning(self, of_class: Sequence[Integers], draws: random.Random) -> Beginning | None:
         """One of them. `of_class` has the indices of the map's lines by their class, of which one has some. None if the map hasn't such
         a line."""
 
@@ -59,7 +59,7 @@ class LikeMessages:
         self._kinds = list(counts)
         self._behind = list(accumulate(counts.values()))
 
-    def beginning(self, of_class: Sequence[Integers], draws: random.Random) -> Optional[Beginning]:
+    def beginning(self, of_class: Sequence[Integers], draws: random.Random) -> Beginning | None:
         """One of a message. None if the map hasn't a line of its class."""
         ((road_class, length),) = draws.choices(self._kinds, cum_weights=self._behind)
         lines = of_class[road_class]

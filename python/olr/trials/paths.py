@@ -3,7 +3,7 @@
 import random
 from collections.abc import Iterator, Sequence
 from itertools import pairwise
-from typing import NamedTuple, Optional
+from typing import NamedTuple
 
 import numpy as np
 
@@ -69,7 +69,7 @@ class Paths:
 
     def _draw(
         self, graph: Graph, of_class: Sequence[Integers], draws: random.Random
-    ) -> Optional[Drawn]:
+    ) -> Drawn | None:
         """One path, or None where it was drawn before or there is none such."""
         beginning = self._likeness.beginning(of_class, draws)
         if beginning is None:
@@ -89,7 +89,7 @@ class Paths:
         return Drawn(path, points)
 
 
-def _path(graph: Graph, first: int, length: float, draws: random.Random) -> Optional[list[int]]:
+def _path(graph: Graph, first: int, length: float, draws: random.Random) -> list[int] | None:
     """The indices of the lines of a shortest path from a line on that is about so long, or None. Where another one is as short it is
     any of them. It turns back at dead ends alone, where nothing else leads on."""
     reached = graph.reached(first, length * (1 + TOLERANCE))

@@ -3,7 +3,7 @@
 from collections.abc import Mapping, Sequence, Set
 from dataclasses import dataclass
 from pathlib import Path
-from typing import Any, NamedTuple, Optional
+from typing import Any, NamedTuple
 
 from olr.counts import Counts, ValueCounts, short
 from olr.errors import ToolError
@@ -20,9 +20,9 @@ class Fields:
 
     road_class: str
     form: str
-    one_way: Optional[str] = None
-    id: Optional[str] = None
-    name: Optional[str] = None
+    one_way: str | None = None
+    id: str | None = None
+    name: str | None = None
     """By default the field that is called so, if there is one."""
     keep: tuple[str, ...] = ()
     """Those whose values are kept for each line."""
@@ -58,12 +58,12 @@ def list_of(names: Sequence[str]) -> str:
     return f"{shown} and {len(names) - 20} more" if len(names) > 20 else shown or "none"
 
 
-def _field_of_names(properties: Sequence[str]) -> Optional[str]:
+def _field_of_names(properties: Sequence[str]) -> str | None:
     """The field that is called `name`, in whatever capitals."""
     return next((name for name in properties if name.casefold() == NAME), None)
 
 
-def _constant(name: str) -> Optional[int]:
+def _constant(name: str) -> int | None:
     """The class or form of all roads, if that is what was given in place of a field."""
     return int(name) if name in tuple("01234567") else None
 
@@ -89,13 +89,13 @@ class Meanings:
         name = "" if self.name_field is None else kept_text(properties[self.name_field])
         return Source(id, name, tuple(kept_text(properties[field]) for field in fields.keep))
 
-    def attributes_of(self, properties: Mapping[str, Any]) -> Optional[Attributes]:
+    def attributes_of(self, properties: Mapping[str, Any]) -> Attributes | None:
         """What a record says of its road; None if the road isn't on the map."""
         road_class = self._number(properties, self._fields.road_class, self._table.classes, "class")
         if road_class is None:
             return None
         value = ""
-        direction: Optional[str] = "both"
+        direction: str | None = "both"
         if self._fields.one_way is not None:
             value = text_of(properties[self._fields.one_way])
             direction = self._table.direction_of(value)
@@ -114,9 +114,9 @@ class Meanings:
         self,
         properties: Mapping[str, Any],
         name: str,
-        kinds: Mapping[str, Optional[int]],
+        kinds: Mapping[str, int | None],
         what: str,
-    ) -> Optional[int]:
+    ) -> int | None:
         """The class or form of a road; None if the road isn't on the map. A form that isn't known is 0."""
         if name not in self._properties:
             return _constant(name)

@@ -2,7 +2,6 @@
 
 from dataclasses import dataclass
 from pathlib import Path
-from typing import Optional
 
 from olr.importing.u_turns import DEAD_ENDS, DeadEnds, UTurns
 from olr.model.box import Box
@@ -17,13 +16,13 @@ class Options:
     """How a layer becomes a map."""
 
     fields: Fields
-    layer: Optional[str] = None
+    layer: str | None = None
     """The layer, or the only one of the file."""
-    crs: Optional[str] = None
+    crs: str | None = None
     """A coordinate reference system in place of that of the file."""
-    box: Optional[Box] = None
+    box: Box | None = None
     """The part of the file to take, or all of it."""
-    mapping: Optional[Path] = None
+    mapping: Path | None = None
     """The table of values, or the usual meanings."""
     tolerance: float = TOLERANCE
     """Ends of roads that lie so near to each other, or to another road, meet. In metres."""

@@ -3,7 +3,7 @@
 import logging
 from collections.abc import Iterable, Iterator, Mapping, Sequence
 from pathlib import Path
-from typing import Any, NamedTuple, Optional
+from typing import Any, NamedTuple
 
 import fiona
 import numpy as np
@@ -45,7 +45,7 @@ class Layer(NamedTuple):
     name: str
     crs: str
     """The name of its coordinate reference system."""
-    name_field: Optional[str]
+    name_field: str | None
     """The field that has the names of roads, if one has."""
     doubt: str
     """Why this may not be the system of its coordinates, and what to do then; an empty text if there is no doubt."""
@@ -97,7 +97,7 @@ def read_layer(
     return Layer(with_ids, name, system.name, meanings.name_field, doubt)
 
 
-def _layer_name(file: Path, layer: Optional[str]) -> str:
+def _layer_name(file: Path, layer: str | None) -> str:
     """The name of the layer to read."""
     names = fiona.listlayers(str(file))
     if layer is None:
@@ -123,7 +123,7 @@ def _meets(part: Sequence[Sequence[float]] | Floats, area: Area) -> bool:
 def _records(
     features: Iterable[Any],
     meanings: Meanings,
-    area: Optional[Area],
+    area: Area | None,
     strays: Strays,
     counts: Counts,
 ) -> Iterator[_Record]:
@@ -149,7 +149,7 @@ def _near(
             strays.outside = strays.outside or part[0]
 
 
-def _line_strings(geometry: Optional[Mapping[str, Any]], counts: Counts) -> Sequence[Any]:
+def _line_strings(geometry: Mapping[str, Any] | None, counts: Counts) -> Sequence[Any]:
     """The line strings of a geometry; none, and counted, if it isn't one of lines."""
     if geometry is None:
         counts.leave_out("records without a geometry")
@@ -166,7 +166,7 @@ def _line_strings(geometry: Optional[Mapping[str, Any]], counts: Counts) -> Sequ
 def _in_degrees(
     records: Sequence[_Record],
     system: System,
-    box: Optional[Box],
+    box: Box | None,
     strays: Strays,
     counts: Counts,
 ) -> Iterator[tuple[_Record, Floats]]:

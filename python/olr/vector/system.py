@@ -4,7 +4,6 @@ import math
 from collections.abc import Sequence
 from dataclasses import dataclass
 from pathlib import Path
-from typing import Optional
 
 import numpy as np
 from pyproj import CRS, Transformer
@@ -30,7 +29,7 @@ class System:
     transformer: Transformer
 
     @classmethod
-    def of(cls, file: Path, wkt: str, crs: Optional[str]) -> "System":
+    def of(cls, file: Path, wkt: str, crs: str | None) -> "System":
         """The system that a user names, else that of the file. Raises `ToolError` if there is none, or if it isn't known."""
         if not wkt and crs is None:
             raise ToolError(
@@ -49,7 +48,7 @@ class System:
         result: Floats = np.stack([lon, lat], axis=1)
         return result
 
-    def area(self, box: Box) -> Optional[Area]:
+    def area(self, box: Box) -> Area | None:
         """A part of the plane of the file that holds the box; None if there is none."""
         west, south, east, north = (edge / 1e6 for edge in box)
         bounds = self.transformer.transform_bounds(west, south, east, north, direction="INVERSE")
@@ -60,9 +59,9 @@ class System:
 class Strays:
     """Vertices by which one may see that coordinates aren't in the system that they are read by."""
 
-    outside: Optional[Vertex] = None
+    outside: Vertex | None = None
     """Of the first line string outside the box."""
-    nowhere: Optional[Vertex] = None
+    nowhere: Vertex | None = None
     """Of the first one that isn't on the earth up to latitude 80."""
 
     def doubt(self, system: System, found: bool) -> str:

@@ -8,7 +8,7 @@ import json
 from collections.abc import Mapping
 from dataclasses import dataclass, field
 from pathlib import Path
-from typing import Any, Optional
+from typing import Any
 
 import tomllib
 
@@ -25,7 +25,7 @@ ONE_WAY = {
 }
 """The values that are known without a table, in small letters."""
 
-Kinds = Mapping[str, Optional[int]]
+Kinds = Mapping[str, int | None]
 """For each value its class or form; None if roads of that value are left out."""
 NUMBERS: Kinds = {str(kind): kind for kind in range(8)}
 
@@ -41,12 +41,12 @@ class ValueTable:
     )
     """For each value, in small letters, one of `DIRECTIONS`."""
 
-    def direction_of(self, value: str) -> Optional[str]:
+    def direction_of(self, value: str) -> str | None:
         """The direction that a value means; None if the table doesn't say."""
         return self.one_way.get(value.casefold(), self.one_way.get(OTHERS))
 
 
-def kind_among(kinds: Kinds, value: str) -> tuple[bool, Optional[int]]:
+def kind_among(kinds: Kinds, value: str) -> tuple[bool, int | None]:
     """Whether a value is known, and what it means."""
     if value in kinds:
         return True, kinds[value]
@@ -78,7 +78,7 @@ def kept_text(value: object) -> str:
     return text_of(value)
 
 
-def read_value_table(file: Optional[Path]) -> ValueTable:
+def read_value_table(file: Path | None) -> ValueTable:
     """The table in a file, or the one that holds without a file. Raises `ToolError` if it isn't a table."""
     if file is None:
         return ValueTable()
@@ -104,7 +104,7 @@ def read_value_table(file: Optional[Path]) -> ValueTable:
 
 def _kinds(file: Path, name: str, sections: Mapping[str, Any]) -> Kinds:
     """The classes or forms of a section. `false` leaves roads of that value out."""
-    kinds: dict[str, Optional[int]] = {}
+    kinds: dict[str, int | None] = {}
     for value, kind in sections[name].items():
         if kind is False:
             kinds[value] = None

@@ -7,7 +7,7 @@ import logging
 from collections.abc import Iterator
 from contextlib import contextmanager
 from pathlib import Path
-from typing import Any, Optional
+from typing import Any
 
 import numpy as np
 
@@ -42,7 +42,7 @@ def whole_features(file: Path, collection: Any) -> Iterator[Any]:
         raise ToolError(_lacking(file, number, total))
 
 
-def _total(collection: Any) -> Optional[int]:
+def _total(collection: Any) -> int | None:
     """How many records a collection says that it has; None if its format doesn't say."""
     try:
         return len(collection)
@@ -132,7 +132,7 @@ def _lacking(file: Path, held: int, total: int) -> str:
     return f"{file} was cut short: it has {held:,} of its {total:,} records: copy the file again"
 
 
-def _beside(file: Path, suffix: str) -> Optional[Path]:
+def _beside(file: Path, suffix: str) -> Path | None:
     """The file of the same name with another suffix, in small or in capital letters, if it is there."""
     named = (file.with_suffix(suffix), file.with_suffix(suffix.upper()))
     return next((path for path in named if path.is_file()), None)

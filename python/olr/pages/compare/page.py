@@ -2,7 +2,7 @@
 
 from collections.abc import Iterable, Mapping, Sequence
 from pathlib import Path
-from typing import Any, NamedTuple, Optional
+from typing import Any, NamedTuple
 
 import numpy as np
 
@@ -141,7 +141,7 @@ def _verdict(side: Side) -> str:
     return "refused" if isinstance(side.answer, Fault) else side.answer.verdict
 
 
-def _probability(side: Side) -> Optional[float]:
+def _probability(side: Side) -> float | None:
     """How probable the likeliest place on a map is."""
     place = side.place()
     if place is None or place.probability is None:
@@ -149,7 +149,7 @@ def _probability(side: Side) -> Optional[float]:
     return round(place.probability, OF_PROBABILITIES)
 
 
-def _reason(side: Side) -> Optional[str]:
+def _reason(side: Side) -> str | None:
     """Why a map has no place for a reference."""
     fault = next((it for it in (side.answer, side.why) if isinstance(it, Fault)), None)
     return reason_of(side.why) if fault is None else fault.text

@@ -1,7 +1,7 @@
 """A file of messages, asked and counted."""
 
 from collections.abc import Iterable, Iterator, Mapping
-from typing import NamedTuple, Union
+from typing import NamedTuple
 
 from olr.client.map_client import Map
 from olr.confidence.choosing import listing
@@ -76,7 +76,7 @@ class _Kept(NamedTuple):
     fits_nowhere: bool
 
 
-def _is_without_place(answer: Union[Places, Fault]) -> bool:
+def _is_without_place(answer: Places | Fault) -> bool:
     """Whether `why` says more of a reference."""
     if isinstance(answer, Fault):
         return answer.name == CROWDED

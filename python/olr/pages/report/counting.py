@@ -2,7 +2,6 @@
 
 from bisect import bisect_right
 from collections import Counter
-from typing import Optional, Union
 
 from olr.confidence.expected import Expected
 from olr.confidence.judged import Judged
@@ -52,7 +51,7 @@ class Probabilities:
         self.without = 0
         """So many likeliest places have none."""
 
-    def add(self, probability: Optional[float]) -> None:
+    def add(self, probability: float | None) -> None:
         """Counts one."""
         if probability is None:
             self.without += 1
@@ -98,7 +97,7 @@ class PlaceCounts:
         self.cut_off = 0
         """So many references may have more places: looking was cut off."""
 
-    def add(self, answer: Union[Places, Fault], judgement: Optional[Judged]) -> None:
+    def add(self, answer: Places | Fault, judgement: Judged | None) -> None:
         """Counts an answer, which was judged."""
         if isinstance(answer, Fault):
             self.verdicts["refused"] += 1

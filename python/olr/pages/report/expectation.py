@@ -2,7 +2,6 @@
 
 from collections.abc import Iterator
 from pathlib import Path
-from typing import Optional
 
 from olr.confidence.choosing import Chosen, cut_off_line
 from olr.confidence.confidence import Confidence
@@ -13,12 +12,12 @@ SHIPPED = "the confidence that comes with olr-tools"
 CALIBRATE = "olr-tools calibrate --map DIR --for FEED"
 
 
-def name_of(file: Optional[Path]) -> str:
+def name_of(file: Path | None) -> str:
     """What a page calls the file of a confidence: None is the one that comes with the package."""
     return SHIPPED if file is None else file.name
 
 
-def expectations(counts: PlaceCounts, sure: Chosen, file: Optional[Path]) -> list[str]:
+def expectations(counts: PlaceCounts, sure: Chosen, file: Path | None) -> list[str]:
     """The first lines of a summary: none if no place has a probability."""
     confidence, expected = sure.judging.confidence, counts.probabilities.expected
     if confidence is None or not expected.count:
@@ -56,7 +55,7 @@ def sentence(text: str) -> str:
     return f"{text[0].upper()}{text[1:]}."
 
 
-def about_probabilities(sure: Chosen, file: Optional[Path]) -> str:
+def about_probabilities(sure: Chosen, file: Path | None) -> str:
     """What the page says of probabilities, or why there are none."""
     if sure.judging.confidence is None:
         return sentence(sure.note)

@@ -3,7 +3,7 @@
 from collections import Counter
 from collections.abc import Mapping, Sequence
 from datetime import datetime, timezone
-from typing import Any, NamedTuple, Optional
+from typing import Any, NamedTuple
 
 from olr.pages.html import Template, html_of, unfilled
 from olr.pages.report.asking import Counted
@@ -29,7 +29,7 @@ class About(NamedTuple):
     """What probabilities are of, or why there are none."""
 
 
-def page_of(about: About, counted: Counted, rows: Rows, tiles: Optional[str] = None) -> str:
+def page_of(about: About, counted: Counted, rows: Rows, tiles: str | None = None) -> str:
     """A page of HTML. Raises `ToolError` as `olr.pages.html.html_of`."""
     shown = Counter(row["verdict"] for row in rows.rows)
     data: dict[str, Any] = {

@@ -1,7 +1,6 @@
 """Why references fit nothing, counted: answers to `why`."""
 
 from collections import Counter
-from typing import Union
 
 from olr.model.answers import Why
 from olr.model.fault import Fault
@@ -26,7 +25,7 @@ class ReasonCounts:
         self.named: Counter[str] = Counter()
         """Each such remedy."""
 
-    def add(self, answer: Union[Why, Fault]) -> None:
+    def add(self, answer: Why | Fault) -> None:
         """Counts an answer."""
         if isinstance(answer, Fault):
             self.verdicts["refused"] += 1

@@ -1,7 +1,7 @@
 """Messages as rows of the table of references, with what the map shows of them, and the scene of each one's page."""
 
 from collections.abc import Iterable, Iterator, Mapping, Sequence
-from typing import Any, NamedTuple, Optional, Union
+from typing import Any, NamedTuple
 
 import numpy as np
 
@@ -37,7 +37,7 @@ class Rows(NamedTuple):
     """The rows of the table, and what belongs to them."""
 
     rows: list[Row]
-    scenes: list[Optional[Scene]]
+    scenes: list[Scene | None]
     """Of each row; None where a text is no reference."""
     shapes: list[Row]
     """What the map shows."""
@@ -53,7 +53,7 @@ def rows_of(
     """Asks about messages, and makes rows of the answers, which are judged. Raises `ToolError`."""
     network, lines = asked.network(), _Lines()
     rows: list[Row] = []
-    scenes: list[Optional[Scene]] = []
+    scenes: list[Scene | None] = []
     shapes: list[Row] = []
     for chunk in _chunks(watched(drawn, "references drawn", len(drawn))):
         answers = _answers_about(chunk, asked, numbers)
@@ -71,8 +71,8 @@ def rows_of(
 
 
 def _scenes(
-    answers: Sequence[Optional[Answered]], network: Network, judging: Judging
-) -> list[tuple[Optional[Scene], Optional[Judged]]]:
+    answers: Sequence[Answered | None], network: Network, judging: Judging
+) -> list[tuple[Scene | None, Judged | None]]:
     """The scene of each answer, and how its places are judged; None where a text is no reference."""
     known = [one for one in answers if one is not None]
     part = _network_of(known, network)
@@ -100,7 +100,7 @@ def _chunks(drawn: Iterable[Drawn]) -> Iterator[list[Drawn]]:
 
 def _answers_about(
     chunk: Sequence[Drawn], asked: Map, numbers: Mapping[str, int]
-) -> list[Optional[Answered]]:
+) -> list[Answered | None]:
     """What is answered about each of some messages; None where a text is no reference."""
     references = [read_reference(one.message.reference) for one in chunk]
     known = [
@@ -137,7 +137,7 @@ class _Lines:
     def __init__(self) -> None:
         self._found: dict[int, Scene] = {}
         self._seen: set[int] = set()
-        self._last: Optional[tuple[Network, Surroundings]] = None
+        self._last: tuple[Network, Surroundings] | None = None
 
     def add(self, network: Network, scenes: Sequence[Scene]) -> None:
         """Adds the lines around scenes, and to each scene its box, and how many lines there are in it."""
@@ -174,7 +174,7 @@ class _Lines:
         return lines, len(self._seen) - len(lines)
 
 
-def _row(drawn: Drawn, answered: Optional[Answered], judgement: Optional[Judged]) -> Row:
+def _row(drawn: Drawn, answered: Answered | None, judgement: Judged | None) -> Row:
     """A row of the table: its numbers are those of the likeliest place. Lengths are in metres."""
     row: Row = {"record": drawn.message.record, "key": drawn.message.key, "verdict": "refused"}
     if answered is None:
@@ -199,7 +199,7 @@ def _row(drawn: Drawn, answered: Optional[Answered], judgement: Optional[Judged]
     return row
 
 
-def _cause(cause: Union[Why, Fault, None]) -> Row:
+def _cause(cause: Why | Fault | None) -> Row:
     """Why a reference fits nothing, in a word and as a text."""
     if cause is None:
         return {}

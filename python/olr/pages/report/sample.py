@@ -3,7 +3,7 @@
 import random
 from collections import Counter
 from collections.abc import Mapping
-from typing import NamedTuple, Optional, Union
+from typing import NamedTuple
 
 from olr.matching.asking import outcome_of
 from olr.messages.message import Message
@@ -19,7 +19,7 @@ class Drawn(NamedTuple):
     """A message of the sample."""
 
     message: Message
-    fault: Optional[Fault]
+    fault: Fault | None
     """Of the answer to `places`, if that is one."""
 
 
@@ -33,7 +33,7 @@ class Sample:
         self._seen: Counter[str] = Counter()
         self._draws = random.Random(SEED)
 
-    def add(self, message: Message, answer: Union[Places, Fault]) -> None:
+    def add(self, message: Message, answer: Places | Fault) -> None:
         """Adds a message, or not."""
         outcome = outcome_of(answer)
         kept = self._kept.setdefault(outcome, [])

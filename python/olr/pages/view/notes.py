@@ -1,7 +1,7 @@
 """What the page says of the first entry besides: other paths of its legs, in sentences and as geometries."""
 
 from collections.abc import Callable, Sequence
-from typing import TYPE_CHECKING, Optional
+from typing import TYPE_CHECKING
 
 from olr.errors import ToolError
 from olr.geometry.network import Network
@@ -63,7 +63,7 @@ def note_texts(notes: Sequence[LegNote], lowest: int) -> list[str]:
     return texts
 
 
-def _first_of(scene: Scene, answered: "Answered") -> Optional[Matching]:
+def _first_of(scene: Scene, answered: "Answered") -> Matching | None:
     """The matching of the first entry, if there is one."""
     if not scene["entries"]:
         return None

@@ -1,6 +1,5 @@
 """The page of a scene."""
 
-from typing import Optional
 
 from olr.pages.html import Template
 from olr.pages.html import html_of as html_of_template
@@ -9,7 +8,7 @@ from olr.pages.view.surroundings import Scene
 TEMPLATE = Template("olr.pages.view", ("picture",))
 
 
-def html_of(scene: Scene, tiles: Optional[str] = None) -> str:
+def html_of(scene: Scene, tiles: str | None = None) -> str:
     """A page of HTML that shows a scene. It loads nothing, but for the images of `tiles` if that is given: a URL with `{z}`, `{x}`
     and `{y}`. Raises `ToolError` if Leaflet isn't installed, or the URL isn't one."""
     return html_of_template(TEMPLATE, title_of(scene), scene, tiles)

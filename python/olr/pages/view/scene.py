@@ -2,7 +2,7 @@
 
 from collections.abc import Iterator, Mapping, Sequence
 from functools import partial
-from typing import Any, NamedTuple, Optional, Union
+from typing import Any, NamedTuple
 
 import numpy as np
 
@@ -30,16 +30,14 @@ class Answered(NamedTuple):
 
     text: str
     reference: Reference
-    candidates: Union[Candidates, Fault]
-    places: Union[Places, Fault]
-    page: Union[Page, Fault]
-    why: Union[Why, Fault, None] = None
+    candidates: Candidates | Fault
+    places: Places | Fault
+    page: Page | Fault
+    why: Why | Fault | None = None
     """None where it fits somewhere."""
 
 
-def scene_of(
-    text: str, asked: Map, confidence: Optional[Confidence] = None, **numbers: int
-) -> Scene:
+def scene_of(text: str, asked: Map, confidence: Confidence | None = None, **numbers: int) -> Scene:
     """What a reference says, where it fits and how well; or why it doesn't. With a confidence it says how probable each place is. The
     numbers are those of `places`. Raises `Fault` if it is no reference, or a number is out of its range, and `MapRefused` if the map's
     files change meanwhile."""
@@ -84,7 +82,7 @@ def fits(answered: Answered) -> bool:
 
 def judgements_of(
     answers: Sequence[Answered], network: Network, judging: Judging
-) -> list[Optional[Judged]]:
+) -> list[Judged | None]:
     """Which places of answers are shown, and how probable they are; None where there is no answer. Raises as `scene_of_answers`."""
     return judged(
         [one.places for one in answers], [one.reference for one in answers], network, judging
@@ -94,8 +92,8 @@ def judgements_of(
 def scene_of_answers(
     answered: Answered,
     network: Network,
-    judgement: Optional[Judged],
-    confidence: Optional[Confidence] = None,
+    judgement: Judged | None,
+    confidence: Confidence | None = None,
 ) -> Scene:
     """The scene of a reference that was asked about, without the lines around. `judgement` is that of its places, by a confidence if there
     is one. Raises `MapRefused` if the network is of another version of the map, and `ToolError` if it lacks a line of an answer.
@@ -135,7 +133,7 @@ def scene_of_answers(
     return scene
 
 
-def add_command(scene: Scene, map_name: Optional[str], numbers: Mapping[str, int]) -> None:
+def add_command(scene: Scene, map_name: str | None, numbers: Mapping[str, int]) -> None:
     """Adds the command of the program `olr` that gives the same answer, with all its places: an empty text if there is none, as the
     program doesn't read the map. The numbers are all tolerances and the numbers of `places`, by the names of the program's options.
     """
@@ -228,7 +226,7 @@ class _Paths:
         self._network = network
         self._found: dict[Pieces, list[list[float]]] = {}
 
-    def of(self, pieces: Optional[Pieces]) -> Optional[list[list[float]]]:
+    def of(self, pieces: Pieces | None) -> list[list[float]] | None:
         """The geometry of pieces, if there are any."""
         if pieces is None:
             return None
@@ -243,7 +241,7 @@ def _ids(lines: list[int]) -> str:
     return " ".join(map(str, lines[:MOST_IDS])) + more
 
 
-def _why(why: Union[Why, Fault], network: Network) -> Scene:
+def _why(why: Why | Fault, network: Network) -> Scene:
     """Why nothing fits, and the lines near the points."""
     if isinstance(why, Fault):
         return {"texts": [f"{why.text}: {why.meaning}."], "remedies": [], "near": []}

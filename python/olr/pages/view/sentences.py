@@ -1,7 +1,6 @@
 """What the page says: a reference, a verdict and reasons in sentences. Lengths are shown in metres."""
 
 from collections.abc import Sequence
-from typing import Optional
 
 from olr.confidence.confidence import Confidence
 from olr.confidence.judged import Judged, JudgedPlace
@@ -109,7 +108,7 @@ def offsets_text(reference: Reference) -> str:
     return ", ".join(parts)
 
 
-def verdict_text(verdict: Verdict, margin: Optional[int]) -> str:
+def verdict_text(verdict: Verdict, margin: int | None) -> str:
     """The verdict, and the margin if there is one."""
     text = VERDICTS[verdict]
     if margin is None:
