@@ -4,11 +4,10 @@ Each command is a `click.Command` named `command` in a module of its own. That m
 asked for, so a module that isn't installed stops only the commands that need it.
 """
 
+import click
 import importlib
 import sys
 from typing import Any
-
-import click
 
 from olr.errors import MissingModule, ToolError
 from olr.extras import lacking

@@ -4,13 +4,12 @@ The program is the one that the environment variable OLR_PROGRAM names, else the
 """
 
 import os
+import pytest
 import subprocess
 from collections.abc import Callable, Iterator
 from contextlib import nullcontext
 from pathlib import Path
 from typing import TYPE_CHECKING, NamedTuple
-
-import pytest
 
 from drawing import Drawing
 from olr.counts import Counts

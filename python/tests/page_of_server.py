@@ -1,11 +1,10 @@
 """The page of a server in Chromium, for tests and for its picture. Tests import the fixtures at its end by their names."""
 
 import json
+import pytest
 from collections.abc import Iterator
 from pathlib import Path
 from typing import Any
-
-import pytest
 
 from browser import Browser
 from conftest import TOP, Program

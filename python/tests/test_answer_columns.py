@@ -1,20 +1,19 @@
 """The columns of tables of answers, beside the program's JSON, and pieces beside the columns."""
 
 import csv
+import geopandas
 import json
 import math
-import random
-from pathlib import Path
-from typing import Any
-
-import geopandas
 import numpy as np
 import pandas
 import pytest
+import random
+from pathlib import Path
 from pyproj import Geod
 from shapely.affinity import scale
 from shapely.geometry import LineString
 from shapely.ops import substring
+from typing import Any
 
 import olr
 from asking import batch_of, draw_map, draw_references

@@ -1,7 +1,9 @@
 """`olr-tools calibrate`: what its files tell of references that weren't trials, and what the command says and refuses."""
 
 import json
+import numpy as np
 import os
+import pytest
 import random
 import re
 import subprocess
@@ -10,9 +12,6 @@ from collections.abc import Sequence
 from itertools import islice
 from pathlib import Path
 from typing import Any, NamedTuple
-
-import numpy as np
-import pytest
 
 from conftest import TOP, Program
 from olr.arrays import Floats

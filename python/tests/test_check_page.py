@@ -1,8 +1,7 @@
 """What docs/CHECK.md shows is what `check` prints."""
 
-from pathlib import Path
-
 import pytest
+from pathlib import Path
 
 from olr.tools import run
 

@@ -1,11 +1,11 @@
 """`check` and the program find the same maps faulty, and the program's fault is the first of `check`."""
 
+import tomllib
+
+import pytest
 import random
 from pathlib import Path
 from typing import Any
-
-import pytest
-import tomllib
 
 from conftest import TOP, Program
 from drawn_maps import damage, draw_files

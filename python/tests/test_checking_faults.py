@@ -1,8 +1,7 @@
 """What `check` tells of faults: all of them, with the record, its line in the file, its id, and what to do."""
 
-from pathlib import Path
-
 import pytest
+from pathlib import Path
 
 from olr.checking.faults import shown
 from olr.checking.files import check_files

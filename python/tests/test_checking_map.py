@@ -2,10 +2,9 @@
 
 import os
 import pty
+import pytest
 import subprocess
 from pathlib import Path
-
-import pytest
 
 from olr.checking.files import check_files
 from olr.checking.lengths import Lengths, likely_unit, look_at_lengths

@@ -1,12 +1,12 @@
 """`olr.Map` and `olr.decode` answer what the program answers."""
 
+import tomllib
+
 import os
 import pickle
+import pytest
 from pathlib import Path
 from typing import Any
-
-import pytest
-import tomllib
 
 import olr
 from asking import as_json, batch_of, draw_map, draw_references, said

@@ -1,16 +1,15 @@
 """How `olr` is called from Python: pages, numbers and their ranges, one or many references, names, and versions of a map."""
 
 import inspect
+import numpy as np
 import os
+import pytest
 import shutil
 import subprocess
 import sys
 from collections.abc import Callable
 from pathlib import Path
 from typing import Any
-
-import numpy as np
-import pytest
 
 import olr
 from asking import as_json, said

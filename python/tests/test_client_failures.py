@@ -2,6 +2,7 @@
 
 import gc
 import os
+import pytest
 import re
 import signal
 import subprocess
@@ -10,8 +11,6 @@ import threading
 import time
 from collections.abc import Iterator
 from pathlib import Path
-
-import pytest
 
 import olr
 from asking import as_json

@@ -3,12 +3,11 @@
 import gc
 import os
 import pickle
+import pytest
 import re
 import threading
 from collections.abc import Iterator
 from pathlib import Path
-
-import pytest
 
 import olr
 from bad_programs import bad_program, starts

@@ -1,7 +1,9 @@
 """`olr-tools compare`: maps made by changing known roads of another one, and what geometry says of their references."""
 
 import base64
+import numpy as np
 import os
+import pytest
 import random
 import shutil
 from collections import Counter
@@ -9,9 +11,6 @@ from collections.abc import Iterable, Sequence
 from dataclasses import replace
 from pathlib import Path
 from typing import Any
-
-import numpy as np
-import pytest
 
 from asking import draw_map, draw_references
 from compared_maps import ALONG, HALFWAY, STRAIGHT, Pair, at, metres, pairs, road

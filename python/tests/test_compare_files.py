@@ -3,12 +3,11 @@
 import csv
 import json
 import os
+import pytest
 import shutil
 import sqlite3
 from collections.abc import Iterator
 from pathlib import Path
-
-import pytest
 
 import olr
 from asking import draw_map, draw_references

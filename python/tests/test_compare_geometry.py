@@ -1,12 +1,11 @@
 """What one place has and another lacks, and how far they are apart: by hand, and beside points that are sampled."""
 
 import math
-import random
-from typing import Any
-
 import numpy as np
 import pytest
+import random
 from shapely.geometry import LineString
+from typing import Any
 
 from olr.comparing.places import Limits, Spot, Stretch, difference
 from olr.geometry.agreement import agreement

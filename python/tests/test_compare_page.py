@@ -3,13 +3,12 @@
 import csv
 import json
 import os
+import pytest
 import re
 import shlex
 from collections.abc import Iterator
 from pathlib import Path
 from typing import Any
-
-import pytest
 
 from browser import Browser
 from compared_maps import NO_PROBABILITIES

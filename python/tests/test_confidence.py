@@ -2,13 +2,12 @@
 
 import json
 import math
+import numpy as np
+import pytest
 from collections.abc import Callable
 from dataclasses import replace
 from pathlib import Path
 from typing import Any
-
-import numpy as np
-import pytest
 
 import olr
 from conftest import REFERENCE, TOP, Program

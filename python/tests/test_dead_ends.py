@@ -1,12 +1,11 @@
 """Bans on turning back at dead ends."""
 
 import json
+import pytest
 import random
 from collections.abc import Sequence
 from pathlib import Path
 from typing import Any
-
-import pytest
 
 from conftest import Import, Program, Tools
 from drawing import Drawing

@@ -2,12 +2,11 @@
 
 import doctest
 import os
+import pytest
 import re
 import shlex
 import subprocess
 from pathlib import Path
-
-import pytest
 
 import picture
 from conftest import TOP, Program

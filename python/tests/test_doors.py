@@ -3,15 +3,14 @@
 import csv
 import json
 import os
+import pandas
+import pytest
 import random
 from collections.abc import Iterator, Mapping, Sequence
 from contextlib import nullcontext
 from itertools import islice
 from pathlib import Path
 from typing import Any, NamedTuple, TypeGuard
-
-import pandas
-import pytest
 
 import olr
 from confidences import FEED as OF_FEED

@@ -1,11 +1,10 @@
 """The extracts that Debian's package python-osmnx-doc ships, compared with what osmnx makes of them."""
 
+import pytest
 import warnings
 from collections import Counter
 from pathlib import Path
 from typing import Any
-
-import pytest
 
 from conftest import Program
 from olr.counts import Counts

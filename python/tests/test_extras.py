@@ -1,15 +1,15 @@
 """What needs Python alone, and what is said where a module is missing."""
 
+import tomllib
+
 import ast
+import click
+import pytest
 import re
 import subprocess
 import sys
 from collections.abc import Iterator
 from pathlib import Path
-
-import click
-import pytest
-import tomllib
 
 import olr
 from conftest import REFERENCE, TOP, Program

@@ -1,12 +1,11 @@
 """What imports keep of a file for each line: names, and the fields of `--keep`."""
 
-from collections.abc import Sequence
-from pathlib import Path
-from typing import Any
-
 import fiona
 import numpy as np
 import pytest
+from collections.abc import Sequence
+from pathlib import Path
+from typing import Any
 
 from conftest import TOP, Program
 from drawing import Drawing

@@ -1,11 +1,10 @@
 """The layers of the package: no module leans on one of a layer above its own, and no packages lean on each other in a circle."""
 
 import ast
+import pytest
 from collections.abc import Iterator
 from graphlib import CycleError, TopologicalSorter
 from pathlib import Path
-
-import pytest
 
 PACKAGE = Path(__file__).resolve().parents[1] / "olr"
 LAYERS = (

@@ -1,9 +1,9 @@
 """The licence, and that what is bundled is named with its own."""
 
+import tomllib
+
 import re
 from pathlib import Path
-
-import tomllib
 
 from conftest import TOP
 

@@ -1,14 +1,13 @@
 """What speaks for and against places, and their likely order: by hand, and beside the penalties and verdicts of the program."""
 
 import math
+import numpy as np
+import pytest
 import random
 from collections.abc import Mapping, Sequence
 from itertools import islice, product
 from pathlib import Path
 from typing import Any
-
-import numpy as np
-import pytest
 
 import olr
 from conftest import Program

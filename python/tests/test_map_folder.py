@@ -3,12 +3,11 @@
 import csv
 import json
 import os
+import pytest
 from collections.abc import Mapping
 from dataclasses import replace
 from pathlib import Path
 from typing import Any
-
-import pytest
 
 from conftest import Program
 from olr.errors import ToolError

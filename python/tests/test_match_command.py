@@ -2,12 +2,11 @@
 
 import json
 import os
+import pytest
 import re
 import sqlite3
 import subprocess
 from pathlib import Path
-
-import pytest
 
 from conftest import ASKED_WITH_PROGRAM, OF_PROGRAM, REFERENCE, TOP, Program, Tools
 from olr import tools as command_line

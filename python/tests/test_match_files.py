@@ -1,18 +1,17 @@
 """The files of `olr-tools match`: pieces, several runs in one file, many references, and links of one's own."""
 
 import csv
+import fiona
+import geopandas
 import json
 import os
+import pandas
+import pytest
 import random
 import sqlite3
 import subprocess
 import sys
 from pathlib import Path
-
-import fiona
-import geopandas
-import pandas
-import pytest
 
 import olr
 from asking import draw_map, draw_references

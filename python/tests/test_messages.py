@@ -3,13 +3,12 @@
 import io
 import json
 import os
+import pytest
 import threading
 import tracemalloc
 from itertools import islice
 from pathlib import Path
 from typing import Any
-
-import pytest
 
 import olr
 from conftest import TOP, Program

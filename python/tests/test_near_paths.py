@@ -1,12 +1,11 @@
 """Other paths of a matching: on maps by hand, beside a search that tries all walks, and beside the program's own lengths."""
 
+import numpy as np
+import pytest
 import random
 from collections.abc import Iterator, Sequence
 from pathlib import Path
 from typing import NamedTuple
-
-import numpy as np
-import pytest
 
 import olr
 from asking import draw_map, draw_references

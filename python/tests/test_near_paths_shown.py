@@ -2,10 +2,9 @@
 
 import asyncio
 import json
+import pytest
 import signal
 from pathlib import Path
-
-import pytest
 
 import olr
 from browser import Browser

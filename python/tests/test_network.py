@@ -1,13 +1,12 @@
 """Geometries of answers: where pieces and places are, and tables of them."""
 
+import geopandas
+import numpy as np
+import pytest
 import random
 import subprocess
 from collections.abc import Sequence
 from pathlib import Path
-
-import geopandas
-import numpy as np
-import pytest
 from pyproj import Geod
 
 import olr

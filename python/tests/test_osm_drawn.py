@@ -1,11 +1,10 @@
 """Drawn files with every kind of trouble at once: no step of a road is lost, and none is made up."""
 
+import pytest
 import random
 from collections import Counter
 from collections.abc import Sequence
 from typing import get_args
-
-import pytest
 
 from conftest import Import
 from drawing import Drawing

@@ -1,8 +1,7 @@
 """Bans on turns from turn restrictions."""
 
-from pathlib import Path
-
 import pytest
+from pathlib import Path
 
 from conftest import Import, Result
 from drawing import Drawing

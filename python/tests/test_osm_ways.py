@@ -1,8 +1,7 @@
 """Which ways are roads, of what class and form, and in which directions."""
 
-from pathlib import Path
-
 import pytest
+from pathlib import Path
 
 from conftest import Import
 from drawing import Drawing

@@ -1,6 +1,7 @@
 """What commands write is there whole or not at all, and what was there stays where it can't be written."""
 
 import os
+import pytest
 import resource
 import shutil
 import signal
@@ -11,8 +12,6 @@ from collections.abc import Iterator
 from contextlib import contextmanager
 from functools import partial
 from pathlib import Path
-
-import pytest
 
 from conftest import REFERENCE, TOP, Program
 from olr.errors import ToolError

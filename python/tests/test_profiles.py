@@ -2,13 +2,12 @@
 
 import json
 import os
+import pytest
 import re
 from collections import Counter
 from collections.abc import Iterator
 from pathlib import Path
 from typing import Any
-
-import pytest
 
 import olr
 from asking import batch_of

@@ -3,12 +3,11 @@
 import inspect
 import json
 import os
+import pytest
 import shlex
 from collections.abc import Callable, Iterator
 from pathlib import Path
 from typing import Any
-
-import pytest
 
 import olr
 from asking import as_json, said

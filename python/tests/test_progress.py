@@ -2,12 +2,11 @@
 
 import hashlib
 import os
+import pytest
 import sys
 import threading
 from collections.abc import Iterator
 from pathlib import Path
-
-import pytest
 
 from conftest import Program
 from olr import progress as shown

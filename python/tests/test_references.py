@@ -1,11 +1,10 @@
 """References to drawn paths of an imported map come back as the first matching."""
 
 import json
+import pytest
 import random
 import subprocess
 from pathlib import Path
-
-import pytest
 
 from conftest import Program
 from olr.counts import Counts

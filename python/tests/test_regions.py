@@ -3,15 +3,14 @@
 import base64
 import dataclasses
 import math
+import numpy as np
+import pytest
 import random
 from collections.abc import Callable
 from fractions import Fraction
 from itertools import product
 from pathlib import Path
 from typing import NamedTuple
-
-import numpy as np
-import pytest
 
 from asking import draw_map, draw_references
 from conftest import Program

@@ -5,12 +5,11 @@
 
 import hashlib
 import os
+import pytest
 import re
 import shutil
 import subprocess
 from pathlib import Path
-
-import pytest
 
 import olr
 from conftest import TOP, Program, Tools

@@ -2,6 +2,7 @@
 
 import json
 import os
+import pytest
 import random
 import re
 import subprocess
@@ -10,8 +11,6 @@ from collections import Counter
 from collections.abc import Mapping
 from pathlib import Path
 from typing import Any
-
-import pytest
 
 from confidences import FEED, LONG_LIST, OF_NONE, PlainOrder, write_confidence
 from conftest import OF_PROGRAM, REFERENCE, TOP, Program

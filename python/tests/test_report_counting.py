@@ -1,8 +1,7 @@
 """What `olr-tools report` counts by: sums of probabilities, ranges, and samples."""
 
-from collections import Counter
-
 import pytest
+from collections import Counter
 
 import olr
 from olr.confidence.expected import Expected

@@ -2,13 +2,12 @@
 
 import base64
 import os
+import pytest
 import random
 import re
 from collections.abc import Iterator
 from pathlib import Path
 from typing import Any
-
-import pytest
 
 from browser import Browser
 from confidences import FEED, write_confidence
@@ -378,7 +377,7 @@ def test_tiles(started: Browser, feed: Feed, tmp_path: Path) -> None:
 def test_the_licence_is_in_each_page(page: Path) -> None:
     text = page.read_text(encoding="utf-8")
     assert text.count("Redistribution and use in source and binary forms") == 2
-    assert "Leaflet" in html_of(Template("olr.report"), "", {})
+    assert "Leaflet" in html_of(Template("olr.pages.report"), "", {})
 
 
 def test_the_map_shows_where_most_are(browser: Browser, data: Any) -> None:

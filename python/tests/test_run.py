@@ -2,13 +2,12 @@
 
 import json
 import os
+import pytest
 import random
 import subprocess
 import time
 from collections.abc import Iterator
 from pathlib import Path
-
-import pytest
 
 from conftest import ASKED_WITH_PROGRAM, OF_PROGRAM
 from olr.running import cluster

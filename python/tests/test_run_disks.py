@@ -1,12 +1,11 @@
 """Runs whose disk fills up: there is one message, nothing is half written, and the run goes on once there is room."""
 
 import os
+import pytest
 import subprocess
 import tempfile
 from collections.abc import Iterator
 from pathlib import Path
-
-import pytest
 
 from conftest import OF_PROGRAM, Program
 from olr.tools import run as olr_tools

@@ -1,10 +1,9 @@
 """`olr-tools run` when a worker or the run itself is killed, or files can't grow: nothing is lost, and nothing is there twice."""
 
 import os
+import pytest
 import resource
 from pathlib import Path
-
-import pytest
 
 from runs import Runs, assert_resumes
 

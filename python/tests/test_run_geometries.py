@@ -1,12 +1,11 @@
 """`olr-tools run --geometries` and `--pieces`: the rows that `olr-tools match` writes, part by part."""
 
-import json
-from pathlib import Path
-from typing import Any
-
 import fiona
+import json
 import pytest
+from pathlib import Path
 from shapely.geometry import shape
+from typing import Any
 
 from olr.arrays import Integers
 from olr.geometry import store_network

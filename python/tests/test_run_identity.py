@@ -1,6 +1,7 @@
 """A run is of one map and one program: stores and programs that are others, or become others while groups are answered."""
 
 import os
+import pytest
 import shutil
 from collections.abc import Iterator
 from dataclasses import replace
@@ -8,8 +9,6 @@ from hashlib import sha256
 from pathlib import Path
 from socket import gethostname
 from typing import Any
-
-import pytest
 
 from conftest import OF_PROGRAM, Program
 from olr import content

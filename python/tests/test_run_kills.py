@@ -5,6 +5,7 @@ n-th time: to open, move, make or delete a file, or to start the program. So a s
 """
 
 import os
+import pytest
 import random
 import shutil
 import signal
@@ -13,8 +14,6 @@ import time
 from collections.abc import Callable
 from functools import partial
 from pathlib import Path
-
-import pytest
 
 from conftest import OF_PROGRAM, Program
 from olr.running.parts import NotWhole

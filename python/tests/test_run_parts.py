@@ -2,13 +2,12 @@
 
 import json
 import os
+import pytest
 import re
 import shutil
 from collections.abc import Callable, Iterator
 from hashlib import sha256
 from pathlib import Path
-
-import pytest
 
 from conftest import OF_PROGRAM, Program
 from olr.errors import ToolError

@@ -1,13 +1,12 @@
 """`olr-tools run` with a program that fails at some records: each of them stands alone, and the others have their answers."""
 
 import os
+import pytest
 import random
 import signal
 import subprocess
 import time
 from pathlib import Path
-
-import pytest
 
 from bad_programs import FAILING, HANGING, bad_program, starts
 from conftest import Program

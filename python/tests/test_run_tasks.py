@@ -1,8 +1,7 @@
 """`olr-tools run` whose tasks have several groups: they are answered on one map, and none fails because of another one."""
 
-from pathlib import Path
-
 import pytest
+from pathlib import Path
 
 from bad_programs import bad_program, starts
 from conftest import Program

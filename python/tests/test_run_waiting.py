@@ -1,16 +1,15 @@
 """`olr-tools run` whose workers or scheduler end, wait or are limited: what is said of it."""
 
 import os
+import pytest
 import re
 import subprocess
 import sys
 import time
 from collections.abc import Iterator
 from contextlib import contextmanager
-from pathlib import Path
-
-import pytest
 from distributed import Event, Status
+from pathlib import Path
 
 from olr.running import waiting
 from olr.running.cluster import connected

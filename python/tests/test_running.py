@@ -2,7 +2,9 @@
 
 import base64
 import json
+import numpy as np
 import os
+import pytest
 import random
 import tempfile
 from collections import Counter
@@ -10,9 +12,6 @@ from dataclasses import replace
 from itertools import pairwise
 from pathlib import Path
 from typing import Any
-
-import numpy as np
-import pytest
 
 from conftest import Program
 from olr import curve

@@ -2,6 +2,7 @@
 
 import asyncio
 import json
+import pytest
 import random
 import re
 import socket
@@ -10,8 +11,6 @@ from collections.abc import Iterator
 from pathlib import Path
 from typing import Any
 from urllib.parse import quote
-
-import pytest
 
 import olr
 from asking import draw_map, draw_references

@@ -4,6 +4,7 @@ import asyncio
 import http.client
 import json
 import os
+import pytest
 import random
 import shutil
 import signal
@@ -14,8 +15,6 @@ import time
 from collections.abc import Callable, Iterator, Sequence
 from contextlib import contextmanager
 from pathlib import Path
-
-import pytest
 
 from asking import draw_map, draw_references
 from bad_programs import bad_program

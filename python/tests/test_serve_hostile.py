@@ -2,14 +2,13 @@
 
 import asyncio
 import json
+import pytest
 import resource
 import socket
 import time
 from collections.abc import Iterator
 from pathlib import Path
 from typing import NamedTuple
-
-import pytest
 
 from conftest import REFERENCE, TOP, Program
 from servers import Server, path_of, serving, wait_until

@@ -1,12 +1,11 @@
 """Lists on the page of `olr-tools serve` in Chromium, and `POST /messages`, which reads them."""
 
 import json
+import pytest
 import signal
 from collections import Counter
 from pathlib import Path
 from typing import Any
-
-import pytest
 
 import olr
 from asking import batch_of, draw_map, draw_references, likeliest_of

@@ -1,12 +1,11 @@
 """The page of `olr-tools serve` in Chromium: a reference, options, addresses that are sent on, keys, and a program that hangs."""
 
 import json
+import pytest
 import shlex
 import signal
 from pathlib import Path
 from urllib.parse import quote
-
-import pytest
 
 import olr
 from asking import said

@@ -1,12 +1,11 @@
 """The pool of `olr-tools serve`, asked without a server."""
 
 import asyncio
+import pytest
 import shutil
 from collections.abc import Callable
 from contextlib import AsyncExitStack
 from pathlib import Path
-
-import pytest
 
 from asking import draw_map
 from olr.errors import TimedOut

@@ -2,12 +2,11 @@
 
 import csv
 import json
+import pytest
 from collections.abc import Iterator
 from pathlib import Path
 from typing import Any, NamedTuple
 from urllib.parse import quote
-
-import pytest
 
 from browser import Browser
 from conftest import Program, Tools

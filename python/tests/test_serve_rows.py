@@ -1,13 +1,12 @@
 """`POST /rows` of `olr-tools serve`: the rows of `olr-tools match --places` of the likeliest places, while the body comes."""
 
 import json
+import pytest
 import socket
 import time
 from collections.abc import Iterator
 from pathlib import Path
 from typing import Any
-
-import pytest
 
 from asking import likeliest_of
 from bad_programs import bad_program

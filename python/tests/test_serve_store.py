@@ -3,13 +3,12 @@
 import asyncio
 import json
 import os
+import pytest
 import shutil
 import signal
 import subprocess
 from collections.abc import Iterator
 from pathlib import Path
-
-import pytest
 
 import olr
 from asking import draw_map

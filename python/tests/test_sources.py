@@ -1,13 +1,12 @@
 """Where lines came from: `ids.csv` of folders and the sources of stores, written and read again."""
 
 import csv
-import sqlite3
-from contextlib import closing
-from pathlib import Path
-
 import fiona
 import numpy as np
 import pytest
+import sqlite3
+from contextlib import closing
+from pathlib import Path
 
 from olr.errors import ToolError
 from olr.geometry.network import Network

@@ -1,15 +1,14 @@
 """Stores: what they hold, how they are made, and maps of some of their lines."""
 
+import fiona
 import json
+import numpy as np
 import os
+import pytest
 import random
 import sqlite3
 import subprocess
 from pathlib import Path
-
-import fiona
-import numpy as np
-import pytest
 
 from asking import draw_map
 from drawing import Drawing as Streets

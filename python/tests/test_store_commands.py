@@ -2,12 +2,11 @@
 
 import json
 import os
+import pytest
 import random
 import sqlite3
 from pathlib import Path
 from typing import Any
-
-import pytest
 
 import olr
 from conftest import TOP

@@ -1,6 +1,8 @@
 """Stores that are damaged, or of another version, and disks that are full: what is wrong is noticed and said."""
 
+import numpy as np
 import os
+import pytest
 import random
 import shlex
 import sqlite3
@@ -8,9 +10,6 @@ import subprocess
 from collections.abc import Iterator
 from contextlib import contextmanager
 from pathlib import Path
-
-import numpy as np
-import pytest
 
 from asking import draw_map
 from conftest import TOP

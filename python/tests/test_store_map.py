@@ -2,6 +2,7 @@
 
 import gc
 import os
+import pytest
 import random
 import signal
 import subprocess
@@ -11,8 +12,6 @@ from collections.abc import Iterator
 from concurrent.futures import ThreadPoolExecutor
 from pathlib import Path
 from typing import Any
-
-import pytest
 
 import olr
 from asking import as_json

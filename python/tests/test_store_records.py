@@ -1,10 +1,9 @@
 """The records of which stores are made: those that aren't a map's, as the program has it, and the digest that names all of them."""
 
 import os
+import pytest
 import random
 from pathlib import Path
-
-import pytest
 
 from conftest import Program
 from drawn_maps import damage, draw_files

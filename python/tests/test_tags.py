@@ -1,8 +1,7 @@
 """Tables of tags."""
 
-from pathlib import Path
-
 import pytest
+from pathlib import Path
 
 from olr.errors import ToolError
 from olr.osm.tags import read_tag_table

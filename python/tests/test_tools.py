@@ -1,14 +1,13 @@
 """The command line: status, texts, and what is left behind."""
 
 import bz2
+import click
 import errno
 import os
+import pytest
 import subprocess
 from collections.abc import Iterator
 from pathlib import Path
-
-import click
-import pytest
 
 from conftest import TOP, Tools
 from olr import setup

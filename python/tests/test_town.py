@@ -4,10 +4,9 @@ import bz2
 import csv
 import gzip
 import json
-from pathlib import Path
-
 import osmium
 import pytest
+from pathlib import Path
 
 from conftest import REFERENCE, Program, Tools
 from olr.model.map_folder import read_map

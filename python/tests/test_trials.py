@@ -1,15 +1,14 @@
 """Drawn paths and references, changes of references and of maps, and what is a right place."""
 
 import math
+import numpy as np
+import pytest
 import random
 from collections import Counter
 from collections.abc import Sequence
 from dataclasses import replace
 from itertools import islice, pairwise
 from pathlib import Path
-
-import numpy as np
-import pytest
 
 from conftest import REFERENCE, Program
 from olr.errors import ToolError

@@ -1,12 +1,11 @@
 """Which routes turn back."""
 
 import json
+import numpy as np
+import pytest
 import random
 from collections.abc import Sequence
 from pathlib import Path
-
-import numpy as np
-import pytest
 
 import olr
 from conftest import TOP, Program

@@ -1,14 +1,13 @@
 """Bans on turning back."""
 
 import json
+import pytest
 import shutil
 import subprocess
 from collections.abc import Sequence
 from collections.abc import Set as AbstractSet
 from dataclasses import replace
 from pathlib import Path
-
-import pytest
 
 from conftest import Program, Tools
 from drawing import Drawing

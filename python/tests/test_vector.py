@@ -1,11 +1,10 @@
 """`olr-tools import vector`: which features become lines, and what the values of fields mean."""
 
+import fiona
 import math
+import pytest
 from collections.abc import Iterator, Sequence
 from pathlib import Path
-
-import fiona
-import pytest
 
 from conftest import Program
 from olr.checking.files import check_files

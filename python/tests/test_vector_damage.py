@@ -1,10 +1,9 @@
 """`olr-tools import vector` on files that were cut short or are damaged, and on those that seem to mean something else."""
 
+import pytest
 import struct
 from collections.abc import Sequence
 from pathlib import Path
-
-import pytest
 
 from olr.tools import run
 from vector_files import about, assert_refused, road, rows, write

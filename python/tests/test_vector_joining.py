@@ -1,11 +1,10 @@
 """Where roads of a vector file are joined and cut."""
 
+import numpy as np
+import pytest
 import random
 from collections.abc import Sequence
 from pathlib import Path
-
-import numpy as np
-import pytest
 from shapely.geometry import LineString, MultiLineString
 
 from olr.checking.files import check_files

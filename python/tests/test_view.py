@@ -2,13 +2,12 @@
 
 import json
 import os
+import pytest
 import shlex
 import shutil
 from collections.abc import Iterator
 from pathlib import Path
 from typing import Any
-
-import pytest
 
 import olr
 from browser import Browser

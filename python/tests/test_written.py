@@ -1,11 +1,10 @@
 """`olr.answers`: what `olr batch` and `olr-tools run` wrote, read again."""
 
 import json
+import pytest
 from itertools import islice
 from pathlib import Path
 from typing import Any
-
-import pytest
 
 import olr
 from asking import as_json

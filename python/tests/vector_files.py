@@ -1,14 +1,13 @@
 """Vector files made by hand, for tests, and what is asked of their imports."""
 
 import csv
+import fiona
 import json
+import pytest
 from collections.abc import Sequence
+from fiona.crs import CRS
 from pathlib import Path
 from typing import Any
-
-import fiona
-import pytest
-from fiona.crs import CRS
 
 from olr.counts import Counts
 from olr.model.map_folder import write_map

@@ -1,8 +1,7 @@
 """How long the lines of a map say they are, and how long their shapes are on the earth (WGS 84)."""
 
-from dataclasses import dataclass
-
 import numpy as np
+from dataclasses import dataclass
 
 from olr.arrays import Floats, Integers
 from olr.checking.map_arrays import MapArrays

@@ -1,9 +1,8 @@
 """A map without faults as arrays: nodes and lines by their indices, from 0, in the order of their ids."""
 
+import numpy as np
 from array import array
 from dataclasses import dataclass
-
-import numpy as np
 
 from olr.arrays import Integers
 from olr.checking.tables import COLUMNS, Tables

@@ -4,13 +4,12 @@ A vehicle goes on from the end of a line to each line that starts there, unless 
 which every turn is banned is a trap.
 """
 
-from dataclasses import dataclass
-from typing import Any
-
 import numpy as np
+from dataclasses import dataclass
 from scipy.sparse import csr_matrix
 from scipy.sparse.csgraph import connected_components
 from scipy.spatial import cKDTree
+from typing import Any
 
 from olr.arrays import Integers
 from olr.checking.map_arrays import MapArrays

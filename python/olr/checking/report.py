@@ -1,8 +1,7 @@
 """What `olr-tools check` prints: faults, and then what a map should be looked at for."""
 
-from collections.abc import Iterator, Sequence
-
 import numpy as np
+from collections.abc import Iterator, Sequence
 
 from olr.arrays import Integers
 from olr.checking.faults import Faults

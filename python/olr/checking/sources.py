@@ -1,9 +1,8 @@
 """Whether the sources of a map are those of its lines. Where they aren't that is no fault: `olr` doesn't read them."""
 
+import numpy as np
 from collections.abc import Iterator
 from pathlib import Path
-
-import numpy as np
 
 from olr.arrays import Integers
 from olr.checking.report import named

@@ -1,8 +1,7 @@
 """What is wrong with a store: blocks that aren't what was written."""
 
-from collections.abc import Iterator
-
 import numpy as np
+from collections.abc import Iterator
 
 from olr.arrays import Integers
 from olr.errors import ToolError

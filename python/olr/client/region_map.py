@@ -1,13 +1,12 @@
 """Maps of regions: some lines of a store, in a scratch folder that nobody else writes. One is kept at a time."""
 
+import numpy as np
 import os
 import shutil
 import weakref
 from collections.abc import Mapping
 from pathlib import Path
 from typing import Any
-
-import numpy as np
 
 from olr.arrays import Integers
 from olr.asking.files import MapFiles, Version

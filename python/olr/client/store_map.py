@@ -1,5 +1,6 @@
 """A map behind a store: each question is asked on a part of the map that has the regions of its references."""
 
+import numpy as np
 import os
 import re
 import threading
@@ -8,8 +9,6 @@ from contextlib import closing, contextmanager
 from itertools import islice
 from pathlib import Path
 from typing import TYPE_CHECKING, Any, NamedTuple
-
-import numpy as np
 
 from olr.arrays import Integers
 from olr.asking.batch import Batch

@@ -1,9 +1,8 @@
 """The command `olr-tools calibrate`."""
 
+import click
 from collections.abc import Iterator
 from pathlib import Path
-
-import click
 
 from olr.commands.options import (
     number_options,

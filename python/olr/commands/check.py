@@ -1,9 +1,8 @@
 """The command `olr-tools check`."""
 
+import click
 from collections.abc import Iterator
 from pathlib import Path
-
-import click
 
 from olr.checking import report, sources, stores
 from olr.checking.files import check_files

@@ -1,9 +1,8 @@
 """The options that the commands of imports share."""
 
+import click
 from collections.abc import Callable
 from pathlib import Path
-
-import click
 
 from olr.commands.u_turns import dead_ends_option, u_turns_option
 from olr.model.box import Box

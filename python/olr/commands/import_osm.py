@@ -1,8 +1,7 @@
 """The command `olr-tools import osm`."""
 
-from pathlib import Path
-
 import click
+from pathlib import Path
 
 from olr.commands.import_options import import_options
 from olr.counts import Counts

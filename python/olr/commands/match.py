@@ -1,11 +1,10 @@
 """The command `olr-tools match`."""
 
+import click
 import os
 from contextlib import ExitStack
 from pathlib import Path
 from typing import Any
-
-import click
 
 from olr.client.map_client import Map
 from olr.commands.options import (

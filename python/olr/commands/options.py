@@ -1,11 +1,10 @@
 """The options that commands share: the map, the tolerances with their profile, the numbers of questions, files of messages, pages."""
 
+import click
 import functools
 from collections.abc import Callable, Mapping
 from pathlib import Path
 from typing import Any
-
-import click
 
 from olr.asking.patience import PATIENCE, require_patience
 from olr.messages.message import FORMATS, KEY, REF, Format, Reading

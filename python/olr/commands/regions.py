@@ -1,8 +1,7 @@
 """The command `olr-tools regions`."""
 
-from pathlib import Path
-
 import click
+from pathlib import Path
 
 from olr.counts import Counts
 from olr.errors import ToolError

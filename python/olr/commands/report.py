@@ -1,9 +1,8 @@
 """The command `olr-tools report`."""
 
+import click
 from contextlib import ExitStack
 from pathlib import Path
-
-import click
 
 from olr.client.map_client import Map
 from olr.commands.options import (

@@ -1,5 +1,6 @@
 """The command `olr-tools run`."""
 
+import click
 import os
 import tempfile
 from collections import Counter
@@ -7,8 +8,6 @@ from collections.abc import Iterator, Sequence
 from contextlib import contextmanager
 from pathlib import Path
 from typing import TYPE_CHECKING
-
-import click
 
 from olr.asking.program import find_program
 from olr.client.map_client import Map

@@ -1,12 +1,11 @@
 """The command `olr-tools serve`."""
 
+import click
 import logging
 import os
 import re
 import sys
 from pathlib import Path
-
-import click
 
 from olr.commands.options import MAP, confidence_option
 from olr.model.questions import NUMBERS

@@ -1,10 +1,9 @@
 """The command `olr-tools u-turns`, and the options that it shares with imports."""
 
+import click
 from collections.abc import Mapping
 from pathlib import Path
 from typing import Any, get_args
-
-import click
 
 from olr.counts import Counts
 from olr.errors import ToolError

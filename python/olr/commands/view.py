@@ -1,8 +1,7 @@
 """The command `olr-tools view`."""
 
-from pathlib import Path
-
 import click
+from pathlib import Path
 
 from olr.client.map_client import Map
 from olr.commands.options import (

@@ -17,10 +17,9 @@ cover of each other (`agreement`): the outer parts of lines, and of points along
 The place of a reference on a map is the likeliest one.
 """
 
+import numpy as np
 from collections.abc import Sequence
 from typing import NamedTuple
-
-import numpy as np
 
 from olr.arrays import Floats
 from olr.confidence.judged import Judged

@@ -1,9 +1,8 @@
 """Changes as rows with geometries: two for each reference, of the old map and of the new one."""
 
+import numpy as np
 from collections.abc import Mapping, Sequence
 from typing import Any, Literal, TypeVar
-
-import numpy as np
 
 from olr.arrays import Floats
 from olr.comparing.asking import Chunk

@@ -1,10 +1,9 @@
 """A confidence of one's own map, and of a feed: trials in parts, of which those count that the feed looks like."""
 
+import numpy as np
 from collections.abc import Mapping, Sequence
 from pathlib import Path
 from typing import Any, NamedTuple
-
-import numpy as np
 
 from olr.arrays import Floats
 from olr.confidence.confidence import Confidence

@@ -1,9 +1,8 @@
 """What the answers to a feed show of how different its sender's map is: some numbers of all of them together."""
 
+import numpy as np
 from collections.abc import Sequence
 from typing import NamedTuple
-
-import numpy as np
 
 from olr.arrays import Floats
 from olr.confidence.weights import differences_of, probabilities

@@ -1,9 +1,8 @@
 """Weights that answers to trials are fitted by."""
 
-from typing import NamedTuple
-
 import numpy as np
 from scipy.optimize import minimize
+from typing import NamedTuple
 
 from olr.arrays import Floats, Integers
 from olr.confidence.weights import OF_PLACE, WEIGHTS, Differences, probabilities

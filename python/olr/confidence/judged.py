@@ -1,10 +1,9 @@
 """Answers to `places` with their places in the likely order, and how probable each of them is."""
 
 import math
+import numpy as np
 from collections.abc import Sequence
 from typing import TYPE_CHECKING, NamedTuple
-
-import numpy as np
 
 from olr.arrays import Floats
 from olr.confidence.confidence import Confidence

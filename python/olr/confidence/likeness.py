@@ -5,9 +5,8 @@ numbers of its answers. Parts of which it says the same as of the feed are alike
 the feed too.
 """
 
-from typing import NamedTuple
-
 import numpy as np
+from typing import NamedTuple
 
 from olr.arrays import Floats
 

@@ -1,11 +1,10 @@
 """Trials on a pair of maps: drawn on the sender's, and asked of one's own. Whether a place is right is told by geometry."""
 
+import numpy as np
 import random
 from collections.abc import Iterator, Sequence
 from itertools import islice
 from pathlib import Path
-
-import numpy as np
 
 from olr.arrays import Floats
 from olr.confidence.parts import (

@@ -1,13 +1,12 @@
 """Trials in parts, which differ in how different their maps and how far off their references are."""
 
+import numpy as np
 import random
 import shutil
 from collections.abc import Iterator, Mapping, Sequence
 from itertools import islice
 from pathlib import Path
 from typing import Any, NamedTuple
-
-import numpy as np
 
 from olr.arrays import Integers
 from olr.asking.patience import PATIENCE

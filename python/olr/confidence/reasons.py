@@ -1,9 +1,8 @@
 """Why a place is as probable as it is, in a sentence: by how much it differs from what the reference says."""
 
+import numpy as np
 from collections.abc import Iterator
 from typing import NamedTuple
-
-import numpy as np
 
 from olr.likely.evidence import Evidence
 

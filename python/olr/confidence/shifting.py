@@ -1,9 +1,8 @@
 """The level of probabilities, shifted by answers that somebody checked."""
 
-from typing import NamedTuple
-
 import numpy as np
 from scipy.optimize import minimize_scalar
+from typing import NamedTuple
 
 from olr.arrays import Booleans, Floats
 from olr.confidence.weights import OF_PLACE, Differences, probabilities

@@ -4,10 +4,9 @@ The probabilities of the places of an answer, and that none of them is the right
 worth, which its differences lower, `none of these` has one too, and a probability is the share of the exponential of a worth in all of them.
 """
 
+import numpy as np
 from collections.abc import Mapping
 from typing import NamedTuple
-
-import numpy as np
 
 from olr.arrays import Floats, Integers
 from olr.likely.evidence import Evidence

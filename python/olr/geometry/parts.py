@@ -1,9 +1,8 @@
 """Parts of lines of many matchings as arrays: pieces, one behind the other."""
 
+import numpy as np
 from collections.abc import Sequence
 from typing import NamedTuple
-
-import numpy as np
 
 from olr.arrays import Integers
 from olr.model.pieces import Pieces

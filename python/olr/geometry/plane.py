@@ -1,9 +1,8 @@
 """Polylines in a plane with metres."""
 
 import math
-from typing import NamedTuple
-
 import numpy as np
+from typing import NamedTuple
 
 from olr.arrays import Booleans, Floats, Integers
 from olr.model.road_map import MICRODEGREE

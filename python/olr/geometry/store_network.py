@@ -1,12 +1,11 @@
 """A map behind a store, to draw what is on it: its lines are read when they are asked for."""
 
+import numpy as np
 import threading
 from collections.abc import Iterable, Iterator
 from contextlib import contextmanager
 from pathlib import Path
 from typing import TYPE_CHECKING
-
-import numpy as np
 
 from olr.arrays import Floats, Integers
 from olr.errors import MapRefused

@@ -5,10 +5,9 @@ direction differs by less than 90 degrees. For a segment of each that is an inte
 points are sampled.
 """
 
+import numpy as np
 from collections.abc import Iterator
 from typing import NamedTuple
-
-import numpy as np
 
 from olr.arrays import Booleans, Floats, Integers
 from olr.geometry.plane import Segments

@@ -1,10 +1,9 @@
 """Which routes turn back: they go from a line to one that leads back along it, as a U-turn does."""
 
 import math
+import numpy as np
 from collections.abc import Iterable, Sequence
 from typing import TYPE_CHECKING
-
-import numpy as np
 
 from olr.arrays import Booleans, Integers
 from olr.importing.u_turns import SHARP

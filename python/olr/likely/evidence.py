@@ -1,9 +1,8 @@
 """What speaks for and against matchings: how their points and legs differ from what the reference says. Many at once, as arrays."""
 
+import numpy as np
 from collections.abc import Sequence
 from typing import TYPE_CHECKING, NamedTuple
-
-import numpy as np
 
 from olr.arrays import Booleans, Floats, Integers
 from olr.geometry.parts import parts_of

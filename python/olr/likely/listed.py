@@ -1,9 +1,8 @@
 """The places of many answers at once, with what speaks for and against each of them."""
 
+import numpy as np
 from collections.abc import Sequence
 from typing import TYPE_CHECKING, NamedTuple
-
-import numpy as np
 
 from olr.arrays import Booleans, Floats, Integers
 from olr.likely.evidence import Evidence, Fit, evidence_of, fit_of

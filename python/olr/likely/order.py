@@ -6,11 +6,10 @@ how it was found): by a **likely cost**, the penalty points of the points, a fif
 that a point lies from the proper end of its line, and `TURNING_BACK` for a route that turns back.
 """
 
+import numpy as np
 from collections.abc import Mapping
 from dataclasses import replace
 from typing import Literal, NamedTuple
-
-import numpy as np
 
 from olr.arrays import Floats
 from olr.likely.evidence import Fit

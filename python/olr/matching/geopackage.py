@@ -5,15 +5,14 @@ GDAL's index of places and its count of rows need functions that SQLite lacks; s
 here.
 """
 
+import fiona
 import io
+import numpy as np
 import sqlite3
 from collections.abc import Iterator, Mapping, Sequence
 from contextlib import closing, contextmanager
 from pathlib import Path
 from typing import Any
-
-import fiona
-import numpy as np
 
 from olr.arrays import Floats, Integers
 from olr.curve import places_on_curve

@@ -1,11 +1,10 @@
 """What `why` says as rows, with the straight lines through the points of references."""
 
+import numpy as np
 import os
 from collections.abc import Sequence
 from concurrent.futures import ThreadPoolExecutor
 from typing import Any
-
-import numpy as np
 
 from olr.asking.decoding import decode
 from olr.geometry.network import Polylines

@@ -1,10 +1,9 @@
 """Rows of answers: a table's columns for some hundred answers at once, with their geometries."""
 
+import numpy as np
 from collections.abc import Callable, Iterable, Iterator, Mapping, Sequence
 from itertools import repeat
 from typing import Any, NamedTuple, TypeVar
-
-import numpy as np
 
 from olr.arrays import Integers
 from olr.confidence.judged import Judged, JudgedPlace, judged

@@ -3,10 +3,9 @@
 A row has a line of two points or more, one point, or, with the size 0, nothing.
 """
 
+import numpy as np
 import struct
 from functools import cache
-
-import numpy as np
 
 from olr.arrays import Floats, Integers
 from olr.geometry.network import Polylines

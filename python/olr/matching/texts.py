@@ -2,12 +2,11 @@
 
 import csv
 import json
+import numpy as np
 from collections.abc import Iterator, Mapping, Sequence
 from contextlib import contextmanager
 from pathlib import Path
 from typing import Any, TextIO
-
-import numpy as np
 
 from olr.errors import ToolError
 from olr.geometry.network import Polylines

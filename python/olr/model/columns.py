@@ -4,13 +4,12 @@ Most files have only records as `olr-tools` writes them: numbers without leading
 read at once. Where there are others the fields are read one by one.
 """
 
+import numpy as np
 import re
 from collections.abc import Callable, Iterable, Iterator, Sequence
 from itertools import chain, islice
 from pathlib import Path
 from typing import Literal, NamedTuple
-
-import numpy as np
 
 from olr.arrays import Booleans, Integers
 from olr.errors import ToolError

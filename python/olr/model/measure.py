@@ -1,8 +1,7 @@
 """Microdegrees, and lengths on the ellipsoid of WGS 84."""
 
-from collections.abc import Sequence
-
 import numpy as np
+from collections.abc import Sequence
 from pyproj import Geod
 
 from olr.arrays import Floats, Integers

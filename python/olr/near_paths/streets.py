@@ -4,11 +4,10 @@ Lines are named by their ranks here, from 0, in the order of their ids.
 """
 
 import copy
+import numpy as np
 from collections.abc import Iterable
 from pathlib import Path
 from typing import NamedTuple
-
-import numpy as np
 
 from olr.arrays import Integers
 from olr.errors import ToolError

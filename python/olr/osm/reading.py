@@ -1,11 +1,10 @@
 """The roads and turn restrictions of an OpenStreetMap file."""
 
+import osmium
 from collections import defaultdict
 from collections.abc import Callable, Iterable, Iterator, Mapping, Sequence, Set
 from pathlib import Path
 from typing import NamedTuple
-
-import osmium
 
 from olr.counts import Counts, ValueCounts
 from olr.errors import ToolError

@@ -1,12 +1,12 @@
 """What the tags of ways and turn restrictions mean, by a table in a TOML file."""
 
+import tomllib
+
 from collections.abc import Iterable, Mapping
 from dataclasses import dataclass
 from importlib.resources import files
 from pathlib import Path
 from typing import Any, NamedTuple
-
-import tomllib
 
 from olr.counts import short
 from olr.errors import ToolError

@@ -6,12 +6,11 @@ content than what was written is never used.
 """
 
 import hashlib
+import numpy as np
 import sqlite3
 from collections import OrderedDict
 from collections.abc import Iterator, Sequence
 from typing import NamedTuple
-
-import numpy as np
 
 from olr.arrays import Booleans, Integers, Integers32
 

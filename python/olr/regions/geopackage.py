@@ -1,14 +1,13 @@
 """The tables and blobs of a GeoPackage 1.3 (OGC 12-128r17), as far as a store needs them."""
 
 import errno
+import numpy as np
 import os
 import sqlite3
 import struct
 from collections.abc import Sequence
 from functools import cache
 from pathlib import Path
-
-import numpy as np
 
 from olr.arrays import Floats, Integers
 

@@ -5,11 +5,10 @@ that neighbours stand together, and the nodes of the tree are filled one after t
 https://www.sqlite.org/rtree.html, and `rtreecheck()` of SQLite says whether a tree is right.
 """
 
+import numpy as np
 import sqlite3
 import struct
 from collections.abc import Iterator
-
-import numpy as np
 
 from olr.arrays import Floats, Floats32, Integers
 from olr.regions.geopackage import insert

@@ -4,14 +4,13 @@ Records are read one after the other, and kept as arrays where all of them are n
 about a gigabyte of memory. The file is written beside where it shall be, and moved there when it is whole.
 """
 
+import numpy as np
 import sqlite3
 import tempfile
 from collections.abc import Iterable, Iterator, Sequence
 from contextlib import closing
 from pathlib import Path
 from typing import IO, NamedTuple
-
-import numpy as np
 
 from olr.arrays import Floats, Integers
 from olr.errors import ToolError

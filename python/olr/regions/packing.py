@@ -1,11 +1,10 @@
 """The columns of a map while its store is made, and the blocks that are made of them."""
 
 import mmap
+import numpy as np
 import sqlite3
 from collections.abc import Iterator
 from typing import IO, NamedTuple
-
-import numpy as np
 
 from olr.arrays import Booleans, Floats, Integers, Integers32
 from olr.curve import places_on_curve

@@ -5,10 +5,9 @@ plane of a reference has the scale of its first point's latitude. Here a plane h
 spots lie within 1.5 cm of the positions here.
 """
 
+import numpy as np
 from collections.abc import Iterable
 from typing import NamedTuple
-
-import numpy as np
 
 from olr.arrays import Floats, Integers
 from olr.model.road_map import GREATEST_LAT, MICRODEGREE

@@ -7,11 +7,10 @@ Discs are computed for many references at once. What rounding in 64-bit numbers 
 that and much more to spare.
 """
 
+import numpy as np
 from collections.abc import Sequence
 from itertools import chain
 from typing import NamedTuple
-
-import numpy as np
 
 from olr.arrays import Booleans, Floats, Integers
 from olr.model.answers import Reference

@@ -4,10 +4,9 @@ On a map with the lines of all their regions each of them has the answer that it
 them all.
 """
 
+import numpy as np
 from collections.abc import Iterator, Sequence
 from typing import NamedTuple
-
-import numpy as np
 
 from olr.arrays import Integers
 from olr.curve import places_on_curve

@@ -8,12 +8,11 @@ A line's stretch is its measured length, divided by its length. `usual` is one t
 others has its excess, the metres that its measured length has beyond its length times `usual`.
 """
 
+import numpy as np
 import sqlite3
 from dataclasses import dataclass
 from functools import cached_property
 from typing import NamedTuple
-
-import numpy as np
 
 from olr.arrays import Floats, Integers
 from olr.regions.plane import Discs

@@ -16,14 +16,13 @@ All that is read of the map comes from the store's blocks (see `blocks`) and its
 index, aren't looked at. `Store.sources` says where lines came from.
 """
 
+import numpy as np
 import sqlite3
 from collections.abc import Iterable, Iterator, Sequence
 from contextlib import contextmanager
 from pathlib import Path
 from types import TracebackType
 from typing import NamedTuple
-
-import numpy as np
 
 from olr.arrays import Floats, Integers, Integers32
 from olr.errors import ToolError

@@ -7,10 +7,9 @@ from collections import Counter
 from collections.abc import Callable, Iterable, Iterator, Mapping, Sequence
 from contextlib import contextmanager
 from dataclasses import dataclass
+from distributed import get_worker
 from pathlib import Path
 from socket import gethostname
-
-from distributed import get_worker
 
 from olr.asking.patience import PATIENCE
 from olr.errors import ToolError

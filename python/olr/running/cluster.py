@@ -1,5 +1,6 @@
 """The groups of a run as tasks of Dask: it hands them to workers, runs again what failed, and shows how far it is."""
 
+import dask
 import logging
 import signal
 import sys
@@ -8,13 +9,11 @@ import uuid
 from collections import Counter
 from collections.abc import Iterator, Mapping
 from contextlib import ExitStack, contextmanager, suppress
+from dask.system import CPU_COUNT
+from distributed import CancelledError, Client, Future, LocalCluster, as_completed, wait
 from functools import partial
 from multiprocessing import resource_tracker
 from typing import NamedTuple
-
-import dask
-from dask.system import CPU_COUNT
-from distributed import CancelledError, Client, Future, LocalCluster, as_completed, wait
 
 from olr.errors import ToolError
 from olr.progress import progress

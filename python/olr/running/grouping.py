@@ -6,13 +6,12 @@ without what is empty or too long, which is then deleted, and from there to the 
 
 import hashlib
 import mmap
+import numpy as np
 import tempfile
 from array import array
 from collections.abc import Iterable, Iterator
 from pathlib import Path
 from typing import IO, NamedTuple
-
-import numpy as np
 
 from olr.arrays import Integers
 from olr.curve import places_on_curve

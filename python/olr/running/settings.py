@@ -2,7 +2,6 @@
 
 from collections.abc import Iterator
 from contextlib import contextmanager
-
 from distributed import WorkerPlugin, versions
 
 SETTINGS = {

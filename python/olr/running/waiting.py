@@ -1,9 +1,8 @@
 """What a run waits for: what the scheduler of Dask says of its workers, as a line; and workers whose memory is limited."""
 
 from collections.abc import Mapping, Sequence
-from typing import Any
-
 from distributed import Client, Future
+from typing import Any
 
 SECONDS_TO_ANSWER = 5
 """The scheduler may take them."""

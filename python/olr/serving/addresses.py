@@ -2,13 +2,12 @@
 
 import json
 from collections.abc import AsyncGenerator, AsyncIterator, Awaitable, Callable, Coroutine, Iterator
-from typing import Any, NamedTuple
-
 from fastapi import FastAPI
 from starlette.exceptions import HTTPException
 from starlette.requests import Request
 from starlette.responses import Response
 from starlette.routing import Route
+from typing import Any, NamedTuple
 
 from olr.confidence.confidence import Confidence
 from olr.errors import ToolError

@@ -1,9 +1,8 @@
 """Who may ask: the names of the server, and the sites whose pages may."""
 
 from collections.abc import Mapping, Sequence
-from typing import NamedTuple
-
 from starlette.types import Scope
+from typing import NamedTuple
 
 from olr.serving.problems import Problem
 

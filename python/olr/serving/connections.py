@@ -2,9 +2,8 @@
 
 import asyncio
 import logging
-from typing import Any
-
 from httptools import HttpRequestParser
+from typing import Any
 from uvicorn.config import Config
 from uvicorn.protocols.http.httptools_impl import HttpToolsProtocol
 from uvicorn.server import ServerState

@@ -3,7 +3,6 @@
 import logging
 import time
 from collections.abc import Sequence
-
 from starlette.responses import Response
 from starlette.types import ASGIApp, Message, Receive, Scope, Send
 

@@ -4,7 +4,6 @@ import asyncio
 import json
 from io import BytesIO
 from itertools import islice
-
 from starlette.requests import ClientDisconnect, Request
 from starlette.responses import Response
 

@@ -6,10 +6,9 @@ import mimetypes
 import re
 from collections.abc import Iterator, Mapping
 from importlib import resources
-from typing import Any, NamedTuple
-
 from starlette.requests import Request
 from starlette.responses import Response
+from typing import Any, NamedTuple
 
 from olr.model.fault_table import ROWS
 from olr.model.profiles import FEED, PROFILES, about_text, tolerances_of

@@ -3,7 +3,6 @@
 import json
 from collections.abc import Mapping
 from http import HTTPStatus
-
 from starlette.responses import Response
 
 from olr.errors import MapRefused, ProgramEnded, ProgramNotFound, TimedOut, ToolError

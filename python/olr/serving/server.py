@@ -1,19 +1,18 @@
 """The server: its settings, what it listens to, and how it ends."""
 
 import asyncio
+import click
 import logging
 import resource
 import signal
 import socket
 import sys
+import uvicorn
+import uvloop
 from collections.abc import Sequence
 from functools import partial
 from pathlib import Path
 from typing import Any, NamedTuple
-
-import click
-import uvicorn
-import uvloop
 
 from olr.confidence.choosing import confidence_of
 from olr.errors import ToolError

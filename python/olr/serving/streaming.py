@@ -6,7 +6,6 @@ What the client doesn't take isn't made: the server then reads neither the progr
 import asyncio
 from collections.abc import AsyncGenerator, AsyncIterator, Callable
 from contextlib import aclosing, asynccontextmanager
-
 from starlette.requests import Request
 from starlette.types import Receive, Scope, Send
 

@@ -1,12 +1,11 @@
 """The lines of a map as a graph, for bounded searches by scipy."""
 
+import numpy as np
 from collections.abc import Sequence
 from itertools import pairwise
-from typing import NamedTuple
-
-import numpy as np
 from scipy.sparse import csr_matrix
 from scipy.sparse.csgraph import dijkstra
+from typing import NamedTuple
 
 from olr.arrays import Booleans, Floats, Integers
 from olr.model.road_map import RoadMap

@@ -1,8 +1,7 @@
 """A part of a large map, around one of its nodes: so that trials cost no more on a large map than on a town."""
 
-import random
-
 import numpy as np
+import random
 
 from olr.arrays import Floats, Integers
 from olr.model.road_map import RoadMap

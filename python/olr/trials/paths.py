@@ -1,11 +1,10 @@
 """True paths: shortest paths between places of a map, of wanted classes and lengths, and references to them."""
 
+import numpy as np
 import random
 from collections.abc import Iterator, Sequence
 from itertools import pairwise
 from typing import NamedTuple
-
-import numpy as np
 
 from olr.arrays import Integers
 from olr.errors import ToolError

@@ -4,14 +4,13 @@ Ends that lie within the tolerance of each other are one vertex. Where an end li
 ends, that road gets the vertex too. Roads that only cross aren't joined, since one may be a bridge.
 """
 
+import numpy as np
 from collections.abc import Iterator, Mapping, Sequence, Set
 from dataclasses import dataclass
-from typing import NamedTuple
-
-import numpy as np
 from scipy.sparse import coo_matrix
 from scipy.sparse.csgraph import connected_components
 from scipy.spatial import cKDTree
+from typing import NamedTuple
 
 from olr.arrays import Floats, Integers
 from olr.counts import Counts

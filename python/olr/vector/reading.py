@@ -1,14 +1,13 @@
 """The roads of a layer of a vector file, in degrees (WGS 84)."""
 
-import logging
-from collections.abc import Iterable, Iterator, Mapping, Sequence
-from pathlib import Path
-from typing import Any, NamedTuple
-
 import fiona
+import logging
 import numpy as np
+from collections.abc import Iterable, Iterator, Mapping, Sequence
 from fiona._err import CPLE_BaseError
 from fiona.errors import FionaError, UnsupportedGeometryTypeError
+from pathlib import Path
+from typing import Any, NamedTuple
 
 from olr.arrays import Floats
 from olr.counts import Counts

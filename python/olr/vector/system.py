@@ -1,11 +1,10 @@
 """The coordinate reference system of a layer: from its coordinates to degrees (WGS 84), and where these aren't on a map."""
 
 import math
+import numpy as np
 from collections.abc import Sequence
 from dataclasses import dataclass
 from pathlib import Path
-
-import numpy as np
 from pyproj import CRS, Transformer
 from pyproj.exceptions import CRSError, ProjError
 

@@ -4,13 +4,13 @@ Without a table classes and forms are the numbers 0 to 7, and the usual words fo
 with any of the sections `class`, `form` and `oneway`.
 """
 
+import tomllib
+
 import json
 from collections.abc import Mapping
 from dataclasses import dataclass, field
 from pathlib import Path
 from typing import Any
-
-import tomllib
 
 from olr.errors import ToolError
 

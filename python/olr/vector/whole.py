@@ -4,12 +4,11 @@ Where a file was cut short or is damaged, GDAL leaves records or their geometrie
 """
 
 import logging
+import numpy as np
 from collections.abc import Iterator
 from contextlib import contextmanager
 from pathlib import Path
 from typing import Any
-
-import numpy as np
 
 from olr.errors import ToolError
 from olr.progress import progress

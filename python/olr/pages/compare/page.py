@@ -1,10 +1,9 @@
 """The page of the references that change: how many do so in which way, a table of them, and both places of each on a map."""
 
+import numpy as np
 from collections.abc import Iterable, Mapping, Sequence
 from pathlib import Path
 from typing import Any, NamedTuple
-
-import numpy as np
 
 from olr.arrays import Floats
 from olr.comparing.changes import Compared, Side

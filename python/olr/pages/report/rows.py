@@ -1,9 +1,8 @@
 """Messages as rows of the table of references, with what the map shows of them, and the scene of each one's page."""
 
+import numpy as np
 from collections.abc import Iterable, Iterator, Mapping, Sequence
 from typing import Any, NamedTuple
-
-import numpy as np
 
 from olr.client.map_client import Map
 from olr.confidence.judged import Judged, Judging

@@ -1,10 +1,9 @@
 """All that a page draws, as data for its script. Positions are `[latitude, longitude]` in degrees."""
 
+import numpy as np
 from collections.abc import Iterator, Mapping, Sequence
 from functools import partial
 from typing import Any, NamedTuple
-
-import numpy as np
 
 from olr.asking.decoding import decode
 from olr.client.map_client import Map

@@ -1,9 +1,8 @@
 """The lines of a map around what a scene draws."""
 
+import numpy as np
 from collections.abc import Sequence
 from typing import Any, NamedTuple
-
-import numpy as np
 
 from olr.arrays import Floats, Integers
 from olr.geometry.network import Network
