@@ -11,9 +11,9 @@ from typing import Any
 import olr
 from asking import as_json, batch_of, draw_map, draw_references, said
 from conftest import REFERENCE, TOP, Program
-from olr.asking.batch import PIPE_BYTES
+from olr.asking.processes import AHEAD
 from olr.asking.program import find_program
-from olr.client.map_client import AHEAD
+from olr.asking.threaded import PIPE_BYTES
 from olr.model.questions import NUMBERS, TOLERANCES, What
 
 DATA = TOP / "crates/olr_conformance/data"
@@ -152,7 +152,7 @@ def test_decode(text: str, program: Program) -> None:
     ],
 )
 def test_texts_that_are_hardly_records(text: str, top: Path, program: Program) -> None:
-    words = text.replace("\0", " ").encode("utf-8", "replace").decode()
+    words = text.replace("\0", "!").encode("utf-8", "replace").decode()
     expected = said(program, "match", "--map", top / "examples", "--format", "json", "--", words)
     with olr.Map.of_folder(top / "examples", program=program.path) as town:
         before, answer, behind = town.matches([REFERENCE, text, KIOSK])

@@ -194,7 +194,7 @@ def test_numbers_that_arent_there() -> None:
 
 def test_defaults() -> None:
     """The table, and what help shows of the calls, are the same."""
-    calls: list[Callable[..., object]] = [olr.Map.__init__, olr.Map.__new__, olr.Map.of_folder]
+    calls: list[Callable[..., object]] = [olr.Map.__init__, olr.Map.of_folder]
     assert inspect.signature(olr.Map).parameters.keys() > {"nodes", "radius", "patience"}
     for call in calls:
         parameters = inspect.signature(call).parameters

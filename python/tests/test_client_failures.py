@@ -15,7 +15,7 @@ from pathlib import Path
 import olr
 from asking import as_json
 from conftest import REFERENCE, TOP, Program
-from olr.client.map_client import AHEAD
+from olr.asking.processes import AHEAD
 from olr.errors import ToolError
 from olr.model.fault_table import ROWS
 
@@ -23,9 +23,9 @@ ROADWORKS = "CwVGnSN2zhvHCgDX/tIzAw=="
 
 
 def children() -> set[int]:
-    """The processes that this one started and that aren't waited for."""
-    ended = Path(f"/proc/self/task/{os.getpid()}/children").read_text()
-    return set(map(int, ended.split()))
+    """The processes that threads of this one started and that aren't waited for."""
+    found = [file.read_text().split() for file in Path("/proc/self/task").glob("*/children")]
+    return {int(process) for some in found for process in some}
 
 
 @pytest.fixture(autouse=True)
@@ -153,14 +153,14 @@ def test_an_interrupted_question(program: Program, monkeypatch: pytest.MonkeyPat
         real = os.read
 
         def interrupted(descriptor: int, size: int) -> bytes:
-            monkeypatch.setattr("olr.asking.batch.os.read", real)
+            monkeypatch.setattr("olr.asking.threaded.os.read", real)
             raise KeyboardInterrupt
 
-        monkeypatch.setattr("olr.asking.batch.os.read", interrupted)
+        monkeypatch.setattr("olr.asking.threaded.os.read", interrupted)
         with pytest.raises(KeyboardInterrupt):
             asked.match(REFERENCE)
         assert asked.match(ROADWORKS) == expected
-        (pair,) = asked._batches["match"]
+        (pair,) = asked._source._processes._batches["match"]  # type: ignore[attr-defined]
         assert not pair[1]._arrived and not pair[1]._dropped
 
 
@@ -199,7 +199,7 @@ def test_a_map_that_isnt_closed(program: Program) -> None:
     asked.match(REFERENCE)
     del asked
     gc.collect()
-    code = "import olr, sys; m = olr.Map.of_folder(sys.argv[1]); m.match(sys.argv[2]); print(m._batches['match'][0][1]._process.pid)"
+    code = "import olr, sys; m = olr.Map.of_folder(sys.argv[1]); m.match(sys.argv[2]); print(m._source._processes._batches['match'][0][1]._process.pid)"
     environment = os.environ | {"OLR_PROGRAM": str(program.path), "PYTHONPATH": str(TOP / "python")}
     command = [sys.executable, "-c", code, str(TOP / "examples"), REFERENCE]
     ended = subprocess.run(command, env=environment, capture_output=True, text=True, check=True)
@@ -207,7 +207,7 @@ def test_a_map_that_isnt_closed(program: Program) -> None:
 
 
 def test_python_is_killed(program: Program) -> None:
-    code = "import olr, sys, time; m = olr.Map.of_folder(sys.argv[1]); m.match(sys.argv[2]); print(m._batches['match'][0][1]._process.pid, flush=True); time.sleep(60)"
+    code = "import olr, sys, time; m = olr.Map.of_folder(sys.argv[1]); m.match(sys.argv[2]); print(m._source._processes._batches['match'][0][1]._process.pid, flush=True); time.sleep(60)"
     environment = os.environ | {"OLR_PROGRAM": str(program.path), "PYTHONPATH": str(TOP / "python")}
     command = [sys.executable, "-c", code, str(TOP / "examples"), REFERENCE]
     with subprocess.Popen(command, env=environment, stdout=subprocess.PIPE, text=True) as python:
@@ -287,7 +287,7 @@ def test_numbers_out_of_range(program: Program) -> None:
 def test_another_program(
     line: str, error: type[Exception], words: str, tmp_path: Path, monkeypatch: pytest.MonkeyPatch
 ) -> None:
-    monkeypatch.setattr("olr.asking.batch.SECONDS_TO_END", 0.5)
+    monkeypatch.setattr("olr.asking.threaded.SECONDS_TO_END", 0.5)
     path = script(tmp_path, line)
     with olr.Map.of_folder(TOP / "examples", program=path) as asked:
         with pytest.raises(error, match=re.escape(words)):

@@ -13,7 +13,7 @@ import olr
 from bad_programs import bad_program, starts
 from conftest import REFERENCE, TOP, Program
 from olr.asking.patience import require_patience
-from olr.client.map_client import AHEAD
+from olr.asking.processes import AHEAD
 from olr.tools import run
 from test_client_failures import ROADWORKS, children
 

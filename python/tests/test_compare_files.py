@@ -24,7 +24,7 @@ from compared_maps import (
     road,
 )
 from conftest import ASKED_WITH_PROGRAM, OF_PROGRAM, REFERENCE, TOP, Program
-from olr.client.map_client import AHEAD
+from olr.asking.processes import AHEAD
 from olr.commands import compare as compare_command
 from olr.comparing.asking import CHUNK, Comparison
 from olr.comparing.columns import CHANGES

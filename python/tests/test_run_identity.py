@@ -12,13 +12,14 @@ from typing import Any
 
 from conftest import OF_PROGRAM, Program
 from olr import content
+from olr.asking.records import Record
 from olr.errors import ProgramEnded, ProgramNotFound, ToolError
 from olr.model import road_map
 from olr.regions.making import make_store_of_folder
 from olr.regions.store import Store
 from olr.running import identity
 from olr.running.identity import Build
-from olr.running.records import Record, read_records
+from olr.running.records import read_records
 from olr.tools import run as olr_tools
 from runs import Begun, Runs, Town, assert_resumes, lines_of_batch
 

@@ -3,6 +3,7 @@
 import os
 import pytest
 import random
+import re
 import signal
 import subprocess
 import time
@@ -10,11 +11,14 @@ from pathlib import Path
 
 from bad_programs import FAILING, HANGING, bad_program, starts
 from conftest import Program
+from olr.asking.blocking import lines_about
+from olr.asking.exchange import Asked
+from olr.asking.files import MapFiles
+from olr.asking.records import Record
 from olr.errors import ProgramEnded, ProgramNotFound, TimedOut
 from olr.messages.message import Reading
-from olr.running.batching import Asked, line_without_answer, run_batch
 from olr.running.isolating import PIECES, TRIED, Isolating
-from olr.running.records import Record, read_records
+from olr.running.records import read_records
 from runs import Runs, Town
 
 PATIENCE = 3.0
@@ -28,20 +32,21 @@ class Group:
         self.town, self.program, self.folder = town, program, folder
         self.records = list(read_records(town.plain, Reading()))[:80]
         self.file = folder / "lines"
+        self.files = MapFiles.of_folder(town.folder)
 
     def lines(self) -> list[bytes]:
         """The lines of the good program."""
-        os.environ["OLR_PROGRAM"] = str(self.program.path)
-        found: list[bytes] = []
-        run_batch(self.asked(None), self.town.folder, self.records, found.append)
-        return found
+        texts = [record.text() for record in self.records]
+        asked = self.asked(self.program.path)
+        lines = lines_about(asked, self.files, texts, None, self.town.folder)
+        return [
+            one.line(line.answer, line.fault) for one, line in zip(self.records, lines, strict=True)
+        ]
 
     def write(self, program: Path, patience: float | None = None) -> list[bytes]:
         """The lines of another one."""
-        os.environ["OLR_PROGRAM"] = str(program)
         with self.file.open("wb") as stream:
-            asked = self.asked(patience)
-            Isolating(asked, self.town.folder, stream).write(self.records)
+            Isolating(self.asked(program), self.files, patience, stream).write(self.records)
         return self.file.read_bytes().splitlines(keepends=True)
 
     def bad(self, ways: dict[int, str]) -> Path:
@@ -53,13 +58,13 @@ class Group:
         """The reference of a record."""
         return self.records[number].data.partition(b"\t")[2].decode()
 
-    def asked(self, patience: float | None) -> Asked:
-        return Asked("match", ["--page", "1"], patience)
+    def asked(self, program: Path) -> Asked:
+        """One matching of each."""
+        return Asked(program, "match", ["--page", "1"])
 
 
 @pytest.fixture
-def group(town: Town, program: Program, tmp_path: Path, monkeypatch: pytest.MonkeyPatch) -> Group:
-    monkeypatch.setenv("OLR_PROGRAM", os.fspath(program.path))
+def group(town: Town, program: Program, tmp_path: Path) -> Group:
     return Group(town, program, tmp_path)
 
 
@@ -68,7 +73,7 @@ def with_faults(group: Group, lines: list[bytes], ways: dict[int, str]) -> list[
     found = list(lines)
     for number, way in ways.items():
         fault = "TimedOut" if way in HANGING else "ProgramFailed"
-        found[number] = line_without_answer(group.records[number], fault)
+        found[number] = group.records[number].line(b"null", fault)
     return found
 
 
@@ -123,7 +128,7 @@ def test_a_program_that_always_fails(group: Group, line: str) -> None:
     script.write_text(f"#!/bin/sh\n{line}\n")
     script.chmod(0o755)
     error, patience = (TimedOut, 0.5) if "sleep" in line else (ProgramEnded, None)
-    with pytest.raises(error, match="after 0 lines"):
+    with pytest.raises(error, match="after 0 lines|no answer to what it was asked: is it the"):
         group.write(script, patience)
     assert group.file.read_bytes() == b""
 
@@ -148,18 +153,22 @@ def test_a_program_that_cant_be_started(group: Group) -> None:
             group.write(script)
 
 
-def test_keys_are_those_of_the_program(group: Group) -> None:
-    """The lines of records that failed have the keys that the program writes: of drawn records, with bytes that aren't text."""
+def test_lines_are_those_of_the_program(group: Group, program: Program) -> None:
+    """Of drawn records, with bytes that aren't text and some that are too long, as the program reads them itself."""
     draw = random.Random(6)
     pieces = [b"\t", b'"', b"\\", b"/", b"\x00", b"\x1f", b"\x7f", b"\xc3\xa9", b"\xe2\x80\xa8"]
     pieces += [b"\xff", b"\xed\xa0\x80", b"\xf0\x9f\x9a\x97", b" ", b"a", b"\r", b"x" * 33_000]
-    weights = [9] * 9 + [1] * 2 + [9] * 4 + [1]
-    for number in range(400):
-        data = b"".join(draw.choices(pieces, weights, k=draw.randrange(1, 7)))
-        group.records.append(Record(1000 + number, data))
-    for record, line in zip(group.records, group.lines(), strict=True):
-        made = line_without_answer(record, "ProgramFailed")
-        assert made[made.index(b',"key":') :] == line[line.rindex(b',"key":') :]
+    weights = [9] * 9 + [1] * 2 + [9] * 4 + [4]
+    drawn = [b"".join(draw.choices(pieces, weights, k=draw.randrange(1, 7))) for _ in range(400)]
+    data = [record.data for record in group.records] + drawn
+    group.records = [Record(number, one) for number, one in enumerate(data, 1)]
+    feed = group.folder / "feed"
+    feed.write_bytes(b"".join(one + b"\r\n" for one in data))
+    words = ["batch", "match", "--map", group.town.folder, "--page", "1", "--input", feed]
+    command = [str(program.path), *map(str, words)]
+    expected = subprocess.run(command, capture_output=True, check=True).stdout
+    assert b"".join(group.lines()) == expected
+    assert {b"LongRecord", b"NotText", b"TooLong"} <= set(re.findall(rb'"fault":"(\w+)', expected))
 
 
 def test_a_run(runs: Runs) -> None:
@@ -174,7 +183,7 @@ def test_a_run(runs: Runs) -> None:
     ended = runs.run(*words, program=bad)
     for at, way in ways.items():
         fault = "TimedOut" if way in HANGING else "ProgramFailed"
-        expected[at] = line_without_answer(records[at], fault)
+        expected[at] = records[at].line(b"null", fault)
     assert runs.joined.read_bytes() == b"".join(expected)
     counts = ended.stdout.splitlines()
     assert "failed, ProgramFailed: 2" in counts and "failed, TimedOut: 1" in counts

@@ -20,17 +20,16 @@ def begun(here: None, town: Town, program: Program, tmp_path: Path) -> Begun:
 def test_one_run_of_the_program(
     begun: Begun, town: Town, program: Program, tmp_path: Path, monkeypatch: pytest.MonkeyPatch
 ) -> None:
-    """It answers references of all groups, and another one what needs no map. The lines are those of one batch, in the parts of their
-    groups."""
+    """It answers all groups. The lines are those of one batch, in the parts of their groups."""
     log = bad_program(tmp_path / "logging", program, {})
-    monkeypatch.setattr("olr.running.batching.find_program", lambda: log)
+    monkeypatch.setattr("olr.running.answering.find_program", lambda: log)
     groups = begun.groups()
     counts = answer_groups(begun.job, groups)
-    assert len(groups) == 11 and starts(log) == 2
+    assert len(groups) == 11 and starts(log) == 1
     expected = lines_of_batch(program, town.folder, "match", town.messages)
     assert begun.joined() == expected
     assert counts.total() == len(expected.splitlines())
-    assert answer_groups(begun.job, groups) == counts and starts(log) == 2
+    assert answer_groups(begun.job, groups) == counts and starts(log) == 1
 
 
 def test_parts_that_are_there(begun: Begun, town: Town, program: Program) -> None:

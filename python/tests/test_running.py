@@ -15,18 +15,20 @@ from typing import Any
 
 from conftest import Program
 from olr import curve
+from olr.asking.records import Record
 from olr.content import Content
 from olr.errors import ToolError
 from olr.messages.message import Reading
 from olr.model import road_map
+from olr.model.fault import TOO_LARGE
 from olr.model.reference import first_position, read_reference
 from olr.outputs import PREFIX
 from olr.running import answering
-from olr.running.answering import ANSWERED, TOO_LARGE, Job, answer_groups
+from olr.running.answering import ANSWERED, Job, answer_groups
 from olr.running.grouping import Grouped, digests_of, read_group, usual_size, write_groups
 from olr.running.identity import Build
 from olr.running.joining import MOST_OPEN, join, lines_of, number_of
-from olr.running.records import END, Record, read_records, reference_of
+from olr.running.records import END, read_records, reference_of
 from olr.running.run_folder import RunFolder
 from runs import Town, question_about
 

@@ -18,8 +18,8 @@ from asking import as_json
 from bad_programs import bad_program
 from conftest import REFERENCE, TOP, Program
 from olr.arrays import Integers
-from olr.client import store_map
-from olr.client.store_map import CHUNK, StoreMap
+from olr.client import store_source
+from olr.client.store_source import CHUNK
 from olr.counts import Counts
 from olr.model import road_map
 from olr.model.map_folder import write_map
@@ -74,7 +74,7 @@ def test_the_answers_of_the_folder(what: What, town: Town, monkeypatch: pytest.M
         expected = plain(folder.answers(what, texts))
     with olr.Map(town.store) as whole:
         assert plain(whole.answers(what, iter(texts))) == expected
-    monkeypatch.setattr(store_map, "CHUNK", 40)
+    monkeypatch.setattr(store_source, "CHUNK", 40)
     monkeypatch.setattr(road_map, "MOST_LINES", 1500)
     with olr.Map(town.store) as halved:
         found = plain(halved.answers(what, texts))
@@ -88,7 +88,7 @@ def test_the_answers_of_the_folder(what: What, town: Town, monkeypatch: pytest.M
 def test_one_at_a_time(town: Town) -> None:
     with olr.Map.of_folder(town.folder, radius=60) as folder:
         with olr.Map.of_folder(town.store, radius=60) as store:
-            assert isinstance(store, StoreMap) and repr(store) == f"Map('{town.store}', radius=60)"
+            assert repr(store) == f"Map('{town.store}', radius=60)"
             for text in references(town, 12):
                 for what in WHATS:
                     answers = []
@@ -148,7 +148,6 @@ def test_the_streets_of_tempe(tmp_path: Path) -> None:
         text = encode(network, path) if len(path) > 1 else None
         texts += [] if text is None else [text]
     with olr.Map(tmp_path / "tempe") as folder, olr.Map(tmp_path / "behind") as store:
-        assert isinstance(store, StoreMap)
         for what in WHATS:
             assert plain(store.answers(what, texts)) == plain(folder.answers(what, texts))
 

@@ -9,7 +9,7 @@ from typing import NamedTuple
 from olr.asking.program import PathLike
 from olr.content import digest_of
 from olr.errors import MapRefused
-from olr.model.map_folder import BANS, LINES, NODES
+from olr.model.map_folder import BANS, LINES, NODES, files_read
 
 
 class Version(NamedTuple):
@@ -22,6 +22,9 @@ class Version(NamedTuple):
 
 class MapFiles:
     """The files of a map. When they were read once they have to stay as they are: all answers are of one version."""
+
+    is_part = False
+    """Whether they are a part of a map, whose answers are those of the map."""
 
     def __init__(self, nodes: PathLike, lines: PathLike, bans: PathLike | None) -> None:
         self.nodes, self.lines = Path(nodes), Path(lines)
@@ -70,3 +73,20 @@ class MapFiles:
         return MapRefused(
             f"the files of the map {self.lines.parent} have changed since they were read: make another Map"
         )
+
+
+class PartFiles(MapFiles):
+    """The files of a part of a map, which nobody else writes. Their version is that of the map."""
+
+    is_part = True
+
+    def __init__(self, folder: Path, version: Version) -> None:
+        super().__init__(*files_read(folder))
+        self._version = version
+
+    def found(self) -> Version:
+        """The version of the map."""
+        return self._version
+
+    def keep(self, version: Version) -> None:
+        """Nothing has to be noted."""

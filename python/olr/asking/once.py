@@ -5,9 +5,9 @@ from collections.abc import Callable, Sequence
 from pathlib import Path
 from typing import TypeVar
 
-from olr.asking.ending import kill_group
 from olr.asking.patience import PATIENCE
-from olr.errors import ProgramEnded, ProgramNotFound, TimedOut
+from olr.asking.starting import kill_group, require_started, start
+from olr.errors import ProgramEnded, TimedOut
 from olr.model.fault import refusal_of
 
 Made = TypeVar("Made")
@@ -25,30 +25,26 @@ def run_once(
     Raises `Fault`, `MapRefused`, `ProgramNotFound` if it can't be started, `ProgramEnded` if it isn't the program, or was killed, and
     `TimedOut`.
     """
-    command = [str(program), *words]
-    try:
-        with subprocess.Popen(
-            command,
-            stdin=subprocess.DEVNULL,
-            stdout=subprocess.PIPE,
-            stderr=subprocess.PIPE,
-            process_group=0,
-        ) as process:
-            try:
-                printed, errors = process.communicate(timeout=patience)
-            finally:
-                kill_group(process)
-    except OSError as error:
-        raise ProgramNotFound(f"{program} can't be started: {error.strerror}") from error
-    except subprocess.TimeoutExpired as error:
-        raise TimedOut(
-            f"olr {words[0]} didn't end within {patience:g} seconds", words[-1]
-        ) from error
-    return read_once(words[0], process.returncode, printed, errors, read)
+    pipe = subprocess.PIPE
+    with start(program, words, stdin=subprocess.DEVNULL, stdout=pipe, stderr=pipe) as process:
+        try:
+            printed, errors = process.communicate(timeout=patience)
+        except subprocess.TimeoutExpired as error:
+            raise TimedOut(
+                f"olr {words[0]} didn't end within {patience:g} seconds", words[-1]
+            ) from error
+        finally:
+            kill_group(process)
+    return read_once(program, words[0], process.returncode, printed, errors, read)
 
 
 def read_once(
-    command: str, status: int, printed: bytes, errors: bytes, read: Callable[[bytes], Made]
+    program: str | Path,
+    command: str,
+    status: int,
+    printed: bytes,
+    errors: bytes,
+    read: Callable[[bytes], Made],
 ) -> Made:
     """What a run of a command of the program printed that has ended. Raises as `run_once`."""
     said = errors.decode("utf-8", errors="replace").strip()
@@ -56,6 +52,7 @@ def read_once(
         raise refusal_of(said.splitlines()[0].removeprefix("olr: "))
     wrong = f"olr {command} ended with status {status}: is it the program olr?"
     if status:
+        require_started(program, said)
         raise ProgramEnded(wrong)
     try:
         return read(printed)

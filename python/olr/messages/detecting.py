@@ -5,10 +5,10 @@ What isn't clear is an error that names the option to give.
 
 from collections.abc import Iterator, Sequence
 
+from olr.asking.records import MOST_RECORD_BYTES
 from olr.errors import ToolError
 from olr.messages import tables
 from olr.messages.first import with_one
-from olr.messages.lines import MOST_RECORD_BYTES
 from olr.messages.message import REF, Format, Message, Reading
 from olr.messages.texts import (
     begins_like_a_reference,

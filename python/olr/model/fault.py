@@ -9,6 +9,8 @@ from olr.model.fault_table import ROWS
 OF_THE_MAP = (
     "Header TooMany Shape Field Duplicate UnknownNode ZeroLength Degenerate UnknownLine NotAdjacent OpenFailed ReadFailed"
 ).split()
+TOO_LARGE = "RegionTooLarge"
+"""The fault of a reference on a store whose own region is no map for the program."""
 
 
 class Fault(ToolError):

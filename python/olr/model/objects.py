@@ -158,26 +158,6 @@ def page_of(text: bytes, digest: str | None) -> Page:
         return _page(json.loads(line), Lists(texts, digest))
 
 
-def answer_of(what: What, line: bytes, key: str, digest: str | None) -> AnswerOrFault:
-    """What a line of `olr batch` answers to a question, of a map of that digest. Raises `ValueError` if it isn't the line of a record
-    with that key.
-
-    What is read late is taken out of the text before it is read, and a number put in its place.
-    """
-    texts: Sequence[bytes] = ()
-    if what == "match":
-        line, texts = _without_matchings(line)
-    elif what == "places":
-        line, texts = _taken_apart(line)
-    with _as_answer(what):
-        found = json.loads(line)
-        if found["key"] != key:
-            raise ValueError(f"the key is {found['key']!r}, not {key!r}")
-        if found["fault"] is not None:
-            return Fault(found["fault"])
-        return _READERS[what](found["answer"], Lists(texts, digest))
-
-
 _BEGINNINGS: Mapping[bytes, What] = {
     b'{"points"': "candidates",
     b'{"matchings"': "match",
@@ -203,7 +183,9 @@ def raw_line(line: bytes) -> RawLine:
     # No text within has these bytes, whose quotes would be escaped there.
     head, found, tail = line.rpartition(_BEHIND)
     answer = head.removeprefix(_ANSWER)
-    if not found or answer == head:
+    if not found:
+        raise ValueError("it has no fault behind its answer")
+    if answer == head:
         raise ValueError("it doesn't begin as one")
     with _as_answer("a record"):
         about = json.loads(b'{"fault":' + tail)

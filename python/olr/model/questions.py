@@ -79,12 +79,14 @@ MOST_CURSOR = 166
 """Letters of the longest one."""
 MOST_BYTES = 344
 """Of a reference without the blanks at its ends."""
+NO_LETTER = b"!"
+"""Stands for what no record and no word of a command can have: it is no letter of base64 either."""
 
 
 def record_text(reference: str) -> bytes:
     """A text as a part of one record, so that its answer or fault is that of the text itself.
 
-    Blanks at the ends don't count. A line end within is no base64, and neither is a blank. A text that is too long is too long
+    Blanks at the ends don't count. A line end within is no base64, and neither is a zero byte. A text that is too long is too long
     whatever it has, and a short one stands for it. Raises `TypeError` if it isn't a text.
     """
     if isinstance(reference, (bytes, bytearray)):
@@ -96,10 +98,15 @@ def record_text(reference: str) -> bytes:
         raise TypeError(
             f"a reference is a text, not {type(reference).__name__}: give an empty text where there is none"
         )
-    text = reference.strip(BLANKS).encode("utf-8", errors="replace")
+    return text_of_record(reference.encode("utf-8", errors="replace"))
+
+
+def text_of_record(reference: bytes) -> bytes:
+    """As `record_text`, of the bytes of a text."""
+    text = reference.strip(BLANKS.encode())
     if len(text) > MOST_BYTES:
         return b"A" * (MOST_BYTES + 1)
-    return text.replace(b"\n", b" ").replace(b"\0", b" ")
+    return text.replace(b"\n", NO_LETTER).replace(b"\0", NO_LETTER)
 
 
 def many(call: str, items: Iterable[Item], instead: str) -> Iterable[Item]:

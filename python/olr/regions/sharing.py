@@ -10,6 +10,7 @@ from typing import NamedTuple
 
 from olr.arrays import Integers
 from olr.curve import places_on_curve
+from olr.errors import ToolError
 from olr.model.questions import What
 from olr.model.reference import Point
 from olr.model.road_map import Position, within_limits
@@ -17,6 +18,8 @@ from olr.regions.options import Options
 from olr.regions.plane import Discs
 from olr.regions.region import discs_of_each
 from olr.regions.store import Store
+
+NO_LINES: Integers = np.zeros(0, dtype=np.int64)
 
 
 class Located(NamedTuple):
@@ -69,6 +72,35 @@ def shared_regions(references: Sequence[Located], store: Store) -> Iterator[Shar
         neighbours, middle = _along_curve(references), len(references) // 2
         yield from shared_regions(neighbours[:middle], store)
         yield from shared_regions(neighbours[middle:], store)
+
+
+class Group(NamedTuple):
+    """References by their indices, and the lines of a map that has their regions: None for a single one whose own region is too large for
+    the program."""
+
+    numbers: list[int]
+    lines: Integers | None
+
+
+def groups_of(
+    references: Sequence[Sequence[Point] | None], options: Options, store: Store, what: What
+) -> Iterator[Group]:
+    """References by their points in groups that one map has room for, for a question asked with these numbers. None stands for a text that
+    is no reference: it needs no line, and goes with the first group that has some. Raises `ToolError` if the store can't be read.
+    """
+    others = [number for number, points in enumerate(references) if points is None]
+    for shared in shared_regions(located(references, options, store, what), store):
+        numbers = [one.number for one in shared.references]
+        if shared.lines is not None:
+            numbers, others = numbers + others, []
+        yield Group(numbers, shared.lines)
+    if others:
+        yield Group(others, NO_LINES)
+
+
+def unread(which: str) -> ToolError:
+    """The error of a text that was taken for none of a reference, and that the program answers."""
+    return ToolError(f"{which} is a reference that olr-tools can't read")
 
 
 def _along_curve(references: Sequence[Located]) -> list[Located]:

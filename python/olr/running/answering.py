@@ -1,38 +1,38 @@
 """What a worker does: the lines of neighbouring groups, for each group as a file that is complete or absent."""
 
-import os
 import shutil
 import tempfile
 from collections import Counter
-from collections.abc import Callable, Iterable, Iterator, Mapping, Sequence
+from collections.abc import Iterable, Iterator, Mapping, Sequence
 from contextlib import contextmanager
 from dataclasses import dataclass
 from distributed import get_worker
 from pathlib import Path
 from socket import gethostname
+from typing import IO
 
+from olr.asking.exchange import Asked
+from olr.asking.files import MapFiles
 from olr.asking.patience import PATIENCE
+from olr.asking.program import find_program
+from olr.asking.records import Record
 from olr.errors import ToolError
-from olr.model.map_folder import LINES, LINES_HEADER, NODES, NODES_HEADER, write_rows
+from olr.model.fault import TOO_LARGE
 from olr.model.questions import What, number_words
 from olr.model.reference import read_points
 from olr.regions.options import Options
-from olr.regions.sharing import located, shared_regions
+from olr.regions.sharing import groups_of
 from olr.regions.store import Store
-from olr.running.batching import Asked, fault_of, with_fault
 from olr.running.grouping import Group
 from olr.running.identity import same_program, same_store
 from olr.running.isolating import Isolating
-from olr.running.joining import number_of
+from olr.running.joining import fault_of
 from olr.running.parts import NotWhole, Part
 from olr.running.question import Question
-from olr.running.records import Record, reference_of
 from olr.running.run_folder import RunFolder
 
 ANSWERED = "answered"
 """What lines without a fault are counted as."""
-TOO_LARGE = "RegionTooLarge"
-"""The fault of a reference whose own region is no map for the program."""
 
 
 @dataclass(frozen=True)
@@ -158,30 +158,30 @@ def _local_folder() -> str:
 
 
 class _Answering:
-    """The lines of records, in a file of a scratch folder, in the order in which the program was asked."""
+    """The lines of records, in a file of a scratch folder, in the order in which they were made."""
 
     def __init__(self, job: Job, store: Store, scratch: Path) -> None:
         self._job, self._store = job, store
         self._map, self._file = scratch / "map", scratch / "lines.jsonl"
-        self._beyond: list[Record] = []
-        """References whose own region is too large."""
         self._places: dict[int, tuple[int, int]] = {}
         """Where the line of each record begins in the file, and how long it is, in bytes."""
 
     def answer(self, records: Sequence[Record]) -> None:
         """Writes the lines of records. Raises `ToolError` and `OSError`."""
-        read = [read_points(reference_of(record.data)) for record in records]
+        points = [read_points(record.text().decode("latin-1")) for record in records]
+        none = {record.number for record, read in zip(records, points) if read is None}
         options = Options.of(self._job.numbers)
-        references = located(read, options, self._store, self._job.what)
-        for shared in shared_regions(references, self._store):
-            asked = [records[one.number] for one in shared.references]
-            if shared.lines is None:
-                self._beyond += asked
-            else:
-                self._store.write_map(shared.lines, self._map)
-                self._run(asked)
-        others = [record for record, points in zip(records, read) if points is None]
-        self._answer_without_lines(others)
+        with self._file.open("wb+") as stream:
+            for group in groups_of(points, options, self._store, self._job.what):
+                some = [records[number] for number in group.numbers]
+                begin = stream.tell()
+                if group.lines is None:
+                    stream.writelines(record.line(b"null", TOO_LARGE) for record in some)
+                else:
+                    self._store.write_map(group.lines, self._map)
+                    self._ask(some, none, stream)
+                    shutil.rmtree(self._map)
+                self._note(some, begin, stream)
 
     def lines(self, numbers: Iterable[int]) -> Iterator[bytes]:
         """The lines of the records with these numbers, in this order. Raises `OSError`."""
@@ -191,36 +191,15 @@ class _Answering:
                 stream.seek(begin)
                 yield stream.read(size)
 
-    def _answer_without_lines(self, others: Sequence[Record]) -> None:
-        """Writes the lines of records that need no map: others than references, and references whose region is too large. What the
-        program refuses has the same fault on each map."""
-        records = [*others, *self._beyond]
-        if not records:
-            return
-        self._map.mkdir()
-        write_rows(self._map / NODES, NODES_HEADER, [])
-        write_rows(self._map / LINES, LINES_HEADER, [])
-        too_large = {record.number for record in self._beyond}
+    def _ask(self, records: Sequence[Record], none: set[int], stream: IO[bytes]) -> None:
+        """Runs the program on the map, and writes the lines: where it fails at a record, a line that says so."""
+        asked = Asked(find_program(), self._job.what, self._job.words())
+        files = MapFiles.of_folder(self._map)
+        Isolating(asked, files, self._job.patience, stream, none).write(records)
 
-        def changed(line: bytes) -> bytes:
-            if fault_of(line) is not None:
-                return line
-            if number_of(line) in too_large:
-                return with_fault(line, TOO_LARGE)
-            raise ToolError(f"record {number_of(line)} is a reference that olr-tools can't read")
-
-        self._run(records, changed)
-
-    def _run(
-        self, records: Sequence[Record], changed: Callable[[bytes], bytes] = lambda line: line
-    ) -> None:
-        """Runs the program on the map, and writes the lines: where it fails at a record, a line that says so. Then the map is deleted."""
-        asked = Asked(self._job.what, self._job.words(), self._job.patience)
-        with self._file.open("ab+") as stream:
-            begin = stream.seek(0, os.SEEK_END)
-            Isolating(asked, self._map, stream, changed).write(records)
-            stream.seek(begin)
-            for record, line in zip(records, stream, strict=True):
-                self._places[record.number] = begin, len(line)
-                begin += len(line)
-        shutil.rmtree(self._map)
+    def _note(self, records: Sequence[Record], begin: int, stream: IO[bytes]) -> None:
+        """Notes where the lines of records are: behind that place, to the end."""
+        stream.seek(begin)
+        for record, line in zip(records, stream, strict=True):
+            self._places[record.number] = begin, len(line)
+            begin += len(line)

@@ -14,12 +14,13 @@ from pathlib import Path
 from typing import IO, NamedTuple
 
 from olr.arrays import Integers
+from olr.asking.records import Record
 from olr.curve import places_on_curve
 from olr.errors import ToolError
 from olr.model.reference import first_position
 from olr.outputs import sync
 from olr.progress import progress
-from olr.running.records import END, Record, reference_of
+from olr.running.records import END, reference_of
 
 RECORDS, NUMBERS, GROUPS, DIGESTS = "records.txt", "numbers.bin", "groups.bin", "digests.bin"
 FILES = (RECORDS, NUMBERS, GROUPS, DIGESTS)

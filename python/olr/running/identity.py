@@ -4,7 +4,7 @@ Both are compared when they are first used, and when their file has another stam
 a stamp changed: what was read then may be of both files.
 """
 
-import os
+import subprocess
 import threading
 import time
 from collections.abc import Iterator
@@ -14,8 +14,8 @@ from functools import lru_cache
 from pathlib import Path
 from socket import gethostname
 
-from olr.asking.child import Child, PatienceOver
 from olr.asking.program import find_program
+from olr.asking.starting import kill_group, start
 from olr.content import Stamp, sha256_of
 from olr.errors import ProgramEnded, ToolError
 from olr.regions.store import Store
@@ -53,15 +53,18 @@ def shortened(digest: str) -> str:
 @lru_cache(maxsize=256)
 def _version_of(program: Path, _stamp: Stamp) -> str:
     """What a program with this stamp says as its version. Raises as `Build.of`."""
-    command = [str(program), "--version"]
-    with open(os.devnull, "rb") as given, open(os.devnull, "wb") as said:
-        with Child(command, given, said, SECONDS_TO_SAY_VERSION) as child:
-            try:
-                lines, status = list(child.lines()), child.status()
-            except PatienceOver as error:
-                took = f"{program} --version took more than {SECONDS_TO_SAY_VERSION} s"
-                raise ProgramEnded(f"{took}: is it the program olr?") from error
-    return lines[0].decode("utf-8", errors="replace").strip() if lines and not status else ""
+    nowhere = subprocess.DEVNULL
+    pipe = subprocess.PIPE
+    with start(program, ["--version"], stdin=nowhere, stdout=pipe, stderr=nowhere) as process:
+        try:
+            printed, _ = process.communicate(timeout=SECONDS_TO_SAY_VERSION)
+        except subprocess.TimeoutExpired as error:
+            took = f"{program} --version took more than {SECONDS_TO_SAY_VERSION} s"
+            raise ProgramEnded(f"{took}: is it the program olr?") from error
+        finally:
+            kill_group(process)
+    lines = printed.decode("utf-8", errors="replace").splitlines()
+    return lines[0].strip() if lines and not process.returncode else ""
 
 
 @contextmanager

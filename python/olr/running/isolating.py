@@ -6,13 +6,15 @@ taken only from runs of the program that ended well.
 """
 
 import random
-from collections.abc import Callable, Iterator, Sequence
-from pathlib import Path
+from collections.abc import Container, Iterator, Sequence
 from typing import IO
 
+from olr.asking.blocking import lines_about
+from olr.asking.exchange import Asked
+from olr.asking.files import MapFiles
+from olr.asking.records import Record
 from olr.errors import ProgramEnded, TimedOut
-from olr.running.batching import Asked, line_without_answer, run_batch
-from olr.running.records import Record
+from olr.regions.sharing import unread
 
 PIECES = 16
 TRIED = 8
@@ -31,17 +33,19 @@ class Isolating:
     def __init__(
         self,
         asked: Asked,
-        map_folder: Path,
+        files: MapFiles,
+        patience: float | None,
         stream: IO[bytes],
-        changed: Callable[[bytes], bytes] = lambda line: line,
+        none: Container[int] = (),
     ) -> None:
-        """They are asked on the map of a folder. `changed` makes of each line of the program the one to write."""
-        self._asked, self._map, self._stream, self._changed = asked, map_folder, stream, changed
+        """They are asked on the map of files. `none` has the numbers of records that aren't references, as far as it is read here."""
+        self._asked, self._files, self._patience = asked, files, patience
+        self._stream, self._none = stream, none
 
     def write(self, records: Sequence[Record]) -> None:
         """Writes the lines. A record at which the program fails has a fault that says so.
 
-        Raises `ProgramEnded` and `TimedOut` where the program fails whatever it is asked, and else as `run_batch` and `changed` do.
+        Raises `ProgramEnded` and `TimedOut` where the program fails whatever it is asked, and else as `lines_about` does.
         """
         failure = self._write(records)
         if failure is not None:
@@ -52,23 +56,29 @@ class Isolating:
         """Writes the lines, or none and answers why the program failed."""
         begin = self._stream.tell()
         try:
-            run_batch(
-                self._asked,
-                self._map,
-                records,
-                lambda line: self._stream.write(self._changed(line)),
-            )
+            for line in self._lines(records):
+                self._stream.write(line)
         except (ProgramEnded, TimedOut) as failure:
             self._stream.seek(begin)
             self._stream.truncate()
             return failure
         return None
 
+    def _lines(self, records: Sequence[Record]) -> Iterator[bytes]:
+        """The lines of a run of the program. Raises as `lines_about`, and `ToolError` where it answers what is no reference."""
+        scratch = self._files.nodes.parent
+        texts = (record.text() for record in records)
+        lines = lines_about(self._asked, self._files, texts, self._patience, scratch)
+        for record, line in zip(records, lines, strict=True):
+            if line.fault is None and record.number in self._none:
+                raise unread(f"record {record.number}")
+            yield record.line(line.answer, line.fault)
+
     def _write_pieces(self, records: Sequence[Record], failure: Failure) -> None:
         """Writes the lines of records that failed together."""
         if len(records) == 1:
             fault = TIMED_OUT if isinstance(failure, TimedOut) else PROGRAM_FAILED
-            self._stream.write(line_without_answer(records[0], fault))
+            self._stream.write(records[0].line(b"null", fault))
             return
         for piece in _pieces(records):
             failed = self._write(piece)
@@ -90,7 +100,8 @@ class Isolating:
 
     def _ask(self, records: Sequence[Record]) -> None:
         """Asks, and writes nothing."""
-        run_batch(self._asked, self._map, records, lambda line: None)
+        for _ in self._lines(records):
+            pass
 
 
 def _pieces(records: Sequence[Record]) -> Iterator[Sequence[Record]]:

@@ -1,6 +1,7 @@
 """Lines of many files, each in the order of the records, made one file in that order."""
 
 import heapq
+import re
 import tempfile
 from collections.abc import Generator, Iterable, Iterator, Sequence
 from contextlib import ExitStack, closing
@@ -14,6 +15,8 @@ MOST_OPEN = 256
 """So many files are read at a time. A process may have 1,024 open as systems come."""
 MEMBER, END = b'"record":', b"}\n"
 """What stands before and behind the number of a line: its last member."""
+FAULT = re.compile(rb'{"answer":null,"fault":"(\w+)[^"]*"')
+"""The beginning of a line without an answer."""
 BUFFER_BYTES = 1 << 16
 """Of each file that is read or written."""
 
@@ -35,6 +38,12 @@ def number_of(line: bytes) -> int:
     if begin < len(MEMBER) or not line.endswith(END) or not digits.isdigit():
         raise ValueError("a line has no number of a record at its end")
     return int(digits)
+
+
+def fault_of(line: bytes) -> str | None:
+    """The name of a line's fault, or None where it has an answer."""
+    found = FAULT.match(line)
+    return None if found is None else found[1].decode()
 
 
 def lines_of(file: Path) -> Lines:

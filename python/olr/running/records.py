@@ -3,8 +3,8 @@
 from collections.abc import Iterable, Iterator
 from itertools import chain, islice
 from pathlib import Path
-from typing import NamedTuple
 
+from olr.asking.records import Record
 from olr.content import Stamp
 from olr.errors import ToolError
 from olr.messages.message import Message, Reading
@@ -15,15 +15,6 @@ END = b"\r\n"
 """What is written behind a record: whatever its last byte is, just this is taken off again."""
 NOTHING = b" "
 """The record of a message without a key and a text: an empty one would have no line."""
-
-
-class Record(NamedTuple):
-    """A record that isn't empty."""
-
-    number: int
-    """From 1, empty ones counted."""
-    data: bytes
-    """Without the line feed and the carriage return at its end."""
 
 
 def read_records(file: Path, reading: Reading, name: str | None = None) -> Iterator[Record]:

@@ -20,6 +20,7 @@ from functools import lru_cache
 from pathlib import Path
 from typing import Any
 
+from olr.asking.records import Record
 from olr.errors import ToolError
 from olr.outputs import PREFIX, folders_made, sync, write_whole, writing
 from olr.progress import watched
@@ -36,7 +37,7 @@ from olr.running.identity import Build, shortened
 from olr.running.joining import Lines
 from olr.running.parts import Part
 from olr.running.question import Question
-from olr.running.records import Record, reference_of
+from olr.running.records import reference_of
 
 RUN, GROUPS, PARTS, FACTS, FAILED = "run.json", "groups", "parts", "facts", "failed.txt"
 FOLDERS = GROUPS, PARTS, FACTS

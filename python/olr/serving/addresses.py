@@ -2,6 +2,7 @@
 
 import json
 from collections.abc import AsyncGenerator, AsyncIterator, Awaitable, Callable, Coroutine, Iterator
+from contextlib import aclosing
 from fastapi import FastAPI
 from starlette.exceptions import HTTPException
 from starlette.requests import Request
@@ -119,8 +120,12 @@ def _scene(service: Service, room: Room) -> Answering:
 
 
 def _streaming(service: Service, what: What) -> Route:
-    def lines(kind: Kind, body: AsyncIterator[bytes], _: IsGone) -> AsyncGenerator[bytes, None]:
-        return service.served.batch(kind, body)
+    async def lines(
+        kind: Kind, body: AsyncIterator[bytes], _: IsGone
+    ) -> AsyncGenerator[bytes, None]:
+        async with aclosing(service.served.batch(kind, body)) as answered:
+            async for some in answered:
+                yield b"".join(one.line() for one in some)
 
     streaming = Streaming(service.served, service.limits, what, lines)
     return Route(f"/batch/{what}", streaming, methods=["POST"])

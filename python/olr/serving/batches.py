@@ -1,50 +1,76 @@
-"""A process `olr batch` whose input and output are streams."""
+"""A process `olr batch` for the records of one body."""
 
 import asyncio
 from asyncio.subprocess import PIPE, Process
-from collections.abc import AsyncGenerator, AsyncIterator
+from collections import deque
+from collections.abc import AsyncGenerator, AsyncIterator, Sequence
 from contextlib import suppress
+from pathlib import Path
+from typing import NamedTuple
 
-from olr.asking.batch_process import why_ended
-from olr.asking.ending import kill_group_of
-from olr.errors import ProgramNotFound
+from olr.asking.exchange import Exchange
+from olr.asking.records import Record, Splitter
+from olr.asking.starting import command_of, kill_group_of, not_started
 from olr.serving.edition import Edition
-from olr.serving.limits import MOST_SAID
+from olr.serving.limits import MOST_ANSWER, MOST_SAID
 from olr.serving.queries import Kind
 
 PIECE = 1 << 18
 
 
-async def lines_of(
-    edition: Edition, kind: Kind, body: AsyncIterator[bytes]
-) -> AsyncGenerator[bytes, None]:
-    """What a process writes about the records of a body, in pieces. It is asked for the next one when the last one was taken, and reads the
-    body as it goes. It is killed where this is closed. Raises `MapRefused`, `ProgramNotFound`, `ProgramEnded`, and as the body does.
-    """
-    version = await edition.found()
-    words = edition.words(kind)
+class Answered(NamedTuple):
+    """A record, and the JSON of its answer, or `null` and a fault."""
+
+    record: Record
+    answer: bytes
+    fault: str | None
+
+    def line(self) -> bytes:
+        """Its line, as the program writes it."""
+        return self.record.line(self.answer, self.fault)
+
+
+async def started(program: Path, words: Sequence[str], stdin: int = PIPE) -> Process:
+    """A process of the program, with pipes. Raises `ProgramNotFound`."""
     try:
-        process = await asyncio.create_subprocess_exec(
-            *words, stdin=PIPE, stdout=PIPE, stderr=PIPE, start_new_session=True, limit=PIECE
+        return await asyncio.create_subprocess_exec(
+            *command_of(program, words),
+            stdin=stdin,
+            stdout=PIPE,
+            stderr=PIPE,
+            start_new_session=True,
+            limit=PIECE,
         )
     except OSError as error:
-        raise ProgramNotFound(f"{words[0]} can't be started: {error.strerror}") from error
-    feeding = asyncio.create_task(_feed(process, body))
+        raise not_started(program, error.strerror) from error
+
+
+async def answered_by(
+    edition: Edition, kind: Kind, body: AsyncIterator[bytes]
+) -> AsyncGenerator[list[Answered], None]:
+    """What a process answers to the records of a body, some at a time. It is asked for the next ones when the last ones were taken, and reads
+    the body as it goes. It is killed where this is closed. Raises `MapRefused`, `ProgramNotFound`, `ProgramEnded`, `AnswerTooLarge`, and as
+    the body does.
+    """
+    version = await edition.found()
+    exchange = Exchange(edition.program, MOST_ANSWER)
+    process = await started(edition.program, edition.words(kind))
+    waiting: deque[Record] = deque()
+    feeding = asyncio.create_task(_feed(process, exchange, body, waiting))
     assert process.stdout is not None and process.stderr is not None
     is_kept = False
-    lines = 0
     try:
         while piece := await process.stdout.read(PIECE):
             if not is_kept:
                 await edition.keep(version)
                 is_kept = True
-            lines += piece.count(b"\n")
-            yield piece
+            lines = exchange.receive(piece)
+            yield [Answered(waiting.popleft(), line.answer, line.fault) for line in lines]
         if feeding.done():
             await feeding
         said = await process.stderr.read(MOST_SAID)
-        if (status := await process.wait()) != 0:
-            raise why_ended(status, said, lines)
+        if (status := await process.wait()) != 0 or waiting:
+            raise exchange.why_ended(status, said)
     finally:
         feeding.cancel()
         _kill(process)
@@ -53,12 +79,15 @@ async def lines_of(
         await process.wait()
 
 
-async def _feed(process: Process, body: AsyncIterator[bytes]) -> None:
-    """Writes the body to a process, no faster than it is read. Where the body fails the process is killed."""
+async def _feed(
+    process: Process, exchange: Exchange, body: AsyncIterator[bytes], waiting: deque[Record]
+) -> None:
+    """Asks about the records of a body, no faster than they are read. Where the body fails the process is killed."""
     assert process.stdin is not None
     try:
-        async for piece in body:
-            process.stdin.write(piece)
+        async for records in records_of(body):
+            waiting.extend(records)
+            process.stdin.write(exchange.ask(record.text() for record in records))
             await process.stdin.drain()
     except (BrokenPipeError, ConnectionResetError):
         return
@@ -66,6 +95,14 @@ async def _feed(process: Process, body: AsyncIterator[bytes]) -> None:
         _kill(process)
         raise
     process.stdin.close()
+
+
+async def records_of(body: AsyncIterator[bytes]) -> AsyncIterator[list[Record]]:
+    """The records of a body, as its pieces come."""
+    splitter = Splitter()
+    async for piece in body:
+        yield splitter.receive(piece)
+    yield splitter.end()
 
 
 def _kill(process: Process) -> None:

@@ -5,7 +5,7 @@ import threading
 from pathlib import Path
 from typing import TYPE_CHECKING
 
-from olr.asking.batch_process import batch_words
+from olr.asking.exchange import Asked
 from olr.asking.files import MapFiles, Version
 from olr.asking.program import PathLike, find_program
 from olr.errors import MapRefused
@@ -30,8 +30,8 @@ class Edition:
         self._reading = threading.Lock()
 
     def words(self, kind: Kind) -> list[str]:
-        """The words of a process."""
-        return batch_words(self.program, kind.what, self.files, kind.words)
+        """The words of a process, behind the program."""
+        return Asked(self.program, kind.what, kind.words).words(self.files)
 
     async def found(self) -> Version:
         """The version that is there. Raises `MapRefused` if it isn't that of this edition."""

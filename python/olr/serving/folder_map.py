@@ -11,7 +11,7 @@ from olr.asking.files import Version
 from olr.errors import MapRefused, ToolError
 from olr.model.answers import Matching, Reference
 from olr.model.fault import Fault
-from olr.serving.batches import lines_of
+from olr.serving.batches import Answered, answered_by
 from olr.serving.edition import Edition
 from olr.serving.limits import Limits
 from olr.serving.pool import Pool
@@ -43,7 +43,7 @@ class FolderMap:
 
     async def open(self) -> None:
         """Reads the map. Raises `ToolError`."""
-        self._version = await version_of(str(self.pool.edition.program))
+        self._version = await version_of(self.pool.edition.program)
         await self.pool.open(FIRST)
         self._watching = asyncio.create_task(self.pool.watch())
 
@@ -96,7 +96,7 @@ class FolderMap:
             version = await edition.found()
             words = ["match", *edition.files.words(), *question.kind.words, "--after", after]
             words += ["--format", "json", "--", question.text.decode()]
-            page = await printed_by(str(edition.program), words, self._limits.time)
+            page = await printed_by(edition.program, words, self._limits.time)
             await edition.keep(version)
         return Known(page, version)
 
@@ -104,15 +104,15 @@ class FolderMap:
         """What a reference says. Raises `ToolError`."""
         words = ["show", "--format", "json", "--", text.decode()]
         async with self._showing:
-            return await printed_by(str(self.pool.edition.program), words, self._limits.time)
+            return await printed_by(self.pool.edition.program, words, self._limits.time)
 
     def place(self, is_gone: IsGone) -> AbstractAsyncContextManager[None]:
         """Room for a process of its own, while it runs. Raises `Problem`."""
         return self.pool.place()
 
-    def batch(self, kind: Kind, body: AsyncIterator[bytes]) -> AsyncGenerator[bytes, None]:
-        """The lines of a process of its own. Raises as `batches.lines_of`."""
-        return lines_of(self.pool.edition, kind, body)
+    def batch(self, kind: Kind, body: AsyncIterator[bytes]) -> AsyncGenerator[list[Answered], None]:
+        """The answers of a process of its own. Raises as `answered_by`."""
+        return answered_by(self.pool.edition, kind, body)
 
     def digest(self) -> str | None:
         """Of the nodes and lines that are asked now."""

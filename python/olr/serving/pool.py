@@ -8,10 +8,11 @@ from contextlib import asynccontextmanager, suppress
 from itertools import count
 from typing import Any
 
+from olr.asking.exchange import AnswerTooLarge
 from olr.errors import MapRefused, TimedOut, ToolError
 from olr.serving.edition import Edition
 from olr.serving.limits import ABREAST, Limits
-from olr.serving.problems import AnswerTooLarge, busy
+from olr.serving.problems import busy
 from olr.serving.process import Answer, Process, Request
 from olr.serving.queries import Kind
 

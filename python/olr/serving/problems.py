@@ -5,6 +5,7 @@ from collections.abc import Mapping
 from http import HTTPStatus
 from starlette.responses import Response
 
+from olr.asking.exchange import AnswerTooLarge
 from olr.errors import MapRefused, ProgramEnded, ProgramNotFound, TimedOut, ToolError
 from olr.model.fault import Fault
 from olr.serving.limits import MOST_ANSWER, RETRY_AFTER
@@ -32,10 +33,6 @@ TITLES = {
     "TimedOut": "504: the program took too long",
 }
 """What problems are about, by their titles. All others are faults of references, with the status 422."""
-
-
-class AnswerTooLarge(ToolError):
-    """An answer has more bytes than are held."""
 
 
 class Problem(Exception):

@@ -1,7 +1,6 @@
 """A process `olr batch` that is asked without threads.
 
-`client/batch.py` has one for threads: it writes in a thread, and whoever waits reads. Here an event loop does both. What both share is in
-`client/batch_process.py`: the words of the command, and what is known when it has ended.
+`asking/threaded.py` has one for threads: it writes in a thread, and whoever waits reads. Here an event loop does both.
 """
 
 import asyncio
@@ -10,13 +9,12 @@ from collections import deque
 from collections.abc import Callable, Iterable
 from typing import NamedTuple, Protocol, cast
 
-from olr.asking.batch_process import why_ended
-from olr.asking.ending import kill_group_of
-from olr.errors import ProgramEnded, ProgramNotFound, TimedOut, ToolError
-from olr.model.objects import raw_line
+from olr.asking.exchange import AnswerTooLarge, Exchange
+from olr.asking.starting import command_of, kill_group_of, not_started
+from olr.errors import ProgramEnded, TimedOut, ToolError
+from olr.model.objects import RawLine
 from olr.serving.edition import Edition
 from olr.serving.limits import MOST_ANSWER, MOST_SAID, SECONDS_TO_READ
-from olr.serving.problems import AnswerTooLarge
 from olr.serving.queries import Kind
 
 STDOUT, STDERR = 1, 2
@@ -93,9 +91,7 @@ class Process(asyncio.SubprocessProtocol):
         self._ended: asyncio.Future[None] = self._loop.create_future()
         self._transport: asyncio.SubprocessTransport | None = None
         self._input: asyncio.WriteTransport | None = None
-        self._written = self._read = 0
-        self._parts: list[bytes] = []
-        self._size = 0
+        self._exchange = Exchange(edition.program, MOST_ANSWER)
         self._said = b""
         self._error: ToolError | None = None
 
@@ -117,13 +113,14 @@ class Process(asyncio.SubprocessProtocol):
 
     async def _start(self) -> None:
         version = await self.edition.found()
-        words = self.edition.words(self.kind)
+        program = self.edition.program
+        command = command_of(program, self.edition.words(self.kind))
         try:
             await self._loop.subprocess_exec(
-                lambda: self, *words, stdin=PIPE, stdout=PIPE, stderr=PIPE, start_new_session=True
+                lambda: self, *command, stdin=PIPE, stdout=PIPE, stderr=PIPE, start_new_session=True
             )
         except OSError as error:
-            raise ProgramNotFound(f"{words[0]} can't be started: {error.strerror}") from error
+            raise not_started(program, error.strerror) from error
         if self._error is not None:
             raise self._error
         self._write([PROBE])
@@ -146,11 +143,9 @@ class Process(asyncio.SubprocessProtocol):
 
     def _write(self, texts: Iterable[bytes]) -> None:
         """Writes the texts of records."""
-        first = self._written + 1
-        records = [b"%d\t%s\n" % (number, text) for number, text in enumerate(texts, first)]
-        self._written += len(records)
+        records = self._exchange.ask(texts)
         if self._input is not None and not self._input.is_closing():
-            self._input.write(b"".join(records))
+            self._input.write(records)
 
     def fail(self, error: ToolError) -> None:
         """Ends the process for an error, which is that of whatever it leaves."""
@@ -184,36 +179,23 @@ class Process(asyncio.SubprocessProtocol):
         if fd != STDOUT:
             self._said = (self._said + data)[:MOST_SAID]
             return
-        self._parts.append(data)
-        self._size += len(data)
-        if b"\n" in data:
-            *lines, rest = b"".join(self._parts).split(b"\n")
-            self._parts, self._size = [rest], len(rest)
-            for line in lines:
+        if self._error is not None:
+            return
+        try:
+            for line in self._exchange.receive(data):
                 if self._error is None:
                     self._take(line)
-        if self._size > MOST_ANSWER and self._error is None:
-            too_large = AnswerTooLarge(f"the answer has more than {MOST_ANSWER:,} bytes")
-            if self.requests:
-                self.requests.popleft().refuse(too_large)
-            self.fail(too_large)
+        except ProgramEnded as error:
+            if isinstance(error, AnswerTooLarge) and self.requests:
+                self.requests.popleft().refuse(error)
+            self.fail(error)
 
-    def _take(self, line: bytes) -> None:
+    def _take(self, line: RawLine) -> None:
         """Gives a line to the request that is its turn."""
-        self._read += 1
-        try:
-            raw = raw_line(line)
-            if self._read > self._written or raw.key != str(self._read):
-                raise ValueError(f"the key is {raw.key!r}, not {self._read}")
-            if raw.record != self._read:
-                raise ValueError(f"the record is {raw.record}, not {self._read}")
-        except ValueError as error:
-            self.fail(ProgramEnded(f"olr wrote what is no answer to what it was asked ({error})"))
-            return
-        if self._read == 1:
+        if line.record == 1:
             self._map_is_read.set_result(None)
             return
-        self.requests.popleft().give(Answer(raw.answer, raw.fault, self.edition))
+        self.requests.popleft().give(Answer(line.answer, line.fault, self.edition))
         self.working_since = self._loop.time()
         self._owner.became_free(self)
 
@@ -227,7 +209,7 @@ class Process(asyncio.SubprocessProtocol):
         """It has ended, and all that it wrote was read."""
         assert self._transport is not None
         status = self._transport.get_returncode()
-        self._finish(self._error or why_ended(status or 0, self._said, self._read))
+        self._finish(self._error or self._exchange.why_ended(status or 0, self._said))
 
     def _finish(self, error: ToolError) -> None:
         """Tells whoever waits for it that it has ended."""

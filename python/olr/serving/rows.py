@@ -6,7 +6,6 @@ that, a line, and the records that the program has at hand.
 
 import asyncio
 import json
-from collections import deque
 from collections.abc import AsyncGenerator, AsyncIterator, Sequence
 from contextlib import aclosing
 from typing import Any, NamedTuple
@@ -18,27 +17,16 @@ from olr.geometry.network import Network
 from olr.matching.rows import DIGITS
 from olr.model.answers import Places
 from olr.model.fault import Fault
-from olr.model.objects import line_of
+from olr.model.objects import read_answer
 from olr.model.reference import read_reference
-from olr.running.batching import end_of, key_of
+from olr.serving.batches import Answered
 from olr.serving.judging import LongList, long_list_of
-from olr.serving.limits import MOST_ANSWER
-from olr.serving.problems import AnswerTooLarge
 from olr.serving.queries import Kind
-from olr.serving.records import Record, records_of
 from olr.serving.rooms import Room
 from olr.serving.served import IsGone, Served
 
 MOST_LINES = 64
 """Lines that are judged at once. Others get a turn between two lots."""
-
-
-class Asked(NamedTuple):
-    """A record that waits for its line."""
-
-    record: Record
-    end: bytes
-    """What its line ends with."""
 
 
 class Rows(NamedTuple):
@@ -56,80 +44,50 @@ class Rows(NamedTuple):
         async with self.room.place(is_gone):
             network = await asyncio.to_thread(self.served.network)
         asked = long_list_of(kind, self.confidence)
-        waiting: deque[Asked] = deque()
-        pieces = self.served.batch(asked.kind, _noted(body, waiting))
-        async with aclosing(pieces), aclosing(_lots_of(pieces)) as lots:
+        async with aclosing(self.served.batch(asked.kind, body)) as answered:
             if self.served.digest() != network.digest:
                 raise MapRefused("another version of the map took the place of the one to ask")
-            async for lines in lots:
-                some = [waiting.popleft() for _ in lines[: len(waiting)]]
-                async with self.room.place(is_gone):
-                    text = await asyncio.to_thread(_text, some, lines, network, asked)
-                yield text
-            if waiting:
-                raise ProgramEnded(f"the program wrote no line for {len(waiting)} records")
+            async for some in answered:
+                for at in range(0, len(some), MOST_LINES):
+                    async with self.room.place(is_gone):
+                        lot = some[at : at + MOST_LINES]
+                        text = await asyncio.to_thread(_text, lot, network, asked)
+                    yield text
 
 
-async def _noted(body: AsyncIterator[bytes], waiting: deque[Asked]) -> AsyncIterator[bytes]:
-    """The records of a body that aren't empty, which wait for their lines from then on."""
-    number = 0
-    async for record in records_of(body):
-        number += 1
-        waiting.append(Asked(record, end_of(key_of(record.data), number).removesuffix(b"\n")))
-        yield record.data + b"\n"
-
-
-async def _lots_of(pieces: AsyncIterator[bytes]) -> AsyncGenerator[Sequence[bytes], None]:
-    """The whole lines of each piece, some at a time. Raises `AnswerTooLarge` for a line that is too long."""
-    unfinished = bytearray()
-    async for piece in pieces:
-        *whole, rest = piece.split(b"\n")
-        if whole:
-            whole[0] = bytes(unfinished) + whole[0]
-            unfinished.clear()
-        unfinished += rest
-        if len(unfinished) > MOST_ANSWER:
-            raise AnswerTooLarge(f"a line has more than {MOST_ANSWER:,} bytes")
-        for at in range(0, len(whole), MOST_LINES):
-            yield whole[at : at + MOST_LINES]
-
-
-def _text(
-    some: Sequence[Asked], lines: Sequence[bytes], network: Network, asked: LongList
-) -> bytes:
-    """The rows of records, by the program's lines about them. Raises `ToolError`."""
+def _text(some: Sequence[Answered], network: Network, asked: LongList) -> bytes:
+    """The rows of records, by what the program answered to them. Raises `ToolError`."""
     try:
-        found = [_answer_of(*pair, network) for pair in zip(some, lines, strict=True)]
+        answers = [_answer_of(one, network) for one in some]
     except ValueError as error:
         raise ProgramEnded(f"the program wrote what is no answer: {error}") from error
-    answers = [answer for _, answer in found]
     references = [
-        read_reference(one.record.reference()) if isinstance(answer, Places) else None
+        read_reference(one.record.text().decode()) if isinstance(answer, Places) else None
         for one, answer in zip(some, answers)
     ]
     judgements = judged(answers, references, network, asked.judging)
     rows = (
         {
             "record": one.record.number,
-            "key": key,
+            "key": one.record.key(),
             **_row(answer, judgement),
             "no_probabilities": asked.note or None,
         }
-        for one, (key, answer), judgement in zip(some, found, judgements)
+        for one, answer, judgement in zip(some, answers, judgements)
     )
     return b"".join(
         json.dumps(row, separators=(",", ":"), ensure_ascii=False).encode() + b"\n" for row in rows
     )
 
 
-def _answer_of(one: Asked, line: bytes, network: Network) -> tuple[str | None, Places | Fault]:
-    """The key and the answer of a record, by its line. Raises `ValueError` if it isn't one."""
-    if not line.endswith(one.end):
-        raise ValueError("the line is that of another record")
-    key, _, answer = line_of(line, network.digest)
-    if not isinstance(answer, (Places, Fault)):
-        raise ValueError(f"{type(answer).__name__} answers another question")
-    return key, answer
+def _answer_of(one: Answered, network: Network) -> Places | Fault:
+    """The answer to a record. Raises `ValueError` if it isn't one."""
+    fault = one.record.fault() or one.fault
+    if fault is not None:
+        return Fault(fault)
+    answer = read_answer("places", one.answer, network.digest)
+    assert isinstance(answer, Places)
+    return answer
 
 
 def _row(answer: Places | Fault, judgement: Judged | None) -> dict[str, Any]:

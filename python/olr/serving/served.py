@@ -7,6 +7,7 @@ from typing import TYPE_CHECKING, Any, NamedTuple, Protocol, TypeVar
 from olr.asking.files import Version
 from olr.errors import MapRefused
 from olr.model.answers import Matching, Reference
+from olr.serving.batches import Answered
 from olr.serving.queries import Kind, Question
 
 if TYPE_CHECKING:
@@ -55,8 +56,8 @@ class Served(Protocol):
     def place(self, is_gone: IsGone) -> AbstractAsyncContextManager[None]:
         """Room for a process of its own, while it runs. Raises `Problem`."""
 
-    def batch(self, kind: Kind, body: AsyncIterator[bytes]) -> AsyncGenerator[bytes, None]:
-        """The lines of `olr batch` about the records of a body, in pieces, within a `place`. Raises as `answer`, and as the body does."""
+    def batch(self, kind: Kind, body: AsyncIterator[bytes]) -> AsyncGenerator[list[Answered], None]:
+        """The answers to the records of a body, some at a time, within a `place`. Raises as `answer`, and as the body does."""
 
     def digest(self) -> str | None:
         """Of the nodes and lines that are asked now."""

@@ -19,10 +19,10 @@ from olr.model.fault import Fault
 from olr.model.map_folder import store_of
 from olr.model.questions import TOLERANCES, argument
 from olr.regions.current import CurrentStore
+from olr.serving.batches import Answered, records_of
 from olr.serving.limits import Limits
 from olr.serving.problems import busy
 from olr.serving.queries import Kind, Question
-from olr.serving.records import records_of
 from olr.serving.runs import printed_by, version_of
 from olr.serving.served import IsGone, Known
 
@@ -44,7 +44,7 @@ class StoreMap:
     def __init__(self, path: Path, limits: Limits) -> None:
         self._path, self._limits = path, limits
         self._name = path.resolve().name
-        self._program = str(find_program())
+        self._program = find_program()
         self._maps: dict[Tolerances, Map] = {}
         self._digest = ""
         self._refused: str | None = None
@@ -153,18 +153,18 @@ class StoreMap:
         finally:
             self._turn.release()
 
-    async def batch(self, kind: Kind, body: AsyncIterator[bytes]) -> AsyncGenerator[bytes, None]:
-        """The lines of the records of a body, one after the other."""
-        async for record in records_of(body):
-            fault = record.fault()
-            answer = b"null"
-            if fault is None:
-                question = Question(kind, record.reference().encode(), None)
+    async def batch(
+        self, kind: Kind, body: AsyncIterator[bytes]
+    ) -> AsyncGenerator[list[Answered], None]:
+        """The answers to the records of a body, one after the other."""
+        async for records in records_of(body):
+            for record in records:
+                question = Question(kind, record.text(), None)
                 try:
-                    answer = await self._in_thread(lambda: self._asked(question))
+                    answer, fault = await self._in_thread(lambda: self._asked(question)), None
                 except Fault as found:
-                    fault = found.text
-            yield record.line(answer, fault)
+                    answer, fault = b"null", found.text
+                yield [Answered(record, answer, fault)]
 
     async def _in_thread(self, call: Callable[[], Made]) -> Made:
         return await asyncio.get_running_loop().run_in_executor(self._thread, call)

@@ -1,0 +1,265 @@
+"""The processes that answer questions about the map of some files, for all threads that ask."""
+
+import re
+import threading
+import weakref
+from collections import deque
+from collections.abc import Callable, Generator, Iterator, Mapping
+from contextlib import contextmanager
+from itertools import islice
+from pathlib import Path
+from typing import NamedTuple, TypeVar
+
+from olr.asking.exchange import Asked
+from olr.asking.files import MapFiles
+from olr.asking.once import run_once
+from olr.asking.patience import PATIENCE
+from olr.asking.program import find_program
+from olr.asking.threaded import Batch
+from olr.errors import TimedOut, closed_error
+from olr.model.answers import AnswerOrFault
+from olr.model.questions import What, number_words, record_text, words_of
+
+Read = TypeVar("Read")
+AHEAD = 256
+"""So many references are handed over before the first of their answers is taken."""
+_MARK = re.compile(rb'(?<=[0-9.:])@[0-9a-f]{64}(?="}\s*$)')
+"""The mark of the inputs in the cursor at the end of a page. Of a part of a map it would name the part."""
+
+
+class Settings(NamedTuple):
+    """How the program is asked."""
+
+    tolerances: Mapping[str, int]
+    """All of them, by their names."""
+    program: Path | None = None
+    """None for the one that is found."""
+    patience: float | None = PATIENCE
+    """For how many seconds it may answer nothing; None for as long as it takes."""
+
+    def words(self) -> list[str]:
+        """The words of the tolerances."""
+        return [word for pair in self.tolerances.items() for word in number_words(*pair)]
+
+
+class Question(NamedTuple):
+    """What is asked of references, with the words of all its numbers."""
+
+    what: What
+    words: tuple[str, ...]
+
+    @classmethod
+    def of(cls, what: What, numbers: Mapping[str, int]) -> "Question":
+        """A question with numbers, those that aren't given at their defaults. Raises `ValueError`, `TypeError` and `Fault` as `words_of`."""
+        return cls(what, tuple(words_of(what, numbers)))
+
+    def numbers(self) -> dict[str, int]:
+        """Its numbers by their names."""
+        pairs = zip(self.words[::2], self.words[1::2])
+        return {name.removeprefix("--"): int(value) for name, value in pairs}
+
+
+class Processes:
+    """For each kind of question a process `olr batch`, which is started when it is first asked; with other numbers another one takes its
+    place. They end by `close`, or with Python itself."""
+
+    def __init__(self, files: MapFiles, settings: Settings) -> None:
+        """Those of the map of these files. Nothing is started yet."""
+        self.files, self._settings = files, settings
+        self._batches: "_Batches" = {}
+        self._lock = threading.Lock()
+        self._closed = False
+        self._end = weakref.finalize(self, _end_all, self._batches)
+
+    def close(self) -> None:
+        """Ends the processes: whoever waits for one gets an error."""
+        with self._lock:
+            self._closed = True
+            self._end()
+
+    def ask(self, question: Question, text: bytes, read: Callable[[Batch, int], Read]) -> Read:
+        """What is read of the line of one reference. Raises `ToolError`."""
+        with self._process(question) as batch:
+            keys = range(0)
+            try:
+                keys = batch.ask([text])
+                return read(batch, keys[0])
+            except TimedOut as error:
+                if batch.unanswered() == 1:
+                    raise timed_out(self._settings, text) from error
+                # Another one may be it, which another thread asked, or nobody waits for.
+                (found,) = self._one_by_one(question, deque([text]), read)
+                return found
+            finally:
+                batch.drop(keys)
+
+    def answers(
+        self, question: Question, left: Iterator[str]
+    ) -> Generator[AnswerOrFault, None, None]:
+        """The answers about the references that are left, in their order. Up to AHEAD of them are taken before the first answer is given.
+        Where the process answers nothing for too long, what was handed over is asked again, one by one. Raises `ToolError`.
+        """
+        waiting: deque[bytes] = deque()
+        number = 0
+        while True:
+            for answer in self._ahead(question, left, waiting):
+                number += 1
+                yield answer
+            if not waiting:
+                return
+            for answer in self._one_by_one(question, waiting, Batch.answer, number):
+                number += 1
+                yield answer
+
+    def behind(
+        self,
+        question: Question,
+        text: bytes,
+        cursor: str,
+        read: Callable[[bytes, str | None], Read],
+    ) -> Read:
+        """What is read of the page behind a cursor, and of the digest of the map, by a run of the program of its own: `olr batch` has first
+        pages alone. Raises `ToolError`."""
+        if self._closed:
+            raise closed_error()
+        with self.files.reading() as version:
+            words = [question.what, *self.files.words(), *self._settings.words(), *question.words]
+            words += ["--after", cursor, "--format", "json", "--", text.decode()]
+            program = find_program(self._settings.program)
+
+            def read_page(shown: bytes) -> Read:
+                page = _MARK.sub(b"", shown) if self.files.is_part else shown
+                return read(page, version.network)
+
+            return run_once(program, words, read_page, self._settings.patience)
+
+    def _ahead(
+        self, question: Question, left: Iterator[str], waiting: deque[bytes]
+    ) -> Iterator[AnswerOrFault]:
+        """Answers about references, which are handed over before their answers are taken. Those whose answers weren't given yet are
+        kept in `waiting`, and asked first. It ends early where the process answers nothing for too long: any of them may be the reason.
+        """
+        keys: deque[int] = deque()
+        with self._process(question) as batch:
+            try:
+                while True:
+                    if len(waiting) <= AHEAD // 2:
+                        waiting.extend(map(record_text, islice(left, AHEAD - len(waiting))))
+                    if not waiting:
+                        return
+                    try:
+                        if len(keys) < len(waiting):
+                            keys.extend(batch.ask(islice(waiting, len(keys), None)))
+                        answer = batch.answer(keys[0])
+                    except TimedOut:
+                        return
+                    keys.popleft()
+                    waiting.popleft()
+                    yield answer
+            finally:
+                batch.drop(keys)
+
+    def _one_by_one(
+        self,
+        question: Question,
+        waiting: deque[bytes],
+        read: Callable[[Batch, int], Read],
+        before: int | None = None,
+    ) -> Iterator[Read]:
+        """Answers to waiting references by a process of their own, each of which is asked when the one before is answered. `before` is
+        how many came before them. Raises `TimedOut`, with the reference."""
+        with self._process_alone(question) as batch:
+            while waiting:
+                (key,) = batch.ask([waiting[0]])
+                number = None if before is None else before + 1
+                try:
+                    answer = read(batch, key)
+                except TimedOut as error:
+                    raise timed_out(self._settings, waiting[0], number) from error
+                waiting.popleft()
+                before = number
+                yield answer
+
+    @contextmanager
+    def _process(self, question: Question) -> Iterator[Batch]:
+        """The process for a question, while it is used. One with other numbers is ended when nobody uses it."""
+        with self._lock:
+            batch = self._running(question)
+            batch.users += 1
+        try:
+            yield batch
+        finally:
+            with self._lock:
+                batch.users -= 1
+                self._end_idle(question.what)
+
+    def _running(self, question: Question) -> Batch:
+        """The process for a question: the one that runs, or a new one. It is the last of its kind."""
+        if self._closed:
+            raise closed_error()
+        there = self._batches.setdefault(question.what, [])
+        for pair in there:
+            if pair[0] == question and not pair[1].has_failed():
+                there.remove(pair)
+                there.append(pair)
+                return pair[1]
+        batch = self._started(question)
+        there.append((question, batch))
+        self._end_idle(question.what)
+        return batch
+
+    def _started(self, question: Question) -> Batch:
+        """A new process for a question."""
+        options = [*self._settings.words(), *question.words]
+        asked = Asked(find_program(self._settings.program), question.what, options)
+        return Batch(asked, self.files, self._settings.patience)
+
+    @contextmanager
+    def _process_alone(self, question: Question) -> Iterator[Batch]:
+        """A new process for a question, which nobody else asks."""
+        with self._lock:
+            if self._closed:
+                raise closed_error()
+            batch = self._started(question)
+            batch.users = 1
+            alone: "tuple[Question | None, Batch]" = (None, batch)
+            self._batches.setdefault(question.what, []).insert(0, alone)
+        try:
+            yield batch
+        finally:
+            with self._lock:
+                there = self._batches.get(question.what, [])
+                if alone in there:
+                    there.remove(alone)
+                batch.end()
+
+    def _end_idle(self, what: What) -> None:
+        """Ends the processes of a kind that nobody uses, but the last one."""
+        there = self._batches.get(what, [])
+        for pair in there[:-1]:
+            if pair[1].users == 0:
+                there.remove(pair)
+                pair[1].end()
+
+
+_Batches = dict[What, list[tuple[Question | None, Batch]]]
+"""For each kind of question its processes, with what they are asked: None for one that isn't for others. The last one was asked last."""
+
+
+def timed_out(settings: Settings, text: bytes, number: int | None = None) -> TimedOut:
+    """The error of a reference that was waited for, which has this number among many."""
+    reference = text.decode()
+    which = repr(reference) if number is None else f"reference {number}, {reference!r}"
+    return TimedOut(
+        f"olr answered nothing for {settings.patience:g} seconds to {which}: ask again with more patience, or leave it out",
+        reference,
+        number,
+    )
+
+
+def _end_all(batches: _Batches) -> None:
+    """Ends the processes of a map."""
+    for there in batches.values():
+        for _, batch in there:
+            batch.end()
+    batches.clear()
