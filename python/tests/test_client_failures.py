@@ -206,13 +206,27 @@ def test_a_map_that_isnt_closed(program: Program) -> None:
     assert not Path(f"/proc/{int(ended.stdout)}").exists()
 
 
-def test_python_is_killed(program: Program) -> None:
-    code = "import olr, sys, time; m = olr.Map.of_folder(sys.argv[1]); m.match(sys.argv[2]); print(m._source._processes._batches['match'][0][1]._process.pid, flush=True); time.sleep(60)"
-    environment = os.environ | {"OLR_PROGRAM": str(program.path), "PYTHONPATH": str(TOP / "python")}
-    command = [sys.executable, "-c", code, str(TOP / "examples"), REFERENCE]
-    with subprocess.Popen(command, env=environment, stdout=subprocess.PIPE, text=True) as python:
-        assert python.stdout is not None
-        status = Path(f"/proc/{int(python.stdout.readline())}/stat")
+@pytest.mark.parametrize(
+    "call",
+    [
+        "olr.Map(sys.argv[1], patience=None).match(sys.argv[2])",
+        "olr.Map(sys.argv[1]).match(sys.argv[2], after='8:1.1')",
+        "olr.decode(sys.argv[2])",
+    ],
+)
+def test_python_is_killed(call: str, tmp_path: Path) -> None:
+    """While the program works, and doesn't see that its input ends."""
+    path = script(
+        tmp_path, f"echo $$ > {tmp_path}/new; mv {tmp_path}/new {tmp_path}/pid; exec sleep 600"
+    )
+    environment = os.environ | {"OLR_PROGRAM": str(path), "PYTHONPATH": str(TOP / "python")}
+    command = [sys.executable, "-c", f"import olr, sys; {call}", str(TOP / "examples"), REFERENCE]
+    with subprocess.Popen(command, env=environment) as python:
+        while not (tmp_path / "pid").exists():
+            assert python.poll() is None
+            time.sleep(0.02)
+        status = Path(f"/proc/{int((tmp_path / 'pid').read_text())}/stat")
+        assert status.exists()
         python.kill()
     for _ in range(100):
         if not status.exists() or status.read_text().split()[2] == "Z":
@@ -220,6 +234,18 @@ def test_python_is_killed(program: Program) -> None:
         time.sleep(0.1)
     else:
         raise AssertionError("the program is left behind")
+
+
+def test_a_thread_that_asked_has_ended(program: Program) -> None:
+    """Its process goes on for others."""
+    before = children()
+    with town(program) as asked:
+        first = threading.Thread(target=asked.match, args=(REFERENCE,))
+        first.start()
+        first.join()
+        there = children() - before
+        assert len(there) == 1 and asked.match(REFERENCE).matchings
+        assert children() - before == there
 
 
 def test_a_forked_process_may_not_ask(program: Program) -> None:

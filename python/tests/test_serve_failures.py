@@ -13,7 +13,7 @@ import subprocess
 import threading
 import time
 from collections.abc import Callable, Iterator, Sequence
-from contextlib import contextmanager
+from contextlib import contextmanager, suppress
 from pathlib import Path
 
 from asking import draw_map, draw_references
@@ -468,13 +468,24 @@ def test_it_ends_although_a_stream_runs(server: Server) -> None:
 
 
 def test_it_is_killed(program: Program, drawn: Path, tmp_path: Path, texts: list[str]) -> None:
-    """Its processes end by themselves, since their input ends: those of a stream too."""
-    with serving(program.path, drawn, tmp_path / "log") as server, stream_of(server, 10_000):
-        for what in ("match", "places"):
-            server.get(path_of(what, texts[1]))
-        wait_until(lambda: server.figure('olr_processes{state="apart"}') == 1)
-        programs = server.programs()
-        assert len(programs) == 2
-        server.process.kill()
-        server.process.wait()
-        wait_until(lambda: not any(map(is_running, programs)))
+    """No process is left: neither one whose input ends, nor one of a stream, nor one that works and doesn't look at its input."""
+    bad = bad_program(tmp_path / "bad", program, {texts[2]: "hangs"})
+    with serving(bad, drawn, tmp_path / "log", "--workers", 3) as server:
+        with stream_of(server, 10_000):
+            for what in ("match", "places"):
+                server.get(path_of(what, texts[1]))
+            wait_until(lambda: server.figure('olr_processes{state="apart"}') == 1)
+
+            def ask() -> None:
+                with suppress(http.client.RemoteDisconnected):
+                    server.get(path_of("match", texts[2]))
+
+            asking = threading.Thread(target=ask)
+            asking.start()
+            wait_until(lambda: server.figure('olr_processes{state="working"}') == 1)
+            programs = server.programs()
+            assert len(programs) == 3
+            server.process.kill()
+            server.process.wait()
+            wait_until(lambda: not any(map(is_running, programs)))
+            asking.join()

@@ -72,7 +72,7 @@ class Exchange:
         """The line of the next record."""
         number = self.answered + 1
         try:
-            raw = raw_line(line)
+            raw = _as_expected(line, number) or raw_line(line)
             if number > self.asked:
                 raise ValueError("nothing was asked")
             if raw.key != str(number):
@@ -93,6 +93,14 @@ class Exchange:
     def why_ended(self, status: int, said: bytes) -> ToolError:
         """The error of a process that ended though more was asked, from its status and what it said on standard error."""
         return why_ended(self._program, status, said, self.answered)
+
+
+def _as_expected(line: bytes, number: int) -> RawLine | None:
+    """A line with an answer and the number that it has to have, in a third of the time that `raw_line` takes; None for all others."""
+    head, end = b'{"answer":{', b',"fault":null,"key":"%d","record":%d}' % (number, number)
+    if not (line.startswith(head) and line.endswith(end)):
+        return None
+    return RawLine(line[len(head) - 1 : -len(end)], None, str(number), number)
 
 
 def how_ended(status: int) -> str:

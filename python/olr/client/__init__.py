@@ -3,6 +3,6 @@
 | module | subject |
 |---|---|
 | `map_client` | `olr.Map` |
-| `store_map`, `region_map` | `olr.Map` of a store, and the parts of it that are asked |
+| `source`, `store_source` | where a map is: files, or a store, of which the parts are asked that references need |
 | `written` | `olr.answers`: answers that were written to a file |
 """

@@ -6,7 +6,6 @@
 | `grouping` | references in the order of a space-filling curve, cut into groups |
 | `question`, `identity` | what is asked; of which map and which program, and that a machine has just these |
 | `run_folder`, `parts` | the folder of a run: what was asked, the groups, the parts with what shows them whole |
-| `batching` | one run of `olr batch` over some records, which isn't waited for without end |
 | `isolating` | records at which the program fails: each alone, and the others with their lines |
 | `answering` | what a worker does for a group: region, map, program, part |
 | `cluster`, `waiting` | the groups as tasks of Dask; what it waits for |

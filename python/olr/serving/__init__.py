@@ -11,7 +11,6 @@
 | `runs`, `batches` | runs of the program for one request: those that aren't `olr batch`, and those whose input is a body |
 | `served` | what the addresses ask of a map |
 | `folder_map`, `store_map` | the map of a folder, and that of a store |
-| `records` | the records of a body, and their lines, where a store is asked |
 | `judging` | how places are asked whose probability is shown |
 | `features`, `scenes`, `rows` | answers as GeoJSON, as what a page draws, and as the rows of its list |
 | `rooms` | how many of these are made at once |
