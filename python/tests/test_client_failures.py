@@ -304,7 +304,7 @@ def test_numbers_out_of_range(program: Program) -> None:
         (
             'echo \'{"answer":{"matchings":[{}],"next":null},"key":"1"}\'; cat',
             olr.ProgramEnded,
-            "fault",
+            "it doesn't begin as one",
         ),
         ("exec 1>&-; exec sleep 60", olr.ProgramEnded, "signal 9"),
         ("echo 'olr: BadPage 10' >&2; exit 1", olr.Fault, "BadPage 10"),

@@ -183,9 +183,7 @@ def raw_line(line: bytes) -> RawLine:
     # No text within has these bytes, whose quotes would be escaped there.
     head, found, tail = line.rpartition(_BEHIND)
     answer = head.removeprefix(_ANSWER)
-    if not found:
-        raise ValueError("it has no fault behind its answer")
-    if answer == head:
+    if not found or answer == head:
         raise ValueError("it doesn't begin as one")
     with _as_answer("a record"):
         about = json.loads(b'{"fault":' + tail)
