@@ -2,6 +2,9 @@
 
 import signal
 import sys
+from functools import partial
+
+from olr.streams import ended, open_missing
 
 USAGE = """Usage: olr-tools COMMAND ..
 
@@ -14,10 +17,11 @@ With pip the extras of the wheel bring it: olr[maps], olr[geo] or olr[scale]."""
 
 def main() -> None:
     """Runs the command line. Ends the process: status 0, 1 for a failure, 2 for words that weren't understood."""
+    open_missing()
     try:
         from olr.tools import run
     except ModuleNotFoundError as missing:
-        sys.exit(_without_click(sys.argv[1:], missing))
+        sys.exit(ended(partial(_without_click, sys.argv[1:], missing)))
     # What is half written is deleted, and processes are ended, as by an interrupt.
     signal.signal(signal.SIGTERM, signal.default_int_handler)
     if signal.getsignal(signal.SIGHUP) == signal.SIG_DFL:
@@ -42,8 +46,7 @@ def _without_click(words: list[str], missing: ModuleNotFoundError) -> int:
         return set_up(tests="--tests" in words[1:])
     from olr.extras import lacking
 
-    print(f"olr-tools: {lacking(words[0], missing)}", file=sys.stderr)
-    return 1
+    raise lacking(words[0], missing)
 
 
 if __name__ == "__main__":

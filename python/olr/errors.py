@@ -36,6 +36,12 @@ class MissingModule(ToolError, ModuleNotFoundError):
     """A module isn't installed that a command or a public name of the package needs. `name` is the module."""
 
 
+def reason_of(error: OSError) -> str:
+    """An error of the system as part of a line: its path, if it has one, and the reason."""
+    reason = error.strerror or str(error) or type(error).__name__
+    return reason if error.filename is None else f"{error.filename}: {reason}"
+
+
 def closed_error() -> ToolError:
     """The error of a map that was closed."""
     return ToolError("this map is closed: make another one")

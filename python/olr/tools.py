@@ -6,11 +6,12 @@ asked for, so a module that isn't installed stops only the commands that need it
 
 import click
 import importlib
-import sys
+from functools import partial
 from typing import Any
 
-from olr.errors import MissingModule, ToolError
+from olr.errors import MissingModule, ToolError, reason_of
 from olr.extras import lacking
+from olr.streams import complain, ended
 from olr.version import VERSION
 
 
@@ -47,6 +48,9 @@ class LateGroup(click.Group):
             raise
         except ModuleNotFoundError as missing:
             raise lacking(_words(ctx, ctx.invoked_subcommand or ""), missing) from missing
+        except BrokenPipeError as error:
+            # click takes it for one of standard output, and would end without a word.
+            raise ToolError(reason_of(error)) from error
 
     def format_commands(self, ctx: click.Context, formatter: click.HelpFormatter) -> None:
         """Lists the commands without importing their modules."""
@@ -117,23 +121,20 @@ def setup(tests: bool) -> None:
 def run(words: list[str] | None = None) -> int:
     """Runs the command line on `words`, by default those of the process. Answers the status: 0, 1 for a failure, 2 for words
     that weren't understood."""
+    return ended(partial(_run, words))
+
+
+def _run(words: list[str] | None) -> int:
+    """As `run`. Raises `ToolError` and `OSError` for what a command can't do."""
     try:
         tools.main(args=words, prog_name="olr-tools", standalone_mode=False)
-    except ToolError as error:
-        print(f"olr-tools: {error}", file=sys.stderr)
-        return 1
-    except PermissionError as error:
-        # Of a folder above: what asks whether a file is there asks before it opens one.
-        print(f"olr-tools: {error.filename}: {error.strerror}", file=sys.stderr)
-        return 1
     except click.Abort:
-        print("olr-tools: interrupted", file=sys.stderr)
-        return 1
+        return complain("interrupted")
     except click.ClickException as error:
         error.show()
         return error.exit_code
-    except click.exceptions.Exit as ended:
-        return ended.exit_code
-    except SystemExit as ended:
-        return ended.code if isinstance(ended.code, int) else 1
+    except click.exceptions.Exit as left:
+        return left.exit_code
+    except SystemExit as left:
+        return left.code if isinstance(left.code, int) else 1
     return 0

@@ -8,7 +8,7 @@ from pathlib import Path
 
 PACKAGE = Path(__file__).resolve().parents[1] / "olr"
 LAYERS = (
-    "arrays content counts curve errors extras outputs progress setup sphere version model",
+    "arrays content counts curve errors extras outputs progress setup sphere streams version model",
     "asking",
     "checking client comparing confidence geometry importing likely matching messages near_paths osm regions running trials vector",
     "pages commands serving tools",

@@ -6,7 +6,6 @@ import logging
 import resource
 import signal
 import socket
-import sys
 import uvicorn
 import uvloop
 from collections.abc import Sequence
@@ -54,7 +53,16 @@ class Settings(NamedTuple):
 
 
 class _Server(uvicorn.Server):  # type: ignore[misc]
-    """uvicorn's server, which doesn't wait for ever for what runs, and leaves signals to its owner."""
+    """uvicorn's server, which prints its URL, doesn't wait for ever for what runs, and leaves signals to its owner."""
+
+    def __init__(self, config: uvicorn.Config, url: str) -> None:
+        super().__init__(config)
+        self._url = url
+
+    async def startup(self, sockets: list[socket.socket] | None = None) -> None:
+        """Listens, and prints where."""
+        await super().startup(sockets)
+        click.echo(self._url)
 
     def install_signal_handlers(self) -> None:
         """The owner installs them."""
@@ -114,17 +122,14 @@ async def _answer(settings: Settings, served: Served, listening: socket.socket) 
     allowed = allowed_for(settings.host, port, settings.names, settings.origins)
     front = Front(app, [getattr(route, "path") for route in app.routes], allowed, meters)
     connections = Connections(_most_connections())
-    server = _Server(_config(settings, front, connections))
+    url = f"http://{in_url(settings.host)}:{port}/"
+    server = _Server(_config(settings, front, connections), url)
     renewing = _handle_signals(server, served)
-    loop = asyncio.get_running_loop()
-    tasks = [
-        loop.create_task(connections.watch()),
-        loop.create_task(_tell(server, settings.host, port)),
-    ]
+    watching = asyncio.get_running_loop().create_task(connections.watch())
     try:
         await server.serve(sockets=[listening])
     finally:
-        for task in (*tasks, *renewing):
+        for task in (watching, *renewing):
             task.cancel()
         # What isn't answered by now is left: its connection is closed, and its process ends.
         connections.close()
@@ -147,14 +152,6 @@ def _handle_signals(server: _Server, served: Served) -> "set[asyncio.Task[None]]
 
     loop.add_signal_handler(signal.SIGHUP, renew)
     return renewing
-
-
-async def _tell(server: _Server, host: str, port: int) -> None:
-    """Prints where the server listens, once it does."""
-    while not server.started:
-        await asyncio.sleep(0.01)
-    click.echo(f"http://{in_url(host)}:{port}/")
-    sys.stdout.flush()
 
 
 def _config(settings: Settings, front: Front, connections: Connections) -> Any:
