@@ -7,7 +7,7 @@ from functools import lru_cache, partial
 from pathlib import Path
 from typing import NamedTuple
 
-from olr.errors import ToolError
+from olr.errors import ToolError, readable
 from olr.progress import watched
 
 PIECE = 1 << 20
@@ -26,9 +26,9 @@ class Content:
     @classmethod
     def of(cls, file: Path, shown: bool = True) -> "Content":
         """The content of a file. Shows how far it is, unless that isn't asked for. Raises `ToolError` if it can't be read."""
-        if file.exists() and not file.is_file():
-            raise ToolError(f"{file} is no file: it has to be read twice")
-        try:
+        with readable(file):
+            if file.exists() and not file.is_file():
+                raise ToolError(f"{file} is no file: it has to be read twice")
             with file.open("rb") as stream:
                 digest = hashlib.sha256()
                 pieces = iter(partial(stream.read, PIECE), b"")
@@ -36,8 +36,6 @@ class Content:
                 for piece in watched(pieces, f"MiB of {file.name}", total) if shown else pieces:
                     digest.update(piece)
                 return cls(stream.tell(), digest.hexdigest())
-        except OSError as error:
-            raise ToolError(f"{file} can't be read: {error.strerror}") from error
 
 
 class Stamp(NamedTuple):
@@ -54,10 +52,8 @@ class Stamp(NamedTuple):
     @classmethod
     def of(cls, file: Path) -> "Stamp":
         """The stamp of a file. Raises `ToolError` if it can't be read."""
-        try:
+        with readable(file):
             status = file.stat()
-        except OSError as error:
-            raise ToolError(f"{file} can't be read: {error.strerror}") from error
         return cls(
             status.st_dev, status.st_ino, status.st_size, status.st_mtime_ns, status.st_ctime_ns
         )

@@ -1,5 +1,8 @@
 """The errors that a user sees."""
 
+from collections.abc import Iterator
+from contextlib import contextmanager
+
 
 class ToolError(Exception):
     """Something is wrong with what the user gave. The text is one line without a full stop: what is wrong, where, and what to do.
@@ -40,6 +43,19 @@ def reason_of(error: OSError) -> str:
     """An error of the system as part of a line: its path, if it has one, and the reason."""
     reason = error.strerror or str(error) or type(error).__name__
     return reason if error.filename is None else f"{error.filename}: {reason}"
+
+
+@contextmanager
+def readable(path: object) -> Iterator[None]:
+    """Raises `ToolError` for each `OSError`, and for a path with a NUL: what is there can't be read."""
+    try:
+        yield
+    except OSError as error:
+        raise ToolError(f"{path} can't be read: {error.strerror or error}") from error
+    except ValueError as error:
+        if "\0" not in str(path):
+            raise
+        raise ToolError(f"{str(path)!r} can't be read: {error}") from error
 
 
 def closed_error() -> ToolError:

@@ -8,7 +8,7 @@ from typing import Any
 from olr.confidence.confidence import Confidence
 from olr.confidence.likeness import Range
 from olr.confidence.weights import WEIGHTS
-from olr.errors import ToolError
+from olr.errors import ToolError, readable
 from olr.model.questions import NUMBERS, TOLERANCES, Number
 
 VERSION = 2
@@ -38,10 +38,10 @@ def text_of(confidence: Confidence) -> str:
 
 def read_confidence(file: Path) -> Confidence:
     """What a file says. Raises `ToolError` if it can't be read, or is no such file."""
+    with readable(file):
+        content = file.read_bytes()
     try:
-        return _confidence(json.loads(file.read_bytes(), parse_constant=_no_number))
-    except OSError as error:
-        raise ToolError(f"{file} can't be read: {error.strerror or error}") from error
+        return _confidence(json.loads(content, parse_constant=_no_number))
     except (ValueError, RecursionError) as error:
         reason = "its JSON is too deep" if isinstance(error, RecursionError) else error
         about = f"{file} is no confidence file, as olr-tools calibrate writes it"

@@ -8,7 +8,7 @@ from pathlib import Path
 from typing import Literal
 
 from olr.asking.program import PathLike
-from olr.errors import ToolError
+from olr.errors import ToolError, readable
 from olr.messages.detecting import format_of, look_ahead, with_references
 from olr.messages.lines import messages_of_lines
 from olr.messages.members import messages_of_array, messages_of_objects
@@ -76,9 +76,8 @@ def count_of(file: Path, reading: Reading) -> int | None:
 def _of_file(name: str) -> Iterator[None]:
     """Raises `ToolError`, with the name of a file, for what reading it raises."""
     try:
-        yield
-    except OSError as error:
-        raise ToolError(f"{name} can't be read: {error.strerror}") from error
+        with readable(name):
+            yield
     except UnicodeDecodeError as error:
         found = f"{name} isn't UTF-16, as its first bytes say"
         raise ToolError(f"{found}: convert it, such as by iconv -f LATIN1 -t UTF-8") from error

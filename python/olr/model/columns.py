@@ -12,7 +12,7 @@ from pathlib import Path
 from typing import Literal, NamedTuple
 
 from olr.arrays import Booleans, Integers
-from olr.errors import ToolError
+from olr.errors import ToolError, readable
 from olr.model.map_folder import BANS_HEADER, LINES_HEADER, NODES_HEADER, ROWS, read_batches
 from olr.model.road_map import (
     GREATEST_ID,
@@ -99,21 +99,18 @@ def read_columns(what: What, file: Path, advance: Advance = lambda _: None) -> I
     were read. Raises `ToolError` if they can't be read, or for the first one that isn't one of a map.
     """
     number = 0
-    try:
-        with file.open("rb") as stream:
-            is_usual = stream.readline().rstrip(b"\r\n") == ",".join(_FILES[what].header).encode()
-            while is_usual and (text := stream.read(PIECE) + stream.readline()):
-                columns = _usual_columns(what, text.replace(b"\r\n", b"\n"), number)
-                if columns is None:
-                    break
-                yield columns
-                number += columns.numbers.shape[1]
-                advance(len(text))
-            else:
-                if is_usual:
-                    return
-    except OSError as error:
-        raise ToolError(f"{file} can't be read: {error.strerror}") from error
+    with readable(file), file.open("rb") as stream:
+        is_usual = stream.readline().rstrip(b"\r\n") == ",".join(_FILES[what].header).encode()
+        while is_usual and (text := stream.read(PIECE) + stream.readline()):
+            columns = _usual_columns(what, text.replace(b"\r\n", b"\n"), number)
+            if columns is None:
+                break
+            yield columns
+            number += columns.numbers.shape[1]
+            advance(len(text))
+        else:
+            if is_usual:
+                return
     others = chain.from_iterable(read_batches(file, _FILES[what].header, advance))
     yield from batched_columns(what, islice(others, number, None), number)
 

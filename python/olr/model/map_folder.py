@@ -13,7 +13,7 @@ from itertools import chain, islice
 from pathlib import Path
 from typing import Any, Callable, TypeVar
 
-from olr.errors import ToolError
+from olr.errors import ToolError, readable
 from olr.model.records import read_records
 from olr.model.road_map import Ban, Line, Node, Position, RoadMap
 from olr.model.sources import IDS, write_origins
@@ -50,10 +50,11 @@ def inputs_of(path: Path) -> list[Path]:
 def store_of(path: Path) -> Path | None:
     """The store that a path names: a file, or that of a folder to which an import wrote one. None for a folder with a map's files, or
     for what isn't there."""
-    if path.is_dir():
-        there = (path / STORE).is_file() and not (path / NODES).exists()
-        return path / STORE if there else None
-    return path if path.is_file() or path.suffix.lower() == ".gpkg" else None
+    with readable(path):
+        if path.is_dir():
+            there = (path / STORE).is_file() and not (path / NODES).exists()
+            return path / STORE if there else None
+        return path if path.is_file() or path.suffix.lower() == ".gpkg" else None
 
 
 def require_free(folder: Path, force: bool, inputs: Iterable[Path] = ()) -> None:
@@ -62,10 +63,8 @@ def require_free(folder: Path, force: bool, inputs: Iterable[Path] = ()) -> None
     """
     if folder.exists() and not folder.is_dir():
         raise ToolError(f"{folder} is a file: name a folder")
-    try:
+    with readable(folder):
         holds = folder.exists() and bool(os.listdir(folder))
-    except OSError as error:
-        raise ToolError(f"{folder} can't be read: {error.strerror}") from error
     if holds and not force:
         raise ToolError(f"{folder} isn't empty: name another folder, or replace its map by --force")
     others = list(inputs)
@@ -169,9 +168,8 @@ def read_about(folder: Path) -> dict[str, Any] | None:
     """What the `import.json` of a folder says, or None if there is none of an import. Raises `ToolError` if it can't be read."""
     file = folder / IMPORT
     try:
-        about = json.loads(file.read_text(encoding="utf-8")) if file.exists() else None
-    except OSError as error:
-        raise ToolError(f"{file} can't be read: {error.strerror}") from error
+        with readable(file):
+            about = json.loads(file.read_text(encoding="utf-8")) if file.exists() else None
     except ValueError:
         return None
     needed = {"bans", "importer", "left_out", "u_turns"}
@@ -218,22 +216,19 @@ def read_batches(
     of bytes that were read. Raises `ToolError` if they can't be read, or one hasn't as many fields as the header.
     """
     number = 0
-    try:
-        with file.open("rb") as stream:
-            records = (fields for _, fields in read_records(stream, advance))
-            if next(records, None) != list(header):
-                raise ToolError(f"{file} doesn't begin with the header {','.join(header)}")
-            while batch := list(islice(records, ROWS)):
-                sizes = list(map(len, batch))
-                if sizes.count(len(header)) != len(sizes):
-                    wrong = next(i for i, size in enumerate(sizes) if size != len(header))
-                    raise ToolError(
-                        f"{file}: record {number + wrong + 1} has {sizes[wrong]} fields, not {len(header)}"
-                    )
-                yield batch
-                number += len(batch)
-    except OSError as error:
-        raise ToolError(f"{file} can't be read: {error.strerror}") from error
+    with readable(file), file.open("rb") as stream:
+        records = (fields for _, fields in read_records(stream, advance))
+        if next(records, None) != list(header):
+            raise ToolError(f"{file} doesn't begin with the header {','.join(header)}")
+        while batch := list(islice(records, ROWS)):
+            sizes = list(map(len, batch))
+            if sizes.count(len(header)) != len(sizes):
+                wrong = next(i for i, size in enumerate(sizes) if size != len(header))
+                raise ToolError(
+                    f"{file}: record {number + wrong + 1} has {sizes[wrong]} fields, not {len(header)}"
+                )
+            yield batch
+            number += len(batch)
 
 
 def _node(record: list[str]) -> Node:

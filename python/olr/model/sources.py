@@ -20,7 +20,7 @@ from pathlib import Path
 from typing import NamedTuple, Protocol
 
 from olr.counts import short
-from olr.errors import ToolError
+from olr.errors import ToolError, readable
 from olr.model.road_map import Direction, Origin
 from olr.model.values import MOST_DIGITS, id_of, number_of
 
@@ -108,11 +108,9 @@ def reading(file: Path) -> Iterator[Reading]:
     """Reads an `ids.csv`, of any size. Raises `ToolError` if it can't be read, or isn't one, and, while it is read, for the first record
     that isn't understood."""
     csv.field_size_limit(sys.maxsize)
-    try:
+    with readable(file):
         # What isn't UTF-8 is seen record by record.
         stream = file.open(encoding="utf-8-sig", errors="surrogateescape", newline="")
-    except OSError as error:
-        raise ToolError(f"{file} can't be read: {error.strerror}") from error
     with stream:
         records = _records(file, stream)
         kept, named = _fields_of(file, next(records, []))
@@ -133,19 +131,18 @@ def _records(file: Path, stream: Iterable[str]) -> Iterator[list[str]]:
     """The records of a file, with its header. Empty lines are skipped. Raises `ToolError`."""
     number = 0
     try:
-        for record in csv.reader(stream, strict=True):
-            if record:
-                joined = "".join(record)
-                if not joined.isascii():
-                    joined.encode()
-                yield record
-                number += 1
+        with readable(file):
+            for record in csv.reader(stream, strict=True):
+                if record:
+                    joined = "".join(record)
+                    if not joined.isascii():
+                        joined.encode()
+                    yield record
+                    number += 1
     except UnicodeEncodeError as error:
         raise ToolError(f"{_place(file, number)} isn't UTF-8") from error
     except csv.Error as error:
         raise ToolError(f"{_place(file, number)} isn't CSV: {error}") from error
-    except OSError as error:
-        raise ToolError(f"{file} can't be read: {error.strerror}") from error
 
 
 def _fields_of(file: Path, header: Sequence[str]) -> tuple[tuple[str, ...], bool]:

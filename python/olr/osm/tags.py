@@ -9,7 +9,7 @@ from pathlib import Path
 from typing import Any, NamedTuple
 
 from olr.counts import short
-from olr.errors import ToolError
+from olr.errors import ToolError, readable
 from olr.model.road_map import Direction
 
 Tags = Mapping[str, str]
@@ -167,10 +167,9 @@ def read_tag_table(file: Path | None = None) -> TagTable:
     """Reads a table of tags, by default the one of this package. Raises `ToolError` if the file isn't such a table."""
     source = files(__package__).joinpath("tags.toml") if file is None else file
     try:
-        table = tomllib.loads(source.read_text(encoding="utf-8"))
-        return _table_of(table)
-    except OSError as error:
-        raise ToolError(f"{source} can't be read: {error.strerror}") from error
+        with readable(source):
+            text = source.read_text(encoding="utf-8")
+        return _table_of(tomllib.loads(text))
     except (ValueError, TypeError, KeyError) as error:
         words = f"it lacks {error}" if isinstance(error, KeyError) else str(error)
         raise ToolError(f"{source} is no table of tags: {words}") from error

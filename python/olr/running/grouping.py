@@ -16,7 +16,7 @@ from typing import IO, NamedTuple
 from olr.arrays import Integers
 from olr.asking.records import Record
 from olr.curve import places_on_curve
-from olr.errors import ToolError
+from olr.errors import ToolError, readable
 from olr.model.reference import first_position
 from olr.outputs import sync
 from olr.progress import progress
@@ -102,10 +102,8 @@ def write_groups(records: Iterable[Record], folder: Path, most: int | None = Non
 
 def digests_of(folder: Path, sha256: str) -> bytes:
     """The digests of all groups, whose own digest is this one. Raises `ToolError` if they can't be read, or are others."""
-    try:
+    with readable(folder):
         digests = (folder / DIGESTS).read_bytes()
-    except OSError as error:
-        raise ToolError(f"{folder} can't be read: {error.strerror}") from error
     if hashlib.sha256(digests).hexdigest() != sha256:
         raise _damaged(folder)
     return digests
@@ -115,9 +113,8 @@ def read_group(folder: Path, group: int, digests: bytes) -> Group:
     """The records of a group. Groups are counted from 0. Raises `ToolError` if a file can't be read, or doesn't have the records of
     these digests."""
     try:
-        found = _read_group(folder, group)
-    except OSError as error:
-        raise ToolError(f"{folder} can't be read: {error.strerror}") from error
+        with readable(folder):
+            found = _read_group(folder, group)
     except ValueError as error:
         raise _damaged(folder) from error
     if found.sha256 != digests[group * DIGEST_BYTES :][:DIGEST_BYTES].hex():

@@ -7,7 +7,7 @@ from collections.abc import Generator, Iterable, Iterator, Sequence
 from contextlib import ExitStack, closing
 from pathlib import Path
 
-from olr.errors import ToolError
+from olr.errors import ToolError, readable
 from olr.outputs import whole_file
 from olr.progress import watched
 
@@ -48,11 +48,8 @@ def fault_of(line: bytes) -> str | None:
 
 def lines_of(file: Path) -> Lines:
     """The lines of a file. Raises `ToolError` if it can't be read."""
-    try:
-        with file.open("rb", buffering=BUFFER_BYTES) as stream:
-            yield from stream
-    except OSError as error:
-        raise ToolError(f"{file} can't be read: {error.strerror}") from error
+    with readable(file), file.open("rb", buffering=BUFFER_BYTES) as stream:
+        yield from stream
 
 
 def merge(files: Sequence[Lines], scratch: Path) -> Iterator[bytes]:

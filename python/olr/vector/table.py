@@ -12,7 +12,7 @@ from dataclasses import dataclass, field
 from pathlib import Path
 from typing import Any
 
-from olr.errors import ToolError
+from olr.errors import ToolError, readable
 
 OTHERS = "*"
 """The key of a section that stands for all values it doesn't name."""
@@ -83,10 +83,8 @@ def read_value_table(file: Path | None) -> ValueTable:
     if file is None:
         return ValueTable()
     try:
-        with file.open("rb") as stream:
+        with readable(file), file.open("rb") as stream:
             sections = tomllib.load(stream)
-    except OSError as error:
-        raise ToolError(f"{file} can't be read: {error.strerror}") from error
     except (tomllib.TOMLDecodeError, UnicodeDecodeError) as error:
         raise ToolError(f"{file} isn't TOML: {error}") from error
     for name, section in sections.items():

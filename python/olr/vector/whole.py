@@ -10,7 +10,7 @@ from contextlib import contextmanager
 from pathlib import Path
 from typing import Any
 
-from olr.errors import ToolError
+from olr.errors import ToolError, readable
 from olr.progress import progress
 
 SUFFIXES = (".shp", ".shx", ".dbf")
@@ -85,12 +85,10 @@ def require_whole_shapefile(file: Path, layer: str) -> None:
     shapes, index, table = (_beside(base, suffix) for suffix in SUFFIXES)
     if shapes is None or index is None:
         return
-    try:
+    with readable(file):
         total = _whole_shapes(shapes, index)
         if table is not None:
             _require_whole_table(table, shapes, total)
-    except OSError as error:
-        raise ToolError(f"{file} can't be read: {error.strerror}") from error
 
 
 def _whole_shapes(shapes: Path, index: Path) -> int:
