@@ -26,8 +26,8 @@ first named: all but the last three need Python alone.
 | `commands` | the commands of `olr-tools`; `tools` has their names |
 
 The modules beside them serve all of these: `outputs` (files that are written whole or not at all), `content` (what files have in them, by
-digests), `curve` and `sphere` (places along a space-filling curve, and in metres), `arrays`, `counts`, `progress`, `errors`, `extras` and
-`setup` (the modules of others that are needed), `version`. docs/ARCHITECTURE.md says which package may lean on which.
+digests), `curve` and `sphere` (places along a space-filling curve, and in metres), `arrays`, `counts`, `progress`, `errors`, `streams`
+(standard output and standard error of commands), `extras` and `setup` (the modules of others that are needed), `version`. docs/ARCHITECTURE.md says which package may lean on which.
 """
 
 import importlib

@@ -42,20 +42,18 @@ class MissingModule(ToolError, ModuleNotFoundError):
 def reason_of(error: OSError) -> str:
     """An error of the system as part of a line: its path, if it has one, and the reason."""
     reason = error.strerror or str(error) or type(error).__name__
-    return reason if error.filename is None else f"{error.filename}: {reason}"
+    return f"{error.filename}: {reason}" if error.filename else reason
 
 
 @contextmanager
 def readable(path: object) -> Iterator[None]:
-    """Raises `ToolError` for each `OSError`, and for a path with a NUL: what is there can't be read."""
+    """Raises `ToolError` for a path with a NUL, and for each `OSError`: what is there can't be read."""
+    if "\0" in str(path):
+        raise ToolError(f"{str(path)!r} can't be read: no path has a NUL")
     try:
         yield
     except OSError as error:
         raise ToolError(f"{path} can't be read: {error.strerror or error}") from error
-    except ValueError as error:
-        if "\0" not in str(path):
-            raise
-        raise ToolError(f"{str(path)!r} can't be read: {error}") from error
 
 
 def closed_error() -> ToolError:

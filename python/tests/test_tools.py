@@ -12,7 +12,6 @@ from pathlib import Path
 from conftest import TOP, Tools
 from olr import setup
 from olr import tools as command_line
-from olr.errors import ToolError
 
 STREET = """<osm version="0.6">
 <node id="{node}" lat="0" lon="0"/><node id="2" lat="0" lon="0.001"/>
@@ -281,7 +280,3 @@ def test_setup_prints_before_it_installs(
     monkeypatch.setattr("olr.setup.subprocess.run", run)
     assert setup.set_up() == 0
     assert ran == ["install", "update", "install"]
-
-
-def test_an_error_of_a_user_is_one_line() -> None:
-    assert "\n" not in str(ToolError("one line"))
