@@ -43,6 +43,7 @@ TEST_MODULES = {
 TEST_FILES = {
     "/usr/bin/chromium": "chromium",
     "/usr/bin/ogrinfo": "gdal-bin",
+    "/usr/bin/pyflakes3": "pyflakes3",
     "/usr/bin/jq": "jq",
     "/usr/share/doc/python-osmnx-doc": "python-osmnx-doc",
     "/usr/lib/python3/dist-packages/libpysal": "python3-libpysal",
