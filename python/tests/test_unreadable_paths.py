@@ -42,9 +42,18 @@ def path(request: pytest.FixtureRequest, tmp_path: Path, monkeypatch: pytest.Mon
         olr.Network.read,
         olr.Confidence.of_file,
         lambda path: list(olr.read_messages(path)),
+        lambda path: list(olr.answers(path)),
+        lambda path: olr.Confidence.of_file(str(path)),
         asked,
     ],
-    ids=["Network.read", "Confidence.of_file", "read_messages", "Map"],
+    ids=[
+        "Network.read",
+        "Confidence.of_file",
+        "read_messages",
+        "answers",
+        "of_file of a text",
+        "Map",
+    ],
 )
 def test_a_path_that_cant_be_read(
     read: Callable[[Path], object], path: Path, program: Program, monkeypatch: pytest.MonkeyPatch
@@ -56,3 +65,9 @@ def test_a_path_that_cant_be_read(
     assert "\n" not in said and "\0" not in said
     if not said.startswith("olr refuses the map: OpenFailed "):
         assert path.name.replace("\0", r"\x00") in said
+
+
+def test_a_program_whose_name_is_too_long(monkeypatch: pytest.MonkeyPatch) -> None:
+    monkeypatch.setenv("OLR_PROGRAM", "x" * 300)
+    with pytest.raises(olr.ProgramNotFound, match="there is no program xxx"):
+        olr.decode(REFERENCE)

@@ -44,6 +44,6 @@ def find_program(given: PathLike | None = None) -> Path:
 
 def _file(path: Path, remedy: str) -> Path:
     """A path, if there is a file."""
-    if not path.is_file():
+    if not os.path.isfile(path):
         raise ProgramNotFound(f"there is no program {path}: {remedy}")
     return path.absolute()

@@ -5,7 +5,7 @@ from pathlib import Path
 from typing import NamedTuple
 
 from olr.asking.program import PathLike
-from olr.errors import ToolError
+from olr.errors import ToolError, readable
 from olr.model.answers import AnswerOrFault
 from olr.model.objects import line_of
 
@@ -30,23 +30,16 @@ def answers(file: PathLike) -> Iterator[Answered]:
     read, and later at a line that isn't one.
     """
     path = Path(file)
-    try:
-        with path.open("rb"):
-            pass
-    except OSError as error:
-        raise ToolError(f"{path} can't be read: {error.strerror}") from error
-    return _answers(path)
+    with readable(path), path.open("rb"):
+        return _answers(path)
 
 
 def _answers(path: Path) -> Iterator[Answered]:
     """The lines of a file. Raises `ToolError`."""
-    try:
-        with path.open("rb", buffering=BUFFER_BYTES) as stream:
-            for number, line in enumerate(stream, 1):
-                try:
-                    yield Answered(*line_of(line))
-                except ValueError as error:
-                    about = f"{path}: line {number} isn't an answer of olr-tools run or olr batch"
-                    raise ToolError(f"{about}: {error}") from error
-    except OSError as error:
-        raise ToolError(f"{path} can't be read: {error.strerror}") from error
+    with readable(path), path.open("rb", buffering=BUFFER_BYTES) as stream:
+        for number, line in enumerate(stream, 1):
+            try:
+                yield Answered(*line_of(line))
+            except ValueError as error:
+                about = f"{path}: line {number} isn't an answer of olr-tools run or olr batch"
+                raise ToolError(f"{about}: {error}") from error

@@ -47,11 +47,11 @@ class Confidence:
     deviation."""
 
     @classmethod
-    def of_file(cls, file: Path) -> "Confidence":
+    def of_file(cls, file: str | Path) -> "Confidence":
         """What `olr-tools calibrate` wrote. Raises `ToolError` if the file can't be read, or is none."""
         from olr.confidence.contents import read_confidence
 
-        return read_confidence(file)
+        return read_confidence(Path(file))
 
     @classmethod
     def default(cls) -> "Confidence":
