@@ -7,7 +7,8 @@ import os
 import pytest
 import subprocess
 from collections.abc import Callable, Iterator
-from contextlib import nullcontext
+from contextlib import nullcontext, redirect_stderr, redirect_stdout
+from io import BytesIO, TextIOWrapper
 from pathlib import Path
 from typing import TYPE_CHECKING, NamedTuple
 
@@ -16,6 +17,7 @@ from olr.counts import Counts
 from olr.model.map_folder import write_map
 from olr.model.road_map import Line, RoadMap
 from olr.osm.importing import Options, import_osm
+from olr.tools import run
 
 if TYPE_CHECKING:
     from runs import Runs, Town
@@ -101,10 +103,20 @@ def imported(tmp_path: Path, program: Program) -> Import:
 
 
 class Tools:
-    """The command `olr-tools`, as a process."""
+    """The command `olr-tools`. A process of its own spends half a second on imports, so only what is of processes is run in one."""
 
     def run(self, *words: object) -> subprocess.CompletedProcess[str]:
-        """Runs it on words, and gives its status and texts."""
+        """Runs it on words in this process, and gives its status and texts, as of a pipe."""
+        given = list(map(str, words))
+        out, errors = (TextIOWrapper(BytesIO(), "utf-8", newline="\n") for _ in range(2))
+        with redirect_stdout(out), redirect_stderr(errors):
+            status = run(given)
+        for stream in (out, errors):
+            stream.seek(0)
+        return subprocess.CompletedProcess(given, status, out.read(), errors.read())
+
+    def start(self, *words: object) -> subprocess.CompletedProcess[str]:
+        """The same, in a process of its own."""
         command = [str(TOP / "olr-tools"), *map(str, words)]
         return subprocess.run(command, capture_output=True, text=True, check=False, timeout=60)
 

@@ -91,7 +91,7 @@ def test_the_man_page_has_all_of_the_help(program: Program) -> None:
 def test_one_version(program: Program, tools: Tools) -> None:
     assert re.fullmatch(r"[0-9]+\.[0-9]+\.[0-9]+", olr.__version__)
     assert program.run("--version").stdout == f"olr {olr.__version__}\n"
-    assert tools.run("--version").stdout == f"olr-tools, version {olr.__version__}\n"
+    assert tools.start("--version").stdout == f"olr-tools, version {olr.__version__}\n"
     assert State().version == olr.__version__
 
 

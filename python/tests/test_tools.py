@@ -84,7 +84,7 @@ def test_a_box_in_degrees(tools: Tools, top: Path, tmp_path: Path) -> None:
 
 def test_a_folder_that_isnt_empty_is_refused_before_reading(tools: Tools, tmp_path: Path) -> None:
     (tmp_path / "file").touch()
-    ended = tools.run("import", "osm", "none.osm", "--out", tmp_path)
+    ended = tools.start("import", "osm", "none.osm", "--out", tmp_path)
     assert ended.returncode == 1
     assert ended.stderr == (
         f"olr-tools: {tmp_path} isn't empty: name another folder, or replace its map by --force\n"
@@ -107,7 +107,7 @@ def test_a_folder_that_cant_be_entered(
 
 
 def test_no_progress_bar_in_a_pipe(tools: Tools, top: Path, tmp_path: Path) -> None:
-    ended = tools.run("import", "osm", top / "examples/town.osm", "--out", tmp_path / "map")
+    ended = tools.start("import", "osm", top / "examples/town.osm", "--out", tmp_path / "map")
     assert "\r" not in ended.stdout + ended.stderr
     assert "\x1b" not in ended.stdout + ended.stderr
     assert ended.stderr == (
@@ -118,8 +118,9 @@ def test_no_progress_bar_in_a_pipe(tools: Tools, top: Path, tmp_path: Path) -> N
 
 
 def test_the_same_input_gives_the_same_files(tools: Tools, top: Path, tmp_path: Path) -> None:
+    """Two processes have other orders of their sets."""
     for name in ("one", "two"):
-        tools.run("import", "osm", top / "examples/town.osm", "--out", tmp_path / name)
+        tools.start("import", "osm", top / "examples/town.osm", "--out", tmp_path / name)
     files = sorted(os.listdir(tmp_path / "one"))
     assert files == ["bans.csv", "ids.csv", "import.json", "lines.csv", "nodes.csv"]
     for file in files:
@@ -127,7 +128,7 @@ def test_the_same_input_gives_the_same_files(tools: Tools, top: Path, tmp_path: 
 
 
 def test_help_names_the_commands(tools: Tools) -> None:
-    ended = tools.run("--help")
+    ended = tools.start("--help")
     assert ended.returncode == 0
     for name in ("check", "import", "match", "setup", "u-turns", "view"):
         assert f"  {name} " in ended.stdout
@@ -203,7 +204,7 @@ def test_help_has_ranges_and_units(
 
 
 def test_words_that_arent_understood(tools: Tools) -> None:
-    assert tools.run("nonsense").returncode == 2
+    assert tools.start("nonsense").returncode == 2
     assert tools.run("import", "osm", "x.osm").returncode == 2
 
 
