@@ -5,6 +5,7 @@ import dataclasses
 import json
 import random
 import subprocess
+import tempfile
 from collections.abc import Sequence
 from functools import cache
 from pathlib import Path
@@ -41,26 +42,46 @@ def as_json(answer: Any) -> Any:
 
 
 def draw_map(folder: Path, nodes: int = 1500, lines: int = 3000) -> Path:
-    """Draws a map into a folder."""
+    """Draws a map into a folder, the same one each time."""
+    folder.mkdir(parents=True, exist_ok=True)
+    for name, content in _drawn_files(nodes, lines):
+        (folder / name).write_bytes(content)
+    return folder
+
+
+@cache
+def _drawn_files(nodes: int, lines: int) -> tuple[tuple[str, bytes], ...]:
+    """The files of a drawn map of that size, with their names. They are drawn once."""
     script = TOP / "bench/generate_map.py"
     size = ["--nodes", str(nodes), "--lines", str(lines)]
-    command = ["/usr/bin/python3", str(script), *size, "--out", str(folder)]
-    subprocess.run(command, check=True, stdout=subprocess.DEVNULL)
-    return folder
+    with tempfile.TemporaryDirectory() as folder:
+        command = ["/usr/bin/python3", str(script), *size, "--out", folder]
+        subprocess.run(command, check=True, stdout=subprocess.DEVNULL)
+        return tuple((file.name, file.read_bytes()) for file in Path(folder).iterdir())
 
 
 def draw_references(folder: Path, count: int) -> list[str]:
     """References on a map, the same ones each time; every ninth is damaged."""
+    files = ((folder / name).read_bytes() for name in ("nodes.csv", "lines.csv"))
+    return list(_drawn_references(*files, count))
+
+
+@cache
+def _drawn_references(nodes: bytes, lines: bytes, count: int) -> tuple[str, ...]:
+    """References on a map of these files. They are drawn once."""
     script = TOP / "bench/generate_messages.py"
-    command = ["/usr/bin/python3", str(script), "--map", str(folder), "--count", str(count)]
-    ended = subprocess.run(command, check=True, capture_output=True, text=True)
+    with tempfile.TemporaryDirectory() as folder:
+        Path(folder, "nodes.csv").write_bytes(nodes)
+        Path(folder, "lines.csv").write_bytes(lines)
+        command = ["/usr/bin/python3", str(script), "--map", folder, "--count", str(count)]
+        ended = subprocess.run(command, check=True, capture_output=True, text=True)
     draw = random.Random(3)
     texts = [line.split("\t")[1] for line in ended.stdout.splitlines()]
     for number in range(0, count, 9):
         text = texts[number]
         cut = draw.randrange(len(text))
         texts[number] = draw.choice([text[:cut], text + text, text[:cut] + "é" + text[cut:], " "])
-    return texts
+    return tuple(texts)
 
 
 def said(program: Program, *words: object) -> Any:
