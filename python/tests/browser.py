@@ -157,6 +157,21 @@ class Browser:
             yield self
 
     @contextmanager
+    def afresh(self) -> Iterator["Browser"]:
+        """This browser with an empty page, which shares nothing with the others, until it is closed."""
+        first, self._session = self._session, None
+        context = self.call("Target.createBrowserContext")["browserContextId"]
+        page = self.call("Target.createTarget", url="about:blank", browserContextId=context)
+        self._session = first
+        try:
+            with self._attached(page["targetId"]):
+                yield self
+        finally:
+            self._session = None
+            self.call("Target.disposeBrowserContext", browserContextId=context)
+            self._session = first
+
+    @contextmanager
     def tab(self, address: str) -> Iterator["Browser"]:
         """This browser with a page of its own at an address, until it is closed."""
         with self._attached(self.call("Target.createTarget", url=address)["targetId"]):

@@ -12,6 +12,7 @@ from io import BytesIO, TextIOWrapper
 from pathlib import Path
 from typing import TYPE_CHECKING, NamedTuple
 
+from browser import Browser
 from drawing import Drawing
 from olr.counts import Counts
 from olr.model.map_folder import write_map
@@ -125,6 +126,20 @@ class Tools:
 def tools() -> Tools:
     """The command `olr-tools`."""
     return Tools()
+
+
+@pytest.fixture(scope="session")
+def chromium() -> Iterator[Browser]:
+    """A browser for all tests: it takes a second to start and to end."""
+    with Browser() as started:
+        yield started
+
+
+@pytest.fixture(scope="module")
+def browser(chromium: Browser) -> Iterator[Browser]:
+    """The browser with a page for all tests of a file."""
+    with chromium.afresh():
+        yield chromium
 
 
 @pytest.fixture(scope="session")

@@ -111,13 +111,6 @@ class Page:
 
 
 @pytest.fixture(scope="module")
-def started() -> Iterator[Browser]:
-    """A browser for all tests of this file."""
-    with Browser() as browser:
-        yield browser
-
-
-@pytest.fixture(scope="module")
 def folder(tmp_path_factory: pytest.TempPathFactory) -> Path:
     """The map of the examples without its bans."""
     made = tmp_path_factory.mktemp("examples")
@@ -137,8 +130,8 @@ def server(
 
 
 @pytest.fixture
-def page(started: Browser, server: Server) -> Page:
+def page(browser: Browser, server: Server) -> Page:
     """Its page, without a reference."""
-    found = Page(started, server)
+    found = Page(browser, server)
     found.open()
     return found

@@ -6,7 +6,6 @@ import os
 import pytest
 import re
 import shlex
-from collections.abc import Iterator
 from pathlib import Path
 from typing import Any
 
@@ -21,13 +20,6 @@ HOSTILE = "</script><img src=x onerror=alert(1)>&amp;'\"@DATA@\u2028"
 ROADS = 12
 """From the south to the north, 2.2 km apart."""
 Rows = list[list[str]]
-
-
-@pytest.fixture(scope="module")
-def browser() -> Iterator[Browser]:
-    """A browser for all tests of this file."""
-    with Browser() as started:
-        yield started
 
 
 @pytest.fixture(autouse=True)

@@ -29,7 +29,7 @@ def test_the_scene(program: Program, tmp_path: Path) -> None:
         assert (scene["notes"], scene["others"], scene["entries"]) == ([], [], [])
 
 
-def test_the_page(program: Program, tools: Tools, tmp_path: Path) -> None:
+def test_the_page(program: Program, tools: Tools, browser: Browser, tmp_path: Path) -> None:
     """A line beside the first one makes a second entry, of which nothing is said."""
     drawn = block(south=(602, 602))
     drawn.drawing.line((0, 0), (1500, 100), (3000, 0), length=3500)
@@ -37,17 +37,16 @@ def test_the_page(program: Program, tools: Tools, tmp_path: Path) -> None:
     ended = tools.run("view", drawn.text, "--map", folder, "--out", page)
     assert (ended.returncode, ended.stderr) == (0, "")
     drawn_paths = "document.querySelectorAll('path.other').length"
-    with Browser() as browser:
-        browser.open(page)
-        assert browser.value("document.querySelector('#notes').innerText") == (
-            "Leg 1: another path is 0.4 m longer."
-        )
-        legend = "document.querySelector('#samples').innerText.includes('another path, as short')"
-        assert browser.value(legend)
-        for key, expected in (("1", 1), ("2", 0), ("1", 1), ("0", 0)):
-            browser.press(key)
-            assert browser.value(drawn_paths) == expected
-        assert (browser.errors, browser.loaded) == ([], [])
+    browser.open(page)
+    assert browser.value("document.querySelector('#notes').innerText") == (
+        "Leg 1: another path is 0.4 m longer."
+    )
+    legend = "document.querySelector('#samples').innerText.includes('another path, as short')"
+    assert browser.value(legend)
+    for key, expected in (("1", 1), ("2", 0), ("1", 1), ("0", 0)):
+        browser.press(key)
+        assert browser.value(drawn_paths) == expected
+    assert (browser.errors, browser.loaded) == ([], [])
 
 
 @pytest.mark.parametrize("kind", ["folder", "store"])

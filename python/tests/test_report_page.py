@@ -58,10 +58,10 @@ def data(page: Path) -> Any:
 
 
 @pytest.fixture(scope="module")
-def started() -> Iterator[Browser]:
-    """A browser for all tests of this file."""
-    with Browser() as browser:
-        yield browser
+def started(chromium: Browser) -> Iterator[Browser]:
+    """The browser with an empty page for all tests of this file."""
+    with chromium.afresh():
+        yield chromium
 
 
 @pytest.fixture

@@ -34,7 +34,6 @@ from page_of_server import (
     folder,
     page,
     server,
-    started,
 )
 from servers import Server, serving, wait_until
 
@@ -213,14 +212,14 @@ def town(tmp_path_factory: pytest.TempPathFactory) -> Path:
 
 
 def test_two_thousand_rows(
-    started: Browser, program: Program, tools: Tools, town: Path, tmp_path: Path
+    browser: Browser, program: Program, tools: Tools, town: Path, tmp_path: Path
 ) -> None:
     """Verdicts and faults are those of the program, and probabilities those of `olr-tools match`."""
     texts = draw_references(town, 2000)
     lines = [f"k{number}\t{text}" for number, text in enumerate(texts)]
     expected = answers(program, town, tmp_path, texts, *OF_FEED)
     with serving(program.path, town, tmp_path / "log") as server:
-        page = Page(started, server)
+        page = Page(browser, server)
         page.open()
         page.read("\n".join(lines))
         assert page.column(KEY) == [line.partition("\t")[0] for line in lines]
@@ -255,11 +254,11 @@ def test_two_thousand_rows(
         assert page.is_quiet("status of 422")
 
 
-def test_stop_and_go_on(started: Browser, program: Program, folder: Path, tmp_path: Path) -> None:
+def test_stop_and_go_on(browser: Browser, program: Program, folder: Path, tmp_path: Path) -> None:
     """The process hangs at the second reference of three."""
     hanging = bad_program(tmp_path / "olr", program, {UNMATCHED: "hangs"})
     with serving(hanging, folder, tmp_path / "log", "--time-limit", 600) as server:
-        page = Page(started, server)
+        page = Page(browser, server)
         page.open(AS_PROGRAM)
         text = "".join(f"{key}\t{ref}\n" for key, ref in zip("abc", (ROADWORKS, UNMATCHED, BROKEN)))
         page.value(f"document.querySelector('#list-text').value = {json.dumps(text)}")
@@ -280,11 +279,11 @@ def test_stop_and_go_on(started: Browser, program: Program, folder: Path, tmp_pa
 
 
 def test_a_server_that_ends(
-    started: Browser, program: Program, folder: Path, tmp_path: Path
+    browser: Browser, program: Program, folder: Path, tmp_path: Path
 ) -> None:
     """It ends, and later another one is at the same port."""
     with serving(program.path, folder, tmp_path / "log") as server:
-        page = Page(started, server)
+        page = Page(browser, server)
         page.open()
         page.read(MESSAGES)
         server.signal(signal.SIGTERM)

@@ -28,7 +28,6 @@ from page_of_server import (
     folder,
     page,
     server,
-    started,
 )
 from servers import Server, serving, wait_until
 
@@ -233,12 +232,12 @@ def test_a_narrow_window(page: Page) -> None:
 
 
 def test_what_takes_too_long(
-    started: Browser, program: Program, folder: Path, tmp_path: Path
+    browser: Browser, program: Program, folder: Path, tmp_path: Path
 ) -> None:
     """The process hangs at a reference: the page says so, and asks once more."""
     hanging = bad_program(tmp_path / "olr", program, {UNMATCHED: "hangs"})
     with serving(hanging, folder, tmp_path / "log", "--time-limit", 1) as server:
-        page = Page(started, server)
+        page = Page(browser, server)
         page.open(f"{AS_PROGRAM}&ref={quote(UNMATCHED)}")
         assert "It took too long: the program took longer" in page.text("#problem")
         Path(f"{hanging}.good").touch()
@@ -249,13 +248,13 @@ def test_what_takes_too_long(
 
 
 def test_a_map_that_changes(
-    started: Browser, program: Program, folder: Path, tmp_path: Path
+    browser: Browser, program: Program, folder: Path, tmp_path: Path
 ) -> None:
     """The page says so, and asks once more when the server has read it anew."""
     for name in ("nodes.csv", "lines.csv"):
         (tmp_path / name).write_bytes((folder / name).read_bytes())
     with serving(program.path, tmp_path, tmp_path / "log") as server:
-        page = Page(started, server)
+        page = Page(browser, server)
         page.open()
         lines = (tmp_path / "lines.csv").read_text().splitlines(keepends=True)
         (tmp_path / "lines.csv").write_text("".join(lines[:-1]))
@@ -287,12 +286,12 @@ def test_files_of_the_page(server: Server) -> None:
 
 
 def test_tiles_and_a_smaller_limit(
-    started: Browser, program: Program, folder: Path, tmp_path: Path
+    browser: Browser, program: Program, folder: Path, tmp_path: Path
 ) -> None:
     """Images come from the host of the tiles alone, and what is left out is within the limit."""
     words = ["--tiles", "http://127.0.0.1:9/{z}/{x}/{y}.png", "--look-limit", 500]
     with serving(program.path, folder, tmp_path / "log", *words) as server:
-        page = Page(started, server)
+        page = Page(browser, server)
         page.open(f"?ref={quote(ROADWORKS)}")
         assert page.text("#verdict") == "Ambiguous"
         assert page.value("document.querySelector('#option-look').max") == "500"

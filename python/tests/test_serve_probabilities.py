@@ -24,7 +24,6 @@ from page_of_server import (
     VERDICT,
     Page,
     folder,
-    started,
 )
 from servers import Server, path_of, serving
 
@@ -101,7 +100,7 @@ def test_what_match_says(known: Known) -> None:
 
 
 @pytest.mark.parametrize("key", TEXTS)
-def test_each_address_says_the_same(known: Known, started: Browser, key: str) -> None:
+def test_each_address_says_the_same(known: Known, browser: Browser, key: str) -> None:
     """GeoJSON, the rows of a list, the scene and the page itself."""
     expected = known.rows[key]
     first = expected[0]
@@ -127,7 +126,7 @@ def test_each_address_says_the_same(known: Known, started: Browser, key: str) ->
     assert all(text in texts_of(one["probability"]) for text, one in zip(texts, expected))
     none = drawn["probability"][0]
     assert none in {f"None of these: {text}." for text in texts_of(first["none_of_these"])}
-    page = Page(started, known.server)
+    page = Page(browser, known.server)
     page.open(f"?ref={quote(TEXTS[key])}")
     shown = page.value("[...document.querySelectorAll('.entry .gap')].map(e => e.textContent)")
     assert shown[: len(texts)] == texts

@@ -5,7 +5,6 @@ import os
 import pytest
 import shlex
 import shutil
-from collections.abc import Iterator
 from pathlib import Path
 from typing import Any
 
@@ -31,13 +30,6 @@ BREAKDOWN = "CwVF+yN2yhpnBAFdAAsaFg=="
 def environment(program: Program, monkeypatch: pytest.MonkeyPatch) -> None:
     """The command finds the program by its environment."""
     monkeypatch.setenv("OLR_PROGRAM", os.fspath(program.path))
-
-
-@pytest.fixture(scope="module")
-def browser() -> Iterator[Browser]:
-    """A browser for all tests of this file."""
-    with Browser() as started:
-        yield started
 
 
 @pytest.fixture
