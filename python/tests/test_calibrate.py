@@ -40,7 +40,7 @@ from olr.trials.roads import Roads
 from olr.trials.spreads import Spreads
 from vector_files import write_tempe
 
-TRIALS = 3_000
+TRIALS = 1_000
 """References of a file: few, so that the tests are quick and their margins wide."""
 COUNT = 150
 KINDS = (Spreads().times(0), Spreads(8, 1, 5, 10, 5), Spreads(25, 2, 15, 20, 10))
@@ -125,7 +125,7 @@ def test_what_is_told_is_seen(
     name: str, is_vendor: bool, tmp_path: Path, request: pytest.FixtureRequest
 ) -> None:
     """On the map itself and on another vendor's version of it, by a recipe that no trial has. The margins are wide: 150 references, and a
-    third of the trials that the command has by default."""
+    tenth of the trials that the command has by default."""
     sender: Path = request.getfixturevalue(name)
     feed = feed_of(sender, VENDOR if is_vendor else Difference(), tmp_path / "map")
     told, seen = float(np.mean(feed.told)), float(np.mean(feed.right))
@@ -162,7 +162,7 @@ def messages(tempe: Path, tmp_path_factory: pytest.TempPathFactory) -> Path:
     return file
 
 
-FOR = ("--ref", "code", "--key", "id", "--references", 400)
+FOR = ("--ref", "code", "--key", "id", "--references", 200)
 
 
 def test_the_same_seed_gives_the_same_bytes(tempe: Path, messages: Path, tmp_path: Path) -> None:
@@ -183,7 +183,7 @@ def test_what_the_command_says(
     assert calibrate(tempe, file, *words) == 0
     made = Confidence.of_file(file)
     shown = capsys.readouterr().out.splitlines()
-    assert shown[0] == f"{file}: 400 trial references"
+    assert shown[0] == f"{file}: 200 trial references"
     differs = made.map_differs
     assert differs is not None and shown[1] == (
         f"map differs: {differs.value:.1f} ({differs.low:.1f} to {differs.high:.1f}), 1 as that of another vendor"
@@ -195,10 +195,10 @@ def test_what_the_command_says(
     assert len(WEIGHTS) == 8 and shown[-1].startswith("asked with: radius 60 m")
     assert made.others({**tolerances_of(FEED), "radius": 60}, 300) == ""
     about = made.about
-    assert (about["references"], about["seed"], about["right"]) == (400, 1, 0.9)
+    assert (about["references"], about["seed"], about["right"]) == (200, 1, 0.9)
     assert about["map"]["lines"] == 586 and about["feed"]["references"] == 100
     assert len(about["feed"]["statistics"]) > 15 and about["differ"] is None is about["checked"]
-    assert sum(part["answers"] for part in about["parts"]) <= 400 and len(about["parts"]) == 20
+    assert sum(part["answers"] for part in about["parts"]) <= 200 and len(about["parts"]) == 10
     assert text_of_file(made) == file.read_text()
 
 
