@@ -7,7 +7,7 @@ import os
 import pytest
 import subprocess
 from collections.abc import Callable, Iterator
-from contextlib import nullcontext, redirect_stderr, redirect_stdout
+from contextlib import redirect_stderr, redirect_stdout
 from io import BytesIO, TextIOWrapper
 from pathlib import Path
 from typing import TYPE_CHECKING, NamedTuple
@@ -23,6 +23,8 @@ from olr.tools import run
 if TYPE_CHECKING:
     from runs import Runs, Town
 
+# The processes that tests start keep what they compile.
+os.environ.pop("PYTHONDONTWRITEBYTECODE", None)
 TOP = Path(__file__).resolve().parents[2]
 REFERENCE = "CwVF/yN2yRpnBAFUAAgbpwYBAf9kK0Fa"
 """Some reference: to ask whether a map can be read."""
@@ -163,11 +165,6 @@ def runs(town: "Town", program: Program, tmp_path: Path) -> Iterator["Runs"]:
 @pytest.fixture
 def here(tmp_path: Path, program: Program, monkeypatch: pytest.MonkeyPatch) -> None:
     """Groups are answered in this process, without Dask, also by the command `run`."""
-    from runs import answer_all_here
+    from runs import answer_here
 
-    scratch = tmp_path / "scratch"
-    scratch.mkdir()
-    monkeypatch.setattr("olr.running.answering._local_folder", lambda: os.fspath(scratch))
-    monkeypatch.setattr("olr.commands.run.connected", lambda *words: nullcontext())
-    monkeypatch.setattr("olr.commands.run.answer_all", answer_all_here)
-    monkeypatch.setenv("OLR_PROGRAM", os.fspath(program.path))
+    answer_here(monkeypatch, tmp_path / "scratch", program.path)

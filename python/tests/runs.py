@@ -6,14 +6,17 @@ import subprocess
 import time
 from collections import Counter
 from collections.abc import Callable, Iterable, Iterator, Mapping, Sequence
-from contextlib import suppress
+from contextlib import nullcontext, suppress
 from dataclasses import replace
+from io import BytesIO, TextIOWrapper
 from ipaddress import IPv4Address, IPv6Address, ip_address
 from pathlib import Path
 from typing import NamedTuple
 
+import pytest
+
 from asking import draw_map, draw_references
-from conftest import OF_PROGRAM, TOP, Program
+from conftest import OF_PROGRAM, TOP, Program, Tools
 from olr.content import Content
 from olr.errors import ToolError
 from olr.messages.message import Reading
@@ -79,6 +82,15 @@ def question_about(
     return Question(Content.of(messages), digest, build, "match", all_numbers("match", options))
 
 
+def answer_here(patch: pytest.MonkeyPatch, scratch: Path, program: Path) -> None:
+    """Groups are answered in this process, without Dask, also by the command `run`."""
+    scratch.mkdir(exist_ok=True)
+    patch.setattr("olr.running.answering._local_folder", lambda: os.fspath(scratch))
+    patch.setattr("olr.commands.run.connected", lambda *words: nullcontext())
+    patch.setattr("olr.commands.run.answer_all", answer_all_here)
+    patch.setenv("OLR_PROGRAM", os.fspath(program))
+
+
 def answer_all_here(_client: object, job: Job, grouped: Grouped) -> Outcome:
     """Answers all groups in this process, each alone and once. What a worker raises is the reason of a group that failed."""
     counts, failed = Counter[str](), dict[int, str]()
@@ -138,7 +150,7 @@ class Ended(NamedTuple):
 
 
 class Runs:
-    """Runs of one town, in a folder of their own, each with two workers."""
+    """Runs of one town, in a folder of their own."""
 
     def __init__(self, town: Town, program: Program, folder: Path) -> None:
         self.town, self.program, self.folder = town, program, folder
@@ -159,6 +171,7 @@ class Runs:
         program: Path | None = None,
         before: Callable[[], None] = lambda: None,
         given: bytes = b"",
+        workers: int = 2,
     ) -> Ended:
         """A run, until it ended and none of its processes is left. `before` is called in its process, and `given` is its standard
         input."""
@@ -169,7 +182,7 @@ class Runs:
             before()
 
         ended = subprocess.run(
-            self.words(*words, "--workers", 2, messages=messages),
+            self.words(*words, "--workers", workers, messages=messages),
             input=given,
             capture_output=True,
             check=False,
@@ -180,6 +193,22 @@ class Runs:
         )
         self.await_end()
         return Ended(ended.returncode, ended.stdout.decode(), ended.stderr.decode())
+
+    def run_here(
+        self,
+        *words: object,
+        messages: Path | None = None,
+        program: Path | None = None,
+        given: bytes = b"",
+    ) -> Ended:
+        """A run in this process, without Dask: what becomes of folders and files is the same."""
+        with pytest.MonkeyPatch.context() as patch:
+            answer_here(patch, self.scratch, program or self.program.path)
+            patch.setattr("sys.stdin", TextIOWrapper(BytesIO(given)))
+            patch.setenv("TMPDIR", os.fspath(self.scratch))
+            patch.setattr("tempfile.tempdir", None)
+            ended = Tools().run(*self.words(*words, messages=messages)[1:])
+        return Ended(ended.returncode, ended.stdout, ended.stderr)
 
     def environment(self, program: Path | None = None) -> dict[str, str]:
         """The variables of a run's processes."""
@@ -234,16 +263,15 @@ class Runs:
         when two parts are there and a worker asks; and then is the program `olr`."""
         script = self.folder / f"killing-{sign}"
         script.write_text(
-            f"""#!/usr/bin/python3
-import os, pathlib, signal, sys
+            f"""#!/usr/bin/python3 -IS
+import os, sys
 
-parent = pathlib.Path("/proc", str(os.getppid()))
-flag, parts = pathlib.Path({str(self.flag(sign))!r}), pathlib.Path({str(self.out)!r}, "parts")
-if b"spawn" in (parent / "cmdline").read_bytes() and len(list(parts.iterdir())) >= 2:
+parent = f"/proc/{{os.getppid()}}/"
+if "spawn" in open(parent + "cmdline").read() and len(os.listdir({str(self.out / 'parts')!r})) >= 2:
     try:
-        flag.mkdir()
-        run = int((parent / "stat").read_text().rpartition(")")[2].split()[1])
-        os.kill({whom}, signal.SIG{sign})
+        os.mkdir({str(self.flag(sign))!r})
+        run = int(open(parent + "stat").read().rpartition(")")[2].split()[1])
+        os.kill({whom}, {signal.Signals[f"SIG{sign}"].value})
     except FileExistsError:
         pass
 os.execv({str(self.program.path)!r}, [{str(self.program.path)!r}, *sys.argv[1:]])
@@ -306,14 +334,15 @@ def assert_resumes(
     messages: Path | None = None,
     program: Path | None = None,
 ) -> None:
-    """A run goes on, keeps the parts that are there, and has all answers."""
+    """A run goes on, keeps the parts that are there, and has all answers. It goes on in this process: how Dask answers groups is
+    tested by the runs before."""
     before = {
         name: file
         for name, file in identities(runs).items()
         if (runs.out / "facts" / name).with_suffix(".json").exists()
     }
     words = (*words, "--resume", "--join", runs.joined)
-    ended = runs.run(*words, messages=messages, program=program)
+    ended = runs.run_here(*words, messages=messages, program=program)
     assert (ended.status, ended.stderr) == (0, "")
     assert identities(runs).items() >= before.items()
     assert all(name[0] != "." for name in runs.parts())

@@ -38,7 +38,7 @@ def test_all_answers(runs: Runs) -> None:
     assert os.listdir(runs.folder / "scratch") == []
     for name in ("000000", "000003"):
         (runs.out / f"parts/{name}.jsonl").unlink()
-    ended = runs.run("--per-group", 20, "--radius", 101, "--resume")
+    ended = runs.run_here("--per-group", 20, "--radius", 101, "--resume")
     refused = f"olr-tools: {runs.out} holds a run with other options: name another folder\n"
     assert (ended.status, ended.stdout, ended.stderr) == (1, "", refused)
     runs.joined.unlink()
@@ -50,11 +50,11 @@ def test_a_table_at_standard_input(runs: Runs) -> None:
     words = ["--format", "csv", "--ref", "openlr", "--key", "id", "--join", runs.joined]
     rows = runs.town.plain.read_text().replace("\t", ";note;")
     table = ("id;note;openlr\n" + rows).encode("utf-16")
-    ended = runs.run(*words, messages=Path("-"), given=table)
+    ended = runs.run(*words, messages=Path("-"), given=table, workers=1)
     assert (ended.status, ended.stderr) == (0, "")
     assert runs.joined.read_bytes() == runs.expected(messages=runs.town.plain)
     assert os.listdir(runs.folder / "scratch") == []
-    ended = runs.run(*words[:4], "--resume", messages=Path("-"), given=table)
+    ended = runs.run_here(*words[:4], "--resume", messages=Path("-"), given=table)
     refused = f"olr-tools: {runs.out} holds a run with other key: name another folder\n"
     assert ended == (1, "", refused)
 
@@ -184,7 +184,7 @@ def test_an_empty_input(runs: Runs) -> None:
     for text in ("", "\n\r\n\n"):
         empty.write_text(text)
         runs.out, runs.joined = (runs.folder / f"{len(text)}{name}" for name in ("out", "joined"))
-        ended = runs.run("--join", runs.joined, messages=empty)
+        ended = runs.run_here("--join", runs.joined, messages=empty)
         said = [f"{runs.out}: 0 lines of 0 in 0 parts", ASKED_WITH_PROGRAM]
         said += [f"{runs.joined}: 0 lines", ""]
         assert ended == (0, "\n".join(said), "")

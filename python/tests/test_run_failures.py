@@ -45,7 +45,7 @@ def test_files_may_not_grow(runs: Runs) -> None:
         resource.setrlimit(resource.RLIMIT_FSIZE, (20_000, 20_000))
 
     plain = runs.town.plain
-    ended = runs.run("--per-group", 60, messages=plain, before=limit)
+    ended = runs.run("--per-group", 60, messages=plain, before=limit, workers=1)
     assert ended.status == 1 and ended.stderr.count("\n") == 1
     assert " of 5 groups failed, listed in " in ended.stderr
     assert "can't be written: File too large" in ended.stderr

@@ -180,7 +180,7 @@ def test_a_run(runs: Runs) -> None:
     texts = {records[at].data.partition(b"\t")[2].decode(): way for at, way in sorted(ways.items())}
     bad = bad_program(runs.folder / "bad", runs.program, texts)
     words = ["--per-group", 100, "--patience", PATIENCE, "--join", runs.joined]
-    ended = runs.run(*words, program=bad)
+    ended = runs.run(*words, program=bad, workers=1)
     for at, way in ways.items():
         fault = "TimedOut" if way in HANGING else "ProgramFailed"
         expected[at] = records[at].line(b"null", fault)
@@ -196,7 +196,7 @@ def test_a_run(runs: Runs) -> None:
         if b'"fault":"ProgramFailed"' in (runs.out / "parts" / name).read_bytes():
             (runs.out / "parts" / name).unlink()
     Path(f"{bad}.good").touch()
-    ended = runs.run(*words, "--force", "--resume", "--patience", 60, program=bad)
+    ended = runs.run_here(*words, "--force", "--resume", "--patience", 60, program=bad)
     assert ended.status == 1 and "at 1 of 307 records" in ended.stderr
     good = runs.expected().splitlines(keepends=True)
     good[40] = expected[40]
@@ -212,7 +212,7 @@ def test_a_run_whose_program_always_fails(runs: Runs) -> None:
         f'exec {runs.program.path} "$@"\n'
     )
     script.chmod(0o755)
-    ended = runs.run("--per-group", 100, program=script)
+    ended = runs.run("--per-group", 100, program=script, workers=1)
     assert ended.status == 1 and ended.stderr.count("\n") == 1
     assert "4 of 4 groups failed" in ended.stderr and "ended with status 3" in ended.stderr
     assert runs.parts() == [] and log.read_text().count("\n") == 4 * 3 * 2

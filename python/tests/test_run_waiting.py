@@ -41,7 +41,7 @@ def without_progress(stderr: str) -> str:
 
 
 def test_the_scheduler_is_killed(runs: Runs) -> None:
-    """There is one message, and the run goes on with workers of its own."""
+    """There is one message, and the run goes on without it."""
     with Scheduler(runs, runs.waiting()) as scheduler:
         scheduler.add_workers(*ONE, "--memory-limit", "0")
         with asked_run(runs, scheduler) as run:
@@ -52,7 +52,7 @@ def test_the_scheduler_is_killed(runs: Runs) -> None:
         (runs.folder / "go").touch()
     runs.await_end()
     words = ["--per-group", 60, "--resume", "--join", runs.joined]
-    ended = runs.run(*words, program=runs.folder / "waiting")
+    ended = runs.run_here(*words, program=runs.folder / "waiting")
     assert (ended.status, without_progress(ended.stderr)) == (0, "")
     assert runs.joined.read_bytes() == runs.expected()
 
