@@ -8,15 +8,20 @@ import signal
 import subprocess
 import time
 from collections.abc import Callable, Iterator, Sequence
-from contextlib import contextmanager
+from contextlib import AbstractContextManager, contextmanager
 from pathlib import Path
-from typing import Any, NamedTuple
+from typing import Any, NamedTuple, Union
 from urllib.parse import quote
 
 from conftest import TOP, Program
+from forked import Forked
+from olr.commands import serve as serve_command  # noqa: F401 - so that forks have it.
 
 SECONDS = 30.0
 """So long is waited for what has to come."""
+
+
+Process = Union[Forked, "subprocess.Popen[str]"]
 
 
 class Reply(NamedTuple):
@@ -39,7 +44,7 @@ class Reply(NamedTuple):
 class Server:
     """A server that runs."""
 
-    def __init__(self, process: "subprocess.Popen[str]", errors: Path, url: str) -> None:
+    def __init__(self, process: Process, errors: Path, url: str) -> None:
         self.process, self.errors, self.url = process, errors, url
         self.port = int(url.rstrip("/").rpartition(":")[2])
 
@@ -101,17 +106,27 @@ def reply_on(
 
 
 @contextmanager
-def serving(program: Path, folder: Path, errors: Path, *options: object) -> Iterator[Server]:
-    """A server on a map, at a free port. None of its processes outlives this."""
-    words = ["serve", "--map", folder, "--port", 0, "--workers", 2, *options]
-    environment = os.environ | {"OLR_PROGRAM": str(program), "PYTHONPATH": str(TOP / "python")}
+def started(words: Sequence[str], environment: dict[str, str], errors: Path) -> Iterator[Process]:
+    """The command `olr-tools` as a new process."""
     with errors.open("w") as stream, subprocess.Popen(
-        ["/usr/bin/python3", "-m", "olr", *map(str, words)],
+        ["/usr/bin/python3", "-m", "olr", *words],
         stdout=subprocess.PIPE,
         stderr=stream,
         text=True,
         env=environment,
     ) as process:
+        yield process
+
+
+@contextmanager
+def serving(
+    program: Path, folder: Path, errors: Path, *options: object, is_new: bool = False
+) -> Iterator[Server]:
+    """A server on a map, at a free port. None of its processes outlives this. It is a fork of this one, unless its memory is looked at."""
+    words = ["serve", "--map", folder, "--port", 0, "--workers", 2, *options]
+    environment = os.environ | {"OLR_PROGRAM": str(program), "PYTHONPATH": str(TOP / "python")}
+    begin: Callable[..., AbstractContextManager[Process]] = started if is_new else Forked
+    with begin(list(map(str, words)), environment, errors) as process:
         assert process.stdout is not None
         programs: list[int] = []
         try:

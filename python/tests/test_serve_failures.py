@@ -80,24 +80,27 @@ def stream_of(server: Server, length: int) -> socket.socket:
     return connection
 
 
-def test_a_client_that_stops_reading(server: Server, texts: list[str]) -> None:
+def test_a_client_that_stops_reading(
+    program: Program, drawn: Path, tmp_path: Path, texts: list[str]
+) -> None:
     """Its body isn't read on, the memory of the server stays as it is, and others are answered."""
     records = "".join(f"{text}\n" for text in whole(texts)).encode() * 2000
-    before = server.memory()
-    with stream_of(server, len(records)) as connection:
-        connection.setblocking(False)
-        sent, since = 0, time.monotonic()
-        while time.monotonic() - since < 1.5 and sent < len(records):
-            try:
-                sent += connection.send(records[sent : sent + 65_536])
-                since = time.monotonic()
-            except BlockingIOError:
-                time.sleep(0.01)
-        assert sent < len(records), "all of it was read"
-        assert server.memory() - before < 30_000
-        assert server.get(path_of("match", GOOD)).status in (200, 422)
-        assert server.figure('olr_processes{state="apart"}') == 1
-    wait_until(lambda: server.figure('olr_processes{state="apart"}') == 0)
+    with serving(program.path, drawn, tmp_path / "log", is_new=True) as server:
+        before = server.memory()
+        with stream_of(server, len(records)) as connection:
+            connection.setblocking(False)
+            sent, since = 0, time.monotonic()
+            while time.monotonic() - since < 1.5 and sent < len(records):
+                try:
+                    sent += connection.send(records[sent : sent + 65_536])
+                    since = time.monotonic()
+                except BlockingIOError:
+                    time.sleep(0.01)
+            assert sent < len(records), "all of it was read"
+            assert server.memory() - before < 30_000
+            assert server.get(path_of("match", GOOD)).status in (200, 422)
+            assert server.figure('olr_processes{state="apart"}') == 1
+        wait_until(lambda: server.figure('olr_processes{state="apart"}') == 0)
 
 
 @pytest.mark.parametrize("part", ["nothing", "half", "all"])
@@ -276,7 +279,7 @@ for number, record in enumerate(sys.stdin.buffer, 1):
 def test_an_answer_that_is_too_large(drawn: Path, tmp_path: Path) -> None:
     """It isn't held: its process is ended, and the next one answers."""
     program = writing_program(tmp_path / "program")
-    with serving(program, drawn, tmp_path / "log", "--workers", 1) as server:
+    with serving(program, drawn, tmp_path / "log", "--workers", 1, is_new=True) as server:
         assert server.get("/match?ref=100").problem()[:2] == (422, "AnswerTooLarge")
         assert server.get("/match?ref=x").problem()[:2] == (422, "Empty")
         assert len(server.get("/match?ref=20").body) == (20 << 20) + 2
@@ -286,16 +289,16 @@ def test_an_answer_that_is_too_large(drawn: Path, tmp_path: Path) -> None:
 def test_answers_that_arent_taken(drawn: Path, tmp_path: Path) -> None:
     """The server holds some of them, and then closes connections."""
     program = writing_program(tmp_path / "program")
-    with serving(program, drawn, tmp_path / "log", "--workers", 1) as server:
+    with serving(program, drawn, tmp_path / "log", "--workers", 1, is_new=True) as server:
         connections = []
-        for _ in range(60):
+        for _ in range(30):
             connection = socket.create_connection(("127.0.0.1", server.port))
             connection.sendall(
                 f"GET /match?ref=16 HTTP/1.1\r\nHost: localhost:{server.port}\r\n\r\n".encode()
             )
             assert connection.recv(100).startswith(b"HTTP/1.1 200 ")
             connections.append(connection)
-            wait_until(lambda: server.memory() < 700_000)
+            wait_until(lambda: server.memory() < 450_000)
         assert server.get("/match?ref=x").status == 422
         for connection in connections:
             connection.close()

@@ -22,7 +22,7 @@ SILENT = 10_000
 def server(program: Program, tmp_path_factory: pytest.TempPathFactory) -> Iterator[Server]:
     """A server on the example's town."""
     errors = tmp_path_factory.mktemp("log") / "log"
-    with serving(program.path, EXAMPLES, errors, "--body-limit", 1) as found:
+    with serving(program.path, EXAMPLES, errors, "--body-limit", 1, is_new=True) as found:
         yield found
         assert "Traceback" not in found.log()
 
