@@ -6,10 +6,14 @@ import pytest
 import re
 import shlex
 import subprocess
+from contextlib import redirect_stderr, redirect_stdout
+from io import StringIO
 from pathlib import Path
 
 import picture
+from browser import Browser
 from conftest import TOP, Program
+from olr.tools import run
 
 PYTHON_PAGES = {
     "README.md": 3,
@@ -57,21 +61,36 @@ class Shell:
     def printed(self, command: str) -> str:
         """What a command prints on both outputs. One that stands on several pages is run once: it may write a file."""
         if command not in self._printed:
-            ended = subprocess.run(
-                ["bash", "-c", command],
-                cwd=self.folder,
-                stdin=subprocess.DEVNULL,
-                stdout=subprocess.PIPE,
-                stderr=subprocess.STDOUT,
-                text=True,
-                check=False,
-                timeout=60,
-                env=os.environ | {"OLR_PROGRAM": str(self._program.path)},
-            )
-            fault = re.search(r"(?m)^olr: \w+", ended.stdout)
-            assert (ended.returncode == 0) != bool(fault), (command, ended.stdout)
-            self._printed[command] = ended.stdout
+            is_plain = re.fullmatch(r"\./olr-tools (?!run )[\w/.,= +-]*", command)
+            status, text = self._ran_here(command) if is_plain else self._ran(command)
+            fault = re.search(r"(?m)^olr: \w+", text)
+            assert (status == 0) != bool(fault), (command, text)
+            self._printed[command] = text
         return self._printed[command]
+
+    def _ran(self, command: str) -> tuple[int, str]:
+        """The status of a command, and what it printed."""
+        ended = subprocess.run(
+            ["bash", "-c", command],
+            cwd=self.folder,
+            stdin=subprocess.DEVNULL,
+            stdout=subprocess.PIPE,
+            stderr=subprocess.STDOUT,
+            text=True,
+            check=False,
+            timeout=60,
+            env=os.environ | {"OLR_PROGRAM": str(self._program.path)},
+        )
+        return ended.returncode, ended.stdout
+
+    def _ran_here(self, command: str) -> tuple[int, str]:
+        """The same of a command of `olr-tools` that needs no shell."""
+        with pytest.MonkeyPatch.context() as patch, StringIO() as text:
+            patch.chdir(self.folder)
+            patch.setenv("OLR_PROGRAM", os.fspath(self._program.path))
+            with redirect_stdout(text), redirect_stderr(text):
+                status = run(shlex.split(command)[1:])
+            return status, text.getvalue()
 
 
 @pytest.fixture(scope="module")
@@ -156,13 +175,13 @@ def test_the_readme_is_short() -> None:
 
 
 def test_the_picture_is_of_the_readmes_page(
-    program: Program, tmp_path: Path, monkeypatch: pytest.MonkeyPatch
+    program: Program, browser: Browser, tmp_path: Path, monkeypatch: pytest.MonkeyPatch
 ) -> None:
     """It is shown, is small, and can be drawn again. Pixels aren't compared: fonts differ."""
     assert "](docs/view.png)" in read("README.md")
     assert picture.PICTURE.stat().st_size < 200_000
     monkeypatch.setenv("OLR_PROGRAM", os.fspath(program.path))
-    picture.draw(tmp_path / "drawn.png")
+    picture.draw(tmp_path / "drawn.png", browser)
     for file in (picture.PICTURE, tmp_path / "drawn.png"):
         data = file.read_bytes()
         assert data[:8] == b"\x89PNG\r\n\x1a\n" and len(data) > 20_000
