@@ -48,7 +48,7 @@ def make_feed(place: Path) -> Feed:
     folder = place / "lacking"
     folder.mkdir()
     write_csv(replace(whole, nodes=nodes, lines=lines, bans=()), folder)
-    texts = draw_references(place / "whole", 400)
+    texts = draw_references(place / "whole", 250)
     texts += [point_along_line(text) for text in texts[1:60] if len(text) == 24] + [CROWDED]
     messages = place / "feed.tsv"
     messages.write_text("".join(f"{at} {MARKUP}\t{text}\n" for at, text in enumerate(texts)))

@@ -217,7 +217,7 @@ def test_each_row_opens_its_page(browser: Browser, data: Any) -> None:
         "[...document.querySelectorAll('.sorted tbody tr')].map(line => line.querySelectorAll('button').length)"
     )
     assert buttons == [0 if scene is None else 1 for scene in data["scenes"]]
-    pages = "(async () => { const texts = await Promise.all(window.made.map((it) => it.blob.text())); return texts.length; })()"
+    pages = "window.made.filter((it) => it.blob.size > 1000).length"
     browser.value(CATCH + "window.open = () => null;")
     browser.value(
         "document.querySelectorAll('.sorted tbody button').forEach(button => button.click())"
@@ -350,7 +350,7 @@ def test_on_paper(started: Browser, page: Path, tmp_path: Path) -> None:
             started.value(seen.replace("{}", ".tools input, .tools select, .sorted tbody button"))
             == 0
         )
-        assert started.value(seen.replace("{}", ".sorted tbody tr")) > 400
+        assert started.value(seen.replace("{}", ".sorted tbody tr")) > 200
         frame = "(() => { const it = document.querySelector('.frame'); return it.scrollHeight - it.clientHeight; })()"
         assert started.value(frame) <= 0
         assert started.value("document.documentElement.scrollWidth") <= 700
