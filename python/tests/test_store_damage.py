@@ -12,7 +12,7 @@ from contextlib import contextmanager
 from pathlib import Path
 
 from asking import draw_map
-from conftest import TOP
+from conftest import TOP, Tools
 from olr.errors import ToolError
 from olr.regions.making import make_store_of_folder
 from olr.regions.store import Store
@@ -231,7 +231,7 @@ def small_disk(place: Path, kilobytes: int) -> Iterator[Path]:
 
 
 @pytest.mark.parametrize("kilobytes", [40, 80, 140, 200, 260, 300])
-def test_a_disk_that_fills_up(kilobytes: int, tmp_path: Path) -> None:
+def test_a_disk_that_fills_up(kilobytes: int, tools: Tools, tmp_path: Path) -> None:
     """At its beginning, in the middle, or near its end: there is one message, what was there stays, and nothing is beside it."""
     whole = map_with_bans(tmp_path / "map")
     with small_disk(tmp_path / "disk", kilobytes) as disk:
@@ -240,8 +240,7 @@ def test_a_disk_that_fills_up(kilobytes: int, tmp_path: Path) -> None:
         for file in (old, new):
             words = ["regions", whole, "--out", file]
             words += ["--force"] if file == old else []
-            command = [str(TOP / "olr-tools"), *map(str, words)]
-            ended = subprocess.run(command, capture_output=True, text=True, timeout=60, check=False)
+            ended = tools.run(*words)
             said = f"olr-tools: {file} can't be written: No space left on device\n"
             assert (ended.returncode, ended.stderr) == (1, said)
             assert os.listdir(disk) == [old.name] and old.read_text() == "mine"
