@@ -47,7 +47,7 @@ def plain(answer: Any) -> Any:
 def test_many_references_in_one_go(
     what: What, folder: Path, references: list[str], program: Program, tmp_path: Path
 ) -> None:
-    texts = references[: 1000 if what == "match" else 500]
+    texts = references[: 500 if what == "match" else 250]
     records = tmp_path / "records"
     records.write_text("".join(f"x\t{text}\n" for text in texts), encoding="utf-8")
     expected = batch_of(program, what, records, ["--map", folder])
@@ -61,13 +61,13 @@ def test_many_references_in_one_go(
 
 def test_one_at_a_time_and_in_one_go(folder: Path, references: list[str], program: Program) -> None:
     with olr.Map.of_folder(folder, program=program.path) as drawn:
-        for text, answer in zip(references[:300], drawn.matches(references[:300], page=3)):
+        for text, answer in zip(references[:150], drawn.matches(references[:150], page=3)):
             try:
                 alone: Any = drawn.match(text, page=3)
             except olr.Fault as fault:
                 alone = fault
             assert alone == answer
-    for text in references[:150]:
+    for text in references[:75]:
         expected = said(
             program, "match", "--map", folder, "--format", "json", "--page", 3, "--", text
         )

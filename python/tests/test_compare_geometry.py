@@ -134,7 +134,7 @@ def shaken(draw: random.Random, points: Spots) -> Spots:
 
 
 def sampled(one: Spots, other: Spots, across: float) -> tuple[float, float]:
-    """The longest run that is lacking, and how much isn't, by points that are at most 0.1 m apart, each of which stands for as much of its
+    """The longest run that is lacking, and how much isn't, by points that are at most 0.2 m apart, each of which stands for as much of its
     segment."""
     ends = np.array([pair for pair in zip(other, other[1:]) if pair[0] != pair[1]])
     first, leads = ends[:, 0], ends[:, 1] - ends[:, 0]
@@ -142,7 +142,7 @@ def sampled(one: Spots, other: Spots, across: float) -> tuple[float, float]:
     for start, end in zip(np.array(one[:-1]), np.array(one[1:])):
         lead = end - start
         length, alike = float(np.hypot(*lead)), leads @ lead > 0
-        count = math.ceil(length * 10)
+        count = math.ceil(length * 5)
         points = start + lead * ((np.arange(count) + 0.5) / max(count, 1))[:, None]
         from_first = points[:, None] - first[alike]
         share = (from_first * leads[alike]).sum(axis=2) / (leads[alike] ** 2).sum(axis=1)
@@ -211,8 +211,8 @@ def test_hausdorff_beside_samples() -> None:
 
 
 def test_lines_that_are_long() -> None:
-    """Of 20,000 segments each, of which a run of 300 m isn't on the other one."""
-    along = np.arange(20_001) * 5.0
+    """Of 10,000 segments each, of which a run of 300 m isn't on the other one."""
+    along = np.arange(10_001) * 5.0
     one = np.stack([along, 30 * np.sin(along / 300)], axis=1)
     other = one + (0, 3)
     other[(along >= 40_000) & (along <= 40_300)] += (0, 100)

@@ -325,7 +325,7 @@ def test_beside_all_walks(part: int) -> None:
     """On small maps, with several stretches and margins: the least length, and the first walk that leaves out enough."""
     draw = random.Random(part)
     found = 0
-    for _ in range(3000):
+    for _ in range(1500):
         about = given(draw)
         streets, _, ends = about
         limit = draw.choice([600, 800, 1000])
@@ -345,7 +345,7 @@ def test_beside_all_walks(part: int) -> None:
         walk = other_walk(streets, ends, most, route, apart)
         assert walk == (expected[0] if expected else None)
         found += walk is not None
-    assert found >= 60
+    assert found >= 30
 
 
 @pytest.mark.parametrize("seed", range(20))
