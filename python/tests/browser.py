@@ -17,6 +17,8 @@ from urllib.parse import urlsplit
 PROGRAM = "/usr/bin/chromium"
 WORDS = ["--headless", "--no-sandbox", "--disable-gpu", "--hide-scrollbars", "--no-first-run"]
 WORDS += ["--disable-dev-shm-usage", "--window-size=1280,800", "--remote-debugging-pipe"]
+# No process is held ready for another page, or kept for the one before.
+WORDS += ["--disable-features=BackForwardCache,SpareRendererForSitePerProcess"]
 WAIT = "new Promise(done => document.readyState === 'complete' ? done(1) : addEventListener('load', () => done(1)))"
 """An expression that waits until the script of a page has run."""
 

@@ -23,7 +23,7 @@ from test_outputs import contents, full_disk
 from vector_files import STREETS
 
 EXAMPLES = TOP / "examples"
-MORE_BYTES = 8 << 20
+MORE_BYTES = 6 << 20
 """So much more memory ten times the references may take."""
 
 
@@ -205,11 +205,11 @@ def test_words_that_dont_go_together(
 
 
 def test_memory_doesnt_grow_with_the_references(tmp_path: Path) -> None:
-    """The greatest memory of a run on 1,400 and on 14,000 references."""
+    """The greatest memory of a run on 1,400 and on 9,000 references."""
     folder = draw_map(tmp_path / "map", 200, 400)
     texts = draw_references(folder, 100)
     peaks = []
-    for count in (1_400, 14_000):
+    for count in (1_400, 9_000):
         messages = tmp_path / "messages.tsv"
         messages.write_text("".join(f"{key}\t{texts[key % len(texts)]}\n" for key in range(count)))
         words = ["match", messages, "--map", folder, "--out", tmp_path / "out.gpkg", "--page", 1]

@@ -32,7 +32,7 @@ def steps_of_map(road_map: RoadMap) -> Counter[Step]:
     return total
 
 
-@pytest.mark.parametrize("seed", range(60))
+@pytest.mark.parametrize("seed", range(40))
 def test_steps_are_those_of_the_ways(imported: Import, seed: int) -> None:
     draws = random.Random(seed)
     reach = draws.choice((2, 30, 3000))

@@ -152,7 +152,7 @@ def test_how_many_are_right(
     found = [one for one in listed.values() if one and one["places"]]
     lines = [one["places"] for one in found if is_line(one["places"])]
     probable = [1 / (len(places) + OF_NONE) for places in lines]
-    assert len(set(probable)) > 5 and len(found) > len(lines)
+    assert len(set(probable)) > 4 and len(found) > len(lines)
     right = sum(probable)
     off = 1.96 * sum(one * (1 - one) for one in probable) ** 0.5
     first = (

@@ -211,11 +211,11 @@ def town(tmp_path_factory: pytest.TempPathFactory) -> Path:
     return draw_map(tmp_path_factory.mktemp("town"))
 
 
-def test_a_thousand_rows(
+def test_five_hundred_rows(
     browser: Browser, program: Program, tools: Tools, town: Path, tmp_path: Path
 ) -> None:
     """Verdicts and faults are those of the program, and probabilities those of `olr-tools match`."""
-    texts = draw_references(town, 2000)[:1000]
+    texts = draw_references(town, 2000)[:500]
     lines = [f"k{number}\t{text}" for number, text in enumerate(texts)]
     expected = answers(program, town, tmp_path, texts, *OF_FEED)
     with serving(program.path, town, tmp_path / "log") as server:
@@ -225,20 +225,20 @@ def test_a_thousand_rows(
         assert page.column(KEY) == [line.partition("\t")[0] for line in lines]
         verdicts = ["refused" if isinstance(one, str) else one["verdict"] for one in expected]
         assert page.column(VERDICT) == verdicts
-        assert "1,000 of 1,000 answered" in page.text("#progress")
+        assert "500 of 500 answered" in page.text("#progress")
         file = tmp_path / "messages.tsv"
         file.write_text("\n".join(lines))
         likeliest = likeliest_of(tools, file, town)
         for column, name in ((PROBABILITY, "probability"), (NONE_OF_THESE, "none_of_these")):
             rounded = [f"{float(row[name]):.3f}" if row[name] else "" for row in likeliest]
-            assert page.column(column) == rounded and len(set(rounded)) > 100
+            assert page.column(column) == rounded and len(set(rounded)) > 50
         assert page.column(REASONS) == [row["fault"] or row["reasons"] for row in likeliest]
         assert [text == "turns back" for text in page.column(TURNS_BACK)] == [
             row["turns_back"] == "1" for row in likeliest
         ]
         page.value(f"[...document.querySelectorAll('#rows thead button')].at({TOTAL}).click()")
         totals = [int(text.replace(",", "")) for text in page.column(TOTAL) if text]
-        assert totals == sorted(totals) and len(totals) > 500
+        assert totals == sorted(totals) and len(totals) > 250
         options = page.value(
             "[...document.querySelector('#rows select').options].map(e => e.textContent)"
         )
