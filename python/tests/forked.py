@@ -21,14 +21,13 @@ class Forked:
 
     def __init__(self, words: Sequence[str], environment: Mapping[str, str], errors: Path) -> None:
         read, write = os.pipe()
-        self.words, self.returncode = words, None
+        self.words = words
+        self.returncode: int | None = None
         self.pid = os.fork()
         if self.pid == 0:
             _run(words, environment, write, errors)
         os.close(write)
         self.stdout = os.fdopen(read)
-
-    returncode: int | None
 
     def poll(self) -> int | None:
         """Its status, if it has ended."""

@@ -8,7 +8,7 @@ import signal
 import subprocess
 import time
 from collections.abc import Callable, Iterator, Sequence
-from contextlib import AbstractContextManager, contextmanager
+from contextlib import contextmanager
 from pathlib import Path
 from typing import Any, NamedTuple, Union
 from urllib.parse import quote
@@ -119,13 +119,20 @@ def started(words: Sequence[str], environment: dict[str, str], errors: Path) -> 
 
 
 @contextmanager
+def forked(words: Sequence[str], environment: dict[str, str], errors: Path) -> Iterator[Process]:
+    """The same as a fork of this process."""
+    with Forked(words, environment, errors) as process:
+        yield process
+
+
+@contextmanager
 def serving(
     program: Path, folder: Path, errors: Path, *options: object, is_new: bool = False
 ) -> Iterator[Server]:
     """A server on a map, at a free port. None of its processes outlives this. It is a fork of this one, unless its memory is looked at."""
     words = ["serve", "--map", folder, "--port", 0, "--workers", 2, *options]
     environment = os.environ | {"OLR_PROGRAM": str(program), "PYTHONPATH": str(TOP / "python")}
-    begin: Callable[..., AbstractContextManager[Process]] = started if is_new else Forked
+    begin = started if is_new else forked
     with begin(list(map(str, words)), environment, errors) as process:
         assert process.stdout is not None
         programs: list[int] = []
