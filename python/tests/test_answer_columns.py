@@ -166,7 +166,7 @@ def test_columns_by_hand(program: Program) -> None:
 def test_pieces_sum_to_the_lengths(folder: Path, texts: list[str], program: Program) -> None:
     origins = origins_of(folder)
     with olr.Map.of_folder(folder, program=program.path) as asked:
-        answers = list(asked.matches(texts))
+        answers = list(asked.matches(texts[:75]))
         table = olr.to_geodataframe(answers, asked.network())
         pieces = olr.to_pieces(answers, asked.network())
         network = asked.network()
