@@ -7,8 +7,8 @@ from pathlib import Path
 
 from runs import Runs, assert_resumes
 
-GROUPS = ["--per-group", "5"]
-"""62 groups, in tasks of three."""
+GROUPS = ["--per-group", "10"]
+"""31 groups."""
 
 
 def test_a_worker_is_killed(runs: Runs) -> None:
@@ -23,7 +23,7 @@ def test_a_worker_is_killed(runs: Runs) -> None:
 def test_the_run_is_killed(runs: Runs) -> None:
     killing = runs.killing("run")
     ended = runs.run(*GROUPS, program=killing)
-    assert runs.flag().exists() and len(runs.parts()) < 62
+    assert runs.flag().exists() and len(runs.parts()) < 31
     assert ended.status == -9
     assert_resumes(runs, *GROUPS, program=killing)
 
@@ -34,7 +34,7 @@ def test_the_run_is_interrupted(runs: Runs, whom: str, sign: str) -> None:
     ended = runs.run(*GROUPS, program=runs.killing(whom, sign))
     assert runs.flag(sign).exists()
     assert (ended.status, ended.stderr.strip()) == (1, "olr-tools: interrupted")
-    assert 2 <= len(runs.parts()) < 62 and all(name[0] != "." for name in runs.parts())
+    assert 2 <= len(runs.parts()) < 31 and all(name[0] != "." for name in runs.parts())
     assert os.listdir(runs.folder / "scratch") == []
 
 

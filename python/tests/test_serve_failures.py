@@ -291,14 +291,14 @@ def test_answers_that_arent_taken(drawn: Path, tmp_path: Path) -> None:
     program = writing_program(tmp_path / "program")
     with serving(program, drawn, tmp_path / "log", "--workers", 1, is_new=True) as server:
         connections = []
-        for _ in range(30):
+        for _ in range(20):
             connection = socket.create_connection(("127.0.0.1", server.port))
             connection.sendall(
                 f"GET /match?ref=16 HTTP/1.1\r\nHost: localhost:{server.port}\r\n\r\n".encode()
             )
             assert connection.recv(100).startswith(b"HTTP/1.1 200 ")
             connections.append(connection)
-            wait_until(lambda: server.memory() < 450_000)
+            wait_until(lambda: server.memory() < 350_000)
         assert server.get("/match?ref=x").status == 422
         for connection in connections:
             connection.close()

@@ -38,6 +38,7 @@ class Known(NamedTuple):
     server: Server
     rows: dict[str, list[dict[str, Any]]]
     """The rows of each message, with numbers as they are."""
+    is_store: bool
 
 
 def rows_of_match(tools: Tools, on: Path, folder: Path, *words: object) -> Any:
@@ -88,7 +89,7 @@ def known(
         make_store_of_folder(folder, on)
     rows = rows_of_match(tools, on, scratch)
     with serving(program.path, on, scratch / "log") as server:
-        yield Known(server, rows)
+        yield Known(server, rows, request.param == "store")
 
 
 def test_what_match_says(known: Known) -> None:
@@ -101,7 +102,7 @@ def test_what_match_says(known: Known) -> None:
 
 @pytest.mark.parametrize("key", TEXTS)
 def test_each_address_says_the_same(known: Known, browser: Browser, key: str) -> None:
-    """GeoJSON, the rows of a list, the scene and the page itself."""
+    """GeoJSON, the rows of a list, the scene and the page itself, which is opened once for a store: it shows what the server says."""
     expected = known.rows[key]
     first = expected[0]
     lines = known.server.get("/rows", "POST", f"{key}\t{TEXTS[key]}\n", Content_Type="text/plain")
@@ -126,6 +127,8 @@ def test_each_address_says_the_same(known: Known, browser: Browser, key: str) ->
     assert all(text in texts_of(one["probability"]) for text, one in zip(texts, expected))
     none = drawn["probability"][0]
     assert none in {f"None of these: {text}." for text in texts_of(first["none_of_these"])}
+    if known.is_store and key != "m3":
+        return
     page = Page(browser, known.server)
     page.open(f"?ref={quote(TEXTS[key])}")
     shown = page.value("[...document.querySelectorAll('.entry .gap')].map(e => e.textContent)")

@@ -60,7 +60,7 @@ def test_rows_of_match(
 ) -> None:
     """Without options they are those of the profile `feed`."""
     file = tmp_path / "messages.tsv"
-    lines = town.plain.read_bytes().splitlines(keepends=True)[:120]
+    lines = town.plain.read_bytes().splitlines(keepends=True)[:60]
     file.write_bytes(b"".join(lines))
     expected = likeliest_of(tools, file, town.folder, "--profile", profile)
     rows = rows_of(server, file.read_bytes(), "?profile=program" if profile == "program" else "")

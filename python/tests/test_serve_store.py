@@ -87,7 +87,7 @@ def test_features_and_scenes(
 ) -> None:
     """They are those of the folder."""
     with serving(program.path, town.folder, tmp_path / "log") as folder:
-        for text in texts[1:9]:
+        for text in texts[1:6]:
             for what, accept in (
                 ("match", "application/geo+json"),
                 ("places", "application/geo+json"),
