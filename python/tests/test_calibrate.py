@@ -64,10 +64,10 @@ def tempe(tmp_path_factory: pytest.TempPathFactory) -> Path:
 
 @pytest.fixture(scope="module")
 def town(tmp_path_factory: pytest.TempPathFactory) -> Path:
-    """A drawn town of some 900 lines."""
+    """A drawn town of some 500 lines."""
     folder = tmp_path_factory.mktemp("town")
     file = folder / "town.osm.pbf"
-    words = ["--blocks", "14", "--houses", "1", "--seed", "4", "--out", str(file)]
+    words = ["--blocks", "10", "--houses", "1", "--seed", "4", "--out", str(file)]
     script = str(TOP / "bench/generate_osm.py")
     subprocess.run(["/usr/bin/python3", script, *words], check=True, capture_output=True)
     made = import_osm(file, Options(), Counts())
