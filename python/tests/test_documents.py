@@ -61,8 +61,9 @@ class Shell:
     def printed(self, command: str) -> str:
         """What a command prints on both outputs. One that stands on several pages is run once: it may write a file."""
         if command not in self._printed:
-            is_plain = re.fullmatch(r"\./olr-tools (?!run )[\w/.,= +-]*", command)
-            status, text = self._ran_here(command) if is_plain else self._ran(command)
+            plain = command.replace("\\\n", " ")
+            is_plain = re.fullmatch(r"\./olr-tools (?!run )[^|<>$&;*?~#(){}`!\n]*", plain)
+            status, text = self._ran_here(plain) if is_plain else self._ran(command)
             fault = re.search(r"(?m)^olr: \w+", text)
             assert (status == 0) != bool(fault), (command, text)
             self._printed[command] = text
