@@ -47,7 +47,7 @@ def plain(answer: Any) -> Any:
 def test_many_references_in_one_go(
     what: What, folder: Path, references: list[str], program: Program, tmp_path: Path
 ) -> None:
-    texts = references[: 500 if what == "match" else 250]
+    texts = references[: 300 if what == "match" else 150]
     records = tmp_path / "records"
     records.write_text("".join(f"x\t{text}\n" for text in texts), encoding="utf-8")
     expected = batch_of(program, what, records, ["--map", folder])

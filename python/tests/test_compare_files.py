@@ -59,7 +59,7 @@ def test_stores_and_folders(tmp_path: Path) -> None:
     (new / "lines.csv").write_text("\n".join(kept) + "\n")
     for folder in (old, new):
         make_store_of_folder(folder, folder.with_suffix(".gpkg"))
-    texts = draw_references(old, 200)
+    texts = draw_references(old, 100)
     wanted = pairs(old, new, [*texts, HALFWAY])
     assert len({row["change"] for row, _ in wanted}) >= 4
     for one in (old, old.with_suffix(".gpkg")):

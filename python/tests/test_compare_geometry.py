@@ -157,7 +157,7 @@ def sampled(one: Spots, other: Spots, across: float) -> tuple[float, float]:
 def test_runs_and_shares_beside_samples() -> None:
     draw = random.Random(5)
     differing = 0
-    for _ in range(60):
+    for _ in range(40):
         one = drawn(draw)
         other = draw.choice([shaken(draw, one), drawn(draw)])
         across = draw.choice([2, 10, 30])
@@ -168,7 +168,7 @@ def test_runs_and_shares_beside_samples() -> None:
         assert found == pytest.approx(longest, abs=0.5)
         assert share * whole == pytest.approx(there, abs=0.5 + whole / 1000)
         differing += 0 < found < whole - 1
-    assert differing > 20
+    assert differing > 12
 
 
 def test_hausdorff_by_hand() -> None:

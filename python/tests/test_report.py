@@ -26,7 +26,7 @@ WITHIN, LOOK = 200, ["--look", "20"]
 NUMBERS = ["--within", str(WITHIN), *LOOK]
 """With which the feed has answers of all kinds."""
 DIFFERS = Range(0.84, 0.55, 1.16)
-MORE_BYTES = 15 << 20
+MORE_BYTES = 10 << 20
 
 
 @pytest.fixture(autouse=True)
@@ -426,10 +426,10 @@ def test_runs_that_fail(
 
 
 def test_memory_doesnt_grow_with_the_messages(feed: Feed, tmp_path: Path) -> None:
-    """The greatest memory of a report on 500 and on 4,000 messages."""
+    """The greatest memory of a report on 500 and on 3,000 messages."""
     lines = feed.messages.read_text(encoding="utf-8").splitlines(keepends=True)
     peaks = []
-    for count in (500, 4_000):
+    for count in (500, 3_000):
         messages = tmp_path / "messages.tsv"
         messages.write_text("".join(lines[at % len(lines)] for at in range(count)))
         words = ["report", messages, "--map", feed.folder, "--out", tmp_path / "page.html"]
