@@ -243,7 +243,8 @@ class Runs:
     def end_all(self) -> None:
         """Ends what is left of the runs."""
         for process in self.left():
-            os.kill(process, signal.SIGKILL)
+            with suppress(ProcessLookupError):
+                os.kill(process, signal.SIGKILL)
 
     def parts(self) -> list[str]:
         """The names of all that is in the folder of parts."""
