@@ -26,6 +26,8 @@ if TYPE_CHECKING:
 # The processes that tests start keep what they compile.
 os.environ.pop("PYTHONDONTWRITEBYTECODE", None)
 TOP = Path(__file__).resolve().parents[2]
+pytest_plugins = ("page_of_server",)
+"""Modules with fixtures of their own."""
 REFERENCE = "CwVF/yN2yRpnBAFUAAgbpwYBAf9kK0Fa"
 """Some reference: to ask whether a map can be read."""
 

@@ -1,4 +1,4 @@
-"""The page of a server in Chromium, for tests and for its picture. Tests import the fixtures at its end by their names."""
+"""The page of a server in Chromium, for tests and for its picture. conftest.py hands its fixtures on."""
 
 import json
 import pytest

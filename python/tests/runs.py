@@ -1,6 +1,7 @@
 """What tests of `olr-tools run` share: a town as a store, its messages and what `olr batch` answers; runs, and programs that kill them."""
 
 import os
+import pytest
 import signal
 import subprocess
 import time
@@ -13,12 +14,9 @@ from ipaddress import IPv4Address, IPv6Address, ip_address
 from pathlib import Path
 from typing import NamedTuple
 
-import pytest
-
 from asking import draw_map, draw_references
 from conftest import OF_PROGRAM, TOP, Program, Tools
 from olr.content import Content
-from olr.errors import ToolError
 from olr.messages.message import Reading
 from olr.regions.making import make_store_of_folder
 from olr.regions.store import Store

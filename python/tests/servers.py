@@ -2,6 +2,7 @@
 
 import asyncio
 import http.client
+import importlib
 import json
 import os
 import signal
@@ -15,7 +16,9 @@ from urllib.parse import quote
 
 from conftest import TOP, Program
 from forked import Forked
-from olr.commands import serve as serve_command  # noqa: F401 - so that forks have it.
+
+# Forks have it then.
+importlib.import_module("olr.commands.serve")
 
 SECONDS = 30.0
 """So long is waited for what has to come."""

@@ -1,8 +1,6 @@
 """The columns of tables of answers, beside the program's JSON, and pieces beside the columns."""
 
 import csv
-import geopandas
-import json
 import math
 import numpy as np
 import pandas

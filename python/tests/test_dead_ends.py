@@ -273,10 +273,10 @@ def test_another_default(tmp_path: Path, monkeypatch: pytest.MonkeyPatch) -> Non
     """Whatever the default is, it counts where turning back is banned at all junctions."""
     file, folder = str(stub().write(tmp_path / "drawn.osm")), tmp_path / "map"
     importing = ["import", "osm", file, "--out", str(folder), "--force"]
-    for default, bans in (("allow", 3), ("ban", 6)):
+    for default, many in (("allow", 3), ("ban", 6)):
         monkeypatch.setattr("olr.commands.u_turns.DEAD_ENDS", default)
         assert run([*importing]) == 0
-        assert settings(folder) == ("dead-ends", default, bans)
+        assert settings(folder) == ("dead-ends", default, many)
         assert run([*importing, "--u-turns", "plain"]) == 0
         assert settings(folder) == ("plain", "allow", 0)
 

@@ -4,6 +4,7 @@ import tomllib
 
 import ast
 import click
+import importlib
 import pytest
 import re
 import subprocess
@@ -121,7 +122,7 @@ def test_a_module_that_is_needed_later_is_named(tmp_path: Path) -> None:
 
 def test_a_module_of_the_package_that_is_missing_is_no_users_fault() -> None:
     with pytest.raises(ModuleNotFoundError) as caught, needed_by("some name", "geo"):
-        import olr.nothing  # type: ignore[import] # noqa: F401
+        importlib.import_module("olr.nothing")
     assert not isinstance(caught.value, ToolError)
 
 

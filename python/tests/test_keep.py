@@ -1,7 +1,6 @@
 """What imports keep of a file for each line: names, and the fields of `--keep`."""
 
 import fiona
-import numpy as np
 import pytest
 from collections.abc import Sequence
 from pathlib import Path

@@ -32,7 +32,7 @@ FORMATS: dict[str, tuple[str, dict[str, Any]]] = {
         f'id;more; openlr\nm1;"a;\nb";{ONE}\n0012;;"{TWO}"\n',
         {"ref": "openlr", "key": "id"},
     ),
-    "tabs": (f"key\tref\n" + LINES, {}),
+    "tabs": ("key\tref\n" + LINES, {}),
     "pipe": (f'more|"open, lr"|key\n1,5|{ONE}|m1\n2,5|{TWO}|0012\n', {"ref": "open, lr"}),
     "jsonl": (f'{{"ref":"{ONE}","key":"m1"}}\n{{"x":1,"key":"0012","ref":"{TWO}"}}\n', {}),
     "path": (
@@ -312,7 +312,7 @@ def test_one_message_is_held(file: Path, name: str) -> None:
     more = "x" * 30_000
     texts = {
         "tab": [f"{more}\t{ONE}\n"],
-        "comma": [f"more,ref\n", f"{more},{ONE}\n"],
+        "comma": ["more,ref\n", f"{more},{ONE}\n"],
         "jsonl": [json.dumps({"ref": ONE, "more": more}) + "\n"],
     }
     *head, row = texts[name]

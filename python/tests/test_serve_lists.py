@@ -31,9 +31,6 @@ from page_of_server import (
     UNMATCHED,
     VERDICT,
     Page,
-    folder,
-    page,
-    server,
 )
 from servers import Server, serving, wait_until
 

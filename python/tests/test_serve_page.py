@@ -18,17 +18,7 @@ from olr.model.questions import TOLERANCES
 from olr.pages.view.scene import scene_of
 from olr.pages.view.surroundings import Surroundings
 from olr.serving import scenes
-from page_of_server import (
-    AS_PROGRAM,
-    MESSAGES,
-    OF_FEED,
-    ROADWORKS,
-    UNMATCHED,
-    Page,
-    folder,
-    page,
-    server,
-)
+from page_of_server import AS_PROGRAM, MESSAGES, OF_FEED, ROADWORKS, UNMATCHED, Page
 from servers import Server, serving, wait_until
 
 

@@ -15,16 +15,7 @@ from olr.confidence.sentences import probability_text
 from olr.model.profiles import FEED, tolerances_of
 from olr.model.questions import NUMBERS
 from olr.regions.making import make_store_of_folder
-from page_of_server import (
-    MESSAGES,
-    NONE_OF_THESE,
-    PROBABILITY,
-    REASONS,
-    TOTAL,
-    VERDICT,
-    Page,
-    folder,
-)
+from page_of_server import MESSAGES, NONE_OF_THESE, PROBABILITY, REASONS, TOTAL, VERDICT, Page
 from servers import Server, path_of, serving
 
 TEXTS = dict(line.split("\t") for line in MESSAGES.splitlines())

@@ -10,7 +10,7 @@ from typing import Any
 
 from asking import likeliest_of
 from bad_programs import bad_program
-from conftest import OF_PROGRAM, REFERENCE, Program, Tools
+from conftest import REFERENCE, Program, Tools
 from runs import Town
 from servers import Server, serving, wait_until
 
