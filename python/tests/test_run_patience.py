@@ -1,6 +1,5 @@
 """`olr-tools run` with a program that fails at some records: each of them stands alone, and the others have their answers."""
 
-import os
 import pytest
 import random
 import re
