@@ -1,8 +1,22 @@
-"""The program `olr`, an OpenLR dereferencer, from Python, and tools around it.
+"""Where OpenLR references lie on a road map: the program `olr` from Python, and tools around it.
 
-`olr.Map` asks about references on a map, `olr.decode` reads a reference, `olr.read_messages` a file of them, `olr.Network` and
-`olr.to_geodataframe` have the answers as geometries, and `olr.Confidence` says how probable places are. They are imported when they are
-first named: all but the last three need Python alone.
+To begin, install the modules of others by `./olr-tools setup` on Debian, or `pip install olr[geo]` with a wheel. A map is a folder, which
+`olr-tools import` makes; `examples` of the repository is one. Then
+
+>>> import olr
+>>> with olr.Map("examples") as town:
+...     town.places("CwVF/yN2yRpnBAFUAAgbpwYBAf9kK0Fa")
+...
+<Places: unique, 1 place, total 8>
+
+and for a table of pandas `olr.locate(frame, "ref", "examples")`. From here go on with `help(olr.Map)`, whose answers are `Places`, `Page`,
+`Candidates` and `Why`; `help(olr.locate)`; `olr.view(reference, "examples")`, which is a page on the map; `olr.decode`, what a reference says
+without a map; `olr.read_messages`, a file of references; and `help(olr.ToolError)`, what may go wrong. In the repository
+python/examples/first.md is a first session, notebook.md one with tables, and docs/GUIDE.md has all tasks.
+
+`olr.Network` has a map as geometries, `olr.to_geodataframe` and `olr.to_pieces` make tables of answers, `olr.answers` reads what `olr-tools
+run` wrote, and `olr.Confidence` says how probable places are. All names are imported when they are first used. `olr.Map`, `olr.decode`,
+`olr.read_messages` and answers need Python alone.
 
 | package | subject |
 |---|---|
@@ -41,10 +55,12 @@ if TYPE_CHECKING:
     from olr.errors import MapRefused, ProgramEnded, ProgramNotFound, TimedOut, ToolError
     from olr.geometry.network import Network
     from olr.matching.geodataframe import to_geodataframe, to_pieces
+    from olr.matching.locating import locate
     from olr.messages.reading import read_messages
     from olr.model.answers import Candidates, Matching, Page, Places, Reference, Why
     from olr.model.fault import Fault
     from olr.model.pieces import Piece, Place
+    from olr.pages.view.showing import view
 
     __version__: str
 
@@ -68,9 +84,11 @@ __all__ = [
     "Why",
     "answers",
     "decode",
+    "locate",
     "read_messages",
     "to_geodataframe",
     "to_pieces",
+    "view",
 ]
 _MODULES = {
     "olr.asking.decoding": ("decode",),
@@ -80,10 +98,12 @@ _MODULES = {
     "olr.errors": ("MapRefused", "ProgramEnded", "ProgramNotFound", "TimedOut", "ToolError"),
     "olr.geometry.network": ("Network",),
     "olr.matching.geodataframe": ("to_geodataframe", "to_pieces"),
+    "olr.matching.locating": ("locate",),
     "olr.messages.reading": ("read_messages",),
     "olr.model.answers": ("Candidates", "Matching", "Page", "Places", "Reference", "Why"),
     "olr.model.fault": ("Fault",),
     "olr.model.pieces": ("Piece", "Place"),
+    "olr.pages.view.showing": ("view",),
 }
 _MODULE_OF = {name: module for module, names in _MODULES.items() for name in names}
 

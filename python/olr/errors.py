@@ -7,16 +7,36 @@ from contextlib import contextmanager
 class ToolError(Exception):
     """Something is wrong with what the user gave. The text is one line without a full stop: what is wrong, where, and what to do.
 
-    The command line prints it behind `olr-tools: ` on standard error, and ends with status 1.
+    The command line prints it behind `olr-tools: ` on standard error, and ends with status 1. All other errors of the package are kinds of
+    it, but for `TypeError`, `ValueError` and `KeyError`, which say that a call is wrong.
+
+    >>> import olr
+    >>> olr.Network.read("nowhere")
+    Traceback (most recent call last):
+    olr.errors.ToolError: nowhere/nodes.csv can't be read: No such file or directory
     """
 
 
 class ProgramNotFound(ToolError):
-    """The program `olr` isn't there, or can't be started."""
+    """The program `olr` isn't there, or can't be started.
+
+    >>> import olr
+    >>> olr.decode("CwVF+yN2yhpnBAFdAAsaFg==", program="nowhere/olr")
+    Traceback (most recent call last):
+    olr.errors.ProgramNotFound: there is no program nowhere/olr: ...
+    """
 
 
 class ProgramEnded(ToolError):
-    """A process of `olr` ended before it had answered, or what it wrote isn't an answer to what it was asked."""
+    """A process of `olr` ended before it had answered, or what it wrote isn't an answer to what it was asked.
+
+    >>> import olr
+    >>> with olr.Map("examples", program="/bin/true") as town:
+    ...     town.match("CwVF+yN2yhpnBAFdAAsaFg==")
+    ...
+    Traceback (most recent call last):
+    olr.errors.ProgramEnded: ...
+    """
 
 
 class TimedOut(ToolError):
@@ -24,6 +44,15 @@ class TimedOut(ToolError):
 
     `reference` is the text at which that was, and `number` tells which one it is of many that were asked, from 1. They are None where
     that isn't known.
+
+    >>> import olr
+    >>> with olr.Map("examples", patience=1e-9) as town:
+    ...     try:
+    ...         town.match("CwVF+yN2yhpnBAFdAAsaFg==")
+    ...     except olr.TimedOut as error:
+    ...         print(error.reference)
+    ...
+    CwVF+yN2yhpnBAFdAAsaFg==
     """
 
     def __init__(self, text: str, reference: str | None = None, number: int | None = None) -> None:
@@ -32,7 +61,15 @@ class TimedOut(ToolError):
 
 
 class MapRefused(ToolError):
-    """`olr` doesn't accept the files of a map, or they aren't the version that was read before."""
+    """`olr` doesn't accept the files of a map, or they aren't the version that was read before.
+
+    >>> import olr
+    >>> with olr.Map("examples/lines.csv", "examples/nodes.csv") as swapped:
+    ...     swapped.match("CwVF+yN2yhpnBAFdAAsaFg==")
+    ...
+    Traceback (most recent call last):
+    olr.errors.MapRefused: olr refuses the map: Header nodes: ...
+    """
 
 
 class MissingModule(ToolError, ModuleNotFoundError):

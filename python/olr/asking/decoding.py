@@ -13,6 +13,13 @@ def decode(ref: str, program: PathLike | None = None) -> Reference:
 
     Raises `Fault` if the text isn't a reference, `TypeError` if it is no text, `ProgramNotFound` if the program isn't built, and
     `TimedOut` if it doesn't end within a minute. `find_program` says which program is run.
+
+    >>> import olr
+    >>> reference = olr.decode("CwVF/yN2yRpnBAFUAAgbpwYBAf9kK0Fa")
+    >>> reference
+    <Reference: line, 3 points>
+    >>> reference.points[0].lat / 1e6, reference.points[0].lon / 1e6
+    (49.871246, 7.415739)
     """
     text = record_text(ref).decode()
     words = ["show", "--format", "json", "--", text]

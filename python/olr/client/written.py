@@ -28,6 +28,11 @@ def answers(file: PathLike) -> Iterator[Answered]:
 
     The pieces of these answers don't know of which version of a map they are. Raises `ToolError` at once if the file can't be
     read, and later at a line that isn't one.
+
+    >>> import olr, pathlib
+    >>> written = pathlib.Path("answers.jsonl").write_text('{"answer":null,"fault":"BadLength 12","key":"m5","record":5}')
+    >>> [(line.key, line.record, line.answer.text) for line in olr.answers("answers.jsonl")]
+    [('m5', 5, 'BadLength 12')]
     """
     path = Path(file)
     with readable(path), path.open("rb"):

@@ -43,6 +43,16 @@ def judging_for(
     return chosen
 
 
+def judging_with(
+    confidence: Confidence | None, tolerances: Mapping[str, Any], numbers: Mapping[str, int]
+) -> Chosen:
+    """As `judging_for`, by a confidence that was given, or by the one that comes with the package. Raises as it does."""
+    chosen = judging_by(confidence or Confidence.default(), tolerances, numbers)
+    if confidence is not None and chosen.others:
+        raise ToolError(f"the confidence says nothing of such answers: {chosen.others}: {REMEDY}")
+    return chosen
+
+
 def judging_by(
     confidence: Confidence, tolerances: Mapping[str, Any], numbers: Mapping[str, int]
 ) -> Chosen:

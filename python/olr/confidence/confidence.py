@@ -30,6 +30,15 @@ class Confidence:
     """How probable it is that each place of an answer is the one that the sender meant, and that none is: by trials on a map.
 
     It is of the places of a line reference, asked with these tolerances and this `apart`, and of all of them that are within looking.
+
+    >>> import olr
+    >>> text, sure = "CwVF/yN2yRpnBAFUAAgbpwYBAf9kK0Fa", olr.Confidence.default()
+    >>> with olr.Map("examples", profile="feed") as town:
+    ...     answers = [town.places(text, within=14620, most=100)]
+    ...     table = olr.to_geodataframe(answers, town.network(), confidence=sure, references=[text], most=1)
+    ...
+    >>> bool(table["probability"][0] > 0.9)
+    True
     """
 
     tolerances: Mapping[str, int]
@@ -48,19 +57,36 @@ class Confidence:
 
     @classmethod
     def of_file(cls, file: str | Path) -> "Confidence":
-        """What `olr-tools calibrate` wrote. Raises `ToolError` if the file can't be read, or is none."""
+        """What `olr-tools calibrate` wrote. Raises `ToolError` if the file can't be read, or is none.
+
+        >>> import olr
+        >>> olr.Confidence.of_file("examples/nodes.csv")
+        Traceback (most recent call last):
+        olr.errors.ToolError: ...
+        """
         from olr.confidence.contents import read_confidence
 
         return read_confidence(Path(file))
 
     @classmethod
     def default(cls) -> "Confidence":
-        """The one that comes with the package: for the profile `feed`, and maps that differ somewhat."""
+        """The one that comes with the package: for the profile `feed`, and maps that differ somewhat.
+
+        >>> import olr
+        >>> olr.Confidence.default().tolerances["radius"]
+        75
+        """
         return _default()
 
     def others(self, tolerances: Mapping[str, int], apart: int) -> str:
         """Which numbers are others than those that it was made with; an empty text if none is. Tolerances that aren't given are the program's
-        defaults; `class` may be called `class_`."""
+        defaults; `class` may be called `class_`.
+
+        >>> import olr
+        >>> sure = olr.Confidence.default()
+        >>> sure.others({**sure.tolerances, "radius": 100}, sure.apart)
+        'radius is 100, not 75'
+        """
         given = {name.removesuffix("_"): value for name, value in tolerances.items()}
         defaults = {name: number.default for name, number in TOLERANCES.items()}
         asked = {**defaults, **given, "apart": apart}
@@ -76,11 +102,35 @@ class Confidence:
         self, found: Listed, references: Sequence[Reference | None], network: "Network"
     ) -> Evidence:
         """What speaks for and against places. There is a reference for each answer that has one. Raises `ToolError` if the network hasn't
-        a line."""
+        a line.
+
+        >>> import olr
+        >>> from olr.likely.listed import listed
+        >>> text, sure = "CwVF/yN2yRpnBAFUAAgbpwYBAf9kK0Fa", olr.Confidence.default()
+        >>> with olr.Map("examples", profile="feed") as town:
+        ...     network, found = town.network(), [town.places(text, within=14620, most=100)]
+        ...
+        >>> places = listed(found, network)
+        >>> evidence = sure.evidence(places, [olr.decode(text)], network)
+        >>> len(evidence.fit.point_penalty)
+        1
+        """
         return evidence_for(found, references, network, self.tolerances["radius"])
 
     def of(self, found: Listed, evidence: Evidence) -> Probabilities:
-        """How probable it is that each place is the right one, and of each answer that has one that none of its places is."""
+        """How probable it is that each place is the right one, and of each answer that has one that none of its places is.
+
+        >>> import olr
+        >>> from olr.likely.listed import listed
+        >>> text, sure = "CwVF/yN2yRpnBAFUAAgbpwYBAf9kK0Fa", olr.Confidence.default()
+        >>> with olr.Map("examples", profile="feed") as town:
+        ...     network, found = town.network(), [town.places(text, within=14620, most=100)]
+        ...
+        >>> places = listed(found, network)
+        >>> of_place, of_none = sure.of(places, sure.evidence(places, [olr.decode(text)], network))
+        >>> bool(of_place[0] + of_none[0] > 0.999)
+        True
+        """
         weights = np.array([self.weights[name] for name in WEIGHTS])
         return probabilities(weights, differences_of(found, evidence))
 

@@ -11,6 +11,7 @@ from typing import TYPE_CHECKING, NamedTuple, Protocol
 from olr.content import digest_of
 from olr.errors import MapRefused, ToolError
 from olr.extras import needed_by
+from olr.model.display import note_network
 from olr.model.map_folder import LINES, NODES, store_of
 from olr.model.pieces import Piece, Pieces, Place
 from olr.model.sources import Sources
@@ -22,6 +23,7 @@ with needed_by("olr.Network", "geo"):
     from olr.model.columns import joined_columns, read_columns
 
 if TYPE_CHECKING:
+    import geopandas
     from shapely.geometry import LineString, Point
 
 
@@ -47,7 +49,18 @@ class Polylines(NamedTuple):
 
 
 class Network:
-    """The nodes of a map in the order of their ids, and its lines in that of their file, as arrays."""
+    """The nodes of a map in the order of their ids, and its lines in that of their file, as arrays: coordinates in degrees, lengths in
+    decimetres.
+
+    >>> import olr
+    >>> with olr.Map("examples") as town:
+    ...     network, best = town.network(), town.match("CwVF/yN2yRpnBAFUAAgbpwYBAf9kK0Fa").matchings[0]
+    ...
+    >>> network
+    <Network of examples: 20 nodes, 41 lines>
+    >>> network.geometry(best.outer).geom_type
+    'LineString'
+    """
 
     def __init__(self, nodes_file: Path, lines_file: Path) -> None:
         """Reads the files of nodes and of lines. Raises `ToolError` if they can't be read, or are changed meanwhile."""
@@ -80,11 +93,17 @@ class Network:
         self._by_id: Integers = np.argsort(self.line_id, kind="stable")
         self._ids: Integers = self.line_id[self._by_id]
         self._sources: Sources | None = None
+        note_network(self.digest, self)
 
     @classmethod
     def read(cls, folder: str | Path) -> "Network":
         """The nodes and lines of a map's folder, or of a store, whose lines are read when they are asked for. Raises `ToolError` if they
-        can't be read. `Map.network` reads those of a map that is asked."""
+        can't be read. `Map.network` reads those of a map that is asked.
+
+        >>> import olr
+        >>> olr.Network.read("examples")
+        <Network of examples: 20 nodes, 41 lines>
+        """
         if store_of(Path(folder)) is not None:
             from olr.geometry.store_network import StoreNetwork
 
@@ -96,7 +115,13 @@ class Network:
         return f"<Network of {self.folder}: {sizes}>"
 
     def having(self, lines: Integers | Iterable[int]) -> "Network":
-        """A network with arrays that has these lines, by their ids, and perhaps others: this one, but for the network of a store."""
+        """A network with arrays that has these lines, by their ids, and perhaps others: this one, but for the network of a store.
+
+        >>> import olr
+        >>> network = olr.Network.read("examples")
+        >>> network.having([104]) is network
+        True
+        """
         return self
 
     def _points_of_nodes(self, ids: Integers) -> Floats:
@@ -109,14 +134,29 @@ class Network:
         return result
 
     def line(self, id: int) -> "LineString":
-        """The whole polyline of a line. Raises `ToolError` if the map hasn't this line."""
+        """The whole polyline of a line, in degrees. Raises `ToolError` if the map hasn't this line.
+
+        >>> import olr
+        >>> network = olr.Network.read("examples")
+        >>> network.line(104).coords[0]
+        (7.41572, 49.871269)
+        >>> network.line(7)
+        Traceback (most recent call last):
+        olr.errors.ToolError: the map in examples has no line 7: read the map that the answer is of
+        """
         (index,) = self.indices_of(np.array([id]))
         first = self.first[index]
         return _line_string(self.points[first : first + self.sizes[index]])
 
     def sources(self) -> Sources:
         """Where the lines came from: the `ids.csv` of the map's folder, which is read once; none if there is no such file. Raises
-        `ToolError` if it can't be read."""
+        `ToolError` if it can't be read.
+
+        >>> import olr
+        >>> network = olr.Network.read("examples")
+        >>> print(network.sources().get(104))
+        None
+        """
         if self._sources is None:
             self._sources = Sources.of_folder(self.folder)
         return self._sources
@@ -126,11 +166,22 @@ class Network:
 
         A position is a share of the line's length, and the same share of its polyline, as the program counts. Raises `MapRefused`
         if the pieces are of another version of the map, and `ToolError` if it hasn't such a line.
+
+        >>> import olr
+        >>> network = olr.Network.read("examples")
+        >>> network.geometry([(104, 0, 2435)]).equals(network.line(104))
+        True
         """
         return _line_string(self.path(pieces))
 
     def path(self, pieces: Pieces | Iterable[Sequence[int]]) -> Floats:
-        """The points of what `geometry` makes of pieces; none for no pieces. Raises as `geometry`."""
+        """The points of what `geometry` makes of pieces, in degrees; none for no pieces. Raises as `geometry`.
+
+        >>> import olr
+        >>> network = olr.Network.read("examples")
+        >>> network.path([(104, 0, 2435)])[0].tolist()
+        [7.41572, 49.871269]
+        """
         if isinstance(pieces, Pieces):
             self.require_version_of(pieces)
         rows = np.array([tuple(piece) for piece in pieces], dtype=np.int64).reshape(-1, 3)
@@ -140,6 +191,11 @@ class Network:
         """The lines of many rows of pieces: `pieces` has a line's id and two positions of each, and `counts` says how many of them each
         polyline has. It is what `geometry` makes of each row of them, hundreds of times as fast. Raises `ToolError` if the map hasn't
         such a line, or it ends before.
+
+        >>> import numpy, olr
+        >>> pieces = numpy.array([[104, 0, 2435], [107, 0, 45]])
+        >>> olr.Network.read("examples").polylines(pieces, numpy.array([1, 1])).sizes.tolist()
+        [3, 2]
         """
         index = self.indices_of(pieces[:, 0])
         self._require_on(index, pieces[:, 1])
@@ -173,14 +229,59 @@ class Network:
         return first, counts
 
     def require_version_of(self, pieces: Pieces) -> None:
-        """Raises `MapRefused` if the pieces of an answer are of another version of the map's files."""
+        """Raises `MapRefused` if the pieces of an answer are of another version of the map's files.
+
+        >>> import olr
+        >>> with olr.Map("examples") as town:
+        ...     best = town.match("CwVF/yN2yRpnBAFUAAgbpwYBAf9kK0Fa").matchings[0]
+        ...     town.network().require_version_of(best.route)
+        ...
+        """
         if None not in (pieces.digest, self.digest) and pieces.digest != self.digest:
             raise MapRefused(
                 f"the map in {self.folder} is another version than the answer is of: take the network of the Map that was asked, by network()"
             )
 
+    def to_geodataframe(self, lines: Iterable[int] | None = None) -> "geopandas.GeoDataFrame":
+        """The lines of the map in the order of their file, or some of them by their ids in the order of these, with geometries in degrees
+        (EPSG:4326): `line` is the id, as in `to_pieces`, `start` and `end` are nodes, `class` and `form` as in the map, and `length_m` is
+        in metres.
+
+        >>> import olr
+        >>> roads = olr.Network.read("examples").to_geodataframe()
+        >>> next(roads.drop(columns="geometry").itertuples(index=False, name=None))
+        (101, 2, 1, 3, 3, 314.4)
+
+        Raises `ToolError` if the map hasn't a line. That of a store has to be told which lines.
+        """
+        with needed_by("olr.Network.to_geodataframe", "geo"):
+            import geopandas
+            from shapely.geometry import LineString
+        all_lines = self.line_id if lines is None else np.fromiter(lines, dtype=np.int64)
+        index = self.indices_of(all_lines)
+        found = zip(self.first[index].tolist(), self.sizes[index].tolist())
+        columns = {
+            "line": self.line_id,
+            "start": self.start,
+            "end": self.end,
+            "class": self.road_class,
+            "form": self.form,
+            "length_m": self.length / 10,
+        }
+        return geopandas.GeoDataFrame(
+            {name: values[index] for name, values in columns.items()},
+            geometry=[LineString(self.points[first : first + size]) for first, size in found],
+            crs="EPSG:4326",
+        )
+
     def point(self, place: OnLine | tuple[int, int]) -> "Point":
-        """The point of a place, or of a candidate. Raises `ToolError` if the map hasn't this line, or it ends before."""
+        """The point of a place, or of a candidate, in degrees. Raises `ToolError` if the map hasn't this line, or it ends before.
+
+        >>> import olr
+        >>> network = olr.Network.read("examples")
+        >>> network.point(olr.Place(104, 0)).wkt
+        'POINT (7.41572 49.871269)'
+        """
         id, at = place if isinstance(place, tuple) else (place.line, place.at)
         (point,) = self.points_at(np.array([[id, at]]))
         with needed_by("olr.Network.point", "geo"):
@@ -188,13 +289,24 @@ class Network:
         return Point(point)
 
     def points_at(self, places: Integers) -> Floats:
-        """The points of places, of which each row has a line's id and a position. Raises `ToolError` as `point` does."""
+        """The points of places, of which each row has a line's id and a position. Raises `ToolError` as `point` does.
+
+        >>> import numpy, olr
+        >>> olr.Network.read("examples").points_at(numpy.array([[104, 0]])).tolist()
+        [[7.41572, 49.871269]]
+        """
         index = self.indices_of(places[:, 0])
         self._require_on(index, places[:, 1])
         return self._at(index, places[:, 1] / self.length[index])
 
     def indices_of(self, ids: Integers) -> Integers:
-        """The indices of lines. Raises `ToolError` for the first one that isn't there."""
+        """The indices of lines by their ids, for the arrays of this network. Raises `ToolError` for the first one that isn't there.
+
+        >>> import numpy, olr
+        >>> network = olr.Network.read("examples")
+        >>> network.length[network.indices_of(numpy.array([104]))].tolist()
+        [2435]
+        """
         places = np.minimum(np.searchsorted(self._ids, ids), len(self._ids) - 1)
         lacking = self._ids[places] != ids if len(self._ids) else np.ones(len(ids), dtype=np.bool_)
         if lacking.any():

@@ -8,8 +8,9 @@ from pathlib import Path
 from typing import TYPE_CHECKING
 
 from olr.arrays import Floats, Integers
-from olr.errors import MapRefused
+from olr.errors import MapRefused, ToolError
 from olr.geometry.network import Network, Polylines
+from olr.model.display import note_network
 from olr.model.map_folder import LINES, NODES, store_of
 from olr.model.road_map import MICRODEGREE
 from olr.model.sources import Sources
@@ -19,6 +20,7 @@ from olr.regions.scratch import scratch_map
 from olr.regions.store import Store
 
 if TYPE_CHECKING:
+    import geopandas
     from shapely.geometry import LineString
 
 
@@ -46,6 +48,7 @@ class StoreNetwork(Network):
         self.folder, self.digest = self._store.file, self._store.digest
         self._asking = threading.Lock()
         self._last: PartOfNetwork | None = None
+        note_network(self.digest, self)
 
     def __repr__(self) -> str:
         sizes = self._store.sizes
@@ -93,6 +96,13 @@ class StoreNetwork(Network):
     def line(self, id: int) -> "LineString":
         """The whole polyline of a line. Raises `ToolError` if the map hasn't this line."""
         return self.having([id]).line(id)
+
+    def to_geodataframe(self, lines: Iterable[int] | None = None) -> "geopandas.GeoDataFrame":
+        """As `Network.to_geodataframe`, of the lines that are named. Raises `ToolError` if none are."""
+        if lines is None:
+            raise ToolError(f"the store {self.folder} may be too large for a table: name its lines")
+        ids = list(lines)
+        return self.having(ids).to_geodataframe(ids)
 
     def polylines(self, pieces: Integers, counts: Integers) -> Polylines:
         """As `Network.polylines`."""

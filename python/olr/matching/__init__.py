@@ -10,5 +10,6 @@
 | `writing` | files of rows, written whole or not at all |
 | `lacking` | references that fit nowhere, and what would help how many of them |
 | `geodataframe` | `olr.to_geodataframe` and `olr.to_pieces`: answers as tables |
+| `locating` | `olr.locate`: a table of references, and where each of them is |
 | `asking` | references that are asked one after the other, and their rows |
 """

@@ -51,6 +51,14 @@ def to_geodataframe(
     places, by `within=14620, most=100`. Then `within` and `most` here say which of them are shown, as those options of the command do; where
     either is given the other one is at its default.
 
+    >>> import olr
+    >>> with olr.Map("examples") as town:
+    ...     pages = town.matches(["CwVF/yN2yRpnBAFUAAgbpwYBAf9kK0Fa", "CwVGnSN2zhvHCgDX"])
+    ...     table = olr.to_geodataframe(pages, town.network(), keys=["m1", "m2"])
+    ...
+    >>> table[["key", "verdict", "lines", "outer_m", "fault"]].values.tolist()
+    [['m1', 'match', '104;107;201;501', 561.5, None], ['m2', 'fault', None, nan, 'BadLength 12']]
+
     The columns and their types are the same whatever is in them: `Int64`, `float64`, or `object` with texts or None. Raises
     `MapRefused` if the network is of another version of the map than an answer, `ToolError` if it hasn't a line of one, `ValueError`
     if there are more keys than answers or fewer, and `TypeError` for one answer or one key in place of many.
@@ -89,6 +97,14 @@ def to_pieces(
 
     `key` and `rank` are those of `to_geodataframe`, of the same answers. `piece` counts from 1 along a part. An answer that fits
     nothing has no row. Raises as `to_geodataframe`.
+
+    >>> import olr
+    >>> with olr.Map("examples") as town:
+    ...     page = town.match("CwVF/yN2yRpnBAFUAAgbpwYBAf9kK0Fa")
+    ...     pieces = olr.to_pieces([page], town.network())
+    ...
+    >>> pieces[["part", "line", "from_m", "to_m"]].values.tolist()[0]
+    ['outer', 104, 87.9, 243.5]
     """
     _require_many("to_pieces", answers)
     chunks = (

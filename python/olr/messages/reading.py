@@ -29,7 +29,11 @@ def read_messages(
 
     The file has lines of a key, a tab and a reference, or CSV, or JSON; docs/MESSAGES.md says how its format is detected,
     unless `format` says it. `ref` and `key` name the columns or members. Raises `ToolError` if the file can't be read, or it isn't clear
-    what it is.
+    what it is, and `ValueError` for what is no format.
+
+    >>> import olr
+    >>> dict(olr.read_messages("examples/messages.tsv"))["m2"]
+    'CwVF+yN2yhpnBAFdAAsaFg=='
     """
     if format is not None and format not in FORMATS:
         raise ValueError(f"{format!r} is no format: give {', '.join(FORMATS)}")

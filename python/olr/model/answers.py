@@ -4,12 +4,33 @@ Lengths and positions on lines are in decimetres, distances in centimetres, coor
 docs/specification has what each of them means.
 """
 
-from collections.abc import Sequence
-from dataclasses import dataclass
+from collections.abc import Mapping, Sequence
+from dataclasses import dataclass, field
 from typing import Literal
 
+from olr.model.display import Displayed, Point, counted, plain
 from olr.model.fault import Fault
 from olr.model.pieces import Pieces, Place
+
+MOST_IDS = 6
+"""So many ids of lines stand in a table."""
+
+
+@dataclass(frozen=True, repr=False)
+class AboutReference(Displayed):
+    """An answer about a reference on a map."""
+
+    ref: str | None = field(default=None, kw_only=True, compare=False)
+    """The text that was asked about; None where that isn't known."""
+
+    def _absent(self) -> Sequence[str]:
+        return ("ref",)
+
+    def _spots(self) -> Sequence[Point]:
+        from olr.model.reference import read_reference
+
+        reference = None if self.ref is None else read_reference(self.ref)
+        return () if reference is None else reference._spots()
 
 
 @dataclass(frozen=True)
@@ -26,9 +47,18 @@ class ReferencePoint:
     lowest: int | None = None
 
 
-@dataclass(frozen=True)
-class Reference:
-    """What a reference says, without any map."""
+@dataclass(frozen=True, repr=False)
+class Reference(Displayed):
+    """What a reference says, without any map: the answer of `olr.decode`. Coordinates of points are in microdegrees, sectors are of 11.25
+    degrees, intervals of 58.6 metres, and offsets in 256ths of the first and of the last leg.
+
+    >>> import olr
+    >>> reference = olr.decode("CwVF/yN2yRpnBAFUAAgbpwYBAf9kK0Fa")
+    >>> reference
+    <Reference: line, 3 points>
+    >>> reference.points[0].lat / 1e6, reference.points[0].sector * 11.25, reference.positive
+    (49.871246, 78.75, 90)
+    """
 
     kind: Literal["line", "point-along-line"]
     points: tuple[ReferencePoint, ...]
@@ -37,6 +67,21 @@ class Reference:
     orientation: int | None = None
     """None for a line, as `side`."""
     side: int | None = None
+
+    def _absent(self) -> Sequence[str]:
+        return ("orientation", "side") if self.kind == "line" else ("negative",)
+
+    def _summary(self) -> str:
+        return f"{self.kind}, {counted(len(self.points), 'point')}"
+
+    def _rows(self) -> Sequence[Mapping[str, object]]:
+        return [
+            {"point": number, "degrees": f"{point.lat / 1e6}, {point.lon / 1e6}", **plain(point)}
+            for number, point in enumerate(self.points, 1)
+        ]
+
+    def _spots(self) -> Sequence[Point]:
+        return [(point.lon / 1e6, point.lat / 1e6) for point in self.points]
 
 
 @dataclass(frozen=True)
@@ -48,11 +93,32 @@ class Candidate:
     penalty: int
 
 
-@dataclass(frozen=True)
-class Candidates:
-    """The candidates of each point, by rank."""
+@dataclass(frozen=True, repr=False)
+class Candidates(AboutReference):
+    """The candidates of each point, by rank: the answer of `Map.candidates`. Positions are in decimetres, penalties in points.
+
+    >>> import olr
+    >>> with olr.Map("examples") as town:
+    ...     found = town.candidates("CwVF/yN2yRpnBAFUAAgbpwYBAf9kK0Fa")
+    ...
+    >>> found
+    <Candidates: 3 points, 2 + 2 + 2 lines>
+    >>> found.points[0][0]
+    Candidate(at=13, line=104, penalty=2)
+    """
 
     points: tuple[tuple[Candidate, ...], ...]
+
+    def _summary(self) -> str:
+        numbers = " + ".join(str(len(point)) for point in self.points)
+        return f"{counted(len(self.points), 'point')}, {numbers} lines"
+
+    def _rows(self) -> Sequence[Mapping[str, object]]:
+        return [
+            {"point": number, "rank": rank, **plain(one)}
+            for number, point in enumerate(self.points, 1)
+            for rank, one in enumerate(point, 1)
+        ]
 
 
 @dataclass(frozen=True)
@@ -63,9 +129,19 @@ class Leg:
     penalty: int
 
 
-@dataclass(frozen=True)
-class Matching:
-    """One way in which a reference fits the map."""
+@dataclass(frozen=True, repr=False)
+class Matching(Displayed):
+    """One way in which a reference fits the map. Lengths and positions are in decimetres, penalties in points.
+
+    >>> import olr
+    >>> with olr.Map("examples") as town:
+    ...     best = town.match("CwVF/yN2yRpnBAFUAAgbpwYBAf9kK0Fa").matchings[0]
+    ...
+    >>> best
+    <Matching: total 8, 4 lines, 561.5 m, cursor 8:1.1.1>
+    >>> best.outer[0], best.outer.length()
+    (Piece(line=104, from_=879, to=2435), 5615)
+    """
 
     cursor: str
     legs: tuple[Leg, ...]
@@ -78,34 +154,121 @@ class Matching:
     """Of a point along a line, as `latest`; None for a line."""
     latest: Place | None = None
 
+    def _absent(self) -> Sequence[str]:
+        return ("earliest", "latest") if self.earliest is None else ("outer", "inner")
 
-@dataclass(frozen=True)
-class Page:
-    """The first matchings, best first."""
+    def _summary(self) -> str:
+        row = self._row()
+        return f"total {self.total}, {counted(len(self._covered()), 'line')}, {row['metres']} m, cursor {self.cursor}"
+
+    def _row(self) -> dict[str, object]:
+        """What its table and those of others have of it."""
+        covered = self._covered()
+        lines = [str(piece.line) for piece in covered[:MOST_IDS]]
+        more = ["..."] if len(covered) > MOST_IDS else []
+        return {
+            "total": self.total,
+            "lines": " ".join(lines + more),
+            "metres": covered.length() / 10,
+            "cursor": self.cursor,
+        }
+
+    def _rows(self) -> Sequence[Mapping[str, object]]:
+        return [self._row()]
+
+    def _covered(self) -> Pieces:
+        """Where the location lies: the outer part, and of a point along a line the route."""
+        return self.outer or self.route
+
+    def _routes(self) -> Sequence[Pieces]:
+        return [self._covered()]
+
+
+@dataclass(frozen=True, repr=False)
+class Page(AboutReference):
+    """The first matchings, best first: the answer of `Map.match`.
+
+    >>> import olr
+    >>> with olr.Map("examples") as town:
+    ...     page = town.match("CwVF+yN2yhpnBAFdAAsaFg==", page=3)
+    ...
+    >>> page
+    <Page: 3 matchings, total 8 to 29, more behind 29:1.2>
+    >>> [matching.total for matching in page.matchings]
+    [8, 14, 29]
+    """
 
     matchings: Sequence[Matching]
     next: str | None = None
     """A cursor if there are more."""
 
+    def _summary(self) -> str:
+        found = self.matchings
+        if not found:
+            return "no matching"
+        totals = f"{found[0].total} to {found[-1].total}" if len(found) > 1 else found[0].total
+        more = "" if self.next is None else f", more behind {self.next.partition('@')[0]}"
+        return f"{counted(len(found), 'matching')}, total {totals}{more}"
 
-@dataclass(frozen=True)
-class PlaceOfReference:
-    """Matchings that cover one stretch of road."""
+    def _rows(self) -> Sequence[Mapping[str, object]]:
+        return [{"matching": number, **one._row()} for number, one in enumerate(self.matchings, 1)]
+
+    def _routes(self) -> Sequence[Pieces]:
+        return [route for one in self.matchings for route in one._routes()]
+
+
+@dataclass(frozen=True, repr=False)
+class PlaceOfReference(Displayed):
+    """Matchings that cover one stretch of road, of which `matching` is the best one. `gap` is in penalty points."""
 
     gap: int
     matching: Matching
     members: int
 
+    def _summary(self) -> str:
+        return f"gap {self.gap}, {counted(self.members, 'matching')}, {self.matching._summary()}"
 
-@dataclass(frozen=True)
-class Places:
-    """Whether a reference fits one place of the map, or several."""
+    def _rows(self) -> Sequence[Mapping[str, object]]:
+        return [{**self.matching._row(), "gap": self.gap, "matchings": self.members}]
+
+    def _routes(self) -> Sequence[Pieces]:
+        return self.matching._routes()
+
+
+@dataclass(frozen=True, repr=False)
+class Places(AboutReference):
+    """Whether a reference fits one place of the map, or several: the answer of `Map.places`. `margin` is in penalty points.
+
+    >>> import olr
+    >>> with olr.Map("examples/nodes.csv", "examples/lines.csv") as town:
+    ...     found = town.places("CwVGnSN2zhvHCgDX/tIzAw==")
+    ...
+    >>> found
+    <Places: ambiguous, 2 places, total 64, margin 7>
+    >>> [(place.gap, place.matching.total) for place in found.places]
+    [(0, 64), (7, 71)]
+    >>> found.to_dict()["places"][0]["matching"]["outer"][0]
+    [107, 36, 2150]
+    """
 
     looked: int
     places: tuple[PlaceOfReference, ...]
     verdict: Literal["unique", "ambiguous", "open", "none"]
     margin: int | None = None
     next: str | None = None
+
+    def _summary(self) -> str:
+        words: list[str] = [self.verdict]
+        if self.places:
+            words += [counted(len(self.places), "place"), f"total {self.places[0].matching.total}"]
+        return ", ".join(words if self.margin is None else [*words, f"margin {self.margin}"])
+
+    def _rows(self) -> Sequence[Mapping[str, object]]:
+        found = enumerate(self.places, 1)
+        return [{"place": number, **row} for number, one in found for row in one._rows()]
+
+    def _routes(self) -> Sequence[Pieces]:
+        return [route for one in self.places for route in one._routes()]
 
 
 @dataclass(frozen=True)
@@ -180,14 +343,33 @@ class Verdict:
     at: int | None = None
 
 
-@dataclass(frozen=True)
-class Why:
-    """Why a reference has no matching."""
+@dataclass(frozen=True, repr=False)
+class Why(AboutReference):
+    """Why a reference has no matching, and what would help: the answer of `Map.why`. A remedy's value is in the unit of its option.
+
+    >>> import olr
+    >>> with olr.Map("examples") as town:
+    ...     why = town.why("CwVGnSN2zhtnBgEB/2IjAQ==")
+    ...
+    >>> why
+    <Why: leg 1, try lowest 2, radius 172>
+    >>> why.legs[0].admits, why.legs[0].from_, why.legs[0].to
+    (0, 2161, 5632)
+    """
 
     legs: tuple[WhyLeg, ...]
     points: tuple[WhyPoint, ...]
     remedies: tuple[Remedy, ...]
     verdict: Verdict
+
+    def _summary(self) -> str:
+        at = "" if self.verdict.at is None else f" {self.verdict.at}"
+        found = (f"{one.option} {'' if one.value is None else one.value}" for one in self.remedies)
+        helps = ", ".join(map(str.strip, found))
+        return f"{self.verdict.word}{at}" + (f", try {helps}" if helps else "")
+
+    def _rows(self) -> Sequence[Mapping[str, object]]:
+        return [plain(one) for one in self.remedies]
 
 
 Answer = Candidates | Page | Places | Why

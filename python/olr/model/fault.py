@@ -17,7 +17,16 @@ class Fault(ToolError):
     """A reference has no answer, or a number is out of its range. Two faults with the same text are equal.
 
     `text` is what the program prints, such as `BadLength 12`. `name` is its first word, and `number` its last one if that is a
-    number. `meaning` and `remedy` are those of docs/FAULTS.md, unless another remedy is given.
+    number. `meaning` and `remedy` are those of docs/FAULTS.md, unless another remedy is given. It is raised where one reference is asked
+    about, and given in place of an answer where there are many.
+
+    >>> import olr
+    >>> fault = olr.Fault("BadLength 12")
+    >>> fault.name, fault.number, fault.remedy
+    ('BadLength', 12, 'compare with the message')
+    >>> olr.decode("CwVGnSN2zhvHCgDX")
+    Traceback (most recent call last):
+    olr.Fault: BadLength 12: 12 bytes are no size of a reference; compare with the message
     """
 
     __module__ = "olr"

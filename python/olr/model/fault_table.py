@@ -136,6 +136,10 @@ ROWS: dict[str, tuple[str, str]] = {
         "the record isn't UTF-8",
         "convert it: `iconv -f LATIN1 -t UTF-8`",
     ),
+    "BadCell TYPE": (
+        "of `olr.locate`: the cell has no text, but a TYPE",
+        "look at the column, and give texts: `astype(str)` if it has codes that are no numbers",
+    ),
     "RegionTooLarge": (
         "on a store: the part of the map that the reference needs has more than 100,000 nodes, 200,000 lines or 200,000 bans",
         "lower `--radius`, `--percent` and `--slack`; ask `--places` in place of `--why`",

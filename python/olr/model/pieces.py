@@ -7,14 +7,28 @@ from olr.model.late import Late
 
 
 class Place(NamedTuple):
-    """A position on a line of the map, in decimetres from its start."""
+    """A position on a line of the map, in decimetres from its start.
+
+    >>> import olr
+    >>> with olr.Map("examples") as town:
+    ...     kiosk = town.match("KwVGnCN20HPDBwFCATFjT5Y=").matchings[0]
+    ...
+    >>> kiosk.earliest
+    Place(line=701, at=2697)
+    """
 
     line: int
     at: int
 
 
 class Piece(NamedTuple):
-    """The part of a line between two positions, in decimetres from its start."""
+    """The part of a line between two positions, in decimetres from its start.
+
+    >>> import olr
+    >>> piece = olr.Piece(104, 879, 2435)
+    >>> piece.line, (piece.to - piece.from_) / 10
+    (104, 155.6)
+    """
 
     line: int
     from_: int

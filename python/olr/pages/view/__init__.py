@@ -6,5 +6,6 @@
 | `surroundings` | the lines of the map around it |
 | `sentences` | what is said about it |
 | `notes` | other paths of its first entry |
+| `showing` | `olr.view`: the page in a notebook |
 | `page` | the page: `page.html`, `page.css`, `page.js` and the data, by `olr.pages` |
 """

@@ -1,0 +1,114 @@
+"""A table of references, and where each of them is: `olr.locate`."""
+
+from collections.abc import Hashable, Iterable, Iterator
+from typing import Any
+
+from olr.client.given import MapOrPath, opened
+from olr.extras import needed_by
+from olr.model.fault import Fault
+from olr.progress import watched
+
+with needed_by("olr.locate", "geo"):
+    import geopandas
+    import pandas
+
+    from olr.confidence.choosing import judging_with
+    from olr.confidence.confidence import Confidence
+    from olr.likely.order import LIST
+    from olr.matching.columns import ANSWERS, Part
+    from olr.matching.geodataframe import CRS, to_geodataframe
+    from olr.matching.rows import Located
+
+
+def locate(
+    data: "pandas.DataFrame | pandas.Series",
+    ref: Hashable = None,
+    map: MapOrPath | None = None,
+    *,
+    places: bool = True,
+    part: Part = "outer",
+    confidence: "Confidence | None" = None,
+    prefix: str = "",
+) -> "geopandas.GeoDataFrame":
+    """Where each reference of a table is: the rows of `data`, in their order and with their index and columns, and behind them the columns
+    of `to_geodataframe` of the likeliest place of each, in metres and degrees (EPSG:4326). docs/COLUMNS.md has these.
+
+    `data` is a DataFrame whose column `ref` has the references, or a Series of them, which becomes a column of that name: by default its
+    own. `map` is an `olr.Map`, or the path of a folder or store, which is asked as `olr.Map(path)`: tolerances and profile are those of the
+    map. With `places=False` it is the first matching in place of the likeliest place, and without probabilities.
+
+    A cell that is empty, None or NaN has the fault `Empty`, and one of another type such as a number `BadCell` with the type: each row stays,
+    and those without a place have no geometry. `fault` says why there is none.
+
+    Probabilities are by the `confidence`, or else by the one that comes with the package, which is for the profile `feed`: with other
+    tolerances these columns are empty. `part` is that of the geometry, `outer` or `inner`.
+
+    >>> import olr, pandas
+    >>> jams = pandas.DataFrame({"ref": ["CwVF/yN2yRpnBAFUAAgbpwYBAf9kK0Fa", None], "delay_s": [300, 120]}, index=["a", "b"])
+    >>> with olr.Map("examples", profile="feed") as town:
+    ...     found = olr.locate(jams, "ref", town)
+    ...
+    >>> found[["delay_s", "verdict", "lines", "outer_m", "fault"]].values.tolist()
+    [[300, 'unique', '104;107;201;501', 561.5, None], [120, 'fault', None, nan, 'Empty']]
+    >>> found.index.tolist(), found.crs.to_string()
+    (['a', 'b'], 'EPSG:4326')
+
+    Raises `ValueError` where `data` has a column of these names already (give a `prefix` for those of the answers, or rename yours), or
+    more than one column `ref`; `KeyError` where it has none, and `TypeError` for other things than a table and a map. Raises `ToolError` where
+    the `confidence` is for other tolerances, and as `Map.answers` where the map can't be asked: `MapRefused`, `ProgramNotFound`, `ProgramEnded`
+    and `TimedOut`, with the number of the row from 1.
+    """
+    if map is None:
+        raise TypeError("locate needs a map: give an olr.Map, or the path of one")
+    table, cells = _table_of(data, ref)
+    columns = {name: f"{prefix}{name}" for name in (*ANSWERS, "geometry")}
+    known = [name for name in columns.values() if name in table.columns]
+    if known:
+        raise ValueError(
+            f"the table has columns of the answers already, {', '.join(known)}: give a prefix, or rename them"
+        )
+    texts = [cell if isinstance(cell, str) else "" for cell in cells]
+    with opened(map) as asked:
+        sure = judging_with(confidence, asked.tolerances, {}).judging.confidence
+        answers: Iterator[Located] = (
+            asked.answers("places", texts, within=LIST["within"], most=LIST["most"])
+            if places
+            else asked.answers("match", texts, page=1)
+        )
+        found = to_geodataframe(
+            _with_faults(watched(answers, "locating", len(texts)), cells),
+            asked.network(),
+            part=part,
+            candidates=asked.answers("candidates", texts),
+            confidence=sure,
+            references=texts,
+            most=1,
+        )
+    result = table.assign(**{new: found[name].array for name, new in columns.items()})
+    return geopandas.GeoDataFrame(result, geometry=columns["geometry"], crs=CRS)
+
+
+def _table_of(data: Any, ref: Hashable) -> "tuple[pandas.DataFrame, pandas.Series]":
+    """A table, and its column of references. Raises `TypeError`, `KeyError` and `ValueError`."""
+    if isinstance(data, pandas.Series):
+        name = next((it for it in (ref, data.name) if it is not None), "ref")
+        return data.to_frame(name), data
+    if not isinstance(data, pandas.DataFrame):
+        raise TypeError(
+            f"locate takes a DataFrame or a Series, not {type(data).__name__}: give pandas.Series of references"
+        )
+    if ref is None:
+        raise TypeError("locate needs the name of the column of references")
+    cells = data[ref]
+    if not isinstance(cells, pandas.Series):
+        raise ValueError(f"the table has more than one column {ref!r}: rename them")
+    return pandas.DataFrame(data), cells
+
+
+def _with_faults(answers: Iterable[Located], cells: "pandas.Series") -> Iterator[Located]:
+    """Answers, and in place of those to cells that are no texts a fault."""
+    for answer, cell, is_missing in zip(answers, cells, cells.isna()):
+        if isinstance(cell, str) or is_missing:
+            yield answer
+        else:
+            yield Fault(f"BadCell {type(cell).__name__}")
