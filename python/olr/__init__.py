@@ -1,6 +1,6 @@
 """Where OpenLR references lie on a road map: the program `olr` from Python, and tools around it.
 
-To begin, install the modules of others by `./olr-tools setup` on Debian, or `pip install olr[geo]` with a wheel. A map is a folder, which
+To begin, install the modules of others by `olr-tools setup` on Debian, or `pip install olr[geo]` with a wheel. A map is a folder, which
 `olr-tools import` makes; `examples` of the repository is one. Then
 
 >>> import olr

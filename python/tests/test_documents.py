@@ -21,6 +21,7 @@ PYTHON_PAGES = {
     "docs/GUIDE.md": 5,
     "python/README.md": 3,
     "python/examples/first.md": 5,
+    "python/examples/notebook.md": 15,
 }
 """Pages that show Python, and how many lines of it there are at least."""
 

@@ -316,6 +316,19 @@ def test_python(case: Case, program: Program) -> None:
         assert only(rows[key], list(ANSWERS)) == only(expected, list(ANSWERS))
 
 
+def test_locate(case: Case, program: Program) -> None:
+    """The likeliest place of each reference of a table. Its verdict is that of the usual `within`, which no place of these depends on."""
+    table = pandas.DataFrame({"text": case.texts.values()}, index=list(case.texts))
+    with olr.Map(case.folder, program=program.path, profile=FEED) as town:
+        found = olr.locate(table, "text", town, confidence=olr.Confidence.of_file(case.confidence))
+    rows = found.drop(columns="geometry").astype(object).to_dict("index")
+    names = [name for name in ANSWERS if name != "verdict"]
+    assert list(rows) == list(case.rows)
+    for key, expected in case.rows.items():
+        row = {name: absent(value) for name, value in rows[key].items()}
+        assert only([row], names) == only(expected[:1], names)
+
+
 def is_place(answer: AnswerOrFault) -> TypeGuard[Places | Fault]:
     """Whether an answer is one to `places`."""
     return isinstance(answer, (Places, Fault))

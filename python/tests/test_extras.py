@@ -61,6 +61,7 @@ print(olr.decode(text, program=program).kind)
 with olr.Map.of_folder(examples, program=program) as town:
     print(town.match(text).matchings[0].total, town.places(text).verdict, town.why(text).verdict)
     print(len(town.candidates(text).points), len(list(town.pages(text))))
+    print(town.match(text).to_dict()["next"], "<table>" in town.places(text)._repr_html_())
     for key, reference in olr.read_messages(examples + "/messages.tsv"):
         answer = next(iter(town.matches([reference])))
         print(key, answer.name if isinstance(answer, olr.Fault) else len(answer.matchings))
@@ -74,11 +75,18 @@ with olr.Map.of_folder(examples, program=program) as town:
         "line",
         "8 unique Verdict(word='match', at=None)",
         "3 1",
+        "None True",
         *["m1 1", "m2 4", "m3 1", "m4 0", "m5 BadLength"],
     ]
 
 
-MODULE_OF = {"Network": "numpy", "Confidence": "numpy", "to_geodataframe": "geopandas"}
+MODULE_OF = {
+    "Network": "numpy",
+    "Confidence": "numpy",
+    "locate": "geopandas",
+    "to_geodataframe": "geopandas",
+    "view": "numpy",
+}
 
 
 @pytest.mark.parametrize("name", MODULE_OF)

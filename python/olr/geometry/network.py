@@ -93,7 +93,7 @@ class Network:
         self._by_id: Integers = np.argsort(self.line_id, kind="stable")
         self._ids: Integers = self.line_id[self._by_id]
         self._sources: Sources | None = None
-        note_network(self.digest, self)
+        note_network(self)
 
     @classmethod
     def read(cls, folder: str | Path) -> "Network":

@@ -48,7 +48,7 @@ class StoreNetwork(Network):
         self.folder, self.digest = self._store.file, self._store.digest
         self._asking = threading.Lock()
         self._last: PartOfNetwork | None = None
-        note_network(self.digest, self)
+        note_network(self)
 
     def __repr__(self) -> str:
         sizes = self._store.sizes

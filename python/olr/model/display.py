@@ -12,7 +12,7 @@ from dataclasses import fields, is_dataclass
 from html import escape
 from itertools import groupby
 from typing import Any, Protocol
-from weakref import WeakValueDictionary
+from weakref import WeakSet
 
 from olr.errors import ToolError
 from olr.model.late import Late
@@ -33,17 +33,19 @@ Point = Sequence[float]
 class Drawable(Protocol):
     """A map that knows where pieces are."""
 
+    digest: str | None
+    """Of its version, as pieces have it."""
+
     def path(self, pieces: Pieces) -> Iterable[Point]:
         """The points of pieces. Raises `ToolError`."""
 
 
-_NETWORKS: "WeakValueDictionary[str, Drawable]" = WeakValueDictionary()
+_NETWORKS: "WeakSet[Drawable]" = WeakSet()
 
 
-def note_network(digest: str | None, network: Drawable) -> None:
-    """Lets answers of the map of a digest be drawn, for as long as the network is there."""
-    if digest is not None:
-        _NETWORKS[digest] = network
+def note_network(network: Drawable) -> None:
+    """Lets answers of the same version of the map be drawn, for as long as the network is there."""
+    _NETWORKS.add(network)
 
 
 class Displayed:
@@ -118,8 +120,9 @@ def counted(number: int, word: str) -> str:
 
 def _drawn(routes: Sequence[Pieces]) -> list[list[Point]]:
     """The points of routes; none where no network of their map is there."""
-    network = _NETWORKS.get(routes[0].digest or "") if routes else None
-    if network is not None:
+    digest = routes[0].digest if routes else None
+    for network in [one for one in _NETWORKS if one.digest == digest is not None]:
+        # One may have a part of the map alone.
         with suppress(ToolError):
             return [[tuple(point) for point in network.path(route)] for route in routes]
     return []

@@ -138,7 +138,7 @@ ROWS: dict[str, tuple[str, str]] = {
     ),
     "BadCell TYPE": (
         "of `olr.locate`: the cell has no text, but a TYPE",
-        "look at the column, and give texts: `astype(str)` if it has codes that are no numbers",
+        "look which column has the references, which are texts in base64",
     ),
     "RegionTooLarge": (
         "on a store: the part of the map that the reference needs has more than 100,000 nodes, 200,000 lines or 200,000 bans",

@@ -9,7 +9,7 @@ from olr.client.given import MapOrPath, opened
 from olr.extras import needed_by
 from olr.model.answers import AboutReference
 from olr.model.asked_with import all_of_question, name_for_program
-from olr.outputs import require_free_file, write_whole
+from olr.outputs import write_whole
 from olr.pages.html import require_html
 
 with needed_by("olr.view", "geo"):
@@ -42,9 +42,9 @@ class View:
         style = f'style="width:100%;height:{HEIGHT}px;border:0"'
         return f'<iframe {style} sandbox="allow-scripts" srcdoc="{escape(self.page)}"></iframe>'
 
-    def save(self, file: PathLike, force: bool = False) -> None:
-        """Writes the page to a file, whole or not at all. Raises `ToolError` if its name doesn't end with `.html`, it is there already, unless
-        by `force`, or it can't be written.
+    def save(self, file: PathLike) -> None:
+        """Writes the page to a file, whole or not at all, in place of one that is there. Raises `ToolError` if its name doesn't end with
+        `.html`, or it can't be written.
 
         >>> import olr
         >>> olr.view("CwVF/yN2yRpnBAFUAAgbpwYBAf9kK0Fa", "examples").save("place.txt")
@@ -53,8 +53,7 @@ class View:
         """
         path = Path(file)
         require_html(path)
-        require_free_file(path, force)
-        write_whole(path, self.page.encode(), force)
+        write_whole(path, self.page.encode(), force=True)
 
 
 def view(

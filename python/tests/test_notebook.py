@@ -1,0 +1,472 @@
+"""What a notebook has: tables of references by `olr.locate`, answers as dicts, lines and pictures, lines of a map, and pages by `olr.view`."""
+
+import csv
+import gc
+import geopandas
+import html
+import json
+import numpy as np
+import os
+import pandas
+import pytest
+import re
+from collections.abc import Iterator
+from dataclasses import replace
+from pathlib import Path
+from typing import Any
+from xml.etree import ElementTree
+
+import olr
+from conftest import OF_PROGRAM, TOP, Program
+from olr.client.given import opened
+from olr.likely.order import LIST
+from olr.matching.columns import ANSWERS
+from olr.model.answers import AboutReference, PlaceOfReference
+from olr.model.pieces import Pieces
+from olr.model.questions import NUMBERS, What
+from olr.regions.making import make_store_of_folder
+from olr.tools import run
+
+EXAMPLES = TOP / "examples"
+SLOW, BREAKDOWN, ROADWORKS = (
+    "CwVF/yN2yRpnBAFUAAgbpwYBAf9kK0Fa",
+    "CwVF+yN2yhpnBAFdAAsaFg==",
+    "CwVGnSN2zhvHCgDX/tIzAw==",
+)
+UNMATCHED, REFUSED, KIOSK = (
+    "CwVGnSN2zhtnBgEB/2IjAQ==",
+    "CwVGnSN2zhvHCgDX",
+    "KwVGnCN20HPDBwFCATFjT5Y=",
+)
+FITTING = (SLOW, BREAKDOWN, ROADWORKS, UNMATCHED, KIOSK)
+
+
+@pytest.fixture(autouse=True)
+def environment(program: Program, monkeypatch: pytest.MonkeyPatch) -> None:
+    """Paths of maps are asked with the program of the tests."""
+    monkeypatch.setenv("OLR_PROGRAM", os.fspath(program.path))
+
+
+@pytest.fixture
+def town() -> Iterator[olr.Map]:
+    """The map of the examples, with the tolerances of a feed."""
+    with olr.Map(EXAMPLES, profile="feed") as asked:
+        yield asked
+
+
+@pytest.fixture
+def plain_town() -> Iterator[olr.Map]:
+    """That map without its bans, with the program's own tolerances."""
+    with olr.Map(EXAMPLES / "nodes.csv", EXAMPLES / "lines.csv") as asked:
+        yield asked
+
+
+# ---- a table of references
+
+
+def table_of(*cells: object, **columns: object) -> pandas.DataFrame:
+    """A table with a column of references."""
+    return pandas.DataFrame({"ref": pandas.Series(cells, dtype=object), **columns})
+
+
+def test_each_row_stays_with_its_index_and_columns(town: olr.Map) -> None:
+    """Its own columns come first, in the order of the rows; the table that was given stays as it is."""
+    index = pandas.MultiIndex.from_tuples([("b", 1), ("a", 2), ("b", 1)], names=["road", "number"])
+    jams = table_of(ROADWORKS, REFUSED, SLOW, delay=[30, 10, 20]).set_index(index)
+    before = jams.copy(deep=True)
+    found = olr.locate(jams, "ref", town)
+    assert isinstance(found, geopandas.GeoDataFrame) and found.crs.to_epsg() == 4326
+    assert found.index.equals(index) and found.index.names == ["road", "number"]
+    assert list(found.columns) == ["ref", "delay", *ANSWERS, "geometry"]
+    assert found["ref"].tolist() == [ROADWORKS, REFUSED, SLOW]
+    assert found["delay"].tolist() == [30, 10, 20]
+    # The lines of docs: those of the program's answers to these references.
+    assert found["lines"].tolist() == ["107;201;501;503", None, "104;107;201;501"]
+    assert found["fault"].tolist() == [None, "BadLength 12", None]
+    assert found.geometry.isna().tolist() == [False, True, False]
+    pandas.testing.assert_frame_equal(jams, before)
+
+
+def test_cells_that_are_no_references(town: olr.Map) -> None:
+    """None of them ends it, and each says what it is."""
+    cells = [None, float("nan"), pandas.NA, "", " ", 12.5, 7, b"CwVF", ["x"], SLOW, "no reference"]
+    found = olr.locate(table_of(*cells), "ref", town)
+    missing = ["Empty"] * 5
+    others = [f"BadCell {name}" for name in ("float", "int", "bytes", "list")]
+    assert found["fault"].tolist() == [*missing, *others, None, "NotBase64"]
+    assert found["verdict"].tolist() == ["fault"] * 9 + ["unique", "fault"]
+    assert olr.Fault("BadCell float").meaning == "of olr.locate: the cell has no text, but a float"
+    # A column of numbers alone, and a table without rows.
+    numbers = pandas.DataFrame({"ref": [1, 2]})
+    assert olr.locate(numbers, "ref", town)["fault"].tolist() == ["BadCell int"] * 2
+    empty = olr.locate(table_of(), "ref", town)
+    assert len(empty) == 0 and (empty.dtypes[list(ANSWERS)] == found.dtypes[list(ANSWERS)]).all()
+
+
+def test_the_likeliest_place_and_the_first_matching(town: olr.Map) -> None:
+    """They are the first rows of `to_geodataframe` with the long list, with probabilities and candidates."""
+    texts = [SLOW, BREAKDOWN, ROADWORKS, UNMATCHED, KIOSK]
+    found = olr.locate(pandas.Series(texts), map=town)
+    table = olr.to_geodataframe(
+        town.answers("places", texts, **LIST),  # type: ignore[arg-type]
+        town.network(),
+        candidates=town.answers("candidates", texts),
+        confidence=olr.Confidence.default(),
+        references=texts,
+        within=NUMBERS["places"]["within"].default,
+    )
+    first = table.drop_duplicates("key").drop(columns="key").reset_index(drop=True)
+    pandas.testing.assert_frame_equal(
+        pandas.DataFrame(found[first.columns]), pandas.DataFrame(first)
+    )
+    assert found["probability"].notna().tolist() == [True, True, True, True, False]
+    assert found["candidates"].notna().all()
+    matched = olr.locate(pandas.Series(texts), map=town, places=False)
+    assert matched["verdict"].tolist() == ["match"] * 5
+    assert matched["cursor"][1] == town.match(BREAKDOWN).matchings[0].cursor
+    assert matched["probability"].isna().all() and matched["likely"].isna().all()
+
+
+def test_the_part_of_the_geometry(town: olr.Map) -> None:
+    outer = olr.locate(table_of(SLOW), "ref", town).geometry[0]
+    inner = olr.locate(table_of(SLOW), "ref", town, part="inner").geometry[0]
+    best = town.match(SLOW).matchings[0]
+    assert best.outer and best.inner
+    assert outer.equals(town.network().geometry(best.outer))
+    assert inner.equals(town.network().geometry(best.inner))
+
+
+def test_a_series_becomes_a_column() -> None:
+    """By its own name, or the one that is given. A path is a map with the program's own tolerances, which have no probabilities."""
+    named = pandas.Series([SLOW], name="message", index=["x"])
+    found = olr.locate(named, map=str(EXAMPLES))
+    assert list(found.columns)[:2] == ["message", "likely"] and list(found.index) == ["x"]
+    assert found["verdict"].tolist() == ["unique"] and found["probability"].isna().all()
+    assert olr.locate(named, "other", EXAMPLES).columns[0] == "other"
+    assert olr.locate(named.rename(None), map=EXAMPLES).columns[0] == "ref"
+
+
+def test_columns_of_the_same_name(town: olr.Map) -> None:
+    """They are an error, before anything is asked, or have a prefix."""
+    table = table_of(SLOW, verdict=["mine"], geometry=["drawn"])
+    town.close()
+    with pytest.raises(ValueError, match="already, verdict, geometry: give a prefix"):
+        olr.locate(table, "ref", town)
+    found = olr.locate(table, "ref", EXAMPLES, prefix="olr_")
+    assert found.loc[0, ["verdict", "geometry", "olr_verdict"]].tolist() == [
+        "mine",
+        "drawn",
+        "unique",
+    ]
+    assert found.geometry.name == "olr_geometry" and found.geometry[0].geom_type == "LineString"
+    assert list(found.columns)[3:] == [f"olr_{name}" for name in (*ANSWERS, "geometry")]
+
+
+@pytest.mark.parametrize(
+    ("data", "words", "error", "text"),
+    [
+        ([SLOW], ["ref", EXAMPLES], TypeError, "a DataFrame or a Series, not list"),
+        (table_of(SLOW), ["ref"], TypeError, "needs a map"),
+        (table_of(SLOW), [None, EXAMPLES], TypeError, "the name of the column"),
+        (table_of(SLOW), ["other", EXAMPLES], KeyError, "other"),
+        (
+            table_of(SLOW)[["ref", "ref"]],
+            ["ref", EXAMPLES],
+            ValueError,
+            "more than one column 'ref'",
+        ),
+        (table_of(SLOW), ["ref", TOP / "none"], olr.ToolError, "can't be read"),
+    ],
+)
+def test_what_isnt_a_table_or_a_map(
+    data: Any, words: list[Any], error: type[Exception], text: str
+) -> None:
+    with pytest.raises(error, match=text):
+        olr.locate(data, *words)
+
+
+def test_a_map_that_isnt_answered() -> None:
+    """It ends the table: no row would have an answer."""
+    with olr.Map(EXAMPLES, program="/bin/true") as asked:
+        with pytest.raises(olr.ProgramEnded, match="olr ended with status 0"):
+            olr.locate(table_of(SLOW), "ref", asked)
+
+
+def test_a_confidence_for_other_tolerances(plain_town: olr.Map) -> None:
+    """One that was given is refused, and so no column of probabilities is empty unseen."""
+    with pytest.raises(olr.ToolError, match="says nothing of such answers: radius is 100, not 75"):
+        olr.locate(table_of(SLOW), "ref", plain_town, confidence=olr.Confidence.default())
+
+
+def test_how_far_it_is(
+    town: olr.Map, monkeypatch: pytest.MonkeyPatch, capsys: pytest.CaptureFixture[str]
+) -> None:
+    monkeypatch.setattr("olr.progress.SECONDS_OF_LINES", 0.0)
+    olr.locate(table_of(SLOW, None), "ref", town)
+    assert capsys.readouterr().err.splitlines()[-1] == "locating: 2 of 2"
+
+
+def test_a_map_that_was_given_stays_open(town: olr.Map) -> None:
+    """One that was made of a path is closed."""
+    with opened(town) as asked:
+        assert asked is town
+    assert town.places(SLOW).verdict == "unique"
+    with opened(EXAMPLES) as asked:
+        assert repr(asked).startswith("Map(")
+    assert repr(asked).startswith("<closed Map(")
+
+
+# ---- answers as dicts, and in one line
+
+
+@pytest.mark.parametrize("what", NUMBERS)
+def test_dicts_are_the_programs_json(what: What, town: olr.Map) -> None:
+    """To the byte, with the names and the order of the program; a fault isn't one."""
+    for text in FITTING:
+        (answer,) = town.answers(what, [text])
+        assert isinstance(answer, AboutReference)
+        said = json.dumps(answer.to_dict(), separators=(",", ":")).encode()
+        assert said == town.raw_answer(what, text)
+        assert replace(answer, ref=text).to_dict() == answer.to_dict()
+
+
+def test_the_dict_of_a_reference(program: Program) -> None:
+    for text in (*FITTING, "CwVF/yN2yRpnBAFUAAgbpwYBAf9kK0Fa"):
+        shown = program.run("show", "--format", "json", "--", text).stdout
+        assert json.dumps(olr.decode(text).to_dict(), separators=(",", ":")) == shown.rstrip()
+
+
+def test_answers_in_one_line(plain_town: olr.Map) -> None:
+    """What they say is on the pages, or in the program's text."""
+    ambiguous = plain_town.places(ROADWORKS)
+    page = plain_town.match(BREAKDOWN, page=3)
+    texts = {
+        "<Places: ambiguous, 2 places, total 64, margin 7>": ambiguous,
+        "<PlaceOfReference: gap 7, 1 matching, total 71, 6 lines, 701.7 m, cursor 71:1.1>": ambiguous.places[
+            1
+        ],
+        "<Places: none>": plain_town.places(UNMATCHED),
+        "<Page: 3 matchings, total 8 to 29, more behind 29:1.2>": page,
+        "<Page: 1 matching, total 8>": plain_town.match(SLOW),
+        "<Page: no matching>": plain_town.match(UNMATCHED),
+        "<Matching: total 8, 4 lines, 561.5 m, cursor 8:1.1.1>": plain_town.match(SLOW).matchings[
+            0
+        ],
+        "<Candidates: 2 points, 2 + 2 lines>": plain_town.candidates(ROADWORKS),
+        "<Why: leg 1, try lowest 2, radius 172>": plain_town.why(UNMATCHED),
+        "<Why: match>": plain_town.why(SLOW),
+        "<Reference: line, 3 points>": olr.decode(SLOW),
+        "<Reference: point-along-line, 2 points>": olr.decode(KIOSK),
+    }
+    for text, answer in texts.items():
+        assert repr(answer) == text
+    # The cursor of a page behind another one ends with a mark of 64 digits.
+    marked = plain_town.match(BREAKDOWN, page=1, after=plain_town.match(BREAKDOWN, page=1).next)
+    assert marked.next and len(marked.next) > 64
+    assert repr(marked) == "<Page: 1 matching, total 14, more behind 14:2.1>"
+
+
+# ---- pictures
+
+
+def drawn(answer: Any) -> ElementTree.Element:
+    """What a notebook shows of an answer: it has to be well-formed."""
+    return ElementTree.fromstring(answer._repr_html_())
+
+
+def lines_of(answer: Any) -> list[list[tuple[float, float]]]:
+    """The lines of its picture, those below first."""
+    found = drawn(answer).iter("{http://www.w3.org/2000/svg}polyline")
+    return [
+        [
+            (float(x), float(y))
+            for x, y in (pair.split(",") for pair in line.attrib["points"].split())
+        ]
+        for line in found
+    ]
+
+
+def assert_drawn_as(line: list[tuple[float, float]], path: Any) -> None:
+    """A line has the shape of a path on the map: its degrees of longitude are shorter than those of latitude."""
+    pixels, degrees = np.array(line), np.array(path)
+    shrunk = np.cos(np.radians(degrees[:, 1].mean()))
+    plane = (degrees - degrees[0]) * [shrunk, -1]
+    steps = pixels - pixels[0]
+    scale = np.abs(steps).max() / np.abs(plane).max()
+    assert np.abs(steps - plane * scale).max() < 0.3
+    assert pixels.min() >= 0 and pixels[:, 0].max() <= 324 and pixels[:, 1].max() <= 224
+
+
+def test_a_route_is_drawn_where_its_network_is_known(plain_town: olr.Map) -> None:
+    """The best one on top. Without a network of that version of the map there is a table alone, which says so."""
+    gc.collect()
+    places = plain_town.places(ROADWORKS)
+    assert not lines_of(places) and "No route is drawn" in places._repr_html_()
+    network = plain_town.network()
+    below, above = lines_of(places)
+    first, second = (place.matching.outer for place in places.places)
+    assert first and second
+    assert_drawn_as(above, network.path(first))
+    assert_drawn_as(below, network.path(second))
+    for answer in (places.places[0], places.places[0].matching, plain_town.match(ROADWORKS)):
+        assert_drawn_as(lines_of(answer)[-1], network.path(first))
+    kiosk = plain_town.match(KIOSK).matchings[0]
+    assert_drawn_as(lines_of(kiosk)[-1], network.path(kiosk.route))
+    other = replace(kiosk, route=Pieces(list(kiosk.route), "another version"))
+    assert not lines_of(other) and "No route is drawn" in other._repr_html_()
+
+
+def test_a_network_isnt_kept_for_pictures(program: Program) -> None:
+    with olr.Map(EXAMPLES) as asked:
+        page = asked.match(SLOW)
+        asked.network()
+    olr.Network.read(EXAMPLES)
+    gc.collect()
+    assert lines_of(page), "another network of the same map came and went"
+    del asked
+    gc.collect()
+    assert not lines_of(page)
+
+
+def test_a_route_on_a_store(tmp_path: Path) -> None:
+    make_store_of_folder(EXAMPLES, tmp_path / "town.gpkg")
+    with olr.Map(tmp_path / "town.gpkg") as asked:
+        page = asked.match(SLOW)
+        assert not lines_of(page)
+        network = asked.network()
+        assert page.matchings[0].outer
+        assert_drawn_as(lines_of(page)[0], network.path(page.matchings[0].outer))
+
+
+def test_the_points_of_a_reference_are_drawn(town: olr.Map) -> None:
+    """Without a map; and of an answer that knows its reference."""
+    reference = olr.decode(SLOW)
+    path = [(point.lon / 1e6, point.lat / 1e6) for point in reference.points]
+    known = replace(town.why(SLOW), ref=SLOW)
+    for answer in (reference, known):
+        assert_drawn_as(lines_of(answer)[-1], path)
+        texts = drawn(answer).iter("{http://www.w3.org/2000/svg}text")
+        assert [text.text for text in texts] == ["1", "2", "3"]
+    assert not lines_of(town.why(SLOW)) and not lines_of(replace(known, ref=REFUSED))
+
+
+def test_the_tables(plain_town: olr.Map) -> None:
+    def cells(answer: Any, tag: str = "td") -> list[str | None]:
+        return [cell.text for cell in drawn(answer).iter(tag)]
+
+    heads = ["place", "total", "lines", "metres", "cursor", "gap", "matchings"]
+    places = plain_town.places(ROADWORKS)
+    assert cells(places, "th") == heads
+    assert cells(places)[:7] == ["1", "64", "107 201 501 503", "565.8", "64:1.2", "0", "1"]
+    assert cells(places)[9] == "107 201 202 109 901 902"
+    assert cells(plain_town.why(UNMATCHED)) == ["12:1.1", "lowest", "2", "160:1.3", "radius", "172"]
+    assert cells(plain_town.candidates(SLOW))[:5] == ["1", "1", "13", "104", "2"]
+    assert cells(olr.decode(SLOW))[:2] == ["1", "49.871246, 7.415739"]
+    page = plain_town.match(BREAKDOWN)
+    many = replace(page, matchings=[*page.matchings] * 3)
+    assert len(cells(many, "tr")) == 11 and "2 more aren't shown." in "".join(
+        drawn(many).itertext()
+    )
+
+
+def test_texts_of_others_are_escaped() -> None:
+    """Cursors and names of a wrong program are no markup of a notebook."""
+    evil = "<script>alert(1)</script>\"'&"
+    matching = olr.Matching(evil, (), (), Pieces([], evil), 1, Pieces([], evil), None)
+    place = PlaceOfReference(0, matching, 1)
+    answers = [
+        matching,
+        olr.Page([matching], evil, ref=evil),
+        olr.Places(1, (place,), evil, 1, None, ref=evil),  # type: ignore[arg-type]
+    ]
+    for answer in answers:
+        assert "<script" not in answer._repr_html_()
+        assert evil.partition("@")[0] in "".join(drawn(answer).itertext())
+
+
+# ---- the lines of a map
+
+
+def test_the_lines_of_a_map(program: Program) -> None:
+    """They are those of its files."""
+    network = olr.Network.read(EXAMPLES)
+    with (EXAMPLES / "nodes.csv").open() as stream:
+        nodes = {row["id"]: (int(row["lon"]), int(row["lat"])) for row in csv.DictReader(stream)}
+    table = network.to_geodataframe()
+    with (EXAMPLES / "lines.csv").open() as stream:
+        rows = list(csv.DictReader(stream))
+    assert list(table.columns) == ["line", "start", "end", "class", "form", "length_m", "geometry"]
+    assert table.crs.to_epsg() == 4326 and len(table) == len(rows) == 41
+    for found, row in zip(table.itertuples(index=False, name=None), rows):
+        names = ("id", "from", "to", "class", "form")
+        assert found[:5] == tuple(int(row[name]) for name in names)
+        assert found[5] == int(row["length"]) / 10
+        inner = [tuple(map(int, point.split())) for point in filter(None, row["shape"].split(";"))]
+        path = [nodes[row["from"]], *inner, nodes[row["to"]]]
+        assert [(round(lon * 1e6), round(lat * 1e6)) for lon, lat in found[6].coords] == path
+    some = network.to_geodataframe([501, 104])
+    assert some["line"].tolist() == [501, 104]
+    assert some.geometry[1].equals(network.line(104))
+    with pytest.raises(olr.ToolError, match="has no line 7"):
+        network.to_geodataframe([7])
+
+
+def test_the_lines_of_a_store(tmp_path: Path) -> None:
+    make_store_of_folder(EXAMPLES, tmp_path / "town.gpkg")
+    network = olr.Network.read(tmp_path / "town.gpkg")
+    with pytest.raises(olr.ToolError, match="too large for a table: name its lines"):
+        network.to_geodataframe()
+    found = network.to_geodataframe(iter([501, 104]))
+    expected = olr.Network.read(EXAMPLES).to_geodataframe([501, 104])
+    pandas.testing.assert_frame_equal(pandas.DataFrame(found), pandas.DataFrame(expected))
+
+
+# ---- pages
+
+
+@pytest.mark.parametrize("text", [SLOW, UNMATCHED])
+def test_a_view_is_the_page_of_the_command(text: str, tmp_path: Path, town: olr.Map) -> None:
+    """To the byte, of a path and of a map, with probabilities and without, with other numbers."""
+    of_feed, of_program = tmp_path / "feed.html", tmp_path / "program.html"
+    words = ["view", text, "--map", str(EXAMPLES), "--within", "90", "--out"]
+    assert run([*words, str(of_feed)]) == 0
+    assert run([*words, str(of_program), *OF_PROGRAM]) == 0
+    assert olr.view(text, town, within=90).page == of_feed.read_text()
+    assert olr.view(text, EXAMPLES, within=90).page == of_program.read_text()
+    answer = replace(town.why(text), ref=text)
+    assert olr.view(answer, town, within=90).page == of_feed.read_text()
+
+
+def test_a_view_in_a_notebook(tmp_path: Path) -> None:
+    """The frame has the whole page, and may reach nothing of the notebook."""
+    shown = olr.view(SLOW, EXAMPLES, tiles="https://tiles.example/{z}/{x}/{y}.png")
+    assert repr(shown) == f"<View: {SLOW}: unique>"
+    (found,) = re.findall(r'srcdoc="([^"]*)"', shown._repr_html_())
+    assert html.unescape(found) == shown.page and "https://tiles.example" in shown.page
+    assert re.findall(r'sandbox="([^"]*)"', shown._repr_html_()) == ["allow-scripts"]
+    assert ElementTree.fromstring(shown._repr_html_()).tag == "iframe"
+    shown.save(tmp_path / "page.html")
+    assert (tmp_path / "page.html").read_text() == shown.page
+    olr.view(KIOSK, EXAMPLES).save(str(tmp_path / "page.html"))
+    assert KIOSK in (tmp_path / "page.html").read_text()
+    with pytest.raises(olr.ToolError, match="no suffix that is known"):
+        shown.save(tmp_path / "page.txt")
+
+
+def test_what_cant_be_viewed(plain_town: olr.Map) -> None:
+    with pytest.raises(TypeError, match="doesn't know its reference"):
+        olr.view(plain_town.places(SLOW), plain_town)
+    with pytest.raises(olr.Fault, match="BadLength 12"):
+        olr.view(REFUSED, plain_town)
+    with pytest.raises(olr.Fault, match="BadNumber within"):
+        olr.view(SLOW, plain_town, within=-1)
+    with pytest.raises(olr.ToolError, match="says nothing of such answers"):
+        olr.view(SLOW, plain_town, confidence=olr.Confidence.default())
+
+
+def test_a_view_names_no_folder_that_isnt_the_map(plain_town: olr.Map, tmp_path: Path) -> None:
+    """The command on the page would ask with the bans of the folder; and the program reads no store."""
+    make_store_of_folder(EXAMPLES, tmp_path / "town.gpkg")
+    assert '"command":""' in olr.view(SLOW, plain_town).page
+    assert '"command":""' in olr.view(SLOW, tmp_path / "town.gpkg").page
+    assert '"command":"olr places' in olr.view(SLOW, EXAMPLES).page
