@@ -61,6 +61,18 @@ def plain_town() -> Iterator[olr.Map]:
         yield asked
 
 
+@pytest.fixture
+def own_folder(tmp_path: Path) -> Path:
+    """That map with a node more: nobody else has read its network."""
+    folder = tmp_path / "own"
+    folder.mkdir()
+    for name in ("nodes.csv", "lines.csv"):
+        (folder / name).write_text((EXAMPLES / name).read_text())
+    with (folder / "nodes.csv").open("a") as stream:
+        stream.write("999,7400000,49800000\n")
+    return folder
+
+
 # ---- a table of references
 
 
@@ -297,30 +309,31 @@ def assert_drawn_as(line: list[tuple[float, float]], path: Any) -> None:
     assert pixels.min() >= 0 and pixels[:, 0].max() <= 324 and pixels[:, 1].max() <= 224
 
 
-def test_a_route_is_drawn_where_its_network_is_known(plain_town: olr.Map) -> None:
+def test_a_route_is_drawn_where_its_network_is_known(own_folder: Path) -> None:
     """The best one on top. Without a network of that version of the map there is a table alone, which says so."""
-    gc.collect()
-    places = plain_town.places(ROADWORKS)
-    assert not lines_of(places) and "No route is drawn" in places._repr_html_()
-    network = plain_town.network()
+    with olr.Map(own_folder) as asked:
+        places, page = asked.places(ROADWORKS), asked.match(ROADWORKS)
+        kiosk = asked.match(KIOSK).matchings[0]
+        assert not lines_of(places) and "No route is drawn" in places._repr_html_()
+        network = asked.network()
+    assert "No route is drawn" not in places._repr_html_()
     below, above = lines_of(places)
     first, second = (place.matching.outer for place in places.places)
     assert first and second
     assert_drawn_as(above, network.path(first))
     assert_drawn_as(below, network.path(second))
-    for answer in (places.places[0], places.places[0].matching, plain_town.match(ROADWORKS)):
+    for answer in (places.places[0], places.places[0].matching, page):
         assert_drawn_as(lines_of(answer)[-1], network.path(first))
-    kiosk = plain_town.match(KIOSK).matchings[0]
     assert_drawn_as(lines_of(kiosk)[-1], network.path(kiosk.route))
     other = replace(kiosk, route=Pieces(list(kiosk.route), "another version"))
     assert not lines_of(other) and "No route is drawn" in other._repr_html_()
 
 
-def test_a_network_isnt_kept_for_pictures(program: Program) -> None:
-    with olr.Map(EXAMPLES) as asked:
+def test_a_network_isnt_kept_for_pictures(own_folder: Path) -> None:
+    with olr.Map(own_folder) as asked:
         page = asked.match(SLOW)
         asked.network()
-    olr.Network.read(EXAMPLES)
+    olr.Network.read(own_folder)
     gc.collect()
     assert lines_of(page), "another network of the same map came and went"
     del asked
