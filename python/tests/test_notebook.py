@@ -115,9 +115,10 @@ def test_cells_that_are_no_references(town: olr.Map) -> None:
     assert len(empty) == 0 and (empty.dtypes[list(ANSWERS)] == found.dtypes[list(ANSWERS)]).all()
 
 
-def test_the_likeliest_place_and_the_first_matching(town: olr.Map) -> None:
+def test_the_likeliest_place_and_the_first_matching() -> None:
     """They are the first rows of `to_geodataframe` with the long list, with probabilities and candidates."""
     texts = [SLOW, BREAKDOWN, ROADWORKS, UNMATCHED, KIOSK]
+    town = olr.Map(EXAMPLES / "nodes.csv", EXAMPLES / "lines.csv", profile="feed")
     found = olr.locate(pandas.Series(texts), map=town)
     table = olr.to_geodataframe(
         town.answers("places", texts, **LIST),  # type: ignore[arg-type]
@@ -127,6 +128,7 @@ def test_the_likeliest_place_and_the_first_matching(town: olr.Map) -> None:
         references=texts,
         within=NUMBERS["places"]["within"].default,
     )
+    assert len(table) > len(texts) and table["rank"][table["key"] == 2].tolist()[0] == 2
     first = table.drop_duplicates("key").drop(columns="key").reset_index(drop=True)
     pandas.testing.assert_frame_equal(
         pandas.DataFrame(found[first.columns]), pandas.DataFrame(first)
@@ -137,6 +139,7 @@ def test_the_likeliest_place_and_the_first_matching(town: olr.Map) -> None:
     assert matched["verdict"].tolist() == ["match"] * 5
     assert matched["cursor"][1] == town.match(BREAKDOWN).matchings[0].cursor
     assert matched["probability"].isna().all() and matched["likely"].isna().all()
+    town.close()
 
 
 def test_the_part_of_the_geometry(town: olr.Map) -> None:
@@ -208,6 +211,19 @@ def test_a_confidence_for_other_tolerances(plain_town: olr.Map) -> None:
     """One that was given is refused, and so no column of probabilities is empty unseen."""
     with pytest.raises(olr.ToolError, match="says nothing of such answers: radius is 100, not 75"):
         olr.locate(table_of(SLOW), "ref", plain_town, confidence=olr.Confidence.default())
+
+
+def test_a_confidence_that_is_given(town: olr.Map) -> None:
+    """Its probabilities are shown, and not those of the usual one."""
+    usual = olr.Confidence.default()
+    other = replace(usual, weights={**usual.weights, "none": usual.weights["none"] + 5})
+    first, second = (
+        olr.locate(table_of(SLOW), "ref", town, confidence=sure).loc[0, "probability"]
+        for sure in (usual, other)
+    )
+    assert first > 0.9 > second
+    assert olr.view(SLOW, town).page == olr.view(SLOW, town, confidence=usual).page
+    assert olr.view(SLOW, town).page != olr.view(SLOW, town, confidence=other).page
 
 
 def test_how_far_it_is(
@@ -400,13 +416,15 @@ def test_texts_of_others_are_escaped() -> None:
 # ---- the lines of a map
 
 
-def test_the_lines_of_a_map(program: Program) -> None:
-    """They are those of its files."""
-    network = olr.Network.read(EXAMPLES)
+def test_the_lines_of_a_map(own_folder: Path) -> None:
+    """They are those of its files, in their order."""
+    head, *records = (EXAMPLES / "lines.csv").read_text().splitlines()
+    (own_folder / "lines.csv").write_text("\n".join([head, *reversed(records)]) + "\n")
+    network = olr.Network.read(own_folder)
     with (EXAMPLES / "nodes.csv").open() as stream:
         nodes = {row["id"]: (int(row["lon"]), int(row["lat"])) for row in csv.DictReader(stream)}
     table = network.to_geodataframe()
-    with (EXAMPLES / "lines.csv").open() as stream:
+    with (own_folder / "lines.csv").open() as stream:
         rows = list(csv.DictReader(stream))
     assert list(table.columns) == ["line", "start", "end", "class", "form", "length_m", "geometry"]
     assert table.crs.to_epsg() == 4326 and len(table) == len(rows) == 41
@@ -437,17 +455,18 @@ def test_the_lines_of_a_store(tmp_path: Path) -> None:
 # ---- pages
 
 
-@pytest.mark.parametrize("text", [SLOW, UNMATCHED])
-def test_a_view_is_the_page_of_the_command(text: str, tmp_path: Path, town: olr.Map) -> None:
-    """To the byte, of a path and of a map, with probabilities and without, with other numbers."""
+@pytest.mark.parametrize("text", [ROADWORKS, UNMATCHED])
+def test_a_view_is_the_page_of_the_command(text: str, tmp_path: Path, own_folder: Path) -> None:
+    """To the byte, of a path and of a map, with probabilities and without, with another number, by which a place isn't shown."""
     of_feed, of_program = tmp_path / "feed.html", tmp_path / "program.html"
-    words = ["view", text, "--map", str(EXAMPLES), "--within", "90", "--out"]
+    words = ["view", text, "--map", str(own_folder), "--within", "1", "--out"]
     assert run([*words, str(of_feed)]) == 0
     assert run([*words, str(of_program), *OF_PROGRAM]) == 0
-    assert olr.view(text, town, within=90).page == of_feed.read_text()
-    assert olr.view(text, EXAMPLES, within=90).page == of_program.read_text()
-    answer = replace(town.why(text), ref=text)
-    assert olr.view(answer, town, within=90).page == of_feed.read_text()
+    with olr.Map(own_folder, profile="feed") as asked:
+        assert olr.view(text, asked, within=1).page == of_feed.read_text()
+        answer = replace(asked.why(text), ref=text)
+        assert olr.view(answer, asked, within=1).page == of_feed.read_text()
+    assert olr.view(text, own_folder, within=1).page == of_program.read_text()
 
 
 def test_a_view_in_a_notebook(tmp_path: Path) -> None:
