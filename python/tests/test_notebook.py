@@ -99,6 +99,15 @@ def test_each_row_stays_with_its_index_and_columns(town: olr.Map) -> None:
     pandas.testing.assert_frame_equal(jams, before)
 
 
+def test_a_table_that_has_geometries(town: olr.Map) -> None:
+    """They stay as they are, in their own coordinates; the active ones are those of the places."""
+    points = geopandas.points_from_xy([1], [2], crs="EPSG:25832")
+    table = geopandas.GeoDataFrame(table_of(SLOW), geometry=points).rename_geometry("drawn")
+    found = olr.locate(table, "ref", town)
+    assert found.crs.to_epsg() == 4326 and found.geometry.name == "geometry"
+    assert found["drawn"].crs.to_epsg() == 25832 and found["drawn"][0].x == 1
+
+
 def test_cells_that_are_no_references(town: olr.Map) -> None:
     """None of them ends it, and each says what it is."""
     cells = [None, float("nan"), pandas.NA, "", " ", 12.5, 7, b"CwVF", ["x"], SLOW, "no reference"]
@@ -341,8 +350,9 @@ def test_a_route_is_drawn_where_its_network_is_known(own_folder: Path) -> None:
     for answer in (places.places[0], places.places[0].matching, page):
         assert_drawn_as(lines_of(answer)[-1], network.path(first))
     assert_drawn_as(lines_of(kiosk)[-1], network.path(kiosk.route))
-    other = replace(kiosk, route=Pieces(list(kiosk.route), "another version"))
-    assert not lines_of(other) and "No route is drawn" in other._repr_html_()
+    for digest in ("another version", None):
+        other = replace(kiosk, route=Pieces(list(kiosk.route), digest))
+        assert not lines_of(other) and "No route is drawn" in other._repr_html_()
 
 
 def test_a_network_isnt_kept_for_pictures(own_folder: Path) -> None:
@@ -361,7 +371,9 @@ def test_a_route_on_a_store(tmp_path: Path) -> None:
     make_store_of_folder(EXAMPLES, tmp_path / "town.gpkg")
     with olr.Map(tmp_path / "town.gpkg") as asked:
         page = asked.match(SLOW)
-        assert not lines_of(page)
+        part = olr.Network.read(tmp_path / "town.gpkg").having([501])
+        gc.collect()
+        assert part.digest == page.matchings[0].route.digest and not lines_of(page)
         network = asked.network()
         assert page.matchings[0].outer
         assert_drawn_as(lines_of(page)[0], network.path(page.matchings[0].outer))
@@ -393,9 +405,12 @@ def test_the_tables(plain_town: olr.Map) -> None:
     assert cells(olr.decode(SLOW))[:2] == ["1", "49.871246, 7.415739"]
     page = plain_town.match(BREAKDOWN)
     many = replace(page, matchings=[*page.matchings] * 3)
-    assert len(cells(many, "tr")) == 11 and "2 more aren't shown." in "".join(
-        drawn(many).itertext()
+    assert len(cells(many, "tr")) == 11
+    assert re.search(r"\b2 more aren't shown\.", "".join(drawn(many).itertext()))
+    long = replace(
+        page.matchings[0], outer=Pieces([olr.Piece(line, 0, 10) for line in range(1, 9)])
     )
+    assert cells(long)[1:3] == ["1 2 3 4 5 6 ...", "8.0"]
 
 
 def test_texts_of_others_are_escaped() -> None:

@@ -102,7 +102,7 @@ def _table_of(data: Any, ref: Hashable) -> "tuple[pandas.DataFrame, pandas.Serie
     cells = data[ref]
     if not isinstance(cells, pandas.Series):
         raise ValueError(f"the table has more than one column {ref!r}: rename them")
-    return pandas.DataFrame(data), cells
+    return data, cells
 
 
 def _with_faults(answers: Iterable[Located], cells: "pandas.Series") -> Iterator[Located]:
