@@ -402,7 +402,8 @@ def test_the_tables(plain_town: olr.Map) -> None:
     assert cells(places)[9] == "107 201 202 109 901 902"
     assert cells(plain_town.why(UNMATCHED)) == ["12:1.1", "lowest", "2", "160:1.3", "radius", "172"]
     assert cells(plain_town.candidates(SLOW))[:5] == ["1", "1", "13", "104", "2"]
-    assert cells(olr.decode(SLOW))[:2] == ["1", "49.871246, 7.415739"]
+    assert cells(olr.decode(SLOW), "th")[:6] == ["point", "class", "form", "interval", "lat", "lon"]
+    assert cells(olr.decode(SLOW))[:6] == ["1", "3", "2", "4", "49.871246", "7.415739"]
     page = plain_town.match(BREAKDOWN)
     many = replace(page, matchings=[*page.matchings] * 3)
     assert len(cells(many, "tr")) == 11

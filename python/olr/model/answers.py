@@ -76,7 +76,7 @@ class Reference(Displayed):
 
     def _rows(self) -> Sequence[Mapping[str, object]]:
         return [
-            {"point": number, "degrees": f"{point.lat / 1e6}, {point.lon / 1e6}", **plain(point)}
+            {"point": number, **plain(point), "lat": point.lat / 1e6, "lon": point.lon / 1e6}
             for number, point in enumerate(self.points, 1)
         ]
 
