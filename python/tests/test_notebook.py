@@ -21,7 +21,7 @@ from conftest import OF_PROGRAM, TOP, Program
 from olr.client.given import opened
 from olr.likely.order import LIST
 from olr.matching.columns import ANSWERS
-from olr.model.answers import AboutReference, PlaceOfReference
+from olr.model.answers import AboutReference, PlaceOfReference, about
 from olr.model.pieces import Pieces
 from olr.model.questions import NUMBERS, What
 from olr.regions.making import make_store_of_folder
@@ -264,7 +264,7 @@ def test_dicts_are_the_programs_json(what: What, town: olr.Map) -> None:
         assert isinstance(answer, AboutReference)
         said = json.dumps(answer.to_dict(), separators=(",", ":")).encode()
         assert said == town.raw_answer(what, text)
-        assert replace(answer, ref=text).to_dict() == answer.to_dict()
+        assert about(answer, text) == answer and "ref" not in answer.to_dict()
 
 
 def test_the_dict_of_a_reference(program: Program) -> None:
@@ -383,12 +383,12 @@ def test_the_points_of_a_reference_are_drawn(town: olr.Map) -> None:
     """Without a map; and of an answer that knows its reference."""
     reference = olr.decode(SLOW)
     path = [(point.lon / 1e6, point.lat / 1e6) for point in reference.points]
-    known = replace(town.why(SLOW), ref=SLOW)
+    known = about(town.why(SLOW), SLOW)
     for answer in (reference, known):
         assert_drawn_as(lines_of(answer)[-1], path)
         texts = drawn(answer).iter("{http://www.w3.org/2000/svg}text")
         assert [text.text for text in texts] == ["1", "2", "3"]
-    assert not lines_of(town.why(SLOW)) and not lines_of(replace(known, ref=REFUSED))
+    assert not lines_of(town.why(SLOW)) and not lines_of(about(known, REFUSED))
 
 
 def test_the_tables(plain_town: olr.Map) -> None:
@@ -421,8 +421,8 @@ def test_texts_of_others_are_escaped() -> None:
     place = PlaceOfReference(0, matching, 1)
     answers = [
         matching,
-        olr.Page([matching], evil, ref=evil),
-        olr.Places(1, (place,), evil, 1, None, ref=evil),  # type: ignore[arg-type]
+        about(olr.Page([matching], evil), evil),
+        about(olr.Places(1, (place,), evil, 1), evil),  # type: ignore[arg-type]
     ]
     for answer in answers:
         assert "<script" not in answer._repr_html_()
@@ -480,7 +480,7 @@ def test_a_view_is_the_page_of_the_command(text: str, tmp_path: Path, own_folder
     assert run([*words, str(of_program), *OF_PROGRAM]) == 0
     with olr.Map(own_folder, profile="feed") as asked:
         assert olr.view(text, asked, within=1).page == of_feed.read_text()
-        answer = replace(asked.why(text), ref=text)
+        answer = about(asked.why(text), text)
         assert olr.view(answer, asked, within=1).page == of_feed.read_text()
     assert olr.view(text, own_folder, within=1).page == of_program.read_text()
 

@@ -5,32 +5,36 @@ docs/specification has what each of them means.
 """
 
 from collections.abc import Mapping, Sequence
-from dataclasses import dataclass, field
-from typing import Literal
+from dataclasses import dataclass
+from typing import Literal, TypeVar
 
 from olr.model.display import Displayed, Point, counted, plain
 from olr.model.fault import Fault
 from olr.model.pieces import Pieces, Place
 
+Known = TypeVar("Known")
 MOST_IDS = 6
 """So many ids of lines stand in a table."""
 
 
-@dataclass(frozen=True, repr=False)
 class AboutReference(Displayed):
     """An answer about a reference on a map."""
 
-    ref: str | None = field(default=None, kw_only=True, compare=False)
-    """The text that was asked about; None where that isn't known."""
-
-    def _absent(self) -> Sequence[str]:
-        return ("ref",)
+    ref: str | None = None
+    """The text that was asked about; None where that isn't known. It is no part of the answer, and not of its JSON."""
 
     def _spots(self) -> Sequence[Point]:
         from olr.model.reference import read_reference
 
         reference = None if self.ref is None else read_reference(self.ref)
         return () if reference is None else reference._spots()
+
+
+def about(answer: Known, ref: str) -> Known:
+    """An answer that was just read, which knows its reference from now on. A fault stays as it is."""
+    if isinstance(answer, AboutReference):
+        object.__setattr__(answer, "ref", ref)
+    return answer
 
 
 @dataclass(frozen=True)
