@@ -311,16 +311,12 @@ def drawn(answer: Any) -> ElementTree.Element:
     return ElementTree.fromstring(answer._repr_html_())
 
 
-def lines_of(answer: Any) -> list[list[tuple[float, float]]]:
-    """The lines of its picture, those below first."""
+def lines_of(answer: Any, of_reference: bool = False) -> list[list[tuple[float, float]]]:
+    """The routes of its picture, those below first; or the line through the points of its reference, which is dashed."""
     found = drawn(answer).iter("{http://www.w3.org/2000/svg}polyline")
-    return [
-        [
-            (float(x), float(y))
-            for x, y in (pair.split(",") for pair in line.attrib["points"].split())
-        ]
-        for line in found
-    ]
+    lines = [one.attrib for one in found if ("stroke-dasharray" in one.attrib) == of_reference]
+    pairs = [[pair.split(",") for pair in line["points"].split()] for line in lines]
+    return [[(float(x), float(y)) for x, y in line] for line in pairs]
 
 
 def assert_drawn_as(line: list[tuple[float, float]], path: Any) -> None:
@@ -385,10 +381,12 @@ def test_the_points_of_a_reference_are_drawn(town: olr.Map) -> None:
     path = [(point.lon / 1e6, point.lat / 1e6) for point in reference.points]
     known = about(town.why(SLOW), SLOW)
     for answer in (reference, known):
-        assert_drawn_as(lines_of(answer)[-1], path)
+        (line,) = lines_of(answer, of_reference=True)
+        assert_drawn_as(line, path)
         texts = drawn(answer).iter("{http://www.w3.org/2000/svg}text")
         assert [text.text for text in texts] == ["1", "2", "3"]
-    assert not lines_of(town.why(SLOW)) and not lines_of(about(known, REFUSED))
+    for answer in (olr.Page([]), about(olr.Page([]), REFUSED)):
+        assert not lines_of(answer, of_reference=True)
 
 
 def test_the_tables(plain_town: olr.Map) -> None:
@@ -503,7 +501,7 @@ def test_a_view_in_a_notebook(tmp_path: Path) -> None:
 
 def test_what_cant_be_viewed(plain_town: olr.Map) -> None:
     with pytest.raises(TypeError, match="doesn't know its reference"):
-        olr.view(plain_town.places(SLOW), plain_town)
+        olr.view(olr.Page([]), plain_town)
     with pytest.raises(olr.Fault, match="BadLength 12"):
         olr.view(REFUSED, plain_town)
     with pytest.raises(olr.Fault, match="BadNumber within"):
