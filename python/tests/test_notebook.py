@@ -516,3 +516,16 @@ def test_a_view_names_no_folder_that_isnt_the_map(plain_town: olr.Map, tmp_path:
     assert '"command":""' in olr.view(SLOW, plain_town).page
     assert '"command":""' in olr.view(SLOW, tmp_path / "town.gpkg").page
     assert '"command":"olr places' in olr.view(SLOW, EXAMPLES).page
+
+
+def test_answers_of_a_map_know_their_reference(town: olr.Map, tmp_path: Path) -> None:
+    """However they are asked for, on a folder and on a store."""
+    make_store_of_folder(EXAMPLES, tmp_path / "town.gpkg")
+    with olr.Map(tmp_path / "town.gpkg", profile="feed") as store:
+        for asked in (town, store):
+            first, second = asked.pages(BREAKDOWN, page=3)
+            answers = [asked.why(SLOW), asked.places(SLOW), asked.candidates(SLOW), first, second]
+            assert [it.ref for it in answers] == [SLOW] * 3 + [BREAKDOWN] * 2
+            found = asked.answers("places", iter([SLOW, REFUSED, ROADWORKS]))
+            assert [getattr(it, "ref", None) for it in found] == [SLOW, None, ROADWORKS]
+    assert olr.view(town.places(SLOW), town).title.startswith(SLOW)

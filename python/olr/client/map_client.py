@@ -1,6 +1,8 @@
 """A map that can be asked: `olr.Map`."""
 
-from collections.abc import Callable, Iterable, Iterator, Mapping
+from collections.abc import Callable, Generator, Iterable, Iterator, Mapping
+from contextlib import closing
+from itertools import tee
 from pathlib import Path
 from types import TracebackType
 from typing import TYPE_CHECKING, Any, Literal, cast, overload
@@ -12,7 +14,7 @@ from olr.asking.program import PathLike
 from olr.asking.threaded import Batch
 from olr.client.source import FilesSource, Source
 from olr.extras import needed_by
-from olr.model.answers import Answer, AnswerOrFault, Candidates, Page, Places, Why
+from olr.model.answers import Answer, AnswerOrFault, Candidates, Page, Places, Why, about
 from olr.model.fault import Fault
 from olr.model.map_folder import store_of
 from olr.model.objects import page_of
@@ -141,7 +143,8 @@ class Map:
         """
         if after is None:
             return cast(Page, self._answer("match", ref, {"page": page}))
-        return self._behind(ref, Question.of("match", {"page": page}), cursor_of(after), page_of)
+        question = Question.of("match", {"page": page})
+        return about(self._behind(ref, question, cursor_of(after), page_of), ref)
 
     def pages(self, ref: str, *, page: int = 10, after: str | None = None) -> Iterator[Page]:
         """All pages of the matchings of a reference, from the first on or from a cursor on, of `page` matchings each: see `match`. If
@@ -220,7 +223,8 @@ class Map:
         """
         question = Question.of(what, numbers)
         texts = many("answers takes many references", refs, f"ask {what} about one")
-        return self._source.answers(question, iter(texts))
+        asked, again = tee(texts)
+        return _known(self._source.answers(question, asked), again)
 
     def raw_answer(
         self, what: What, ref: str, *, after: str | None = None, **numbers: int
@@ -239,7 +243,7 @@ class Map:
         found = self._asked_alone(what, ref, numbers, Batch.answer)
         if isinstance(found, Fault):
             raise found
-        return found
+        return about(found, ref)
 
     def _asked_alone(
         self, what: What, ref: str, numbers: dict[str, int], read: Callable[[Batch, int], Read]
@@ -281,6 +285,13 @@ def _source_of(
     with needed_by("olr.Map of a store", "scale"):
         from olr.client.store_source import StoreSource
     return StoreSource(Path(nodes), settings)
+
+
+def _known(answers: Generator[AnswerOrFault, None, None], texts: Iterator[str]) -> Iterator[Any]:
+    """Answers, which know their references."""
+    with closing(answers):
+        for answer, text in zip(answers, texts):
+            yield about(answer, text)
 
 
 def _raw_page(shown: bytes, digest: str | None) -> bytes:
