@@ -12,9 +12,6 @@ import olr
 from conftest import TOP, Program
 from olr.pages.view.showing import View
 
-NOT_YET = ("Map",)
-"""Classes whose docstrings have no examples."""
-
 
 def documented() -> Iterator[tuple[str, Any]]:
     """The package, its public names, and the public methods that the package has written, by their names."""
@@ -28,7 +25,7 @@ def documented() -> Iterator[tuple[str, Any]]:
                     yield f"{found.__name__}.{name}", getattr(found, name)
 
 
-ALL = {name: it for name, it in documented() if name.partition(".")[0] not in NOT_YET}
+ALL = dict(documented())
 
 
 @pytest.mark.parametrize("name", ALL)

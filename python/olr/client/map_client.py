@@ -46,6 +46,15 @@ class Map:
     they were read, `ProgramNotFound` where the program isn't built, `ProgramEnded` where its process was killed, and `TimedOut` where
     it answered nothing for `patience` seconds: the next question starts another one. A number that isn't one raises `TypeError`, and
     one that is out of its range `Fault`, before the program is asked.
+
+    >>> import olr
+    >>> with olr.Map("examples") as town:
+    ...     best = town.match("CwVF/yN2yRpnBAFUAAgbpwYBAf9kK0Fa").matchings[0]
+    ...
+    >>> best
+    <Matching: total 8, 4 lines, 561.5 m, cursor 8:1.1.1>
+    >>> olr.Map("examples", radius=50, profile="feed")
+    Map('examples/nodes.csv', 'examples/lines.csv', 'examples/bans.csv', radius=50, bearing=6, lowest=4, percent=15)
     """
 
     @with_tolerances
@@ -86,7 +95,14 @@ class Map:
         profile: str = PROGRAM,
         **tolerances: int,
     ) -> "Map":
-        """The map of a folder, or a store: as `Map` of its path alone."""
+        """The map of a folder, or a store: as `Map` of its path alone.
+
+        >>> import olr
+        >>> with olr.Map.of_folder("examples") as town:
+        ...     town.places("CwVF/yN2yRpnBAFUAAgbpwYBAf9kK0Fa").verdict
+        ...
+        'unique'
+        """
         return cls(
             folder, None, None, program=program, patience=patience, profile=profile, **tolerances
         )
@@ -111,24 +127,50 @@ class Map:
         self.close()
 
     def close(self) -> None:
-        """Ends the processes, and deletes what a store's map has in a scratch folder."""
+        """Ends the processes, and deletes what a store's map has in a scratch folder. What is asked of the map later raises `ToolError`;
+        a second call does nothing.
+
+        >>> import olr
+        >>> town = olr.Map("examples")
+        >>> town.close()
+        >>> town.match("CwVF/yN2yRpnBAFUAAgbpwYBAf9kK0Fa")
+        Traceback (most recent call last):
+        olr.errors.ToolError: this map is closed: make another one
+        """
         self._closed = True
         self._source.close()
 
     @property
     def tolerances(self) -> Mapping[str, int]:
-        """The tolerances by their names: those that weren't given have their defaults."""
+        """The tolerances by their names: those that weren't given have their defaults. Each is in the unit of its option, which
+        `help(olr.Map)` has.
+
+        >>> import olr
+        >>> olr.Map("examples", profile="feed").tolerances["radius"]
+        75
+        """
         return dict(self._settings.tolerances)
 
     @property
     def files(self) -> MapFiles:
-        """The files of this map: what is read of them within `files.reading()` is of the version that its answers are of."""
+        """The files of this map: what is read of them within `files.reading()` is of the version that its answers are of.
+
+        >>> import olr
+        >>> [path.name for path in olr.Map("examples").files.paths()]
+        ['nodes.csv', 'lines.csv', 'bans.csv']
+        """
         return self._source.files
 
     def network(self) -> "Network":
         """The nodes and lines of this map, to draw its answers: of the same version of its files. They are read once, and those of a store
         when they are asked for. Raises `MapRefused` if the files have changed since the map was first asked, and `ToolError` if they
         can't be read.
+
+        >>> import olr
+        >>> with olr.Map("examples") as town:
+        ...     town.network()
+        ...
+        <Network of examples: 20 nodes, 41 lines>
         """
         if self._network is None:
             self._network = self._source.network()
@@ -139,7 +181,15 @@ class Map:
         They are `page` at most, from 1 to 1000.
 
         A page behind a cursor takes a run of the program, which reads the map again. Raises `Fault` for what is no cursor, and for
-        one that no matching has with this reference, map and tolerances.
+        one that no matching has with this reference, map and tolerances. Totals are in penalty points, lengths and positions in
+        decimetres. Raises as `Map` says.
+
+        >>> import olr
+        >>> with olr.Map("examples") as town:
+        ...     page = town.match("CwVF+yN2yhpnBAFdAAsaFg==", page=3)
+        ...     page, town.match("CwVF+yN2yhpnBAFdAAsaFg==", after=page.next)
+        ...
+        (<Page: 3 matchings, total 8 to 29, more behind 29:1.2>, <Page: 1 matching, total 35>)
         """
         if after is None:
             return cast(Page, self._answer("match", ref, {"page": page}))
@@ -148,13 +198,30 @@ class Map:
 
     def pages(self, ref: str, *, page: int = 10, after: str | None = None) -> Iterator[Page]:
         """All pages of the matchings of a reference, from the first on or from a cursor on, of `page` matchings each: see `match`. If
-        nothing fits there is one page, without matchings. A page is found when it is asked for."""
+        nothing fits there is one page, without matchings. A page is found when it is asked for. Raises as `match`, at once for a number
+        that is out of its range.
+
+        >>> import olr
+        >>> with olr.Map("examples") as town:
+        ...     [len(page.matchings) for page in town.pages("CwVF+yN2yhpnBAFdAAsaFg==", page=3)]
+        ...
+        [3, 1]
+        """
         record_text(ref)
         Question.of("match", {"page": page})
         return self._pages(ref, page, None if after is None else cursor_of(after))
 
     def matches(self, refs: Iterable[str], *, page: int = 10) -> Iterator[Page | Fault]:
-        """The first pages of many references, in their order: see `answers`."""
+        """The first pages of many references, in their order: see `answers`. Raises as `answers`.
+
+        >>> import olr
+        >>> with olr.Map("examples") as town:
+        ...     for answer in town.matches(["CwVF/yN2yRpnBAFUAAgbpwYBAf9kK0Fa", "CwVGnSN2zhvHCgDX"]):
+        ...         print(answer.text if isinstance(answer, olr.Fault) else answer)
+        ...
+        <Page: 1 matching, total 8>
+        BadLength 12
+        """
         texts = many("matches takes many references", refs, "ask match about one")
         return self.answers("match", texts, page=page)
 
@@ -162,17 +229,38 @@ class Map:
         self, ref: str, *, apart: int = 750, within: int = 30, look: int = 1000, most: int = 10
     ) -> Places:
         """Whether a reference fits one place, or several. `apart` is in decimetres, from 0 to 1,000,000; `within` in penalty points,
-        from 0 to 14,620; `look` in matchings, from 1 to 1,000,000; `most` in places, from 1 to 100.
+        from 0 to 14,620; `look` in matchings, from 1 to 1,000,000; `most` in places, from 1 to 100. Raises as `Map` says.
+
+        >>> import olr
+        >>> with olr.Map("examples/nodes.csv", "examples/lines.csv") as town:
+        ...     town.places("CwVGnSN2zhvHCgDX/tIzAw==")
+        ...
+        <Places: ambiguous, 2 places, total 64, margin 7>
         """
         numbers = {"apart": apart, "within": within, "look": look, "most": most}
         return cast(Places, self._answer("places", ref, numbers))
 
     def why(self, ref: str, *, nearest: int = 8) -> Why:
-        """Why a reference has no matching. `nearest` is how many lines are told near each point, from 0 to 64."""
+        """Why a reference has no matching. `nearest` is how many lines are told near each point, from 0 to 64. A remedy's value is in the
+        unit of its option. Raises as `Map` says.
+
+        >>> import olr
+        >>> with olr.Map("examples") as town:
+        ...     town.why("CwVGnSN2zhtnBgEB/2IjAQ==")
+        ...
+        <Why: leg 1, try lowest 2, radius 172>
+        """
         return cast(Why, self._answer("why", ref, {"nearest": nearest}))
 
     def candidates(self, ref: str) -> Candidates:
-        """The candidates of each point of a reference."""
+        """The candidates of each point of a reference. Positions are in decimetres, penalties in points. Raises as `Map` says.
+
+        >>> import olr
+        >>> with olr.Map("examples") as town:
+        ...     town.candidates("CwVF/yN2yRpnBAFUAAgbpwYBAf9kK0Fa").points[0]
+        ...
+        (Candidate(at=13, line=104, penalty=2), Candidate(at=0, line=403, penalty=141))
+        """
         return cast(Candidates, self._answer("candidates", ref, {}))
 
     @overload
@@ -220,6 +308,18 @@ class Map:
         be asked meanwhile. If the generator isn't gone through, the answers to what was handed over are passed over. Where the process
         answers nothing for too long, what was handed over is asked again, one by one, so `TimedOut` has the reference at which that
         was, and its number.
+
+        >>> import olr
+        >>> keys, texts = zip(*olr.read_messages("examples/messages.tsv"))
+        >>> with olr.Map("examples") as town:
+        ...     for key, answer in zip(keys, town.answers("places", texts, within=50)):
+        ...         print(key, answer.text if isinstance(answer, olr.Fault) else answer.verdict)
+        ...
+        m1 unique
+        m2 unique
+        m3 unique
+        m4 none
+        m5 BadLength 12
         """
         question = Question.of(what, numbers)
         texts = many("answers takes many references", refs, f"ask {what} about one")
@@ -230,7 +330,14 @@ class Map:
         self, what: What, ref: str, *, after: str | None = None, **numbers: int
     ) -> bytes:
         """The JSON of an answer as the program has it, for those who pass it on: what the method of that question gives, without the
-        objects. `after` is for `match`. Raises as that method."""
+        objects. `after` is for `match`. Raises as that method.
+
+        >>> import olr
+        >>> with olr.Map("examples") as town:
+        ...     town.raw_answer("match", "CwVGnSN2zhtnBgEB/2IjAQ==")
+        ...
+        b'{"matchings":[],"next":null}'
+        """
         if after is not None:
             return self._behind(ref, Question.of("match", numbers), cursor_of(after), _raw_page)
         raw = self._asked_alone(what, ref, numbers, Batch.raw)
