@@ -36,14 +36,13 @@ from olr.model.map_folder import read_map, write_map  # noqa: E402
 from olr.messages.message import Message  # noqa: E402
 from olr.osm.importing import Options, import_osm  # noqa: E402
 from olr.model.profiles import FEED, as_arguments, tolerances_of  # noqa: E402
-from olr.trials.changing import changed_points  # noqa: E402
+from olr.trials.changing import Spreads, changed_points  # noqa: E402
 from olr.trials.differing import Difference, differing  # noqa: E402
-from olr.trials.encoder import Network, text_of  # noqa: E402
+from olr.trials.encoder import text_of  # noqa: E402
 from olr.trials.graph import Graph  # noqa: E402
 from olr.trials.paths import Paths  # noqa: E402
 from olr.trials.rightness import is_right  # noqa: E402
 from olr.trials.roads import Roads  # noqa: E402
-from olr.trials.spreads import Spreads  # noqa: E402
 from vector_files import write_tempe  # noqa: E402
 
 ANOTHER = Difference(missing=5, classes=15, lengths=4, positions=4, forms=5, one_way=1)
@@ -107,7 +106,7 @@ def rows_of(reference):
 def counted(name, road_map, chosen, scratch):
     """How many places each row has, and how many of them are right, by the kind of the second map and the row."""
     roads = Roads(road_map)
-    paths, graph = Paths(Network(road_map)), Graph(road_map, roads)
+    paths, graph = Paths(road_map), Graph(road_map, roads)
     placed, right = Counter(), Counter()
     for pair in range(chosen.pairs):
         draws = random.Random(f"{chosen.seed} {name} {pair}")

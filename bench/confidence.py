@@ -34,15 +34,14 @@ from olr.confidence.weights import WEIGHTS, differences_of, probabilities  # noq
 from olr.model.map_folder import read_map, write_records  # noqa: E402
 from olr.model.profiles import tolerances_of  # noqa: E402
 from olr.model.reference import read_reference  # noqa: E402
-from olr.trials.changing import changed_points  # noqa: E402
+from olr.trials.changing import Spreads, changed_points  # noqa: E402
 from olr.trials.differing import Difference, differing  # noqa: E402
-from olr.trials.encoder import Network, text_of  # noqa: E402
+from olr.trials.encoder import text_of  # noqa: E402
 from olr.trials.graph import Graph  # noqa: E402
 from olr.trials.likeness import LikeMessages  # noqa: E402
 from olr.trials.paths import Paths  # noqa: E402
 from olr.trials.rightness import is_right  # noqa: E402
 from olr.trials.roads import Roads  # noqa: E402
-from olr.trials.spreads import Spreads  # noqa: E402
 
 SEED = 6
 """Of maps and of references."""
@@ -119,7 +118,7 @@ def tried(case):
     draws = random.Random(f"{SEED} {name} {recipe} {draw}")
     other = differing(road_map, roads, RECIPES[recipe], draws)
     folder = asked_folder(other, scratch / f"{name}-{recipe}-{draw}")
-    drawn = list(islice(Paths(Network(road_map)).drawn(Graph(road_map, roads), draws), count))
+    drawn = list(islice(Paths(road_map).drawn(Graph(road_map, roads), draws), count))
     kinds = [list(KINDS)[number % len(KINDS)] for number in range(count)]
     texts = [text_of(changed_points(it.points, KINDS[kind], draws)) for it, kind in zip(drawn, kinds)]
     lengths = {line.id: line.length for line in (*road_map.lines, *other.lines)}

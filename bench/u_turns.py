@@ -27,7 +27,8 @@ from olr.model.map_folder import write_map  # noqa: E402
 from olr.osm.importing import Options as OsmOptions  # noqa: E402
 from olr.osm.importing import import_osm  # noqa: E402
 from olr.model.road_map import MICRODEGREE  # noqa: E402
-from olr.trials.encoder import COVERED, Network, drawn_references, share_covered, text_of  # noqa: E402
+from olr.trials.encoder import text_of  # noqa: E402
+from exact_paths import COVERED, LineGraph, drawn_references, share_covered  # noqa: E402
 from olr.importing.u_turns import UTurns  # noqa: E402
 from olr.vector.fields import Fields  # noqa: E402
 from olr.vector.importing import import_vector  # noqa: E402
@@ -129,7 +130,7 @@ def main():
             made = {u_turns: make(u_turns, Path(place)) for u_turns in get_args(UTurns)}
             for u_turns, one in made.items():
                 write_map(one.road_map, Path(place, u_turns), one.about, force=True)
-            network = Network(made["allowed"].road_map, turning_back=False)
+            network = LineGraph(made["allowed"].road_map, turning_back=False)
             references = drawn_references(network, chosen.references, random.Random(chosen.seed), turning_back=False)
             for what, change in CHANGES.items():
                 draws = random.Random(chosen.seed)

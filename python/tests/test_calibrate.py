@@ -30,14 +30,13 @@ from olr.model.profiles import FEED, tolerances_of
 from olr.model.road_map import Ban, Node
 from olr.osm.importing import Options, import_osm
 from olr.tools import run
-from olr.trials.changing import changed_points
+from olr.trials.changing import Spreads, changed_points
 from olr.trials.differing import Difference, differing
-from olr.trials.encoder import Network, text_of
+from olr.trials.encoder import text_of
 from olr.trials.graph import Graph
 from olr.trials.paths import Paths
 from olr.trials.rightness import is_right
 from olr.trials.roads import Roads
-from olr.trials.spreads import Spreads
 from vector_files import write_tempe
 
 TRIALS = 1_000
@@ -94,7 +93,7 @@ def feed_of(sender: Path, difference: Difference, folder: Path) -> Feed:
     other = differing(road_map, roads, difference, draws)
     folder.mkdir()
     write_records(other.nodes, other.lines, other.bans, folder)
-    drawn = list(islice(Paths(Network(road_map)).drawn(Graph(road_map, roads), draws), COUNT))
+    drawn = list(islice(Paths(road_map).drawn(Graph(road_map, roads), draws), COUNT))
     texts = [
         text_of(changed_points(one.points, KINDS[number % 3], draws))
         for number, one in enumerate(drawn)
@@ -155,7 +154,7 @@ def calibrate(folder: Path, out: Path, *words: object) -> int:
 def messages(tempe: Path, tmp_path_factory: pytest.TempPathFactory) -> Path:
     """A hundred messages on the streets of Tempe, and a text that is none."""
     road_map = read_map(tempe)
-    paths = Paths(Network(road_map)).drawn(Graph(road_map, Roads(road_map)), random.Random(9))
+    paths = Paths(road_map).drawn(Graph(road_map, Roads(road_map)), random.Random(9))
     file = tmp_path_factory.mktemp("messages") / "messages.csv"
     lines = [f"k{number},{text_of(one.points)}\n" for number, one in enumerate(islice(paths, 100))]
     file.write_text("".join(["id,code\n", *lines, "x,?\n"]))

@@ -15,6 +15,7 @@ from typing import Any
 from asking import draw_map, draw_references
 from compared_maps import ALONG, HALFWAY, STRAIGHT, Pair, at, metres, pairs, road
 from conftest import REFERENCE, TOP, Program
+from exact_paths import LineGraph, drawn_references
 from olr.client.map_client import Map
 from olr.comparing.changes import Side, compared
 from olr.comparing.places import Limits, Stretch
@@ -25,7 +26,6 @@ from olr.model.fault import Fault
 from olr.model.map_folder import write_map
 from olr.model.pieces import Pieces
 from olr.model.road_map import MICRODEGREE, RoadMap
-from olr.trials.encoder import Network, drawn_references
 from olr.trials.encoder import text_of as text_of_points
 from olr.vector.fields import Fields
 from olr.vector.importing import import_vector
@@ -328,7 +328,7 @@ def test_real_streets(tmp_path: Path) -> None:
     """References to known paths on the streets of Tempe: with other ids, and without the second street of some of the paths."""
     made = import_vector(STREETS, Options(Fields("5", "3", id="ID")), Counts())
     whole = made.road_map
-    network = Network(replace(whole, bans=()), turning_back=False)
+    network = LineGraph(replace(whole, bans=()), turning_back=False)
     drawn = drawn_references(network, 120, random.Random(1), turning_back=False)
     texts = [text_of_points(points) for _, points in drawn]
     without = {id ^ pair for path, _ in drawn[:4] for id in path[1:2] for pair in (0, 1)}
@@ -343,7 +343,7 @@ def test_real_streets(tmp_path: Path) -> None:
         lines = [int(line) for line in old["lines"].split(";") if line]
         # Of the first and the last line a place may have a few metres.
         whole_ones = without.intersection(lines[1:-1])
-        longest = max([0.0, *(network.lines[id].length / 10 for id in whole_ones)])
+        longest = max([0.0, *(network.by_id[id].length / 10 for id in whole_ones)])
         if not without.intersection(lines):
             assert old["change"] in ("same", "none")
             assert old["agreement"] in ("1.0", "")

@@ -29,12 +29,11 @@ from olr.model.map_folder import read_map
 from olr.model.profiles import FEED
 from olr.regions.making import make_store_of_folder
 from olr.tools import run
-from olr.trials.changing import changed_points
-from olr.trials.encoder import Network, text_of
+from olr.trials.changing import Spreads, changed_points
+from olr.trials.encoder import text_of
 from olr.trials.graph import Graph
 from olr.trials.paths import Paths
 from olr.trials.roads import Roads
-from olr.trials.spreads import Spreads
 from runs import answer_all_here
 from servers import Server, path_of, serving
 from vector_files import write_tempe
@@ -92,7 +91,7 @@ def case(program: Program, tmp_path_factory: pytest.TempPathFactory) -> Iterator
     folder, store = write_tempe(place / "map"), place / "map.gpkg"
     make_store_of_folder(folder, store)
     road_map = read_map(folder)
-    paths = Paths(Network(road_map)).drawn(Graph(road_map, Roads(road_map)), random.Random(5))
+    paths = Paths(road_map).drawn(Graph(road_map, Roads(road_map)), random.Random(5))
     draws, spreads = random.Random(6), Spreads(30, 2, 15, 20, 10)
     drawn = [text_of(changed_points(it.points, spreads, draws)) for it in islice(paths, DRAWN)]
     sure = write_confidence(place / "sure.json", DIFFERS, OF_FEED, FEED, **WEIGHTS)

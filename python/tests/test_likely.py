@@ -37,13 +37,11 @@ from olr.model.map_folder import read_map, write_map
 from olr.model.pieces import Piece, Pieces
 from olr.model.reference import read_reference
 from olr.model.road_map import Line, Node, Position, RoadMap
-from olr.trials.changing import changed_points
-from olr.trials.encoder import Network as Encoder
+from olr.trials.changing import Spreads, changed_points
 from olr.trials.encoder import text_of
 from olr.trials.graph import Graph
 from olr.trials.paths import Paths
 from olr.trials.roads import Roads
-from olr.trials.spreads import Spreads
 from vector_files import write_tempe
 
 METRE = 1 / 0.11132
@@ -235,7 +233,7 @@ def asked(
 ) -> tuple[list[str], list[Places], Network]:
     """References on a map with their places, and its network."""
     road_map = read_map(tempe)
-    paths = Paths(Encoder(road_map)).drawn(Graph(road_map, Roads(road_map)), random.Random(2))
+    paths = Paths(road_map).drawn(Graph(road_map, Roads(road_map)), random.Random(2))
     draws, spreads = random.Random(3), Spreads(25, 2, 15, 20, 10)
     texts = [text_of(changed_points(it.points, spreads, draws)) for it in islice(paths, 150)]
     with olr.Map(tempe, program=program.path, profile="feed") as town:

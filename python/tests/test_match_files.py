@@ -16,9 +16,10 @@ from pathlib import Path
 import olr
 from asking import draw_map, draw_references
 from conftest import OF_PROGRAM, REFERENCE, TOP, Program
+from exact_paths import LineGraph, drawn_references
 from olr.model.map_folder import read_map
 from olr.tools import run
-from olr.trials.encoder import Network, drawn_references, text_of
+from olr.trials.encoder import text_of
 from test_outputs import contents, full_disk
 from vector_files import STREETS
 
@@ -235,7 +236,7 @@ def test_links_of_ones_own(tmp_path: Path) -> None:
     folder, out, pieces = tmp_path / "map", tmp_path / "out.csv", tmp_path / "pieces.gpkg"
     words = ["import", "vector", STREETS, "--class", "5", "--form", "3", "--id", "ID"]
     assert run(list(map(str, [*words, "--out", folder]))) == 0
-    network = Network(read_map(folder), turning_back=False)
+    network = LineGraph(read_map(folder), turning_back=False)
     drawn = drawn_references(network, 30, random.Random(4), turning_back=False)
     messages = tmp_path / "messages.tsv"
     texts = (f"{key}\t{text_of(points)}\n" for key, (_, points) in enumerate(drawn))

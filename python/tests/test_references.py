@@ -7,10 +7,11 @@ import subprocess
 from pathlib import Path
 
 from conftest import Program
+from exact_paths import LineGraph, drawn_references
 from olr.counts import Counts
 from olr.model.map_folder import read_map, write_map
 from olr.osm.importing import Options, import_osm
-from olr.trials.encoder import Network, drawn_references, text_of
+from olr.trials.encoder import text_of
 
 REFERENCES = 150
 
@@ -39,7 +40,7 @@ def folder(tmp_path_factory: pytest.TempPathFactory, top: Path) -> Path:
 
 
 def test_the_path_is_the_first_matching(program: Program, folder: Path, tmp_path: Path) -> None:
-    drawn = drawn_references(Network(read_map(folder)), REFERENCES, random.Random(5))
+    drawn = drawn_references(LineGraph(read_map(folder)), REFERENCES, random.Random(5))
     records = tmp_path / "records"
     records.write_text("".join(f"{text_of(points)}\n" for _, points in drawn))
     ended = program.run("batch", "match", "--map", folder, "--page", "1", "--input", records)

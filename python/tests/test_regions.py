@@ -14,6 +14,7 @@ from typing import NamedTuple
 
 from asking import draw_map, draw_references
 from conftest import Program
+from exact_paths import LineGraph, drawn_path, encode
 from olr.arrays import Floats
 from olr.asking.decoding import decode
 from olr.counts import Counts
@@ -29,7 +30,6 @@ from olr.regions.making import make_store_of_folder
 from olr.regions.options import Options
 from olr.regions.plane import Disc, Discs, scale_at, scales_at
 from olr.regions.store import Store
-from olr.trials.encoder import Network, drawn_path, encode
 from olr.vector.fields import Fields
 from olr.vector.importing import import_vector
 from olr.vector.options import Options as VectorOptions
@@ -301,7 +301,7 @@ def extracts(tmp_path: Path) -> list[Path]:
 def test_real_roads(program: Program, tmp_path: Path) -> None:
     """References to paths, matched and not."""
     for whole in extracts(tmp_path):
-        network, draws = Network(read_map(whole)), random.Random(7)
+        network, draws = LineGraph(read_map(whole)), random.Random(7)
         texts: list[str] = []
         while len(texts) < 12:
             path = drawn_path(network, draws)[:4]

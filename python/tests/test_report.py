@@ -14,12 +14,13 @@ from typing import Any
 
 from confidences import FEED, LONG_LIST, OF_NONE, PlainOrder, write_confidence
 from conftest import OF_PROGRAM, REFERENCE, TOP, Program
+from exact_paths import LineGraph, drawn_references
 from feeds import MARKUP, Feed, data_of, jq, make_feed, tables_of
 from olr.confidence.likeness import Range
 from olr.model.map_folder import read_map
 from olr.regions.making import make_store_of_folder
 from olr.tools import run
-from olr.trials.encoder import Network, drawn_references, text_of
+from olr.trials.encoder import text_of
 from vector_files import STREETS
 
 WITHIN, LOOK = 200, ["--look", "20"]
@@ -316,7 +317,7 @@ def test_real_streets(tmp_path: Path, capsys: pytest.CaptureFixture[str]) -> Non
     """The summary is the one that `match` prints, behind what is expected, and most references are unique."""
     words = ["import", "vector", STREETS, "--class", 5, "--form", 3, "--id", "ID"]
     assert run([*map(str, words), "--out", str(tmp_path / "map")]) == 0
-    network = Network(read_map(tmp_path / "map"))
+    network = LineGraph(read_map(tmp_path / "map"))
     drawn = drawn_references(network, 60, random.Random(6), turning_back=False)
     messages = tmp_path / "feed.tsv"
     messages.write_text("".join(f"{at}\t{text_of(it)}\n" for at, (_, it) in enumerate(drawn)))

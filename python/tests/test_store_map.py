@@ -17,6 +17,7 @@ import olr
 from asking import as_json
 from bad_programs import bad_program
 from conftest import REFERENCE, TOP, Program
+from exact_paths import LineGraph, drawn_path, encode
 from olr.arrays import Integers
 from olr.client import store_source
 from olr.client.store_source import CHUNK
@@ -26,7 +27,6 @@ from olr.model.map_folder import write_map
 from olr.model.questions import What
 from olr.regions.making import make_store_of_folder
 from olr.regions.store import Store
-from olr.trials.encoder import Network, drawn_path, encode
 from olr.vector.fields import Fields
 from olr.vector.importing import import_vector
 from olr.vector.options import Options as VectorOptions
@@ -142,7 +142,7 @@ def test_the_streets_of_tempe(tmp_path: Path) -> None:
     make_store_of_folder(tmp_path / "tempe", tmp_path / "behind/map.gpkg")
     draws = random.Random(5)
     texts: list[str] = []
-    network = Network(made.road_map)
+    network = LineGraph(made.road_map)
     while len(texts) < 15:
         path = drawn_path(network, draws)[:4]
         text = encode(network, path) if len(path) > 1 else None

@@ -11,22 +11,22 @@ from itertools import islice, pairwise
 from pathlib import Path
 
 from conftest import REFERENCE, Program
+from exact_paths import LineGraph
 from olr.errors import ToolError
 from olr.model.answers import ReferencePoint
 from olr.model.map_folder import read_map, write_map
 from olr.model.pieces import Piece
 from olr.model.reference import read_reference
 from olr.model.road_map import MICRODEGREE, Ban, Line, Node, Position, RoadMap
-from olr.trials.changing import changed_points
+from olr.trials.changing import Spreads, changed_points
 from olr.trials.differing import Difference, differing, without_lines
-from olr.trials.encoder import INTERVAL, Network, points_of_legs, text_of
+from olr.trials.encoder import INTERVAL, Lines, points_of_legs, text_of
 from olr.trials.graph import NONE, Graph
 from olr.trials.likeness import LONGEST, SHORTEST, LikeMessages
 from olr.trials.neighbourhood import Neighbourhoods
 from olr.trials.paths import TOLERANCE, TURNING_BACK, WITHIN, Paths, Stretch
 from olr.trials.rightness import is_right
 from olr.trials.roads import Roads
-from olr.trials.spreads import Spreads
 from vector_files import write_tempe
 
 
@@ -95,11 +95,11 @@ def test_traffic_obeys_bans_and_turns_back_where_nothing_else_leads_on() -> None
     assert graph.turns_back([2, 3]) and not graph.turns_back([0, 2])
 
 
-def test_the_graph_has_the_turns_of_the_encoders_network(tempe: RoadMap) -> None:
+def test_the_graph_has_the_turns_of_the_exact_one(tempe: RoadMap) -> None:
     """On a map that lacks roads: what leads on from each line was found there in another way."""
     lacking = without_roads(tempe, 10, random.Random(1))
-    graph, network = graph_of(lacking), Network(lacking, turning_back=False)
-    assert {id: following(graph, id) for id in network.lines} == {
+    graph, network = graph_of(lacking), LineGraph(lacking, turning_back=False)
+    assert {id: following(graph, id) for id in network.by_id} == {
         id: set(others) for id, others in network.following.items()
     }
 
@@ -133,16 +133,16 @@ def test_the_directions_of_a_road() -> None:
     assert (Graph(road_map, roads).opposite == [1, 0, 3, 2, NONE, NONE, NONE]).all()
 
 
-def length_of(path: Sequence[Stretch], network: Network) -> float:
+def length_of(path: Sequence[Stretch], network: LineGraph) -> float:
     """The length of a path, in decimetres."""
-    return sum(network.lines[it.line].length * (it.end - it.start) for it in path)
+    return sum(network.by_id[it.line].length * (it.end - it.start) for it in path)
 
 
 def test_drawn_paths_are_shortest_ones(tempe: RoadMap) -> None:
     """The encoder finds one as long, by a search of its own over the whole map. Some ends lie within lines, and hardly any path turns
     back."""
-    network = Network(tempe, turning_back=False)
-    paths = Paths(network).drawn(graph_of(tempe), random.Random(3))
+    network = LineGraph(tempe, turning_back=False)
+    paths = Paths(tempe).drawn(graph_of(tempe), random.Random(3))
     sizes: Counter[int] = Counter()
     within = turns = 0
     for path, points in islice(paths, 300):
@@ -151,7 +151,7 @@ def test_drawn_paths_are_shortest_ones(tempe: RoadMap) -> None:
         if len(lines) > 1:
             found = network.shortest(lines[0], lines[-1])
             assert found is not None
-            whole = [sum(network.lines[id].length for id in some) for some in (found[0], lines)]
+            whole = [sum(network.by_id[id].length for id in some) for some in (found[0], lines)]
             assert whole[0] == whole[1]
         assert all(it.start == 0 for it in path[1:]) and all(it.end == 1 for it in path[:-1])
         within += (path[0].start > 0) + (path[-1].end < 1)
@@ -170,7 +170,7 @@ def test_drawn_paths_are_shortest_ones(tempe: RoadMap) -> None:
 def test_a_point_within_a_line(tempe: RoadMap) -> None:
     """A path from a quarter of a line to three quarters of it: the points lie there, and the leg is half as long."""
     straight = next(line for line in tempe.lines if not line.shape and line.length > 1000)
-    network = Network(tempe)
+    network = LineGraph(tempe)
     points = points_of_legs(network, [[straight.id]], (0.25, 0.75))
     assert points is not None and points[0].interval == int(straight.length / 2) // INTERVAL
     ends = [network.positions[node] for node in (straight.start, straight.end)]
@@ -180,8 +180,8 @@ def test_a_point_within_a_line(tempe: RoadMap) -> None:
 
 
 def test_no_path_is_drawn_twice(tempe: RoadMap) -> None:
-    network, graph = Network(tempe), graph_of(tempe)
-    drawn = islice(Paths(network).drawn(graph, random.Random(1)), 1000)
+    graph = graph_of(tempe)
+    drawn = islice(Paths(tempe).drawn(graph, random.Random(1)), 1000)
     assert len({tuple(it.line for it in one.path) for one in drawn}) == 1000
 
 
@@ -195,7 +195,7 @@ def test_no_path_is_drawn_twice(tempe: RoadMap) -> None:
     ids=["empty", "not connected", "few paths"],
 )
 def test_a_map_with_too_few_paths(road_map: RoadMap) -> None:
-    paths = Paths(Network(road_map)).drawn(graph_of(road_map), random.Random(1))
+    paths = Paths(road_map).drawn(graph_of(road_map), random.Random(1))
     few = "too few paths .* [1-9][0-9]* were found, so name a larger map"
     with pytest.raises(ToolError, match=f"{few}|has no path of the wanted classes and lengths"):
         list(islice(paths, 50))
@@ -205,9 +205,7 @@ def test_a_map_without_roads_of_the_classes_of_the_messages() -> None:
     """A larger map wouldn't help."""
     road_map, reference = map_of(two_way(10, 1, 2, 5000, 7)), read_reference(REFERENCE)
     assert reference is not None and reference.points[0].class_ != 7
-    paths = Paths(Network(road_map), LikeMessages([reference])).drawn(
-        graph_of(road_map), random.Random(1)
-    )
+    paths = Paths(road_map, LikeMessages([reference])).drawn(graph_of(road_map), random.Random(1))
     with pytest.raises(ToolError, match="has no path of the wanted classes and lengths"):
         next(paths)
 
@@ -223,7 +221,7 @@ def test_main_roads_are_drawn_as_often_as_it_is_said() -> None:
     # By their ids nodes would lie over many degrees.
     nodes = [node._replace(position=Position(node.id, 0)) for node in road_map.nodes]
     road_map = replace(road_map, nodes=nodes)
-    drawn = islice(Paths(Network(road_map)).drawn(graph_of(road_map), random.Random(2)), 300)
+    drawn = islice(Paths(road_map).drawn(graph_of(road_map), random.Random(2)), 300)
     firsts = Counter(one.points[0].class_ for one in drawn)
     assert 0.7 < firsts[1] / 300 < 0.9
 
@@ -238,8 +236,8 @@ def test_paths_are_like_messages(tempe: RoadMap) -> None:
         )
     references = [reference for text in texts if (reference := read_reference(text)) is not None]
     like = LikeMessages(references)
-    network = Network(tempe)
-    drawn = Paths(network, like).drawn(graph_of(tempe), random.Random(1))
+    network = LineGraph(tempe)
+    drawn = Paths(tempe, like).drawn(graph_of(tempe), random.Random(1))
     paths = [[Stretch(it.line, 0, 1) for it in one.path] for one in islice(drawn, 100)]
     lengths = [length_of(path, network) for path in paths]
     assert all(0.9 * 10_548 <= length <= 1.1 * 10_548 for length in lengths)
@@ -256,7 +254,7 @@ POINTS = [
 def test_points_that_are_too_far_from_each_other(degrees: float, fits: bool) -> None:
     """Near a pole a short leg leads over more degrees than a reference has room for: 0.32767, and some are left for points that move."""
     ends = [Node(number, Position(round(number * degrees * 1e6), 80_000_000)) for number in (1, 2)]
-    network = Network(RoadMap(ends, two_way(10, 1, 2, 50_000), ()))
+    network = Lines(RoadMap(ends, two_way(10, 1, 2, 50_000), ()))
     points = points_of_legs(network, [[10]])
     assert (points is not None) == fits
     if points is not None:
@@ -319,7 +317,7 @@ def test_a_map_without_roads_is_valid(
     assert set(lacking.bans) <= set(tempe.bans)
     assert {node.id for node in lacking.nodes} == {line.start for line in lacking.lines}
     # Each line goes on to another one: what is a dead end now may be left again.
-    network = Network(lacking)
+    network = LineGraph(lacking)
     assert all(network.following.values())
 
 
@@ -352,7 +350,7 @@ def test_dead_ends_that_are_shut_stay_so() -> None:
             if shut:
                 assert list(lacking.bans) == [ban for ban in bans if lines.issuperset(ban)]
             elif lines:
-                assert all(Network(lacking).following[id] for id in lines - {11})
+                assert all(LineGraph(lacking).following[id] for id in lines - {11})
 
 
 def test_another_maker_changes_both_directions_of_a_road_alike(

@@ -22,7 +22,7 @@ from olr.geometry.parts import parts_of as arrays_of
 from olr.model.map_folder import read_map
 from olr.progress import progress
 from olr.trials.changing import changed_points
-from olr.trials.encoder import Network, text_of
+from olr.trials.encoder import text_of
 from olr.trials.graph import Graph
 from olr.trials.likeness import Usual
 from olr.trials.paths import Paths, Stretch
@@ -38,7 +38,7 @@ def parts_of_pair(folder: Path, sender: Path, drawing: Drawing, asking: Asking) 
     is. Raises `ToolError` if a map can't be read, or has too few paths."""
     road_map = read_map(sender)
     roads = Roads(road_map)
-    paths = Paths(Network(road_map), drawing.likeness or Usual())
+    paths = Paths(road_map, drawing.likeness or Usual())
     graph, geometry = Graph(road_map, roads), Geometry.read(sender)
     count = drawing.parts()
     with asking.map_of(folder) as asked, progress(

@@ -24,16 +24,15 @@ from olr.model.road_map import RoadMap
 from olr.outputs import writing
 from olr.progress import progress
 from olr.regions.scratch import new_scratch_folder
-from olr.trials.changing import changed_points
+from olr.trials.changing import Spreads, changed_points
 from olr.trials.differing import Difference, differing
-from olr.trials.encoder import Network, text_of
+from olr.trials.encoder import text_of
 from olr.trials.graph import Graph
 from olr.trials.likeness import Likeness, Usual
 from olr.trials.neighbourhood import Neighbourhoods
 from olr.trials.paths import Paths
 from olr.trials.rightness import is_right
 from olr.trials.roads import Roads
-from olr.trials.spreads import Spreads
 
 ANOTHER = Difference(5.0, 15.0, 4.0, 4.0, 5.0, 1.0)
 """How a map of another maker differs, more or less: a difference of 1."""
@@ -120,7 +119,7 @@ class _Trials:
     def __init__(self, road_map: RoadMap, likeness: Likeness, asking: Asking) -> None:
         self._asking, self._roads = asking, Roads(road_map)
         self._neighbourhoods = Neighbourhoods(road_map, self._roads, MOST_LINES)
-        self._paths = Paths(Network(road_map), likeness)
+        self._paths = Paths(road_map, likeness)
         self._lengths = {line.id: line.length for line in road_map.lines}
 
     def part(self, count: int, draws: random.Random) -> Part:

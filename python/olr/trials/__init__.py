@@ -2,12 +2,12 @@
 
 | module | subject |
 |---|---|
-| `encoder` | a small encoder of references, by searches over a whole map |
+| `encoder` | a small encoder of references |
 | `roads` | the roads of a map, with their directions |
 | `graph` | bounded searches over the lines of a map |
 | `likeness` | the classes and lengths that are wanted of paths: usual ones, or those of messages |
 | `paths` | true paths, drawn, and references to them |
-| `spreads`, `changing` | by how much references are off, and references changed so |
+| `changing` | by how much references are off, and references changed so |
 | `differing` | a map as another maker has it |
 | `neighbourhood` | a part of a large map |
 | `rightness` | whether a place is the right one |

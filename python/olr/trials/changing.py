@@ -1,18 +1,37 @@
-"""References, changed as a sender with another map has them."""
+"""By how much a sender's references are off, and references changed so."""
 
 import math
 import random
 from collections.abc import Sequence
 from dataclasses import replace
+from typing import NamedTuple
 
 from olr.model.answers import ReferencePoint
 from olr.model.road_map import MICRODEGREE
-from olr.trials.spreads import Spreads
 
 SECTORS = 32
 LEAST_IMPORTANT = 7
 FORMS = 8
 MOST_INTERVAL = 255
+
+
+class Spreads(NamedTuple):
+    """How the references of a sender differ from exact ones to the same paths. Each difference is drawn by itself, evenly."""
+
+    position: float = 15.0
+    """Metres: points lie up to so much farther to the east or west, and to the north or south."""
+    bearing: float = 1.0
+    """Sectors of 11.25 degrees, up to which a bearing is off."""
+    legs: float = 10.0
+    """Percent, up to which the length of a leg is off."""
+    class_: float = 20.0
+    """Percent of points whose class is off by one. Where it is the lowest class of its leg, that is off too."""
+    form: float = 10.0
+    """Percent of points that have another form."""
+
+    def times(self, factor: float) -> "Spreads":
+        """Those of references that are so many times as far off."""
+        return Spreads(*(value * factor for value in self))
 
 
 def changed_points(

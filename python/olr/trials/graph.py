@@ -5,9 +5,9 @@ from collections.abc import Sequence
 from itertools import pairwise
 from scipy.sparse import csr_matrix
 from scipy.sparse.csgraph import dijkstra
-from typing import NamedTuple
+from typing import Any, NamedTuple
 
-from olr.arrays import Booleans, Floats, Integers
+from olr.arrays import Floats, Integers
 from olr.model.road_map import RoadMap
 from olr.trials.roads import Roads
 
@@ -36,7 +36,11 @@ class Graph:
         """In decimetres."""
         self.opposite = self._opposite(roads)
         """The other direction of each line's road, by its index; `NONE` where there is none."""
-        first, second = self._turns(road_map)
+        first, second = _following(road_map, self.ids)
+        back = self.opposite[first] == second
+        leads_on = np.bincount(first[~back], minlength=len(self.ids)) > 0
+        kept = ~(back & leads_on[first])
+        first, second = first[kept], second[kept]
         size = (len(self.ids), len(self.ids))
         weights = self.lengths[first].astype(np.float64)
         # Each line of the matrix has the lengths to the starts of the following lines: whole numbers, which floats add without error.
@@ -47,16 +51,6 @@ class Graph:
         ids = self.ids.tolist()
         indices = {id: index for index, id in enumerate(ids)}
         return np.array([indices.get(roads.opposite.get(id, NONE), NONE) for id in ids], np.int64)
-
-    def _turns(self, road_map: RoadMap) -> tuple[Integers, Integers]:
-        """The pairs of lines of which the second may follow the first."""
-        first, second = _pairs_at_nodes(road_map)
-        allowed = ~_are_banned(road_map, self.ids, first, second)
-        first, second = first[allowed], second[allowed]
-        back = self.opposite[first] == second
-        leads_on = np.bincount(first[~back], minlength=len(self.ids)) > 0
-        kept = ~(back & leads_on[first])
-        return first[kept], second[kept]
 
     def reached(self, first: int, limit: float) -> Reached:
         """The lines whose starts aren't farther than a limit, in decimetres, from the start of a line."""
@@ -77,23 +71,24 @@ class Graph:
         return any(self.opposite[line] == other for line, other in pairwise(path))
 
 
-def _pairs_at_nodes(road_map: RoadMap) -> tuple[Integers, Integers]:
-    """All pairs of lines of which the second starts where the first ends, by their indices."""
-    starts = np.array([line.start for line in road_map.lines], dtype=np.int64)
-    ends = np.array([line.end for line in road_map.lines], dtype=np.int64)
-    by_start = np.argsort(starts, kind="stable")
-    low = np.searchsorted(starts[by_start], ends, side="left")
-    counts = np.searchsorted(starts[by_start], ends, side="right") - low
-    first = np.repeat(np.arange(len(ends)), counts)
-    behind = np.cumsum(counts)
-    places = np.arange(len(first)) + np.repeat(low - behind + counts, counts)
-    return first, by_start[places]
-
-
-def _are_banned(road_map: RoadMap, ids: Integers, first: Integers, second: Integers) -> Booleans:
-    """Whether each pair of lines, by their indices, is a ban of the map."""
-    bans = np.array(road_map.bans, dtype=np.int64).reshape(-1, 2)
+def _following(road_map: RoadMap, ids: Integers) -> tuple[Integers, Integers]:
+    """The pairs of lines, by their indices, of which the second starts where the first ends, and no ban is on them. `ids` are those of the
+    lines."""
+    count = len(ids)
+    ends = np.array([(line.start, line.end) for line in road_map.lines], dtype=np.int64)
+    nodes, numbers = np.unique(ends, return_inverse=True)
+    ending, starting = (
+        _matrix(np.arange(count), numbers.reshape(-1, 2)[:, column], (count, len(nodes)))
+        for column in (1, 0)
+    )
     by_id = np.argsort(ids)
-    banned = [by_id[np.searchsorted(ids[by_id], bans[:, column])] for column in (0, 1)]
-    result: Booleans = np.isin(first * len(ids) + second, banned[0] * len(ids) + banned[1])
-    return result
+    bans = np.array(road_map.bans, dtype=np.int64).reshape(-1, 2)
+    refused, onward = by_id[np.searchsorted(ids, bans, sorter=by_id)].T
+    banned = _matrix(refused, onward, (count, count))
+    first, second = (ending @ starting.T > banned).nonzero()
+    return first.astype(np.int64), second.astype(np.int64)
+
+
+def _matrix(rows: Integers, columns: Integers, shape: tuple[int, int]) -> Any:
+    """A matrix with a one at each of some places."""
+    return csr_matrix((np.ones(len(rows)), (rows, columns)), shape=shape)

@@ -9,7 +9,8 @@ from typing import NamedTuple
 from olr.arrays import Integers
 from olr.errors import ToolError
 from olr.model.answers import ReferencePoint
-from olr.trials.encoder import Network, points_of_legs
+from olr.model.road_map import RoadMap
+from olr.trials.encoder import Lines, points_of_legs
 from olr.trials.graph import Graph
 from olr.trials.likeness import Likeness, Usual
 
@@ -44,9 +45,9 @@ class Drawn(NamedTuple):
 class Paths:
     """Draws true paths on a map, and references to them. None is drawn twice."""
 
-    def __init__(self, network: Network, likeness: Likeness = Usual()) -> None:
-        """`network` has all lines of the senders' maps. `likeness` says which paths are wanted."""
-        self._network, self._likeness = network, likeness
+    def __init__(self, road_map: RoadMap, likeness: Likeness = Usual()) -> None:
+        """The map has all lines of the senders' maps. `likeness` says which paths are wanted."""
+        self._lines, self._likeness = Lines(road_map), likeness
         self._seen: set[tuple[int, ...]] = set()
         """The lines of the paths that were drawn."""
 
@@ -81,7 +82,7 @@ class Paths:
             return None
         path = _stretches(lines, draws)
         ends = path[0].start, path[-1].end
-        points = points_of_legs(self._network, _legs(lines, draws), ends)
+        points = points_of_legs(self._lines, _legs(lines, draws), ends)
         if points is None:
             return None
         self._seen.add(tuple(lines))
