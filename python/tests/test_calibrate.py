@@ -19,8 +19,7 @@ from olr.confidence.calibrating import Wanted, calibrated
 from olr.confidence.confidence import Confidence
 from olr.confidence.contents import text_of as text_of_file
 from olr.confidence.messages import read_feed
-from olr.confidence.pair import is_right_by_geometry
-from olr.confidence.parts import Asking, Drawing, answered_by, right_places
+from olr.confidence.parts import Asking, Drawing, answered_by, is_right_by_geometry, right_places
 from olr.confidence.weights import WEIGHTS
 from olr.counts import Counts
 from olr.errors import ToolError

@@ -6,7 +6,7 @@
 | `confidence` | `olr.Confidence`: weights with the tolerances that they are for; the one that comes with the package |
 | `contents` | what the file of a confidence has in it, read and written |
 | `reasons`, `judged` | answers in the likely order with their probabilities, and why, in a sentence |
-| `parts`, `pair` | trials in parts that differ in how different maps and references are; trials on a pair of maps |
+| `parts` | trials in parts that differ in how different maps and references are; trials on a pair of maps |
 | `feed`, `likeness` | what the answers to a feed show, and which parts it looks like |
 | `fitting`, `shifting` | weights by answers to trials; their level by answers that somebody checked |
 | `messages` | the messages of a feed, and checked answers |

@@ -7,7 +7,7 @@ from typing import Any, NamedTuple
 
 from olr.arrays import Floats
 from olr.confidence.confidence import Confidence
-from olr.confidence.feed import LEAST_REFERENCES, STATISTICS, Answered, statistics_of
+from olr.confidence.feed import LEAST_REFERENCES, Answered, statistics_of
 from olr.confidence.fitting import Trial, fitted
 from olr.confidence.likeness import (
     WIDTH_OF_MAPS,
@@ -18,8 +18,15 @@ from olr.confidence.likeness import (
     alike,
     range_of,
 )
-from olr.confidence.pair import parts_of_pair
-from olr.confidence.parts import GREATEST_DIFFERENCE, Asking, Drawing, Part, answered_by, parts_of
+from olr.confidence.parts import (
+    GREATEST_DIFFERENCE,
+    Asking,
+    Drawing,
+    Part,
+    answered_by,
+    parts_of,
+    parts_of_pair,
+)
 from olr.confidence.shifting import LEAST_CHECKED, Checked, shift_of, shifted
 from olr.confidence.weights import WEIGHTS, Differences, differences_of, probabilities
 from olr.errors import ToolError
@@ -53,7 +60,7 @@ class Chosen(NamedTuple):
     """Which parts count, and how much."""
 
     weights: Floats
-    statistics: Floats | None
+    statistics: Mapping[str, float] | None
     """Of the feed, if it says something."""
 
 
@@ -82,19 +89,19 @@ def calibrated(folder: Path, drawing: Drawing, asking: Asking, wanted: Wanted) -
     differs = None
     if wanted.pair is None:
         found = range_of(np.array([part.maps for part in parts]), chosen.weights)
-        differs = Range(*rounded(np.array(found)))
+        differs = Range(**_rounded(found._asdict()))
     about = _about(road_map, drawing, parts, chosen, wanted)
     if checked is not None:
+        shift = round(shift, DECIMALS)
         right = int(checked.right.sum())
-        (shift,) = rounded(np.array([shift]))
         about["checked"] = {"answers": len(checked.right), "right": right, "shift": shift}
     return Confidence(
         tolerances=dict(asking.tolerances),
         apart=asking.apart,
-        weights=dict(zip(WEIGHTS, rounded(shifted(weights, shift)))),
+        weights=_rounded(dict(zip(WEIGHTS, shifted(weights, shift)))),
         map_differs=differs,
         about=about,
-        level=rounded(np.array([level_of(parts, chosen.weights, weights)]))[0],
+        level=round(level_of(parts, chosen.weights, weights), DECIMALS),
     )
 
 
@@ -162,9 +169,10 @@ def chosen_parts(parts: Sequence[Part], feed: Answered | None, wanted: Wanted) -
         usual = fitted(trial_of(parts, np.ones(len(parts))))
         statistics = statistics_of(feed, usual)
         known = np.array([(part.wrong(), part.references) for part in parts])
-        of_parts = np.array([statistics_of(part.answered, usual) for part in parts])
-        likeness = Likeness(of_parts, known)
-        said, aims = list(likeness.said.T), likeness.said_of(statistics).tolist()
+        of_parts = [list(statistics_of(part.answered, usual).values()) for part in parts]
+        likeness = Likeness(np.array(of_parts), known)
+        aims = likeness.said_of(np.array(list(statistics.values()))).tolist()
+        said = list(likeness.said.T)
         widths = [WIDTH_OF_WRONG, WIDTH_OF_REFERENCES]
     if wanted.differ is not None:
         # What is stated holds, and not what the feed says of how many are wrong.
@@ -206,17 +214,12 @@ def level_of(parts: Sequence[Part], counts: Floats, weights: Floats) -> float:
 
 
 def _about(
-    road_map: RoadMap,
-    drawing: Drawing,
-    parts: Sequence[Part],
-    chosen: Chosen,
-    wanted: Wanted,
+    road_map: RoadMap, drawing: Drawing, parts: Sequence[Part], chosen: Chosen, wanted: Wanted
 ) -> dict[str, Any]:
     """How it was made."""
     feed: Mapping[str, Any] | None = None
     if wanted.feed:
-        values = chosen.statistics
-        numbers = None if values is None else dict(zip(STATISTICS, rounded(values)))
+        numbers = None if chosen.statistics is None else _rounded(chosen.statistics)
         feed = {"asked": len(wanted.feed), "references": wanted.messages, "statistics": numbers}
     return {
         "checked": None,
@@ -245,6 +248,6 @@ def _about(
     }
 
 
-def rounded(values: Floats) -> list[float]:
-    """Numbers with the digits that a file has."""
-    return [round(value, DECIMALS) for value in values.tolist()]
+def _rounded(values: Mapping[str, float]) -> dict[str, float]:
+    """Numbers by name, with the digits that a file has."""
+    return {name: round(float(value), DECIMALS) for name, value in values.items()}

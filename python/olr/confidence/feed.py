@@ -2,7 +2,7 @@
 
 import numpy as np
 from collections.abc import Sequence
-from typing import NamedTuple
+from typing import Any, NamedTuple
 
 from olr.arrays import Floats
 from olr.confidence.weights import differences_of, probabilities
@@ -27,80 +27,59 @@ class Answered(NamedTuple):
     evidence: Evidence
 
 
-def statistics_of(answered: Answered, weights: Floats) -> Floats:
-    """The numbers of some answers, in the order of `STATISTICS`. Those of the likeliest places alone count, but for how many there are.
-    `weights` are those by which it is doubted that these are right. Of answers of which none has a place most numbers are 0.
+def statistics_of(answered: Answered, weights: Floats) -> dict[str, float]:
+    """The numbers of some answers by what they are. Those of the likeliest places alone count, but for how many there are. `weights` are
+    those by which it is doubted that these are right. Of answers of which none has a place most numbers are 0.
     """
     found, evidence = answered.found, answered.evidence
-    if not found.sizes.any():
-        return np.array([1.0, *[0.0] * (len(STATISTICS) - 1)])
     first = np.zeros(len(found.matchings), dtype=np.bool_)
     first[found.first()] = True
     points = np.repeat(first, found.fit.counts)
     legs = np.repeat(first, found.fit.counts - 1)
-    distance, sectors = evidence.distance[points], evidence.sectors[points]
-    misses = np.abs(evidence.longer()[legs])
+    places = _or_zero(found.sizes[found.sizes > 0])
+    distance, sectors = _or_zero(evidence.distance[points]), _or_zero(evidence.sectors[points])
+    misses = _or_zero(np.abs(evidence.longer()[legs]))
     off = _off(evidence.told[legs], evidence.length[legs])
-    sizes = found.sizes[found.sizes > 0]
-    costs = found.costs[first] / found.fit.counts[first]
-    doubts = probabilities(weights, differences_of(found, evidence)).of_none
-    return np.array(
-        [
-            np.mean(found.sizes == 0),
-            np.mean(np.log1p(sizes)),
-            np.mean(sizes > 1),
-            np.median(distance),
-            np.mean(distance),
-            np.quantile(distance, 0.9),
-            np.mean(sectors > 0),
-            np.mean(sectors),
-            np.quantile(sectors, 0.95),
-            np.mean(misses > 0),
-            np.mean(misses),
-            np.median(np.abs(off)),
-            np.std(off),
-            np.mean(evidence.classes[points]),
-            np.mean(evidence.other_form[points]),
-            np.mean(found.fit.from_end[points] > FAR_END),
-            np.mean(found.fit.turns_back[first]),
-            np.mean(costs),
-            np.mean(doubts),
-            np.mean(doubts > 0.5),
-            np.quantile(doubts, 0.75),
-            np.quantile(doubts, 0.9),
-        ]
-    )
+    from_end = _or_zero(found.fit.from_end[points])
+    costs = _or_zero(found.costs[first] / found.fit.counts[first])
+    doubts = _or_zero(probabilities(weights, differences_of(found, evidence)).of_none)
+    return {
+        "share of references without a place": np.mean(found.sizes == 0),
+        "mean of the logarithm of one more than the places": np.mean(np.log1p(places)),
+        "share with several places": np.mean(places > 1),
+        "median distance of points from their lines, in metres": np.median(distance),
+        "mean distance": np.mean(distance),
+        "distance that a tenth of the points exceed": np.quantile(distance, 0.9),
+        "share of points with another direction": np.mean(sectors > 0),
+        "mean difference of directions, in sectors": np.mean(sectors),
+        "difference that a twentieth of the points exceed": np.quantile(sectors, 0.95),
+        "share of legs that miss what the reference says": np.mean(misses > 0),
+        "mean share by which legs miss it": np.mean(misses),
+        "median share by which long legs differ from the middle of what it says": np.median(
+            np.abs(off)
+        ),
+        "standard deviation of that": np.std(off),
+        "mean difference of classes": np.mean(_or_zero(evidence.classes[points])),
+        "share of points with another form": np.mean(_or_zero(evidence.other_form[points])),
+        "share of points that don't lie at the proper end of their line": np.mean(
+            from_end > FAR_END
+        ),
+        "share of places that turn back": np.mean(_or_zero(found.fit.turns_back[first])),
+        "mean likely cost for each point": np.mean(costs),
+        "mean probability of none of these": np.mean(doubts),
+        "share where it is above a half": np.mean(doubts > 0.5),
+        "probability of none of these that a quarter exceed": np.quantile(doubts, 0.75),
+        "probability of none of these that a tenth exceed": np.quantile(doubts, 0.9),
+    }
 
 
-STATISTICS = (
-    "share of references without a place",
-    "mean of the logarithm of one more than the places",
-    "share with several places",
-    "median distance of points from their lines, in metres",
-    "mean distance",
-    "distance that a tenth of the points exceed",
-    "share of points with another direction",
-    "mean difference of directions, in sectors",
-    "difference that a twentieth of the points exceed",
-    "share of legs that miss what the reference says",
-    "mean share by which legs miss it",
-    "median share by which long legs differ from the middle of what it says",
-    "standard deviation of that",
-    "mean difference of classes",
-    "share of points with another form",
-    "share of points that don't lie at the proper end of their line",
-    "share of places that turn back",
-    "mean likely cost for each point",
-    "mean probability of none of these",
-    "share where it is above a half",
-    "probability of none of these that a quarter exceed",
-    "probability of none of these that a tenth exceed",
-)
+def _or_zero(values: Any) -> Any:
+    """Values, or a 0 if there is none."""
+    return values if len(values) else np.zeros(1)
 
 
-def _off(told: Floats, length: Floats) -> Floats:
+def _off(told: Floats, length: Floats) -> Any:
     """By what share long legs differ from the middle of what their references say; a 0 if there is none."""
     middle = told - INTERVAL / 2
     is_long = middle >= LONG_LEG
-    found: Floats = (length[is_long] - middle[is_long]) / middle[is_long]
-    return found if len(found) else np.zeros(1)
+    return _or_zero((length[is_long] - middle[is_long]) / middle[is_long])

@@ -58,15 +58,8 @@ class Judging(NamedTuple):
     """Which places of a longer list are shown: all of them for None."""
 
 
-class _Probable(NamedTuple):
-    """How probable the places of answers are, one answer behind the other; NaN where nothing is said."""
-
-    of_place: Floats
-    of_none: Floats
-    """Of each answer."""
-    reasons: Sequence[str]
-    """Of each place."""
-    map_differs: Range | None
+_Row = tuple[float, bool, float | None, str]
+"""Of a place what its `JudgedPlace` has from `ends` on."""
 
 
 def judged(
@@ -80,63 +73,44 @@ def judged(
     """
     places = [one if isinstance(one, Places) else None for one in answers]
     found = listed(places, network)
-    ends = found.fit.ends()
-    probable = _probable(found, references, network, judging.confidence)
-    behind = np.cumsum(found.sizes).tolist()
+    rows, of_none = _rows(found, references, network, judging.confidence)
     result: list[Judged | None] = []
-    for number, (one, end) in enumerate(zip(places, behind)):
+    for one, end, none in zip(places, np.cumsum(found.sizes).tolist(), of_none):
         if one is None:
             result.append(None)
             continue
-        first = end - len(one.places)
-        costs, shown = found.costs[first:end], judging.shown
-        none = float(probable.of_none[number])
-        order = likely_order(costs) if shown is None else are_shown(one, costs, shown)
-        result.append(
-            Judged(
-                places=[
-                    _place(one.places[at], at + 1, likely, first + at, found, ends, probable)
-                    for likely, at in enumerate(order, 1)
-                ],
-                verdict=one.verdict if shown is None else verdict_within(one, shown.within),
-                margin=one.margin,
-                none_of_these=None if math.isnan(none) else none,
-                map_differs=None if math.isnan(none) else probable.map_differs,
-                is_cut_off=shown is not None and is_cut_off(one, costs, shown),
-            )
-        )
+        here = slice(end - len(one.places), end)
+        result.append(_judged(one, found.costs[here], rows[here], none, judging))
     return result
 
 
-def _place(
-    place: PlaceOfReference,
-    rank: int,
-    likely: int,
-    row: int,
-    found: Listed,
-    ends: Floats,
-    probable: _Probable,
-) -> JudgedPlace:
-    """A place of an answer, by its row of those that were found."""
-    probability = float(probable.of_place[row])
-    return JudgedPlace(
-        place=place,
-        rank=rank,
-        likely=likely,
-        ends=float(ends[row]),
-        turns_back=bool(found.fit.turns_back[row]),
-        probability=None if math.isnan(probability) else probability,
-        reasons=probable.reasons[row],
+def _judged(
+    answer: Places, costs: Floats, rows: Sequence[_Row], none: float | None, judging: Judging
+) -> Judged:
+    """An answer whose places have these likely costs and rows. `none` is how probable it is that it has not the right one."""
+    confidence, shown = judging
+    order = likely_order(costs) if shown is None else are_shown(answer, costs, shown)
+    return Judged(
+        places=[
+            JudgedPlace(answer.places[at], at + 1, likely, *rows[at])
+            for likely, at in enumerate(order, 1)
+        ],
+        verdict=answer.verdict if shown is None else verdict_within(answer, shown.within),
+        margin=answer.margin,
+        none_of_these=none,
+        map_differs=None if none is None or confidence is None else confidence.map_differs,
+        is_cut_off=shown is not None and is_cut_off(answer, costs, shown),
     )
 
 
-def _probable(
+def _rows(
     found: Listed,
     references: Sequence[Reference | None],
     network: "Network",
     confidence: Confidence | None,
-) -> _Probable:
-    """How probable places are. Nothing is said of points along a line: no trial is of one."""
+) -> tuple[list[_Row], list[float | None]]:
+    """What is known of each place, one answer behind the other, and how probable it is of each answer that none of its places is right.
+    Nothing probable is said of points along a line: no trial is of one."""
     of_place = np.full(len(found.matchings), np.nan)
     of_none = np.full(len(found.sizes), np.nan)
     reasons = [""] * len(found.matchings)
@@ -145,10 +119,14 @@ def _probable(
     if confidence is not None and wanted.any():
         some = found.only(wanted)
         evidence = confidence.evidence(some, lines, network)
-        told = confidence.of(some, evidence)
         places = np.repeat(wanted, found.sizes)
-        of_place[places], of_none[wanted] = told
+        of_place[places], of_none[wanted] = confidence.of(some, evidence)
         for row, text in zip(np.flatnonzero(places).tolist(), reasons_of(evidence)):
             reasons[row] = text
-    differs = None if confidence is None else confidence.map_differs
-    return _Probable(of_place, of_none, reasons, differs)
+    ends, turns_back = found.fit.ends().tolist(), found.fit.turns_back.tolist()
+    return list(zip(ends, turns_back, _told(of_place), reasons)), _told(of_none)
+
+
+def _told(probabilities: Floats) -> list[float | None]:
+    """Probabilities, with None for NaN: nothing is said there."""
+    return [None if math.isnan(value) else value for value in probabilities.tolist()]

@@ -1,4 +1,5 @@
-"""Trials in parts, which differ in how different their maps and how far off their references are."""
+"""Trials in parts, which differ in how different their maps and how far off their references are: on a map and what it might be like at
+a sender's, or on a pair of maps."""
 
 import numpy as np
 import random
@@ -8,15 +9,18 @@ from itertools import islice
 from pathlib import Path
 from typing import Any, NamedTuple
 
-from olr.arrays import Integers
+from olr.arrays import Floats, Integers
 from olr.asking.patience import PATIENCE
 from olr.client.map_client import Map
 from olr.confidence.feed import Answered
 from olr.confidence.fitting import NONE
+from olr.geometry.agreement import agreement
+from olr.geometry.network import Network
+from olr.geometry.parts import parts_of as arrays_of
 from olr.likely.listed import Listed, evidence_for, listed
 from olr.likely.order import LIST
 from olr.model.answers import Places
-from olr.model.map_folder import write_records
+from olr.model.map_folder import read_map, write_records
 from olr.model.profiles import as_arguments
 from olr.model.questions import NUMBERS
 from olr.model.reference import read_reference
@@ -30,8 +34,8 @@ from olr.trials.encoder import text_of
 from olr.trials.graph import Graph
 from olr.trials.likeness import Likeness, Usual
 from olr.trials.neighbourhood import Neighbourhoods
-from olr.trials.paths import Paths
-from olr.trials.rightness import is_right
+from olr.trials.paths import Paths, Stretch
+from olr.trials.rightness import RIGHT, is_right
 from olr.trials.roads import Roads
 
 ANOTHER = Difference(5.0, 15.0, 4.0, 4.0, 5.0, 1.0)
@@ -50,6 +54,8 @@ PARTS, LEAST_OF_PART = 100, 20
 """There are so many parts at most, and each has so many references at least."""
 MOST_LINES = 20_000
 """Of the map of a part: a larger one is cut around one of its nodes."""
+ACROSS = 15.0
+"""Metres that roads of a pair of maps lie apart at most, where they are one."""
 
 
 class Asking(NamedTuple):
@@ -96,53 +102,98 @@ class Drawing(NamedTuple):
     likeness: Likeness | None = None
     """What paths are like: usual ones for None."""
 
-    def parts(self) -> int:
-        """How many parts there are."""
-        return min(PARTS, max(self.references // LEAST_OF_PART, 1))
+    def each(self, what: str) -> Iterator[tuple[int, random.Random]]:
+        """How many references each part has, and what draws it, while it is shown how far that is."""
+        parts = min(PARTS, max(self.references // LEAST_OF_PART, 1))
+        with progress(what, self.references) as advance:
+            for number in range(parts):
+                first, behind = (self.references * one // parts for one in (number, number + 1))
+                yield behind - first, random.Random(f"{self.seed} {number}")
+                advance(behind - first)
+
+
+class _Tried(NamedTuple):
+    """References to known paths."""
+
+    paths: list[Sequence[Stretch]]
+    texts: list[str]
 
 
 def parts_of(road_map: RoadMap, drawing: Drawing, asking: Asking) -> Iterator[Part]:
     """Trials on a map, which is asked, and on what it might be like at a sender's. The same numbers give the same trials. Raises `ToolError`
     for a map with too few paths."""
-    trials = _Trials(road_map, drawing.likeness or Usual(), asking)
-    count = drawing.parts()
-    with progress("trial references answered", drawing.references) as advance:
-        for number in range(count):
-            first, behind = (drawing.references * one // count for one in (number, number + 1))
-            yield trials.part(behind - first, random.Random(f"{drawing.seed} {number}"))
-            advance(behind - first)
-
-
-class _Trials:
-    """Draws and asks parts."""
-
-    def __init__(self, road_map: RoadMap, likeness: Likeness, asking: Asking) -> None:
-        self._asking, self._roads = asking, Roads(road_map)
-        self._neighbourhoods = Neighbourhoods(road_map, self._roads, MOST_LINES)
-        self._paths = Paths(road_map, likeness)
-        self._lengths = {line.id: line.length for line in road_map.lines}
-
-    def part(self, count: int, draws: random.Random) -> Part:
-        """So many references of a sender to known paths, and what another map answers."""
+    roads = Roads(road_map)
+    neighbourhoods = Neighbourhoods(road_map, roads, MOST_LINES)
+    paths = Paths(road_map, drawing.likeness or Usual())
+    lengths = {line.id: line.length for line in road_map.lines}
+    for count, draws in drawing.each("trial references answered"):
         maps, references = (
             most * max(0.0, 1 - draws.random() / (1 - ALIKE))
             for most in (GREATEST_DIFFERENCE, GREATEST_SPREAD)
         )
         of_kinds = Difference(*(draws.uniform(*UNEVEN) * value for value in ANOTHER)).times(maps)
-        here = self._neighbourhoods.drawn(draws)
+        here = neighbourhoods.drawn(draws)
         lacked = Difference(missing=of_kinds.missing * draws.random())
-        sender = differing(here, self._roads, lacked, draws)
-        other = differing(here, self._roads, of_kinds, draws)
-        drawn = list(islice(self._paths.drawn(Graph(sender, self._roads), draws), count))
-        spreads = SPREADS.times(references)
-        texts = [text_of(changed_points(one.points, spreads, draws)) for one in drawn]
-        answered = ask(other, texts, self._asking)
-        lengths = self._lengths | {line.id: line.length for line in other.lines}
-        is_right_place = [
-            is_right(lengths, drawn[answer].path, matching.outer or ())
-            for answer, matching in zip(answered.found.owners().tolist(), answered.found.matchings)
+        sender = differing(here, roads, lacked, draws)
+        other = differing(here, roads, of_kinds, draws)
+        tried = _tried(paths, Graph(sender, roads), count, references, draws)
+        answered = ask(other, tried.texts, asking)
+        found = answered.found
+        here_or_there = lengths | {line.id: line.length for line in other.lines}
+        are_right = [
+            is_right(here_or_there, tried.paths[owner], matching.outer or ())
+            for owner, matching in zip(found.owners().tolist(), found.matchings)
         ]
-        return Part(maps, references, answered, right_places(answered.found, is_right_place))
+        yield Part(maps, references, answered, right_places(found, are_right))
+
+
+def parts_of_pair(folder: Path, sender: Path, drawing: Drawing, asking: Asking) -> Iterator[Part]:
+    """Trials that are drawn on the map of a sender, and asked of the map in a folder. Whether a place is right is told by geometry. How
+    different the maps are isn't said: it is what it is. Raises `ToolError` if a map can't be read, or has too few paths.
+    """
+    road_map = read_map(sender)
+    paths = Paths(road_map, drawing.likeness or Usual())
+    graph, geometry = Graph(road_map, Roads(road_map)), Network.read(sender)
+    with asking.map_of(folder) as asked:
+        for count, draws in drawing.each("trial references"):
+            references = draws.uniform(0, GREATEST_SPREAD)
+            tried = _tried(paths, graph, count, references, draws)
+            answered = answered_by(asked, tried.texts, asking)
+            found = answered.found
+            arrays = arrays_of([one.outer for one in found.matchings])
+            lines = asked.network().polylines(arrays.pieces, arrays.counts)
+            places = np.split(lines.points, np.cumsum(lines.sizes)[:-1])
+            true = [_points_of(path, geometry) for path in tried.paths]
+            are_right = [
+                is_right_by_geometry(true[owner], place)
+                for owner, place in zip(found.owners().tolist(), places)
+            ]
+            yield Part(0.0, references, answered, right_places(found, are_right))
+
+
+def _tried(
+    paths: Paths, graph: Graph, count: int, references: float, draws: random.Random
+) -> _Tried:
+    """So many paths of a sender's map, and references to them that are so far off."""
+    drawn = list(islice(paths.drawn(graph, draws), count))
+    spreads = SPREADS.times(references)
+    texts = [text_of(changed_points(one.points, spreads, draws)) for one in drawn]
+    return _Tried([one.path for one in drawn], texts)
+
+
+def is_right_by_geometry(path: Floats, place: Floats) -> bool:
+    """Whether a true path and a place, by their points in degrees, cover enough of each other."""
+    return len(place) > 1 and agreement(path, place, ACROSS) >= RIGHT
+
+
+def _points_of(path: Sequence[Stretch], geometry: Network) -> Floats:
+    """The points of a true path."""
+    lengths = geometry.length[geometry.indices_of(np.array([one.line for one in path]))]
+    pieces = [
+        (one.line, round(one.start * length), round(one.end * length))
+        for one, length in zip(path, lengths.tolist())
+    ]
+    return geometry.path(pieces)
 
 
 def ask(road_map: RoadMap, texts: Sequence[str], asking: Asking) -> Answered:
