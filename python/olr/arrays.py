@@ -1,4 +1,4 @@
-"""The types of arrays."""
+"""The types of arrays, and numbers in rows of several lengths."""
 
 import numpy as np
 from numpy.typing import NDArray
@@ -8,3 +8,15 @@ Integers = NDArray[np.int64]
 Floats32 = NDArray[np.float32]
 Integers32 = NDArray[np.int32]
 Booleans = NDArray[np.bool_]
+
+
+def numbers_within(counts: Integers) -> Integers:
+    """The numbers 0, 1 and so on, as many as each count says, one range behind the other."""
+    behind = np.cumsum(counts)
+    result: Integers = np.arange(int(counts.sum())) - np.repeat(behind - counts, counts)
+    return result
+
+
+def ranges(first: Integers, counts: Integers) -> Integers:
+    """The numbers from each first one on, as many as each count says, one range behind the other."""
+    return np.repeat(first, counts) + numbers_within(counts)

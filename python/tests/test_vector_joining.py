@@ -9,7 +9,7 @@ from shapely.geometry import LineString, MultiLineString
 
 from olr.checking.files import check_files
 from olr.counts import Counts
-from olr.importing.roads import Source, cut_roads, junctions_of, lines_of
+from olr.importing.roads import Kind, Source, cut_roads, map_of
 from olr.model.map_folder import write_map
 from olr.model.road_map import RoadMap
 from olr.vector.joining import join_roads
@@ -25,16 +25,15 @@ def road_map(
     roads: Sequence[Points], tolerance: float = 0.5, join_vertices: bool = False
 ) -> tuple[RoadMap, Counts]:
     """The map of one-way roads with coordinates in metres east and north of a place on the equator."""
+    kind = Kind(3, 3, True, False)
     made = [
-        VectorRoad(
-            id, Source(str(id)), 3, 3, True, False, np.array(points, dtype=float) / LAT_METRES
-        )
+        VectorRoad(id, Source(str(id)), kind, np.array(points, dtype=float) / LAT_METRES)
         for id, points in enumerate(roads, 1)
     ]
     counts = Counts()
     joined = join_roads(made, tolerance, join_vertices, counts)
-    cut = cut_roads(joined.roads, joined.positions, junctions_of(joined.roads), counts)
-    return lines_of(cut.parts, joined.positions, counts), counts
+    cut = cut_roads(joined.roads, joined.positions, counts)
+    return map_of(cut.parts, joined.positions, (), counts), counts
 
 
 def ends(found: RoadMap) -> list[tuple[int, int, int]]:

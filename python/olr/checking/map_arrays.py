@@ -4,7 +4,7 @@ import numpy as np
 from array import array
 from dataclasses import dataclass
 
-from olr.arrays import Integers
+from olr.arrays import Integers, ranges
 from olr.checking.tables import COLUMNS, Tables
 
 
@@ -44,7 +44,7 @@ def arrays_of(tables: Tables) -> MapArrays:
     order = np.argsort(rows[:, 0])
     line_id, start, end, road_class, form, length, points = rows[order].T.copy()
     first_point = np.cumsum(rows[:, -1]) - rows[:, -1]
-    moved = _ranges(first_point[order], points)
+    moved = ranges(first_point[order], points)
     coordinates = _column(lines.coordinates).reshape(-1, 2)[moved]
     bans = [] if tables.bans is None else list(tables.bans.records)
     ban_ids = np.array(bans, dtype=np.int64).reshape(-1, 2)
@@ -69,13 +69,3 @@ def arrays_of(tables: Tables) -> MapArrays:
 def _column(numbers: "array[int]") -> Integers:
     """A column as an array that shares its memory."""
     return np.frombuffer(numbers, dtype=np.int64) if len(numbers) else np.zeros(0, dtype=np.int64)
-
-
-def _ranges(first: Integers, counts: Integers) -> Integers:
-    """The numbers first, first + 1 and so on, as many as each count says, one range behind the other."""
-    behind = np.cumsum(counts)
-    if not len(counts):
-        return np.zeros(0, dtype=np.int64)
-    offsets = np.arange(int(behind[-1])) - np.repeat(behind - counts, counts)
-    result: Integers = np.repeat(first, counts) + offsets
-    return result

@@ -41,22 +41,28 @@ class Source(NamedTuple):
     """Its values of the fields that are kept, as texts."""
 
 
+class Kind(NamedTuple):
+    """What a road is on the map."""
+
+    road_class: int
+    form: int
+    forward: bool
+    """Whether traffic may go as the road is drawn."""
+    backward: bool
+
+
 class Road(NamedTuple):
     """A road, or a piece of one: further roads with the same id continue the numbers of its parts."""
 
     id: int
     """From 1 to `GREATEST_ROAD_ID`."""
     source: Source
-    road_class: int
-    form: int
-    forward: bool
-    """Whether traffic may go as the road is drawn."""
-    backward: bool
+    kind: Kind
     vertices: Sequence[int]
     """The numbers of its vertices, at least two."""
 
 
-class Part(NamedTuple):
+class RoadPart(NamedTuple):
     """A part of a road between two nodes, with one line for each direction in which traffic may go."""
 
     road: Road
@@ -68,11 +74,11 @@ class Part(NamedTuple):
 class CutRoads(NamedTuple):
     """Roads cut into parts. `merged` has the node that stands for each node that is no more."""
 
-    parts: Sequence[Part]
+    parts: Sequence[RoadPart]
     merged: Mapping[int, int]
 
 
-def junctions_of(roads: Iterable[Road]) -> set[int]:
+def _junctions_of(roads: Iterable[Road]) -> set[int]:
     """The vertices where roads end, meet others, or meet themselves. A vertex twice in a row counts once."""
     junctions: set[int] = set()
     seen: set[int] = set()
@@ -87,13 +93,9 @@ def junctions_of(roads: Iterable[Road]) -> set[int]:
     return junctions
 
 
-def cut_roads(
-    roads: Sequence[Road],
-    positions: Mapping[int, Position],
-    junctions: Set[int],
-    counts: Counts,
-) -> CutRoads:
+def cut_roads(roads: Sequence[Road], positions: Mapping[int, Position], counts: Counts) -> CutRoads:
     """Cuts roads at junctions, at loops and past 64 shape points. Neighbours in one microdegree become one."""
+    junctions = _junctions_of(roads)
     stretches: list[tuple[Road, list[int]]] = []
     merged: dict[int, int] = {}
     for road in watched(roads, "roads cut", len(roads)):
@@ -108,7 +110,7 @@ def cut_roads(
                 counts.change("equal neighbours dropped")
     counts.change("nodes merged with a neighbour in the same microdegree", len(merged))
 
-    parts: list[Part] = []
+    parts: list[RoadPart] = []
     numbers: Counter[int] = Counter()
     for road, stretch in stretches:
         ends = _standing_for(stretch[0], merged), _standing_for(stretch[-1], merged)
@@ -116,7 +118,7 @@ def cut_roads(
             number = numbers[road.id]
             numbers[road.id] += 1
             if number < MOST_PARTS:
-                parts.append(Part(road, number, vertices))
+                parts.append(RoadPart(road, number, vertices))
             else:
                 counts.leave_out(f"parts of a road beyond its first {MOST_PARTS:,}")
     return CutRoads(parts, {node: _standing_for(node, merged) for node in merged})
@@ -173,8 +175,13 @@ def _short_pieces(vertices: Sequence[int], counts: Counts) -> Iterator[Sequence[
         yield vertices[piece * steps // pieces : (piece + 1) * steps // pieces + 1]
 
 
-def lines_of(parts: Sequence[Part], positions: Mapping[int, Position], counts: Counts) -> RoadMap:
-    """The map of the parts, without bans: nodes and lines by rising id."""
+def map_of(
+    parts: Sequence[RoadPart],
+    positions: Mapping[int, Position],
+    kept: Sequence[str],
+    counts: Counts,
+) -> RoadMap:
+    """The map of the parts, without bans: nodes and lines by rising id. `kept` are the names of the fields that are kept of each road."""
     lines: list[Line] = []
     origins: list[Origin] = []
     polylines = [[positions[vertex] for vertex in part.vertices] for part in parts]
@@ -183,30 +190,30 @@ def lines_of(parts: Sequence[Part], positions: Mapping[int, Position], counts: C
         if length > GREATEST_LENGTH:
             counts.leave_out("parts of a road that are longer than 1,000 km")
             continue
-        for direction in _directions(part.road):
+        for direction in _directions(part.road.kind):
             line = _line(part, direction, tuple(polyline[1:-1]), length)
             lines.append(line)
-            source, name, kept = part.road.source
-            origins.append(Origin(line.id, source, direction, part.number, name, kept))
+            source, name, values = part.road.source
+            origins.append(Origin(line.id, source, direction, part.number, name, values))
     lines.sort()
     origins.sort()
     ends = sorted({node for line in lines for node in (line.start, line.end)})
-    return RoadMap([Node(id, positions[id]) for id in ends], lines, (), origins)
+    return RoadMap([Node(id, positions[id]) for id in ends], lines, (), origins, kept)
 
 
-def _directions(road: Road) -> Iterator[Direction]:
+def _directions(kind: Kind) -> Iterator[Direction]:
     """The directions in which traffic may go along a road."""
-    if road.forward:
+    if kind.forward:
         yield "forward"
-    if road.backward:
+    if kind.backward:
         yield "backward"
 
 
-def _line(part: Part, direction: Direction, shape: tuple[Position, ...], length: int) -> Line:
+def _line(part: RoadPart, direction: Direction, shape: tuple[Position, ...], length: int) -> Line:
     """The line of one direction of a part."""
     road = part.road
     id = road.id * LINE_IDS + 2 * part.number
     start, end = part.vertices[0], part.vertices[-1]
     if direction == "backward":
         id, start, end, shape = id + 1, end, start, shape[::-1]
-    return Line(id, start, end, road.road_class, road.form, length, shape)
+    return Line(id, start, end, road.kind.road_class, road.kind.form, length, shape)

@@ -1,12 +1,12 @@
 """A map from an OpenStreetMap file."""
 
-from dataclasses import dataclass, replace
+from dataclasses import dataclass
 from pathlib import Path
 from typing import Any
 
 from olr.counts import Counts
 from olr.errors import ToolError
-from olr.importing.roads import cut_roads, junctions_of, lines_of
+from olr.importing.roads import cut_roads, map_of
 from olr.importing.u_turns import DEAD_ENDS, DeadEnds, UTurns
 from olr.importing.writing import Imported, with_bans
 from olr.model.box import Box
@@ -40,8 +40,8 @@ def import_osm(file: Path, options: Options, counts: Counts) -> Imported:
     table = read_tag_table(options.tags)
     wanted = Wanted(table, options.service, options.box, options.keep)
     read = read_osm(file, wanted, counts)
-    cut = cut_roads(read.roads, read.positions, junctions_of(read.roads), counts)
-    bare = replace(lines_of(cut.parts, read.positions, counts), kept=options.keep)
+    cut = cut_roads(read.roads, read.positions, counts)
+    bare = map_of(cut.parts, read.positions, options.keep, counts)
     if not bare.lines:
         counts.report()
         raise ToolError(f"{file} has no roads{'' if options.box is None else ' in the box'}")

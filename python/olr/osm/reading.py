@@ -3,6 +3,7 @@
 import osmium
 from collections import defaultdict
 from collections.abc import Callable, Iterable, Iterator, Mapping, Sequence, Set
+from itertools import groupby, pairwise
 from pathlib import Path
 from typing import NamedTuple
 
@@ -140,9 +141,9 @@ class _Ways(osmium.SimpleHandler):
             if not stretches:
                 return
         tags = {tag.k: tag.v for tag in way.tags}
-        kind = self.wanted.table.kind_of(tags, self.wanted.service)
-        if isinstance(kind, NoRoad):
-            self._leave_out(kind)
+        found = self.wanted.table.meaning_of(tags, self.wanted.service)
+        if isinstance(found, NoRoad):
+            self._leave_out(found)
             return
         if way.id in self._ids:
             self.counts.leave_out("ways with the id of an earlier way")
@@ -151,21 +152,11 @@ class _Ways(osmium.SimpleHandler):
         self._ids.add(way.id)
         if stretches is None:
             stretches = self._stretches(way)
-        if kind.doubt and stretches:
-            self.counts.change(kind.doubt)
+        if found.doubt and stretches:
+            self.counts.change(found.doubt)
         kept = tuple(tags.get(key, "") for key in self.wanted.keep)
         source = Source(str(way.id), tags.get(NAME, ""), kept)
-        for vertices in stretches:
-            road = Road(
-                id=way.id,
-                source=source,
-                road_class=kind.road_class,
-                form=kind.form,
-                forward=kind.forward,
-                backward=kind.backward,
-                vertices=vertices,
-            )
-            self.roads.append(road)
+        self.roads += [Road(way.id, source, found.kind, vertices) for vertices in stretches]
 
     def _note_target(self, way: osmium.osm.Way) -> None:
         """Notes a way that is the only one into which a restriction allows a turn."""
@@ -176,12 +167,12 @@ class _Ways(osmium.SimpleHandler):
         entrances = left.intersection(self.nodes_by_target[way.id])
         self.targets.setdefault(way.id, Target(way.visible and (forward or backward), entrances))
 
-    def _leave_out(self, kind: NoRoad) -> None:
+    def _leave_out(self, found: NoRoad) -> None:
         """Counts a way that isn't on the map."""
-        if kind.value:
-            self.values.add(kind.reason, kind.value)
+        if found.value:
+            self.values.add(found.reason, found.value)
         else:
-            self.counts.leave_out(kind.reason)
+            self.counts.leave_out(found.reason)
 
     def _stretches(self, way: osmium.osm.Way) -> list[Sequence[int]]:
         """The stretches of a way over nodes that the file has, and in the box. Each has two nodes or more."""
@@ -194,8 +185,8 @@ class _Ways(osmium.SimpleHandler):
             self.counts.leave_out("nodes of ways that the file lacks", lacking)
             self.counts.leave_out("nodes of ways beyond latitude 80", without - lacking)
         stretches = [stretch for stretch in _known(nodes) if len(stretch) > 1]
-        box = self.wanted.box
-        if box is not None:
+        if self.wanted.box is not None:
+            box = self.wanted.box
             stretches = [part for stretch in stretches for part in _within(stretch, box)]
         elif not stretches:
             self.counts.leave_out("ways without two nodes")
@@ -273,29 +264,19 @@ Vertex = tuple[int, Position]
 
 def _known(nodes: Sequence[tuple[int, Position | None]]) -> Iterator[list[Vertex]]:
     """The stretches of a way between nodes without a position."""
-    stretch: list[Vertex] = []
-    for node, position in nodes:
-        if position is not None:
-            stretch.append((node, position))
-        elif stretch:
-            yield stretch
-            stretch = []
-    if stretch:
-        yield stretch
+    for is_there, group in groupby(nodes, lambda vertex: vertex[1] is not None):
+        if is_there:
+            yield [(node, position) for node, position in group if position is not None]
 
 
 def _within(vertices: Sequence[Vertex], box: Box) -> Iterator[list[Vertex]]:
     """The stretches of a way whose steps have an end in a box."""
-    stretch: list[Vertex] = []
-    for vertex, after in zip(vertices, vertices[1:]):
-        if box.holds(vertex[1]) or box.holds(after[1]):
-            stretch = stretch or [vertex]
-            stretch.append(after)
-        elif stretch:
-            yield stretch
-            stretch = []
-    if stretch:
-        yield stretch
+    are_in = [box.holds(position) for _, position in vertices]
+    steps = zip(pairwise(vertices), map(any, pairwise(are_in)))
+    for is_in, group in groupby(steps, lambda step: step[1]):
+        if is_in:
+            (first, second), *others = (step for step, _ in group)
+            yield [first, second, *(after for _, after in others)]
 
 
 def _require_id(what: str, id: int, greatest: int) -> None:

@@ -10,19 +10,20 @@ from typing import Any, NamedTuple
 
 from olr.counts import short
 from olr.errors import ToolError, readable
+from olr.importing.roads import Kind
 from olr.model.road_map import Direction
 
 Tags = Mapping[str, str]
+NOT_KNOWN = "values of oneway that aren't known, taken as if they weren't there"
+FLAGS = ("one_way", "service")
+"""Fields of a row that are true or false. The others are classes and forms."""
 
 
-class RoadKind(NamedTuple):
-    """What a way is on a map."""
+class OnMap(NamedTuple):
+    """A way is a road of the map."""
 
-    road_class: int
-    form: int
-    forward: bool
-    backward: bool
-    doubt: str = ""
+    kind: Kind
+    doubt: str
     """Something in its tags that was decided without knowing, as a reason for the counts, or an empty text."""
 
 
@@ -69,7 +70,7 @@ class TagTable:
     restriction_keys: tuple[str, ...]
     excepted: frozenset[str]
 
-    def kind_of(self, tags: Tags, service: bool) -> RoadKind | NoRoad:
+    def meaning_of(self, tags: Tags, service: bool) -> OnMap | NoRoad:
         """What a way with these tags is. `service`: whether service roads are on the map."""
         value = value_of(tags, "highway")
         highway = self.highways.get(value)
@@ -84,7 +85,7 @@ class TagTable:
         if highway.service and not service:
             return NoRoad("service roads (--service takes them in)")
         form = self._form(tags, highway, junction, one_way=forward != backward)
-        return RoadKind(highway.road_class, form, forward, backward, doubt)
+        return OnMap(Kind(highway.road_class, form, forward, backward), doubt)
 
     def usable_directions(self, tags: Tags) -> tuple[bool, bool]:
         """Whether motor vehicles may use a way with these tags forward and backward, on the map or not."""
@@ -118,11 +119,7 @@ class TagTable:
         if meaning == "changing":
             return True, True, "one-way roads whose direction changes, taken as two-way"
         if meaning is None:
-            return (
-                True,
-                not implied,
-                "values of oneway that aren't known, taken as if they weren't there",
-            )
+            return True, not implied, NOT_KNOWN
         return meaning != "backward", meaning != "forward", ""
 
     def _is_open(self, tags: Tags, direction: Direction) -> bool:
@@ -212,42 +209,28 @@ def _texts(table: Mapping[str, Any], section: str, key: str) -> tuple[str, ...]:
 
 def _highway(name: str, row: Mapping[str, Any]) -> Highway:
     """A row of [highway]."""
-    fields = {"class", "form", "one_way_form", "one_way", "service"}
-    _require_fields(name, row, fields, {"class", "form"})
-    return Highway(
-        road_class=_up_to_7(name, row["class"]),
-        form=_up_to_7(name, row["form"]),
-        one_way_form=_up_to_7(name, row["one_way_form"]) if "one_way_form" in row else None,
-        one_way=_flag(name, row.get("one_way", False)),
-        service=_flag(name, row.get("service", False)),
-    )
+    _require_row(name, row, "class", "form", "one_way_form", *FLAGS)
+    flags = (row.get(field, False) for field in FLAGS)
+    return Highway(row["class"], row["form"], row.get("one_way_form"), *flags)
 
 
 def _reshaped(name: str, row: Mapping[str, Any]) -> Reshaped:
     """A row of [junction] or [dual_carriageway]."""
-    _require_fields(name, row, {"form", "one_way"}, {"form"})
-    return Reshaped(_up_to_7(name, row["form"]), _flag(name, row.get("one_way", False)))
+    _require_row(name, row, "form", "one_way")
+    return Reshaped(row["form"], row.get("one_way", False))
 
 
-def _require_fields(name: str, row: Mapping[str, Any], known: set[str], needed: set[str]) -> None:
-    """Raises `ValueError` if a row has a field that isn't known, or lacks one that is needed."""
+def _require_row(name: str, row: Mapping[str, Any], *known: str) -> None:
+    """Raises `ValueError` if a row has a field that isn't known, lacks its class or form, or has another value than its fields may have."""
     if not isinstance(row, dict):
         raise ValueError(f"{name} isn't a row such as {{ class = 3, form = 3 }}")
-    for field in sorted(set(row) - known):
+    for field in sorted(set(row).difference(known)):
         raise ValueError(f"{name} has a field {field} that isn't known")
-    for field in sorted(needed - set(row)):
+    for field in sorted({"class", "form"}.intersection(known).difference(row)):
         raise ValueError(f"{name} lacks the field {field}")
-
-
-def _up_to_7(name: str, value: object) -> int:
-    """A class or a form."""
-    if isinstance(value, bool) or not isinstance(value, int) or not 0 <= value <= 7:
-        raise ValueError(f"{name} has {value!r} in place of a number from 0 to 7")
-    return value
-
-
-def _flag(name: str, value: object) -> bool:
-    """A field that is true or false."""
-    if not isinstance(value, bool):
-        raise ValueError(f"{name} has {value!r} in place of true or false")
-    return value
+    for field in filter(row.__contains__, known):
+        value = row[field]
+        if field in FLAGS and not isinstance(value, bool):
+            raise ValueError(f"{name} has {value!r} in place of true or false")
+        if field not in FLAGS and (type(value) is not int or not 0 <= value <= 7):
+            raise ValueError(f"{name} has {value!r} in place of a number from 0 to 7")

@@ -14,7 +14,7 @@ from dataclasses import dataclass
 from functools import cached_property
 from typing import NamedTuple
 
-from olr.arrays import Floats, Integers
+from olr.arrays import Floats, Integers, numbers_within, ranges
 from olr.regions.plane import Discs
 
 COLUMNS = "line, lon, lat, west, south, east, north, excess"
@@ -86,8 +86,7 @@ class Shortness:
         """The excess of those lines in bands near discs which start in a disc or meet another one."""
         counts = bands.behind - bands.first
         disc = np.repeat(bands.disc, counts)
-        places = np.repeat(bands.behind - np.cumsum(counts), counts) + np.arange(len(disc))
-        near = self._by_place.order[places]
+        near = self._by_place.order[ranges(bands.first, counts)]
         lon, lat = self.lon[near], self.lat[near]
         boxes = self.west[near], self.south[near], self.east[near], self.north[near]
         starts = starting.taken(disc).distances(lon, lat, lon, lat) <= starting.radius[disc]
@@ -109,8 +108,7 @@ class Shortness:
         lowest, highest = np.maximum(lowest, known.lowest), np.minimum(highest, known.highest)
         counts = np.maximum(highest - lowest + 1, 0).astype(np.int64)
         disc = np.repeat(np.arange(len(counts)), counts)
-        above = np.arange(len(disc)) - np.repeat(np.cumsum(counts) - counts, counts)
-        bands = (lowest[disc] + above) * STRIDE
+        bands = (lowest[disc] + numbers_within(counts)) * STRIDE
         first = np.searchsorted(known.places, bands + low[disc])
         behind = np.searchsorted(known.places, bands + high[disc], side="right")
         return _Bands(disc, first, behind)

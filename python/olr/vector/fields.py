@@ -3,13 +3,13 @@
 from collections.abc import Mapping, Sequence, Set
 from dataclasses import dataclass
 from pathlib import Path
-from typing import Any, NamedTuple
+from typing import Any
 
 from olr.counts import Counts, ValueCounts, short
 from olr.errors import ToolError
-from olr.importing.roads import Source
+from olr.importing.roads import Kind, Source
 from olr.model.sources import NAME
-from olr.vector.table import NUMBERS, ValueTable, kept_text, kind_among, text_of
+from olr.vector.table import NUMBERS, Kinds, ValueTable, kept_text, kind_among, text_of
 
 UNKNOWN_FORM = 0
 
@@ -28,28 +28,12 @@ class Fields:
     """Those whose values are kept for each line."""
 
 
-class Attributes(NamedTuple):
-    """What a record says of its road, as a map has it."""
-
-    road_class: int
-    form: int
-    forward: bool
-    backward: bool
-
-
 def require_fields(file: Path, properties: Sequence[str], fields: Fields) -> None:
     """Raises `ToolError` if a field isn't there."""
-    for name, number_allowed in (
-        (fields.road_class, True),
-        (fields.form, True),
-        (fields.one_way, False),
-        (fields.id, False),
-        (fields.name, False),
-        *((name, False) for name in fields.keep),
-    ):
-        if name is None or name in properties or (number_allowed and _constant(name) is not None):
-            continue
-        raise ToolError(f"{file} has no field {name}: its fields are {list_of(properties)}")
+    kinds = [name for name in (fields.road_class, fields.form) if _constant(name) is None]
+    for name in (*kinds, fields.one_way, fields.id, fields.name, *fields.keep):
+        if name is not None and name not in properties:
+            raise ToolError(f"{file} has no field {name}: its fields are {list_of(properties)}")
 
 
 def list_of(names: Sequence[str]) -> str:
@@ -89,7 +73,7 @@ class Meanings:
         name = "" if self.name_field is None else kept_text(properties[self.name_field])
         return Source(id, name, tuple(kept_text(properties[field]) for field in fields.keep))
 
-    def attributes_of(self, properties: Mapping[str, Any]) -> Attributes | None:
+    def kind_of(self, properties: Mapping[str, Any]) -> Kind | None:
         """What a record says of its road; None if the road isn't on the map."""
         road_class = self._number(properties, self._fields.road_class, self._table.classes, "class")
         if road_class is None:
@@ -108,14 +92,10 @@ class Meanings:
         if direction is None:
             reason = "roads whose direction isn't known, taken as two-way"
             self._changed.add(reason, _quoted(value))
-        return Attributes(road_class, form, direction != "backward", direction != "forward")
+        return Kind(road_class, form, direction != "backward", direction != "forward")
 
     def _number(
-        self,
-        properties: Mapping[str, Any],
-        name: str,
-        kinds: Mapping[str, int | None],
-        what: str,
+        self, properties: Mapping[str, Any], name: str, kinds: Kinds, what: str
     ) -> int | None:
         """The class or form of a road; None if the road isn't on the map. A form that isn't known is 0."""
         if name not in self._properties:

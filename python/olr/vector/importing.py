@@ -1,12 +1,11 @@
 """A map from a vector file."""
 
-from dataclasses import replace
 from pathlib import Path
 from typing import Any
 
 from olr.counts import Counts
 from olr.errors import ToolError
-from olr.importing.roads import cut_roads, junctions_of, lines_of
+from olr.importing.roads import cut_roads, map_of
 from olr.importing.writing import Imported, with_bans
 from olr.vector.joining import join_roads
 from olr.vector.options import Options
@@ -22,8 +21,8 @@ def import_vector(file: Path, options: Options, counts: Counts) -> Imported:
     table = read_value_table(options.mapping)
     layer = read_layer(file, options, table, counts)
     joined = join_roads(layer.roads, options.tolerance, options.join_vertices, counts)
-    cut = cut_roads(joined.roads, joined.positions, junctions_of(joined.roads), counts)
-    bare = replace(lines_of(cut.parts, joined.positions, counts), kept=options.fields.keep)
+    cut = cut_roads(joined.roads, joined.positions, counts)
+    bare = map_of(cut.parts, joined.positions, options.fields.keep, counts)
     if not bare.lines:
         counts.report()
         doubt = f": {layer.doubt}" if layer.doubt else ""

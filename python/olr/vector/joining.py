@@ -12,17 +12,18 @@ from scipy.sparse.csgraph import connected_components
 from scipy.spatial import cKDTree
 from typing import NamedTuple
 
-from olr.arrays import Floats, Integers
+from olr.arrays import Floats, Integers, numbers_within
 from olr.counts import Counts
 from olr.importing.roads import Road
 from olr.model.measure import position_of
 from olr.model.road_map import Position
-from olr.progress import Advance, progress
+from olr.progress import progress
 from olr.sphere import RADIUS, on_sphere
 from olr.vector.reading import VectorRoad
 
 SAMPLE_METRES = 25.0
 """Roads are sampled at this distance to find the segments near a node."""
+CUT = "places where an end of a road meets another road, which is cut there"
 
 
 @dataclass(frozen=True)
@@ -46,8 +47,8 @@ class _Visit(NamedTuple):
     """The number of the segment of the road, from 0."""
     behind: float
     """How far along the segment, in metres."""
-    ahead: float
-    """How far it is to the end of the segment, in metres."""
+    length: float
+    """Of the segment, in metres."""
 
 
 def join_roads(
@@ -57,41 +58,27 @@ def join_roads(
     between their ends. Counts what is changed."""
     if not roads:
         return Joined([], {})
-    with progress("roads joined", len(roads)) as advance:
-        return _join(roads, tolerance, join_vertices, counts, advance)
-
-
-def _join(
-    roads: Sequence[VectorRoad],
-    tolerance: float,
-    join_vertices: bool,
-    counts: Counts,
-    advance: Advance,
-) -> Joined:
-    """Joins roads, of which there is one at least, and tells of each that is done."""
-    node_of_end, nodes = _nodes_of_ends(roads, tolerance)
-    places = [position_of(lon, lat) for lon, lat in nodes.tolist()]
-    _count_moved(roads, node_of_end, places, counts)
-    visits = _visits(roads, node_of_end, nodes, tolerance)
-    inner = _InnerVertices(places, _common_vertices(roads), join_vertices)
     joined = []
-    for index, road in enumerate(roads):
-        advance(1)
-        here = visits.get(index, [])
-        counts.change(
-            "places where an end of a road meets another road, which is cut there", len(here)
-        )
-        vertices = [
-            inner.number_of(position_of(*point)) if node is None else node + 1
-            for node, point in _inner(road, here, tolerance)
-        ]
-        first, last = (node_of_end[index] + 1).tolist()
-        vertices = [first, *vertices, last]
-        if len({inner.positions[vertex] for vertex in vertices}) == 1:
-            counts.leave_out("roads that are shorter than the tolerance")
-            continue
-        kinds = road.road_class, road.form, road.forward, road.backward
-        joined.append(Road(road.id, road.source, *kinds, vertices))
+    with progress("roads joined", len(roads)) as advance:
+        node_of_end, nodes = _nodes_of_ends(roads, tolerance)
+        places = [position_of(lon, lat) for lon, lat in nodes.tolist()]
+        _count_moved(roads, node_of_end, places, counts)
+        visits = _visits(roads, node_of_end, nodes, tolerance)
+        inner = _InnerVertices(places, _common_vertices(roads), join_vertices)
+        for index, road in enumerate(roads):
+            advance(1)
+            here = visits.get(index, [])
+            counts.change(CUT, len(here))
+            first, last = (node_of_end[index] + 1).tolist()
+            between = (
+                inner.number_of(position_of(*point)) if node is None else node + 1
+                for node, point in _inner(road, here, tolerance)
+            )
+            vertices = [first, *between, last]
+            if len({inner.positions[vertex] for vertex in vertices}) > 1:
+                joined.append(Road(road.id, road.source, road.kind, vertices))
+            else:
+                counts.leave_out("roads that are shorter than the tolerance")
     reason = "vertices that roads have in common between their ends"
     if join_vertices:
         counts.change(f"{reason}, joined", len(inner.crossings))
@@ -147,10 +134,7 @@ def _nodes_of_ends(roads: Sequence[VectorRoad], tolerance: float) -> tuple[Integ
 
 
 def _count_moved(
-    roads: Sequence[VectorRoad],
-    node_of_end: Integers,
-    places: Sequence[Position],
-    counts: Counts,
+    roads: Sequence[VectorRoad], node_of_end: Integers, places: Sequence[Position], counts: Counts
 ) -> None:
     """Counts the ends that aren't where their node is."""
     moved = sum(
@@ -169,10 +153,10 @@ def _visits(
     counts = np.array([len(road.points) for road in roads])
     road_of_point = np.repeat(np.arange(len(roads)), counts)
     starts = np.flatnonzero(road_of_point[:-1] == road_of_point[1:])
-    segment, node = _near_pairs(points, starts, nodes, tolerance)
     spots = on_sphere(points[:, 0], points[:, 1])
     steps = np.zeros(len(points))
     steps[starts + 1] = np.linalg.norm(spots[starts + 1] - spots[starts], axis=1)
+    segment, node = _near_pairs(points, starts, steps[starts + 1], nodes, tolerance)
     arcs = np.cumsum(steps)
     firsts = np.cumsum(counts) - counts
     share, distance = _projections(points[segment], points[segment + 1], nodes[node])
@@ -183,15 +167,13 @@ def _visits(
     own_start = (node_of_end[road, 0] == node) & (along <= 2 * tolerance)
     own_end = (node_of_end[road, 1] == node) & (whole[road] - along <= 2 * tolerance)
     kept = np.flatnonzero((distance <= tolerance) & ~own_start & ~own_end)
+    kept = kept[np.lexsort((along[kept], node[kept], road[kept]))]
+    length = steps[segment + 1]
+    columns = (along, distance, node, segment - firsts[road], share * length, length)
     visits: dict[int, list[_Visit]] = {}
-    for hit in kept[np.lexsort((along[kept], node[kept], road[kept]))].tolist():
-        here = visits.setdefault(int(road[hit]), [])
-        number = int(segment[hit] - firsts[road[hit]])
-        behind = float(share[hit] * steps[segment[hit] + 1])
-        ahead = float(steps[segment[hit] + 1]) - behind
-        visit = _Visit(
-            float(along[hit]), float(distance[hit]), int(node[hit]), number, behind, ahead
-        )
+    for index, *of_visit in zip(*(column[kept].tolist() for column in (road, *columns))):
+        here = visits.setdefault(index, [])
+        visit = _Visit(*of_visit)
         # Neighbouring segments are near the same node once.
         if here and here[-1].node == visit.node and visit.arc - here[-1].arc <= 2 * tolerance:
             here[-1] = min(here[-1], visit, key=lambda v: (v.distance, v.arc))
@@ -201,33 +183,27 @@ def _visits(
 
 
 def _near_pairs(
-    points: Floats, starts: Integers, nodes: Floats, tolerance: float
+    points: Floats, starts: Integers, lengths: Floats, nodes: Floats, tolerance: float
 ) -> tuple[Integers, Integers]:
-    """Pairs of a segment, by the index of its first point, and a node that may be within the tolerance of it."""
-    spots = on_sphere(points[:, 0], points[:, 1])
-    length = np.linalg.norm(spots[starts + 1] - spots[starts], axis=1)
-    samples = np.maximum(1, np.ceil(length / SAMPLE_METRES)).astype(np.int64)
+    """Pairs of a segment, by the index of its first point, and a node that may be within the tolerance of it. `lengths` are those of the
+    segments, in metres."""
+    samples = np.maximum(1, np.ceil(lengths / SAMPLE_METRES)).astype(np.int64)
     segment = np.repeat(starts, samples)
-    behind = np.cumsum(samples)
-    share = (np.arange(behind[-1]) - np.repeat(behind - samples, samples) + 0.5) / np.repeat(
-        samples, samples
-    )
+    share = (numbers_within(samples) + 0.5) / np.repeat(samples, samples)
     middle = points[segment] + share[:, None] * (points[segment + 1] - points[segment])
     tree = cKDTree(on_sphere(middle[:, 0], middle[:, 1]))
     reach = SAMPLE_METRES / 2 * 1.01 + tolerance
     found = tree.query_ball_point(on_sphere(nodes[:, 0], nodes[:, 1]), reach)
-    sizes = np.array([len(hits) for hits in found])
-    node = np.repeat(np.arange(len(nodes)), sizes)
+    node = np.repeat(np.arange(len(nodes)), [len(hits) for hits in found])
     hits = np.concatenate([np.array(hits, dtype=np.int64) for hits in found])
-    pairs = np.unique(np.stack([segment[hits], node]), axis=1)
-    return pairs[0], pairs[1]
+    near, there = np.unique(np.stack([segment[hits], node]), axis=1)
+    return near, there
 
 
 def _projections(start: Floats, end: Floats, spot: Floats) -> tuple[Floats, Floats]:
     """For each spot the nearest place of a segment, as a share of it, and the distance in metres, in a plane around the spot."""
-    scale = np.radians(RADIUS) * np.stack(
-        [np.cos(np.radians(spot[:, 1])), np.ones(len(spot))], axis=1
-    )
+    shrink = np.cos(np.radians(spot[:, 1]))
+    scale = np.radians(RADIUS) * np.stack([shrink, np.ones(len(spot))], axis=1)
     a, b = (start - spot) * scale, (end - spot) * scale
     step = b - a
     square = np.einsum("ij,ij->i", step, step)
@@ -271,7 +247,8 @@ def _inner(
 
 def _vertex_at(road: VectorRoad, visit: _Visit, tolerance: float) -> int | None:
     """The inner vertex of a road that is within the tolerance of where a node lies along it."""
-    if min(visit.behind, visit.ahead) > tolerance:
+    ahead = visit.length - visit.behind
+    if min(visit.behind, ahead) > tolerance:
         return None
-    nearest = visit.segment if visit.behind <= visit.ahead else visit.segment + 1
+    nearest = visit.segment if visit.behind <= ahead else visit.segment + 1
     return nearest if 0 < nearest < len(road.points) - 1 else None

@@ -12,9 +12,9 @@ from typing import Any, NamedTuple
 from olr.arrays import Floats
 from olr.counts import Counts
 from olr.errors import ToolError
-from olr.importing.roads import GREATEST_ROAD_ID, Source
+from olr.importing.roads import GREATEST_ROAD_ID, Kind, Source
 from olr.model.box import Box
-from olr.vector.fields import Attributes, Fields, Meanings, list_of, require_fields
+from olr.vector.fields import Fields, Meanings, list_of, require_fields
 from olr.vector.options import Options
 from olr.vector.system import ACROSS, Area, Strays, System, why_not_on_map
 from olr.vector.table import ValueTable
@@ -29,10 +29,7 @@ class VectorRoad(NamedTuple):
 
     id: int
     source: Source
-    road_class: int
-    form: int
-    forward: bool
-    backward: bool
+    kind: Kind
     points: Floats
     """Longitude and latitude in degrees, a row for each vertex, at least two."""
 
@@ -56,16 +53,11 @@ class _Record(NamedTuple):
     number: int
     source: Source
     """With an empty id where no field has it."""
-    attributes: Attributes
+    kind: Kind
     parts: Sequence[Sequence[Sequence[float]]]
 
 
-def read_layer(
-    file: Path,
-    options: Options,
-    table: ValueTable,
-    counts: Counts,
-) -> Layer:
+def read_layer(file: Path, options: Options, table: ValueTable, counts: Counts) -> Layer:
     """The roads of the layer that the options name, in their box. Counts what is left out.
 
     Raises `ToolError` if the file, the layer, a field or the reference system isn't there, or if a record can't be read.
@@ -120,20 +112,16 @@ def _meets(part: Sequence[Sequence[float]] | Floats, area: Area) -> bool:
 
 
 def _records(
-    features: Iterable[Any],
-    meanings: Meanings,
-    area: Area | None,
-    strays: Strays,
-    counts: Counts,
+    features: Iterable[Any], meanings: Meanings, area: Area | None, strays: Strays, counts: Counts
 ) -> Iterator[_Record]:
     """The features that are roads and reach into the area, with the numbers of their records from 1."""
     for number, feature in enumerate(features, 1):
         parts = _line_strings(feature["geometry"], counts)
         if area is not None:
             parts = list(_near(parts, area, strays, counts))
-        attributes = meanings.attributes_of(feature["properties"]) if parts else None
-        if attributes is not None:
-            yield _Record(number, meanings.source_of(feature["properties"]), attributes, parts)
+        kind = meanings.kind_of(feature["properties"]) if parts else None
+        if kind is not None:
+            yield _Record(number, meanings.source_of(feature["properties"]), kind, parts)
 
 
 def _near(
@@ -163,11 +151,7 @@ def _line_strings(geometry: Mapping[str, Any] | None, counts: Counts) -> Sequenc
 
 
 def _in_degrees(
-    records: Sequence[_Record],
-    system: System,
-    box: Box | None,
-    strays: Strays,
-    counts: Counts,
+    records: Sequence[_Record], system: System, box: Box | None, strays: Strays, counts: Counts
 ) -> Iterator[tuple[_Record, Floats]]:
     """The line strings of all records in degrees. Those that can't be on a map are counted."""
     parts = [(record, part) for record in records for part in record.parts if len(part) >= 2]
@@ -208,7 +192,7 @@ def _with_ids(
         source = record.source
         if fields.id is None:
             source = source._replace(id=str(record.number))
-        result.append(VectorRoad(id, source, *record.attributes, points))
+        result.append(VectorRoad(id, source, record.kind, points))
     return result
 
 
