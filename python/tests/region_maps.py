@@ -5,6 +5,7 @@ import json
 import math
 import random
 import subprocess
+import tempfile
 from collections.abc import Sequence
 from pathlib import Path
 from typing import NamedTuple
@@ -15,7 +16,7 @@ from olr.model.questions import What
 from olr.model.reference import read_reference
 from olr.model.road_map import MICRODEGREE
 from olr.regions import region
-from olr.regions.making import Records, make_store
+from olr.regions.making import make_store_of_folder
 from olr.regions.options import Options
 from olr.regions.plane import scale_at
 from olr.regions.store import Store
@@ -90,10 +91,6 @@ class Drawing:
         write(folder / "bans.csv", "from,to", self.bans)
         return folder
 
-    def records(self) -> Records:
-        """The records of its files."""
-        return Records([(id, *spot) for spot, id in self.nodes.items()], self.lines, self.bans)
-
 
 def write(file: Path, header: str, rows: Sequence[Sequence[object]]) -> None:
     """Writes a file of CSV."""
@@ -160,7 +157,8 @@ class Asked(NamedTuple):
 
 def open_store(drawing: Drawing, file: Path) -> Store:
     """A store of a drawing."""
-    make_store(drawing.records(), file)
+    with tempfile.TemporaryDirectory() as folder:
+        make_store_of_folder(drawing.write(Path(folder, "map")), file)
     return Store.open(file)
 
 

@@ -20,7 +20,7 @@ from olr.near_paths.searching import Ends, least_length, other_walk
 from olr.near_paths.streets import Lines, Streets
 from olr.pages.view.notes import note_texts
 from olr.pages.view.scene import scene_of
-from olr.regions.making import make_store
+from olr.regions.making import make_store_of_folder
 from region_maps import EAST, WEST, Drawing, Point, hostile_map, hostile_text, text_of
 
 NORTH, SOUTH = [2, 3], [4, 5]
@@ -64,7 +64,7 @@ def notes_on(
 ) -> tuple[Matching, list[LegNote]]:
     """The first matching of a reference, and what is said of its legs; the same on a folder and on a store."""
     whole, store = drawn.drawing.write(folder / "map"), folder / "map.gpkg"
-    make_store(drawn.drawing.records(), store)
+    make_store_of_folder(whole, store)
     found = []
     for path in (whole, store):
         with olr.Map(path, program=program.path, lowest=lowest) as asked:
@@ -414,7 +414,7 @@ def test_the_lengths_of_the_program(program: Program, tmp_path: Path, seed: int)
             (*line[:5], usual + draw.choice([0, 0, 1]), line[6]) for line in drawing.lines
         ]
     folder, store = drawing.write(tmp_path / "map"), tmp_path / "map.gpkg"
-    make_store(drawing.records(), store)
+    make_store_of_folder(folder, store)
     texts = [hostile_text(draw, drawing) for _ in range(60)]
     lowest, radius = draw.choice([0, 1]), draw.choice([100, 500])
     seen = 0

@@ -10,7 +10,7 @@ import olr
 from browser import Browser
 from conftest import REFERENCE, Program, Tools
 from olr.pages.view.scene import scene_of
-from olr.regions.making import make_store
+from olr.regions.making import make_store_of_folder
 from olr.serving.folder_map import FolderMap
 from olr.serving.limits import Limits
 from olr.serving.served import Known, Versions
@@ -55,7 +55,7 @@ def test_the_scene_of_a_server(program: Program, tmp_path: Path, kind: str) -> N
     drawn = block(south_class=5)
     drawn.drawing.line((3000, 0), (3500, 100), (4000, 0), length=1200)
     folder, store = drawn.drawing.write(tmp_path / "map"), tmp_path / "map.gpkg"
-    make_store(drawn.drawing.records(), store)
+    make_store_of_folder(folder, store)
     shorter = block(south=(400, 500), south_class=5)
     with serving(
         program.path, folder if kind == "folder" else store, tmp_path / "log"

@@ -6,6 +6,7 @@ from collections.abc import Iterator
 from olr.arrays import Integers
 from olr.errors import ToolError
 from olr.progress import watched
+from olr.regions.geopackage import damaged
 from olr.regions.store import Store
 
 
@@ -31,7 +32,7 @@ def fault_lines(store: Store, most: int) -> Iterator[str]:
         yield f"and {faults - most:,} more"
     if not faults and lines != store.sizes.lines:
         faults = 1
-        yield f"{store.file} is damaged, it has {lines:,} lines: make it again by olr-tools regions"
+        yield str(damaged(store.file, f"it has {lines:,} lines"))
     yield f"faults {faults:,}"
 
 

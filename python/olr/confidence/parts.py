@@ -3,7 +3,6 @@ a sender's, or on a pair of maps."""
 
 import numpy as np
 import random
-import shutil
 from collections.abc import Iterator, Mapping, Sequence
 from itertools import islice
 from pathlib import Path
@@ -27,7 +26,7 @@ from olr.model.reference import read_reference
 from olr.model.road_map import RoadMap
 from olr.outputs import writing
 from olr.progress import progress
-from olr.regions.scratch import new_scratch_folder
+from olr.regions.scratch import scratch_folder
 from olr.trials.changing import Spreads, changed_points
 from olr.trials.differing import Difference, differing
 from olr.trials.encoder import text_of
@@ -198,14 +197,11 @@ def _points_of(path: Sequence[Stretch], geometry: Network) -> Floats:
 
 def ask(road_map: RoadMap, texts: Sequence[str], asking: Asking) -> Answered:
     """What a map answers to references. Raises `ToolError`."""
-    scratch = new_scratch_folder()
-    try:
+    with scratch_folder() as scratch:
         with writing(scratch):
             write_records(road_map.nodes, road_map.lines, road_map.bans, scratch)
         with asking.map_of(scratch) as asked:
             return answered_by(asked, texts, asking)
-    finally:
-        shutil.rmtree(scratch, ignore_errors=True)
 
 
 def answered_by(asked: Map, texts: Sequence[str], asking: Asking) -> Answered:

@@ -22,6 +22,8 @@ CACHE_BYTES = 64 << 20
 """Of the blocks that were read last so many bytes are kept, as the store has them: regions one after the other have mostly the same ones."""
 COLUMNS = "lines, boxes, ends, nodes, bans, node_records, line_records"
 """Of a block's content."""
+KINDS = (("<i8", (-1,)), ("<i4", (4, -1)), ("<u2", (2, -1)), ("<i8", (-1,)), ("<i8", (2, -1)))
+"""Of the columns that are numbers: their size, the least byte first, and their rows."""
 
 
 class Damaged(Exception):
@@ -47,30 +49,21 @@ class Block(NamedTuple):
     """The records of the lines in `lines.csv`, likewise."""
 
     def columns(self) -> list[bytes]:
-        """How a store has it: numbers of 8 bytes, those of boxes of 4 and those of ends of 2, the least byte first."""
-        return [
-            self.lines.astype("<i8").tobytes(),
-            self.boxes.astype("<i4").tobytes(),
-            self.ends.astype("<u2").tobytes(),
-            self.nodes.astype("<i8").tobytes(),
-            self.bans.astype("<i8").tobytes(),
-            b"".join(self.node_records),
-            b"".join(self.line_records),
-        ]
+        """How a store has it."""
+        numbers: list[Integers | Integers32]
+        numbers = [self.lines, self.boxes, self.ends, self.nodes, self.bans]
+        bytes_of = [one.astype(kind).tobytes() for one, (kind, _) in zip(numbers, KINDS)]
+        return [*bytes_of, b"".join(self.node_records), b"".join(self.line_records)]
 
     @classmethod
     def of_columns(cls, columns: Sequence[bytes]) -> "Block":
         """What a store has."""
-        lines, boxes, ends, nodes, bans, node_records, line_records = columns
-        return cls(
-            np.frombuffer(lines, "<i8"),
-            np.frombuffer(boxes, "<i4").reshape(4, -1),
-            np.frombuffer(ends, "<u2").reshape(2, -1),
-            np.frombuffer(nodes, "<i8"),
-            np.frombuffer(bans, "<i8").reshape(2, -1),
-            node_records.splitlines(keepends=True),
-            line_records.splitlines(keepends=True),
+        *numbers, node_records, line_records = columns
+        lines, boxes, ends, nodes, bans = (
+            np.frombuffer(one, kind).reshape(shape) for one, (kind, shape) in zip(numbers, KINDS)
         )
+        records = node_records.splitlines(True), line_records.splitlines(True)
+        return cls(lines, boxes, ends, nodes, bans, *records)
 
     def meeting(self, boxes: Integers32) -> Integers:
         """The places of its lines whose box meets one of some boxes."""
@@ -83,7 +76,7 @@ class Block(NamedTuple):
         return _places(used)
 
 
-def digest_of(parts: Sequence[bytes]) -> bytes:
+def digest_of_parts(parts: Sequence[bytes]) -> bytes:
     """The SHA-256 digest of some bytes, one part behind the other, each with its size before it."""
     digest = hashlib.sha256()
     for part in parts:
@@ -110,7 +103,7 @@ class Directory(NamedTuple):
 
     def digest(self) -> bytes:
         """Of all blocks."""
-        return digest_of([self.boxes.astype("<i4").tobytes(), *self.digests])
+        return digest_of_parts([self.boxes.astype("<i4").tobytes(), *self.digests])
 
 
 class Blocks:
@@ -138,7 +131,7 @@ class Blocks:
             return self._kept[number][0]
         query = f"SELECT {COLUMNS} FROM olr_contents WHERE block = ?"
         columns = self._connection.execute(query, (number,)).fetchone()
-        if columns is None or digest_of(columns) != self._digests[number]:
+        if columns is None or digest_of_parts(columns) != self._digests[number]:
             raise Damaged(f"block {number} isn't what was written")
         self._kept[number] = Block.of_columns(columns), sum(map(len, columns))
         self._bytes += self._kept[number][1]

@@ -5,11 +5,13 @@ import numpy as np
 import os
 import sqlite3
 import struct
-from collections.abc import Sequence
+from collections.abc import Iterator, Sequence
+from contextlib import contextmanager
 from functools import cache
 from pathlib import Path
 
 from olr.arrays import Floats, Integers
+from olr.errors import ToolError
 
 APPLICATION = 0x47504B47
 """`GPKG`, as the number of an application in a file of SQLite."""
@@ -65,6 +67,20 @@ def blobs(points: Floats, first: Integers, sizes: Integers) -> list[bytes]:
 def _head(size: int) -> bytes:
     """What stands before the points of a polyline of this many points: no envelope, little endian."""
     return struct.pack("<2sBBiBII", b"GP", 0, 1, WGS_84, 1, 2, size)
+
+
+@contextmanager
+def reading(file: Path) -> Iterator[None]:
+    """Raises `ToolError` where a file can't be read."""
+    try:
+        yield
+    except sqlite3.Error as error:
+        raise ToolError(f"{file} can't be read: {error}") from error
+
+
+def damaged(file: Path, what: str) -> ToolError:
+    """The error of a store that doesn't have what was written. `what` says where."""
+    return ToolError(f"{file} is damaged, {what}: make it again by olr-tools regions")
 
 
 def os_error(error: sqlite3.Error) -> OSError:

@@ -1,4 +1,4 @@
-"""How a store is made: of the files of a map, or of other records of nodes, lines and bans.
+"""How a store is made: of the files of a map, or of a map in memory.
 
 Records are read one after the other, and kept as arrays where all of them are needed at once: a map of ten million lines takes
 about a gigabyte of memory. The file is written beside where it shall be, and moved there when it is whole.
@@ -10,18 +10,18 @@ import tempfile
 from collections.abc import Iterable, Iterator, Sequence
 from contextlib import closing
 from pathlib import Path
-from typing import IO, NamedTuple
+from typing import IO
 
 from olr.arrays import Floats, Integers
 from olr.errors import ToolError
-from olr.model.columns import Columns, Record, What, batched_columns, read_columns, require
+from olr.model.columns import Columns, What, batched_columns, read_columns, require
 from olr.model.map_folder import STORE, files_read, line_row
 from olr.model.road_map import MICRODEGREE, RoadMap
 from olr.model.sources import IDS, Reading, read_if_there
 from olr.outputs import require_free_file, whole_file
 from olr.progress import progress, watched
 from olr.regions import geopackage
-from olr.regions.blocks import Directory, digest_of
+from olr.regions.blocks import Directory, digest_of_parts
 from olr.regions.geopackage import insert, os_error
 from olr.regions.index import fill_index, outwards
 from olr.regions.packing import Bans, Lines, Nodes, blocks_of, write_blocks
@@ -38,14 +38,6 @@ STEPS = 1000
 """The usual stretch is a whole number of such parts, so that the same map has the same one."""
 AllColumns = tuple[Iterator[Columns], Iterator[Columns], Iterator[Columns]]
 """Of the nodes, the lines and the bans."""
-
-
-class Records(NamedTuple):
-    """The records of a map, without headers, in any order: those of its files."""
-
-    nodes: Iterable[Record]
-    lines: Iterable[Record]
-    bans: Iterable[Record]
 
 
 def make_store_of_folder(folder: Path, file: Path, force: bool = False) -> Sizes:
@@ -72,49 +64,35 @@ def _shown(what: What, file: Path) -> Iterator[Columns]:
         yield from read_columns(what, file, advance)
 
 
-def make_store(
-    records: Records, file: Path, force: bool = False, inputs: Iterable[Path] = ()
-) -> Sizes:
-    """Makes a store of records, and tells its size. Raises `ToolError` as `make_store_of_folder`."""
-    with whole_file(file, force, inputs) as made:
-        return _write(made, _columns(records))
-
-
 def make_store_of_map(
     road_map: RoadMap, file: Path, force: bool = False, inputs: Iterable[Path] = ()
 ) -> Sizes:
     """Makes a store of a map, and tells its size. Raises `ToolError` as `make_store_of_folder`."""
     with whole_file(file, force, inputs) as made:
-        return _write(made, _columns(_records_of(road_map)), _sources_of(road_map))
+        return _write(made, _columns_of(road_map), _sources_of(road_map))
 
 
 def write_store(road_map: RoadMap, folder: Path) -> None:
     """Writes the store of a map into a folder, under the name that it has there. Raises `OSError`, and `ToolError` for what isn't a
     record of a map."""
-    _write(folder / STORE, _columns(_records_of(road_map)), _sources_of(road_map))
+    _write(folder / STORE, _columns_of(road_map), _sources_of(road_map))
 
 
-def _records_of(road_map: RoadMap) -> Records:
-    """The records of a map, with a bar that shows how far they are."""
+def _columns_of(road_map: RoadMap) -> AllColumns:
+    """The columns of a map, with a bar that shows how far they are."""
     nodes = ((node.id, *node.position) for node in road_map.nodes)
     lines = watched(road_map.lines, "lines written", len(road_map.lines))
     bans = watched(road_map.bans, "bans written", len(road_map.bans))
-    return Records(nodes, map(line_row, lines), bans)
+    return (
+        batched_columns("nodes", nodes),
+        batched_columns("lines", map(line_row, lines)),
+        batched_columns("bans", bans),
+    )
 
 
 def _sources_of(road_map: RoadMap) -> Reading | None:
     """Where the lines of a map came from, if it says so."""
     return Reading(tuple(road_map.kept), iter(road_map.origins)) if road_map.origins else None
-
-
-def _columns(records: Records) -> AllColumns:
-    """The columns of the nodes, of the lines and of the bans."""
-    nodes, lines, bans = records
-    return (
-        batched_columns("nodes", nodes),
-        batched_columns("lines", lines),
-        batched_columns("bans", bans),
-    )
 
 
 def _write(file: Path, columns: AllColumns, sources: Reading | None = None) -> Sizes:
@@ -233,9 +211,8 @@ class _Making:
         right[right] = lines.ends[1, first[right]] == lines.ends[0, second[right]]
         wrong = len(right) - int(right.sum())
         if wrong:
-            raise ToolError(
-                f"{wrong:,} bans aren't between two lines that meet: run olr-tools check"
-            )
+            about = f"{wrong:,} bans aren't between two lines that meet"
+            raise ToolError(f"{about}: run olr-tools check")
         return Bans(first, ids[1])
 
     def _insert(self, what: What, *columns: Sequence[object] | Integers) -> None:
@@ -243,9 +220,8 @@ class _Making:
         try:
             insert(self._connection, what, *columns)
         except sqlite3.IntegrityError as error:
-            raise ToolError(
-                f"two records of the {what} have one id: run olr-tools check"
-            ) from error
+            about = f"two records of the {what} have one id"
+            raise ToolError(f"{about}: run olr-tools check") from error
 
     def _add_index(self, lines: Lines, order: Integers) -> None:
         """Adds the index of the lines, which it has in an order."""
@@ -267,7 +243,7 @@ class _Making:
         self._connection.executemany(
             "INSERT INTO olr_shorter VALUES (?, ?, ?, ?, ?, ?, ?, ?)", rows
         )
-        known = digest_of([column.astype("<i8").tobytes() for column in nodes])
+        known = digest_of_parts([column.astype("<i8").tobytes() for column in nodes])
         facts = Facts(*sizes, shortness.usual, shortness.greatest, known)
         row = (VERSION, facts.digest(shortness, directory), *facts)
         self._connection.execute("INSERT INTO olr_store VALUES (?, ?, ?, ?, ?, ?, ?, ?)", row)

@@ -8,7 +8,7 @@ from typing import IO, NamedTuple
 
 from olr.arrays import Booleans, Floats, Integers, Integers32
 from olr.curve import places_on_curve
-from olr.regions.blocks import COLUMNS, LINES, Block, Directory, digest_of
+from olr.regions.blocks import COLUMNS, LINES, Block, Directory, digest_of_parts
 from olr.regions.geopackage import insert
 
 AT_ONCE = 100_000
@@ -99,7 +99,7 @@ def write_blocks(
     marks = ", ".join("?" * len(COLUMNS.split(",")))
     for number, block in enumerate(blocks):
         columns = block.columns()
-        digests.append(digest_of(columns))
+        digests.append(digest_of_parts(columns))
         boxes.append([*block.boxes[:2].min(axis=1).tolist(), *block.boxes[2:].max(axis=1).tolist()])
         query = f"INSERT INTO olr_contents (block, {COLUMNS}) VALUES (?, {marks})"
         connection.execute(query, (number, *columns))

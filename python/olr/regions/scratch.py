@@ -36,11 +36,18 @@ def write_scratch_map(store: Store, lines: Integers, folder: Path) -> None:
 
 
 @contextmanager
-def scratch_map(store: Store, lines: Integers) -> Iterator[Path]:
-    """Gives the folder of a map of some lines, and deletes it at the end. Raises `ToolError` as `write_scratch_map`."""
+def scratch_folder() -> Iterator[Path]:
+    """Gives a new folder, and deletes it at the end. Raises `ToolError` if it can't be made."""
     scratch = new_scratch_folder()
     try:
-        write_scratch_map(store, lines, scratch / "map")
-        yield scratch / "map"
+        yield scratch
     finally:
         shutil.rmtree(scratch, ignore_errors=True)
+
+
+@contextmanager
+def scratch_map(store: Store, lines: Integers) -> Iterator[Path]:
+    """Gives the folder of a map of some lines, and deletes it at the end. Raises `ToolError` as `write_scratch_map`."""
+    with scratch_folder() as scratch:
+        write_scratch_map(store, lines, scratch / "map")
+        yield scratch / "map"

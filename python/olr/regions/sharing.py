@@ -53,17 +53,12 @@ def located(
     return [Located(*one) for one in zip(numbers, firsts, found, strict=True)]
 
 
-def lines_of(references: Sequence[Located], store: Store) -> Integers:
-    """The lines of regions together. Raises `ToolError` if the store can't be read."""
-    return store.lines_meeting(Discs.joined(one.discs for one in references))
-
-
 def shared_regions(references: Sequence[Located], store: Store) -> Iterator[Shared]:
     """The regions of references: of all at once, if they are a map for the program together, and else by halves of neighbours. Raises
     `ToolError` if the store can't be read."""
     if not references:
         return
-    lines = lines_of(references, store)
+    lines = store.lines_meeting(Discs.joined(one.discs for one in references))
     if within_limits(0, len(lines), 0) and store.sizes_of(lines).within_limits():
         yield Shared(references, lines)
     elif len(references) == 1:

@@ -29,7 +29,8 @@ from olr.errors import ToolError
 from olr.model.map_folder import BANS, BANS_HEADER, LINES, LINES_HEADER, NODES, NODES_HEADER, STORE
 from olr.model.road_map import within_limits
 from olr.model.sources import Sources
-from olr.regions.blocks import Blocks, Damaged, Directory, digest_of
+from olr.regions.blocks import Blocks, Damaged, Directory, digest_of_parts
+from olr.regions.geopackage import damaged, reading
 from olr.regions.plane import Disc, Discs
 from olr.regions.shortness import Shortness
 from olr.regions.table_of_sources import sources_in
@@ -73,7 +74,7 @@ class Facts(NamedTuple):
         """The digest of a store with these facts, in hexadecimal digits."""
         text = f"{VERSION},{self.nodes},{self.lines},{self.bans},{self.usual!r},{self.greatest!r}"
         parts = [text.encode(), self.nodes_digest, shortness.content(), directory.digest()]
-        return digest_of(parts).hex()
+        return digest_of_parts(parts).hex()
 
 
 class _Piece(NamedTuple):
@@ -105,7 +106,7 @@ class Store:
 
     digest: str
     """Of all that a store says of its map, in 64 hexadecimal digits: stores of one map have the same one, however the map's files were
-    ordered, and stores of two maps never. It is the SHA-256 digest of four parts, by `digest_of` of `blocks`: the facts, the nodes,
+    ordered, and stores of two maps never. It is the SHA-256 digest of four parts, by `digest_of_parts` of `blocks`: the facts, the nodes,
     the lines that are far shorter than their shapes, and the blocks in their order, each by its box and the digest of its columns."""
 
     def __init__(self, file: Path, connection: sqlite3.Connection) -> None:
@@ -264,12 +265,9 @@ class Store:
             block = self._blocks.read(piece.block)
             lines += map(block.line_records.__getitem__, piece.lines.tolist())
             nodes += map(block.node_records.__getitem__, piece.nodes.tolist())
+        bans = [b"%d,%d\n" % (first, second) for first, second in part.bans.T.tolist()]
         return [
-            (
-                BANS,
-                BANS_HEADER,
-                [b"%d,%d\n" % (first, second) for first, second in part.bans.T.tolist()],
-            ),
+            (BANS, BANS_HEADER, bans),
             (LINES, LINES_HEADER, map(lines.__getitem__, part.line_order.tolist())),
             (NODES, NODES_HEADER, map(nodes.__getitem__, part.node_order.tolist())),
         ]
@@ -295,9 +293,8 @@ def _whole(boxes: Boxes) -> Integers32:
 def _reading(file: Path) -> Iterator[None]:
     """Raises `ToolError` where the file can't be read, or doesn't have what was written there."""
     try:
-        yield
-    except sqlite3.Error as error:
-        raise ToolError(f"{file} can't be read: {error}") from error
+        with reading(file):
+            yield
     except (Damaged, *NONSENSE) as error:
         what = str(error) if isinstance(error, Damaged) else "a table isn't what was written"
-        raise ToolError(f"{file} is damaged, {what}: make it again by olr-tools regions") from error
+        raise damaged(file, what) from error

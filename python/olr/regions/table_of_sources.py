@@ -5,18 +5,18 @@ A store that was made of a map without sources has no such table. They aren't a 
 
 import sqlite3
 from collections.abc import Iterator, Mapping, Sequence
-from contextlib import contextmanager
 from pathlib import Path
 from typing import Any
 
 from olr.errors import ToolError
 from olr.model.road_map import GREATEST_ID, Origin
 from olr.model.sources import COLUMNS, DIRECTIONS, IDS, Reading, Sources
-from olr.regions.geopackage import quoted
+from olr.regions.geopackage import damaged, quoted, reading
 
 TYPES = ("INTEGER PRIMARY KEY", "TEXT NOT NULL", "TEXT NOT NULL", "INTEGER NOT NULL")
 """Of the line, the source, the direction and the part. All other columns are texts."""
 KEPT = "TEXT NOT NULL"
+WRONG = "its table of sources isn't what was written"
 
 
 def add_sources(connection: sqlite3.Connection, read: Reading) -> None:
@@ -39,13 +39,14 @@ def add_sources(connection: sqlite3.Connection, read: Reading) -> None:
 
 def sources_in(file: Path, connection: sqlite3.Connection) -> Sources:
     """The sources of an open store. Raises `ToolError` if they can't be read."""
-    rows = _asked(file, connection, "SELECT name FROM pragma_table_info('sources') ORDER BY cid")
+    stored = _Stored(file, connection)
+    rows = stored.rows("SELECT name FROM pragma_table_info('sources') ORDER BY cid")
     names = [name for (name,) in rows]
     if not names:
         return Sources((), {})
     if tuple(names[: len(COLUMNS)]) != COLUMNS:
-        raise _damaged(file)
-    return Sources(names[len(COLUMNS) :], _Stored(file, connection))
+        raise damaged(file, WRONG)
+    return Sources(names[len(COLUMNS) :], stored)
 
 
 class _Stored(Mapping[int, Origin]):
@@ -58,58 +59,34 @@ class _Stored(Mapping[int, Origin]):
         id = int(line)
         if not 1 <= id <= GREATEST_ID:
             raise KeyError(line)
-        rows = self._asked("SELECT * FROM sources WHERE line = ?", (id,))
+        rows = self.rows("SELECT * FROM sources WHERE line = ?", (id,))
         if not rows:
             raise KeyError(line)
         return self._origin(rows[0])
 
     def __iter__(self) -> Iterator[int]:
-        with _reading(self._file):
+        with reading(self._file):
             for (line,) in self._connection.execute("SELECT line FROM sources ORDER BY line"):
                 yield line
 
     def __len__(self) -> int:
-        ((count,),) = self._asked("SELECT count(*) FROM sources")
+        ((count,),) = self.rows("SELECT count(*) FROM sources")
         return int(count)
 
     def __bool__(self) -> bool:
         # Counting them takes a look at each.
-        ((is_there,),) = self._asked("SELECT EXISTS (SELECT 1 FROM sources)")
+        ((is_there,),) = self.rows("SELECT EXISTS (SELECT 1 FROM sources)")
         return bool(is_there)
 
-    def _asked(self, query: str, values: Sequence[object] = ()) -> list[Any]:
-        """The rows of a query. Raises `ToolError`."""
-        return _asked(self._file, self._connection, query, values)
+    def rows(self, query: str, values: Sequence[object] = ()) -> list[Any]:
+        """The rows of a query. Raises `ToolError` if the file can't be read."""
+        with reading(self._file):
+            return self._connection.execute(query, values).fetchall()
 
     def _origin(self, row: Sequence[Any]) -> Origin:
         """What a row says. Raises `ToolError` if it isn't what was written."""
         line, source, direction, part, name, *kept = row
-        if direction not in DIRECTIONS or not isinstance(part, int):
-            raise _damaged(self._file)
-        if not all(isinstance(text, str) for text in (source, name, *kept)):
-            raise _damaged(self._file)
+        are_texts = all(isinstance(text, str) for text in (source, name, *kept))
+        if direction not in DIRECTIONS or not isinstance(part, int) or not are_texts:
+            raise damaged(self._file, WRONG)
         return Origin(line, source, DIRECTIONS[direction], part, name, tuple(kept))
-
-
-def _asked(
-    file: Path, connection: sqlite3.Connection, query: str, values: Sequence[object] = ()
-) -> list[Any]:
-    """The rows of a query. Raises `ToolError` if the file can't be read."""
-    with _reading(file):
-        return connection.execute(query, values).fetchall()
-
-
-@contextmanager
-def _reading(file: Path) -> Iterator[None]:
-    """Raises `ToolError` where a file can't be read."""
-    try:
-        yield
-    except sqlite3.Error as error:
-        raise ToolError(f"{file} can't be read: {error}") from error
-
-
-def _damaged(file: Path) -> ToolError:
-    """What is said where the table isn't what was written."""
-    return ToolError(
-        f"{file} is damaged, its table of sources isn't what was written: make it again by olr-tools regions"
-    )
