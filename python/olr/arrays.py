@@ -20,3 +20,12 @@ def numbers_within(counts: Integers) -> Integers:
 def ranges(first: Integers, counts: Integers) -> Integers:
     """The numbers from each first one on, as many as each count says, one range behind the other."""
     return np.repeat(first, counts) + numbers_within(counts)
+
+
+def with_ends(inner: Integers, counts: Integers, ends: Integers) -> Integers:
+    """The rows of polylines with their ends, one polyline behind the other. `inner` has those between the ends, as many of each as its count
+    says, and `ends` the first and the last one of each in turn."""
+    behind = np.cumsum(counts)
+    places = np.stack([behind - counts, behind], axis=1).ravel()
+    result: Integers = np.insert(inner, places, ends, axis=0)
+    return result

@@ -9,7 +9,7 @@ from pathlib import Path
 from olr.checking.files import check_files
 from olr.checking.lengths import Lengths, likely_unit, look_at_lengths
 from olr.checking.map_arrays import MapArrays, arrays_of
-from olr.checking.network import Network, look_at_network
+from olr.checking.network import Connectivity, look_at_network
 from olr.model.map_folder import write_map
 from olr.model.road_map import Ban, Line, Node, Position, RoadMap
 from olr.tools import run
@@ -25,7 +25,7 @@ def read(folder: Path, road_map: RoadMap) -> MapArrays:
 
 def network_of(
     folder: Path, lines: list[tuple[int, int]], bans: list[tuple[int, int]] = []
-) -> Network:
+) -> Connectivity:
     """The network of lines, numbered from 1, between nodes that lie 100 m from each other."""
     nodes = sorted({node for line in lines for node in line})
     road_map = RoadMap(
@@ -36,7 +36,7 @@ def network_of(
     return look_at_network(read(folder / "map", road_map))
 
 
-def parts(network: Network) -> list[tuple[str, list[int]]]:
+def parts(network: Connectivity) -> list[tuple[str, list[int]]]:
     """The parts as their role and the numbers of their lines."""
     return [(part.role, (part.lines + 1).tolist()) for part in network.parts]
 

@@ -3,7 +3,7 @@
 import numpy as np
 from dataclasses import dataclass
 
-from olr.arrays import Floats, Integers
+from olr.arrays import Floats, Integers, with_ends
 from olr.checking.map_arrays import MapArrays
 from olr.model.measure import metres_along
 
@@ -43,21 +43,16 @@ class Lengths:
 
 def look_at_lengths(road_map: MapArrays) -> Lengths:
     """Measures the lines of a map that has no fault."""
-    measured = measure(road_map)
-    length = road_map.length.astype(np.float64)
+    measured, length = measure(road_map), road_map.length.astype(np.float64)
     if not len(length):
         return Lengths(measured, np.zeros(0, dtype=np.int64), None, None, None)
     difference = np.abs(length - measured)
     far = np.flatnonzero((difference > FAR_SHARE * measured) & (difference > FAR_DECIMETRES))
     far = far[np.lexsort((far, -difference[far]))]
-    share = 1.0 - length / np.maximum(measured, SHORTEST)
-    return Lengths(
-        measured,
-        far,
-        float(np.median(length / np.maximum(measured, SHORTEST))),
-        _greatest(share, np.arange(len(share))),
-        _greatest(share, np.flatnonzero(road_map.length >= LONG_DECIMETRES)),
-    )
+    ratio = length / np.maximum(measured, SHORTEST)
+    every, long = np.arange(len(length)), np.flatnonzero(length >= LONG_DECIMETRES)
+    shorter, shorter_long = (_greatest(1.0 - ratio, among) for among in (every, long))
+    return Lengths(measured, far, float(np.median(ratio)), shorter, shorter_long)
 
 
 def _greatest(share: Floats, among: Integers) -> Shorter | None:
@@ -70,17 +65,10 @@ def _greatest(share: Floats, among: Integers) -> Shorter | None:
 
 def measure(road_map: MapArrays) -> Floats:
     """The length of each line's shape on the ellipsoid, in decimetres."""
-    counts = road_map.points + 2
-    behind = np.cumsum(counts)
-    firsts, lasts = behind - counts, behind - 1
-    total = int(counts.sum())
-    lon, lat = np.zeros(total, dtype=np.int64), np.zeros(total, dtype=np.int64)
-    inner = np.ones(total, dtype=bool)
-    inner[firsts] = inner[lasts] = False
-    lon[firsts], lat[firsts] = road_map.lon[road_map.start], road_map.lat[road_map.start]
-    lon[lasts], lat[lasts] = road_map.lon[road_map.end], road_map.lat[road_map.end]
-    lon[inner], lat[inner] = road_map.shape_lon, road_map.shape_lat
-    return metres_along(lon / 1e6, lat / 1e6, counts) * 10.0
+    ends = np.stack([road_map.start, road_map.end], axis=1).ravel()
+    lon = with_ends(road_map.shape_lon, road_map.points, road_map.lon[ends])
+    lat = with_ends(road_map.shape_lat, road_map.points, road_map.lat[ends])
+    return metres_along(lon / 1e6, lat / 1e6, road_map.points + 2) * 10.0
 
 
 def likely_unit(ratio: float, latitude: float) -> str | None:

@@ -6,13 +6,12 @@ which every turn is banned is a trap.
 
 import numpy as np
 from dataclasses import dataclass
-from scipy.sparse import csr_matrix
 from scipy.sparse.csgraph import connected_components
 from scipy.spatial import cKDTree
-from typing import Any
 
 from olr.arrays import Integers
 from olr.checking.map_arrays import MapArrays
+from olr.geometry.turns import matrix, turns_from
 from olr.sphere import on_sphere
 
 MOST_TURNS = 5_000_000
@@ -22,7 +21,7 @@ NEAR_METRES = 5.0
 
 
 @dataclass(frozen=True)
-class Part:
+class Component:
     """Lines that all lead to one another."""
 
     lines: Integers
@@ -43,14 +42,14 @@ class Part:
 
 
 @dataclass(frozen=True)
-class Network:
+class Connectivity:
     """What is seen of a map's network."""
 
     networks: int
     """How many pieces of the map have no node in common, leaving directions and bans out."""
     largest_network: int
     """How many lines the largest one has."""
-    parts: list[Part]
+    parts: list[Component]
     """The strongly connected parts, the longest first."""
     bans_counted: bool
     """Whether bans were looked at."""
@@ -62,31 +61,24 @@ class Network:
     """Dead ends with a node that lies within `NEAR_METRES`, to which no line leads from it: two indices and the metres."""
 
 
-def look_at_network(road_map: MapArrays) -> Network:
+def look_at_network(road_map: MapArrays) -> Connectivity:
     """Looks at the network of a map that has no fault."""
-    nodes, lines = len(road_map.node_id), len(road_map.line_id)
-    joined = _matrix(road_map.start, road_map.end, nodes)
+    nodes = len(road_map.node_id)
+    joined = matrix(road_map.start, road_map.end, (nodes, nodes))
     _, piece = connected_components(joined, directed=False)
-    used = np.zeros(nodes, dtype=bool)
-    used[road_map.start] = used[road_map.end] = True
-    pieces = np.bincount(piece[road_map.start], minlength=1) if lines else np.zeros(1, dtype=int)
+    pieces = np.bincount(piece[road_map.start], minlength=1)
+    used = np.concatenate([road_map.start, road_map.end])
     dead_ends = _dead_ends(road_map)
     parts, bans_counted = _parts(road_map)
-    return Network(
+    return Connectivity(
         networks=int(np.count_nonzero(pieces)),
         largest_network=int(pieces.max()),
         parts=parts,
         bans_counted=bans_counted,
         dead_ends=dead_ends,
-        unused_nodes=np.flatnonzero(~used),
+        unused_nodes=np.setdiff1d(np.arange(nodes), used),
         near=_near(road_map, dead_ends),
     )
-
-
-def _matrix(start: Integers, end: Integers, size: int) -> Any:
-    """The matrix of a graph with these edges."""
-    ones = np.ones(len(start), dtype=np.int8)
-    return csr_matrix((ones, (start, end)), shape=(size, size))
 
 
 def _turns(road_map: MapArrays) -> tuple[Integers, Integers, bool]:
@@ -95,44 +87,28 @@ def _turns(road_map: MapArrays) -> tuple[Integers, Integers, bool]:
     Its vertices are the lines and then the nodes. A line without bans leads to its node, and a node to the lines that start
     there; a line with bans leads straight to the lines that it may go on to.
     """
-    lines = len(road_map.line_id)
-    every = np.arange(lines)
-    banned: dict[int, set[int]] = {}
-    for first, second in zip(road_map.ban_first.tolist(), road_map.ban_second.tolist()):
-        banned.setdefault(first, set()).add(second)
-    order = np.argsort(road_map.start, kind="stable")
-    bounds = np.searchsorted(road_map.start[order], np.arange(len(road_map.node_id) + 1))
-    with_bans = np.fromiter(banned, dtype=np.int64, count=len(banned))
-    ends = road_map.end[with_bans]
-    bans_counted = int((bounds[ends + 1] - bounds[ends]).sum()) <= MOST_TURNS
-    sources, targets = [], []
-    if bans_counted:
-        for first, seconds in banned.items():
-            end = road_map.end[first]
-            on = [
-                line
-                for line in order[bounds[end] : bounds[end + 1]].tolist()
-                if line not in seconds
-            ]
-            sources += [first] * len(on)
-            targets += on
-    free = np.ones(lines, dtype=bool)
-    if bans_counted:
-        free[with_bans] = False
-    source = np.concatenate([every[free], road_map.start + lines, np.array(sources, dtype=int)])
-    target = np.concatenate([road_map.end[free] + lines, every, np.array(targets, dtype=int)])
+    start, end = road_map.start, road_map.end
+    every = np.arange(len(start))
+    with_bans = np.unique(road_map.ban_first)
+    starting = np.bincount(start, minlength=len(road_map.node_id))
+    bans_counted = int(starting[end[with_bans]].sum()) <= MOST_TURNS
+    counted = with_bans if bans_counted else with_bans[:0]
+    sources, targets = turns_from(counted, start, end, (road_map.ban_first, road_map.ban_second))
+    free = np.setdiff1d(every, counted)
+    source = np.concatenate([free, start + len(every), sources])
+    target = np.concatenate([end[free] + len(every), every, targets])
     return source, target, bans_counted
 
 
-def _parts(road_map: MapArrays) -> tuple[list[Part], bool]:
+def _parts(road_map: MapArrays) -> tuple[list[Component], bool]:
     """The strongly connected parts of the lines, and whether bans were looked at."""
     lines = len(road_map.line_id)
     if not lines:
         return [], True
     source, target, bans_counted = _turns(road_map)
     size = lines + len(road_map.node_id)
-    graph = _matrix(source, target, size)
-    count, part = connected_components(graph, directed=True, connection="strong")
+    graph = matrix(source, target, (size, size))
+    count, part = connected_components(graph, connection="strong")
     # A node at which no line starts is no way out, and one at which no line ends is no way in.
     leads_out = np.bincount(source, minlength=size) > 0
     leads_in = np.bincount(target, minlength=size) > 0
@@ -145,7 +121,7 @@ def _parts(road_map: MapArrays) -> tuple[list[Part], bool]:
     order = np.argsort(of_line, kind="stable")
     numbers, firsts = np.unique(of_line[order], return_index=True)
     parts = [
-        Part(indices, int(road_map.length[indices].sum()), bool(entered[n]), bool(left[n]))
+        Component(indices, int(road_map.length[indices].sum()), bool(entered[n]), bool(left[n]))
         for n, indices in zip(numbers.tolist(), np.split(order, firsts[1:]))
     ]
     parts.sort(key=lambda p: (-p.length, int(road_map.line_id[p.lines[0]])))
@@ -168,10 +144,9 @@ def _near(road_map: MapArrays, dead_ends: Integers) -> list[tuple[int, int, floa
         return []
     spots = on_sphere(road_map.lon / 1e6, road_map.lat / 1e6)
     used = np.unique(np.concatenate([road_map.start, road_map.end]))
+    nearest = min(3, len(used))
     tree = cKDTree(spots[used])
-    metres, found = tree.query(
-        spots[dead_ends], k=min(3, len(used)), distance_upper_bound=NEAR_METRES
-    )
+    metres, found = tree.query(spots[dead_ends], nearest, distance_upper_bound=NEAR_METRES)
     joined = set(zip(road_map.start.tolist(), road_map.end.tolist()))
     near = []
     for node, distances, places in zip(dead_ends.tolist(), metres, found):

@@ -8,7 +8,7 @@ from olr.checking.faults import Faults
 from olr.checking.files import LIMITS
 from olr.checking.lengths import FAR_DECIMETRES, FAR_SHARE, Lengths, Shorter, likely_unit
 from olr.checking.map_arrays import MapArrays
-from olr.checking.network import NEAR_METRES, Network, Part
+from olr.checking.network import NEAR_METRES, Component, Connectivity
 from olr.checking.tables import Tables
 
 ROLES = {
@@ -93,7 +93,7 @@ def _shorter_lines(
     yield f"{name}: {100 * shorter.share:.2f} % ({at})"
 
 
-def network_lines(road_map: MapArrays, network: Network, most: int) -> Iterator[str]:
+def network_lines(road_map: MapArrays, network: Connectivity, most: int) -> Iterator[str]:
     """Networks, strongly connected parts by what they are to the others, dead ends, and nodes without a line."""
     lines = len(road_map.line_id)
     if network.networks:
@@ -112,7 +112,7 @@ def network_lines(road_map: MapArrays, network: Network, most: int) -> Iterator[
     yield f"nodes without a line {len(network.unused_nodes):,}{named(road_map.node_id, network.unused_nodes, most)}"
 
 
-def _part_lines(road_map: MapArrays, network: Network, most: int) -> Iterator[str]:
+def _part_lines(road_map: MapArrays, network: Connectivity, most: int) -> Iterator[str]:
     """The strongly connected parts."""
     whole = max(int(road_map.length.sum()), 1)
     largest, others = network.parts[0], network.parts[1:]
@@ -130,7 +130,7 @@ def _part_lines(road_map: MapArrays, network: Network, most: int) -> Iterator[st
         yield from _more(len(of_role) - most)
 
 
-def _part(road_map: MapArrays, part: Part) -> str:
+def _part(road_map: MapArrays, part: Component) -> str:
     """A part by its size and the first of its lines."""
     ids = ", ".join(str(id) for id in road_map.line_id[part.lines[:3]].tolist())
     rest = ", .." if len(part.lines) > 3 else ""

@@ -12,7 +12,7 @@ from contextlib import closing
 from pathlib import Path
 from typing import IO
 
-from olr.arrays import Floats, Integers
+from olr.arrays import Floats, Integers, with_ends
 from olr.errors import ToolError
 from olr.model.columns import Columns, What, batched_columns, read_columns, require
 from olr.model.map_folder import STORE, files_read, line_row
@@ -173,12 +173,9 @@ class _Making:
         require(there.all(axis=0), "lines", number)
         sizes = columns.sizes + 2
         first = np.cumsum(sizes) - sizes
-        points = np.zeros((int(sizes.sum()), 2), dtype=np.int64)
-        inner = np.ones(len(points), dtype=np.bool_)
-        for places, index in ((first, ends[0]), (first + sizes - 1, ends[1])):
-            inner[places] = False
-            points[places] = np.stack([nodes.lon[index], nodes.lat[index]], axis=1)
-        points[inner] = columns.points
+        index = ends.T.ravel()
+        spots = np.stack([nodes.lon[index], nodes.lat[index]], axis=1)
+        points = with_ends(columns.points, columns.sizes, spots)
         equal = np.zeros(len(points), dtype=np.bool_)
         equal[1:] = (points[1:] == points[:-1]).all(axis=1)
         equal[first] = False

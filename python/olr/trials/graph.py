@@ -5,9 +5,10 @@ from collections.abc import Sequence
 from itertools import pairwise
 from scipy.sparse import csr_matrix
 from scipy.sparse.csgraph import dijkstra
-from typing import Any, NamedTuple
+from typing import NamedTuple
 
 from olr.arrays import Floats, Integers
+from olr.geometry.turns import turns_from
 from olr.model.road_map import RoadMap
 from olr.trials.roads import Roads
 
@@ -74,21 +75,9 @@ class Graph:
 def _following(road_map: RoadMap, ids: Integers) -> tuple[Integers, Integers]:
     """The pairs of lines, by their indices, of which the second starts where the first ends, and no ban is on them. `ids` are those of the
     lines."""
-    count = len(ids)
     ends = np.array([(line.start, line.end) for line in road_map.lines], dtype=np.int64)
-    nodes, numbers = np.unique(ends, return_inverse=True)
-    ending, starting = (
-        _matrix(np.arange(count), numbers.reshape(-1, 2)[:, column], (count, len(nodes)))
-        for column in (1, 0)
-    )
+    start, end = np.unique(ends, return_inverse=True)[1].reshape(-1, 2).T
     by_id = np.argsort(ids)
     bans = np.array(road_map.bans, dtype=np.int64).reshape(-1, 2)
-    refused, onward = by_id[np.searchsorted(ids, bans, sorter=by_id)].T
-    banned = _matrix(refused, onward, (count, count))
-    first, second = (ending @ starting.T > banned).nonzero()
-    return first.astype(np.int64), second.astype(np.int64)
-
-
-def _matrix(rows: Integers, columns: Integers, shape: tuple[int, int]) -> Any:
-    """A matrix with a one at each of some places."""
-    return csr_matrix((np.ones(len(rows)), (rows, columns)), shape=shape)
+    first, second = by_id[np.searchsorted(ids, bans, sorter=by_id)].T
+    return turns_from(np.arange(len(ids)), start, end, (first, second))
