@@ -12,12 +12,11 @@ from conftest import TOP, Program
 from drawing import Drawing
 from drawn_maps import draw_files
 from olr.counts import Counts
-from olr.errors import MapRefused, ToolError
+from olr.errors import ToolError
 from olr.geometry.turning_back import turn_back, turns_of
 from olr.importing.u_turns import SHARP, u_turn_bans
 from olr.model.answers import ReferencePoint
 from olr.model.map_folder import read_map, write_map
-from olr.model.pieces import Piece, Pieces
 from olr.model.road_map import Line, Node, Position, RoadMap
 from olr.tools import run
 from olr.trials.encoder import text_of
@@ -45,6 +44,13 @@ def asked(routes: Sequence[Route], network: olr.Network) -> list[bool]:
     counts = np.array([len(route) for route in routes], dtype=np.int64)
     result: list[bool] = turn_back(pieces.reshape(-1, 3), counts, network).tolist()
     return result
+
+
+def places_of(route: Route, network: olr.Network) -> list[int]:
+    """The numbers, from 0, of the pieces behind which a route turns back."""
+    pieces = np.array(route, dtype=np.int64).reshape(-1, 3)
+    found: list[int] = np.flatnonzero(turns_of(pieces, np.array([len(pieces)]), network)).tolist()
+    return found
 
 
 def whole(*lines: int) -> Route:
@@ -77,7 +83,7 @@ def test_routes_by_hand(tmp_path: Path) -> None:
     ]
     routes = [route for route, _ in expected]
     for route, places in expected:
-        assert turns_of(route, network) == places, route
+        assert places_of(route, network) == places, route
     assert asked(routes, network) == [bool(places) for _, places in expected]
     assert asked(routes[::-1], network) == [bool(places) for _, places in expected[::-1]]
 
@@ -128,8 +134,6 @@ def test_a_line_that_isnt_there(tmp_path: Path) -> None:
     network = plus(tmp_path)
     with pytest.raises(ToolError, match="has no line 12"):
         asked([whole(10, 12)], network)
-    with pytest.raises(MapRefused):
-        turns_of(Pieces([Piece(10, 0, 100)], "of another map"), network)
 
 
 def plainly(route: Route, road_map: RoadMap) -> list[int | None]:
@@ -182,7 +186,7 @@ def test_as_a_plain_loop_on_drawn_maps(tmp_path: Path) -> None:
         drawn = [drawn_route(road_map, draws) for _ in range(40)]
         plain = [(route, plainly(route, road_map)) for route in drawn]
         sure = [(route, places) for route, places in plain if None not in places]
-        assert [turns_of(route, network) for route, _ in sure] == [places for _, places in sure]
+        assert [places_of(route, network) for route, _ in sure] == [places for _, places in sure]
         expected = [bool(places) for _, places in sure]
         assert asked([route for route, _ in sure], network) == expected
         turning += sum(expected)
@@ -217,7 +221,7 @@ def test_a_store_says_what_its_folder_says(town: Town) -> None:
     network = olr.Network.read(town.store)
     assert asked(drawn, network) == expected
     assert sum(expected) >= 20
-    assert [bool(turns_of(route, network)) for route in drawn] == expected
+    assert [bool(places_of(route, network)) for route in drawn] == expected
     assert asked([], network) == []
 
 
@@ -243,4 +247,4 @@ def test_a_route_of_the_program(program: Program, tmp_path: Path) -> None:
     ended = program.run("match", text, "--map", folder, "--format", "json")
     routes = [one["route"] for one in json.loads(ended.stdout)["matchings"]]
     network = olr.Network.read(folder)
-    assert [turns_of(route, network) for route in routes] == [[0], []]
+    assert [places_of(route, network) for route in routes] == [[0], []]

@@ -2,12 +2,10 @@
 
 import math
 import numpy as np
-from collections.abc import Iterable, Sequence
 from typing import TYPE_CHECKING
 
 from olr.arrays import Booleans, Integers
 from olr.importing.u_turns import SHARP
-from olr.model.pieces import Pieces
 
 if TYPE_CHECKING:
     from olr.geometry.network import Network
@@ -24,24 +22,14 @@ def turn_back(pieces: Integers, counts: Integers, network: "Network") -> Boolean
 
     Raises `ToolError` if the map hasn't a line of a route, or can't be read, and `MapRefused` for a store that changed.
     """
-    turns = _turns(pieces, counts, network)
+    turns = turns_of(pieces, counts, network)
     routes = np.repeat(np.arange(len(counts)), counts)
     result: Booleans = np.bincount(routes[turns], minlength=len(counts)) > 0
     return result
 
 
-def turns_of(route: Pieces | Iterable[Sequence[int]], network: "Network") -> list[int]:
-    """Where a route turns back: the numbers, from 0, of the pieces behind which it does. Raises as `turn_back`, and `MapRefused` if the
-    route is of another version of the map."""
-    if isinstance(route, Pieces):
-        network.require_version_of(route)
-    pieces = np.array([tuple(piece) for piece in route], dtype=np.int64).reshape(-1, 3)
-    found: list[int] = np.flatnonzero(_turns(pieces, np.array([len(pieces)]), network)).tolist()
-    return found
-
-
-def _turns(pieces: Integers, counts: Integers, network: "Network") -> Booleans:
-    """Behind which pieces their routes turn back. Pieces without a length aren't driven."""
+def turns_of(pieces: Integers, counts: Integers, network: "Network") -> Booleans:
+    """Behind which pieces their routes turn back, as `turn_back` says it. Pieces without a length aren't driven."""
     turns = np.zeros(len(pieces), dtype=np.bool_)
     if not len(pieces):
         return turns

@@ -18,6 +18,11 @@ STEP = 5000
 """So many records are read between two calls of `advance`."""
 
 
+def allow_long_fields() -> None:
+    """Lets the module csv read fields of any length, for the whole process: no reader has a limit of its own."""
+    csv.field_size_limit(sys.maxsize)
+
+
 def read_records(
     stream: BinaryIO, advance: Callable[[int], None] = lambda _: None
 ) -> Iterator[tuple[int, list[str]]]:
@@ -26,7 +31,7 @@ def read_records(
     Each byte of a field is one character (Latin-1), so that any bytes can be read. `advance` is called with the number of bytes
     that were read since its last call. Raises `OSError` if the file can't be read.
     """
-    csv.field_size_limit(sys.maxsize)
+    allow_long_fields()
     start = stream.read(len(BYTE_ORDER_MARK))
     bytes_behind = _Joined(b"" if start == BYTE_ORDER_MARK else start, stream)
     text = io.TextIOWrapper(io.BufferedReader(bytes_behind, BUFFER), encoding="latin-1", newline="")

@@ -13,7 +13,6 @@ It needs Python alone.
 
 import csv
 import io
-import sys
 from collections.abc import Iterable, Iterator, Mapping, Sequence
 from contextlib import contextmanager
 from pathlib import Path
@@ -21,6 +20,7 @@ from typing import NamedTuple, Protocol
 
 from olr.counts import short
 from olr.errors import ToolError, readable
+from olr.model.records import allow_long_fields
 from olr.model.road_map import Direction, Origin
 from olr.model.values import MOST_DIGITS, id_of, number_of
 
@@ -107,7 +107,7 @@ class Reading(NamedTuple):
 def reading(file: Path) -> Iterator[Reading]:
     """Reads an `ids.csv`, of any size. Raises `ToolError` if it can't be read, or isn't one, and, while it is read, for the first record
     that isn't understood."""
-    csv.field_size_limit(sys.maxsize)
+    allow_long_fields()
     with readable(file):
         # What isn't UTF-8 is seen record by record.
         stream = file.open(encoding="utf-8-sig", errors="surrogateescape", newline="")

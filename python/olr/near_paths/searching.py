@@ -169,12 +169,7 @@ def _lengths_left(
 
 
 def _first_apart(
-    streets: Streets,
-    ends: Ends,
-    limit: int,
-    route: _Route,
-    left: Mapping[int, int],
-    apart: int,
+    streets: Streets, ends: Ends, limit: int, route: _Route, left: Mapping[int, int], apart: int
 ) -> Walk | None:
     """The walk of `other_walk`. `left` has the least length from the end of each line that such a walk may have.
 

@@ -166,11 +166,7 @@ def _bans_of_no(restriction: Restriction, node: int, arms: _Arms, counts: Counts
 
 
 def _bans_of_only(
-    restriction: Restriction,
-    node: int,
-    arms: _Arms,
-    targets: Mapping[int, Target],
-    counts: Counts,
+    restriction: Restriction, node: int, arms: _Arms, targets: Mapping[int, Target], counts: Counts
 ) -> list[Ban]:
     """The bans of a restriction that allows one turn alone: on all others of the same arm. What lacks is counted.
 

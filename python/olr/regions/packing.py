@@ -89,10 +89,7 @@ class Bans(NamedTuple):
 
 
 def write_blocks(
-    connection: sqlite3.Connection,
-    blocks: Iterator[Block],
-    lines: Lines,
-    order: Integers,
+    connection: sqlite3.Connection, blocks: Iterator[Block], lines: Lines, order: Integers
 ) -> Directory:
     """Writes the blocks of a store, and where each line is. `order` is that of the lines. Raises `sqlite3.Error`."""
     boxes, digests = [], []
