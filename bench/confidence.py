@@ -29,7 +29,7 @@ import numpy as np  # noqa: E402
 
 from olr.confidence.calibrating import Wanted, calibrated  # noqa: E402
 from olr.confidence.parts import Asking, Drawing, answered_by  # noqa: E402
-from olr.confidence.shifting import Checked, shift_of, shifted  # noqa: E402
+from olr.confidence.fitting import Checked, shift_of, shifted  # noqa: E402
 from olr.confidence.weights import WEIGHTS, differences_of, probabilities  # noqa: E402
 from olr.model.map_folder import read_map, write_records  # noqa: E402
 from olr.model.profiles import tolerances_of  # noqa: E402

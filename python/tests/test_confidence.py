@@ -16,11 +16,10 @@ from olr.confidence.calibrating import level_of
 from olr.confidence.confidence import Confidence
 from olr.confidence.contents import text_of
 from olr.confidence.feed import Answered
-from olr.confidence.fitting import NONE, Trial, fitted
+from olr.confidence.fitting import NONE, Checked, Trial, fitted, shift_of, shifted
 from olr.confidence.judged import Judging, judged
 from olr.confidence.likeness import RIDGE, Likeness, Range, alike, range_of
 from olr.confidence.parts import Part, right_places
-from olr.confidence.shifting import Checked, shift_of, shifted
 from olr.confidence.weights import (
     OF_NONE,
     OF_PLACE,

@@ -46,8 +46,7 @@ def arrays_of(tables: Tables) -> MapArrays:
     first_point = np.cumsum(rows[:, -1]) - rows[:, -1]
     moved = ranges(first_point[order], points)
     coordinates = _column(lines.coordinates).reshape(-1, 2)[moved]
-    bans = [] if tables.bans is None else list(tables.bans.records)
-    ban_ids = np.array(bans, dtype=np.int64).reshape(-1, 2)
+    ban_ids = np.array(list(tables.bans or ()), dtype=np.int64).reshape(-1, 2)
     return MapArrays(
         node_id=node_id,
         lon=lonlat[by_id, 0],

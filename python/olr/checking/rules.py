@@ -10,7 +10,7 @@ from typing import NamedTuple
 
 from olr.checking import remedies
 from olr.checking.faults import Fault, Faults
-from olr.checking.tables import Bans, Ends, Lines, Nodes, Point, Tables
+from olr.checking.tables import Ends, Lines, Nodes, Point, Tables
 from olr.model.map_folder import BANS_HEADER, LINES_HEADER, NODES_HEADER
 from olr.model.values import id_of, kind_of, lat_of, length_of, lon_of, shape_of
 
@@ -150,8 +150,8 @@ def _repeated(shape: list[int], first: Point | None, last: Point | None, ends: E
 
 def check_bans(records: Iterator[Record], faults: Faults, tables: Tables) -> None:
     """The rules for a ban. Where the lines aren't known those on its lines are left out."""
-    bans, lines = Bans(), tables.lines
-    tables.bans = bans
+    lines = tables.lines
+    bans = tables.bans = {}
     for record in records:
         number, _, fields = record
         if len(fields) != len(BANS_HEADER):
@@ -161,7 +161,7 @@ def check_bans(records: Iterator[Record], faults: Faults, tables: Tables) -> Non
             continue
         assert first is not None and second is not None
         checked = _Checked(faults, "bans", record, f"{first},{second}")
-        earlier = bans.records.setdefault((first, second), number)
+        earlier = bans.setdefault((first, second), number)
         if earlier != number:
             checked.add_duplicate(earlier, "Drop the repeated record")
         if lines is None:

@@ -48,19 +48,12 @@ class Lines:
 
 
 @dataclass
-class Bans:
-    """The bans on turns."""
-
-    records: dict[tuple[int, int], int] = field(default_factory=dict)
-    """For each ban the number of the first record with it."""
-
-
-@dataclass
 class Tables:
     """What the files have. A file that can't be told apart into columns is None."""
 
     nodes: Nodes | None = None
     lines: Lines | None = None
-    bans: Bans | None = None
+    bans: dict[tuple[int, int], int] | None = None
+    """For each ban the number of the first record with it."""
     counts: dict[str, int] = field(default_factory=dict)
     """For each file that was read how many records it has."""

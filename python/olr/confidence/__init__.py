@@ -8,11 +8,11 @@
 | `reasons`, `judged` | answers in the likely order with their probabilities, and why, in a sentence |
 | `parts` | trials in parts that differ in how different maps and references are; trials on a pair of maps |
 | `feed`, `likeness` | what the answers to a feed show, and which parts it looks like |
-| `fitting`, `shifting` | weights by answers to trials; their level by answers that somebody checked |
+| `fitting` | weights by answers to trials; their level by answers that somebody checked |
 | `messages` | the messages of a feed, and checked answers |
 | `calibrating` | a confidence by trials, for `olr-tools calibrate` |
 | `choosing` | by which confidence answers are judged |
 | `sentences`, `expected` | what pages and summaries say of probabilities; how many of many answers are expected to be right |
 
-`fitting` and `shifting` need scipy, and with them what makes a file; the rest needs numpy alone.
+`fitting` needs scipy, and with it what makes a file; the rest needs numpy alone.
 """

@@ -8,7 +8,7 @@ from typing import Any, NamedTuple
 from olr.arrays import Floats
 from olr.confidence.confidence import Confidence
 from olr.confidence.feed import LEAST_REFERENCES, Answered, statistics_of
-from olr.confidence.fitting import Trial, fitted
+from olr.confidence.fitting import LEAST_CHECKED, Checked, Trial, fitted, shift_of, shifted
 from olr.confidence.likeness import (
     WIDTH_OF_MAPS,
     WIDTH_OF_REFERENCES,
@@ -27,7 +27,6 @@ from olr.confidence.parts import (
     parts_of,
     parts_of_pair,
 )
-from olr.confidence.shifting import LEAST_CHECKED, Checked, shift_of, shifted
 from olr.confidence.weights import WEIGHTS, Differences, differences_of, probabilities
 from olr.errors import ToolError
 from olr.model.map_folder import read_map, store_of

@@ -149,11 +149,7 @@ class _Making:
 
     def _add_nodes(self, parts: Iterator[Columns]) -> Nodes:
         """Adds the nodes."""
-        all_parts = [np.zeros((3, 0), dtype=np.int64)]
-        for columns in parts:
-            self._insert("nodes", *columns.numbers)
-            all_parts.append(columns.numbers)
-        id, lon, lat = np.concatenate(all_parts, axis=1)
+        id, lon, lat = self._numbers("nodes", 3, parts)
         order = np.argsort(id)
         return Nodes(id[order], lon[order], lat[order])
 
@@ -197,11 +193,7 @@ class _Making:
 
     def _add_bans(self, parts: Iterator[Columns], lines: Lines) -> Bans:
         """Adds the bans. Raises `ToolError` if not all of them have both lines, the second one from where the first one ends."""
-        all_parts = [np.zeros((2, 0), dtype=np.int64)]
-        for columns in parts:
-            self._insert("bans", *columns.numbers)
-            all_parts.append(columns.numbers)
-        ids = np.concatenate(all_parts, axis=1)
+        ids = self._numbers("bans", 2, parts)
         index, there = lines.index_of(ids)
         first, second = index
         right = there.all(axis=0)
@@ -211,6 +203,14 @@ class _Making:
             about = f"{wrong:,} bans aren't between two lines that meet"
             raise ToolError(f"{about}: run olr-tools check")
         return Bans(first, ids[1])
+
+    def _numbers(self, what: What, count: int, parts: Iterator[Columns]) -> Integers:
+        """Adds all parts of nodes or bans, and answers their numbers, of which each has so many: a row for each of these."""
+        all_parts = [np.zeros((count, 0), dtype=np.int64)]
+        for columns in parts:
+            self._insert(what, *columns.numbers)
+            all_parts.append(columns.numbers)
+        return np.concatenate(all_parts, axis=1)
 
     def _insert(self, what: What, *columns: Sequence[object] | Integers) -> None:
         """Adds rows to the table of the nodes, lines or bans. Raises `ToolError` for an id that is there."""
