@@ -115,6 +115,7 @@ def test_the_greatest_share_by_which_a_line_is_shorter(tmp_path: Path) -> None:
     _, lengths = lengths_of(tmp_path, 0.9)
     assert len(lengths.far) == 10
     assert lengths.shorter is not None and lengths.shorter.share == pytest.approx(0.1, abs=1e-4)
+    assert lengths.shorter_long == lengths.shorter
     _, lengths = lengths_of(tmp_path / "longer", 1.2)
     assert lengths.shorter is None and lengths.shorter_long is None
 
@@ -159,8 +160,8 @@ def test_small_maps(lines: str, tmp_path: Path) -> None:
 
 def test_too_many_turns_with_bans(tmp_path: Path, monkeypatch: pytest.MonkeyPatch) -> None:
     """Where the turns at nodes with bans are too many, bans are left out, and the report says so."""
-    monkeypatch.setattr("olr.checking.network.MOST_TURNS", 1)
-    found = network_of(tmp_path, [(1, 2), (2, 1), (2, 3), (3, 2)], [(1, 2)])
+    monkeypatch.setattr("olr.checking.network.MOST_TURNS", 0)
+    found = network_of(tmp_path, [(1, 2), (2, 1), (2, 3), (3, 2)], [(3, 4)])
     assert not found.bans_counted and len(found.parts) == 1
 
 

@@ -15,7 +15,7 @@ from olr.arrays import Floats
 from olr.confidence.calibrating import level_of
 from olr.confidence.confidence import Confidence
 from olr.confidence.contents import text_of
-from olr.confidence.feed import Answered
+from olr.confidence.feed import Answered, statistics_of
 from olr.confidence.fitting import NONE, Checked, Trial, fitted, shift_of, shifted
 from olr.confidence.judged import Judging, judged
 from olr.confidence.likeness import RIDGE, Likeness, Range, alike, range_of
@@ -131,6 +131,14 @@ def part_of(count: int, right: int) -> Part:
     numbers = np.arange(count)
     are_right = np.where(numbers < right, numbers, NONE)
     return Part(0.0, 0.0, Answered([None] * count, found, evidence), are_right)
+
+
+def test_what_is_seen_of_answers_without_a_place() -> None:
+    """That none has one, and nothing else."""
+    none = part_of(0, 0).answered.evidence
+    answered = Answered([None] * 3, found_places([0, 0, 0], np.zeros(0)), none)
+    without, *others = statistics_of(answered, np.array(list(ROUND.values()))).values()
+    assert (without, set(others)) == (1, {0})
 
 
 def test_how_far_the_level_is_off() -> None:

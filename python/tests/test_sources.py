@@ -66,6 +66,16 @@ def test_hard_texts_come_back(tmp_path: Path) -> None:
     assert rows[1:] == [[*map(str, origin[:5]), *origin.kept] for origin in origins]
 
 
+def test_long_texts_are_read_whatever_limit_the_process_has(tmp_path: Path) -> None:
+    """By default the module csv reads 131,072 characters of a field at most."""
+    write_origins(tmp_path / "ids.csv", [Origin(1, "7", "forward", 0, "n" * 200_000)], ())
+    before = csv.field_size_limit(131_072)
+    try:
+        assert Sources.of_folder(tmp_path)[1].name == "n" * 200_000
+    finally:
+        csv.field_size_limit(before)
+
+
 def test_records_end_by_line_feeds(tmp_path: Path) -> None:
     write_origins(tmp_path / "ids.csv", [Origin(1, "a\rb", "forward", 0)], [])
     assert (tmp_path / "ids.csv").read_bytes() == f'{HEADER}\n1,"a\rb",forward,0,\n'.encode()

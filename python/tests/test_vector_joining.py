@@ -117,6 +117,13 @@ def test_a_road_that_meets_itself() -> None:
     assert len(found.lines) == 3 and len(found.nodes) == 3
 
 
+def test_a_node_takes_the_place_of_a_vertex_ahead() -> None:
+    """An end lies 0.2 m before a vertex of another road, whose parts have no point there then."""
+    found, _ = road_map([[(0, 0), (50, 0), (100, 0)], [(49.8, 40), (49.8, 0.1)]])
+    assert len(found.nodes) == 4
+    assert [line.shape for line in found.lines] == [(), (), ()]
+
+
 def test_a_ring_with_arms() -> None:
     ring = [(20, 0), (0, 20), (-20, 0), (0, -20), (20, 0)]
     found, _ = road_map([ring, [(20.2, 0), (90, 0)], [(0, 20.2), (0, 90)], [(-10, 10), (-60, 60)]])
