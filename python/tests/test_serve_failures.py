@@ -287,18 +287,18 @@ def test_an_answer_that_is_too_large(drawn: Path, tmp_path: Path) -> None:
 
 
 def test_answers_that_arent_taken(drawn: Path, tmp_path: Path) -> None:
-    """The server holds some of them, and then closes connections."""
+    """The server holds some of them, and then closes connections: all of them would take 490 MB."""
     program = writing_program(tmp_path / "program")
     with serving(program, drawn, tmp_path / "log", "--workers", 1, is_new=True) as server:
         connections = []
-        for _ in range(20):
+        for _ in range(24):
             connection = socket.create_connection(("127.0.0.1", server.port))
             connection.sendall(
                 f"GET /match?ref=16 HTTP/1.1\r\nHost: localhost:{server.port}\r\n\r\n".encode()
             )
             assert connection.recv(100).startswith(b"HTTP/1.1 200 ")
             connections.append(connection)
-            wait_until(lambda: server.memory() < 350_000)
+            wait_until(lambda: server.memory() < 420_000)
         assert server.get("/match?ref=x").status == 422
         for connection in connections:
             connection.close()

@@ -13,7 +13,7 @@ from typing import IO
 
 from olr.asking.exchange import Asked, Exchange, how_ended
 from olr.asking.files import MapFiles
-from olr.asking.starting import kill_group, require_started, start
+from olr.asking.starting import failed_to_start, kill_group, start
 from olr.errors import ProgramEnded, TimedOut
 from olr.model.objects import RawLine
 
@@ -59,10 +59,10 @@ def _require_all(exchange: Exchange, program: Path, status: int, said: IO[bytes]
     """Raises an error unless a process has answered all records, and ended without a word."""
     said.seek(0)
     text = said.read(1000).decode("utf-8", errors="replace").strip()
-    require_started(program, text)
     after = f"after {exchange.answered} lines"
     if text:
-        raise ProgramEnded(f"{program} ended {after}: {text.splitlines()[0]}")
+        ended = ProgramEnded(f"{program} ended {after}: {text.splitlines()[0]}")
+        raise failed_to_start(program, text) or ended
     if status or exchange.answered != exchange.asked:
         raise ProgramEnded(f"{program} {how_ended(status)} {after}: is it the program olr?")
 

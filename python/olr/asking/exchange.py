@@ -6,7 +6,7 @@ from pathlib import Path
 from typing import NamedTuple
 
 from olr.asking.files import MapFiles
-from olr.asking.starting import require_started
+from olr.asking.starting import failed_to_start
 from olr.errors import MapRefused, ProgramEnded, ToolError
 from olr.model.fault import refusal_of
 from olr.model.objects import RawLine, raw_line
@@ -112,14 +112,17 @@ def why_ended(program: Path, status: int, said: bytes, answered: int) -> ToolErr
     """The error of a process that ended after so many lines, from its status and what it said on standard error."""
     text = said.decode("utf-8", errors="replace").strip()
     line = text.splitlines()[0] if text else ""
-    if not answered:
-        require_started(program, line)
-        refusal = refusal_of(line.removeprefix("olr: ")) if line.startswith("olr: ") else None
-        if (
-            isinstance(refusal, MapRefused)
-            or refusal is not None
-            and refusal.name in OF_THE_NUMBERS
-        ):
-            return refusal
+    refusal = None if answered else failed_to_start(program, line) or _refusal_of(line)
+    if refusal is not None:
+        return refusal
     about = f"olr {how_ended(status)} after {answered} answers{': ' if line else ''}{line}"
     return ProgramEnded(f"{about}: ask again, a new process is started")
+
+
+def _refusal_of(line: str) -> ToolError | None:
+    """What a process refuses that has answered nothing yet: the map, or a number."""
+    if not line.startswith("olr: "):
+        return None
+    refusal = refusal_of(line.removeprefix("olr: "))
+    is_one = isinstance(refusal, MapRefused) or refusal.name in OF_THE_NUMBERS
+    return refusal if is_one else None

@@ -6,7 +6,7 @@ from pathlib import Path
 from typing import TypeVar
 
 from olr.asking.patience import PATIENCE
-from olr.asking.starting import kill_group, require_started, start
+from olr.asking.starting import failed_to_start, kill_group, start
 from olr.errors import ProgramEnded, TimedOut
 from olr.model.fault import refusal_of
 
@@ -52,8 +52,7 @@ def read_once(
         raise refusal_of(said.splitlines()[0].removeprefix("olr: "))
     wrong = f"olr {command} ended with status {status}: is it the program olr?"
     if status:
-        require_started(program, said)
-        raise ProgramEnded(wrong)
+        raise failed_to_start(program, said) or ProgramEnded(wrong)
     try:
         return read(printed)
     except ValueError as error:

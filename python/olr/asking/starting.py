@@ -41,10 +41,11 @@ def not_started(program: str | Path, reason: str | None) -> ProgramNotFound:
     return ProgramNotFound(f"{program} can't be started: {reason}")
 
 
-def require_started(program: str | Path, said: str) -> None:
-    """Raises `ProgramNotFound` if what was said on standard error is that the program couldn't be started."""
-    if said.startswith(f"{SETPRIV}: "):
-        raise not_started(program, said.splitlines()[0].rpartition(": ")[2])
+def failed_to_start(program: str | Path, said: str) -> ProgramNotFound | None:
+    """The error, if what was said on standard error is that the program couldn't be started."""
+    if not said.startswith(f"{SETPRIV}: "):
+        return None
+    return not_started(program, said.splitlines()[0].rpartition(": ")[2])
 
 
 def kill_group(process: "subprocess.Popen[bytes]") -> None:
