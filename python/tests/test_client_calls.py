@@ -200,7 +200,7 @@ def test_defaults() -> None:
         parameters = inspect.signature(call).parameters
         for name, number in TOLERANCES.items():
             assert parameters["class_" if name == "class" else name].default == number.default
-            assert number.tolerance_text() in (inspect.getdoc(call) or "")
+            assert number.range_text() in (inspect.getdoc(call) or "")
     for what, of_question in NUMBERS.items():
         parameters = inspect.signature(getattr(olr.Map, what)).parameters
         own = {name: number.default for name, number in of_question.items()}

@@ -4,13 +4,7 @@ import click
 from collections.abc import Iterator
 from pathlib import Path
 
-from olr.commands.options import (
-    number_options,
-    of_question,
-    patience_option,
-    reading_options,
-    tolerance_options,
-)
+from olr.commands import options
 from olr.confidence.calibrating import Wanted, calibrated
 from olr.confidence.confidence import Confidence
 from olr.confidence.contents import text_of
@@ -29,21 +23,13 @@ MOST_REFERENCES = 1_000_000
 
 
 @click.command()
-@click.option(
-    "--map",
-    "folder",
-    metavar="DIR",
-    required=True,
-    type=click.Path(path_type=Path),
-    help="The map that is asked: a folder with nodes.csv, lines.csv and perhaps bans.csv.",
-)
-@click.option(
+@options.map_option("DIR", f"The map that is asked: {options.FOLDER}.")
+@options.file_option(
     "--for",
-    "messages",
-    metavar="MESSAGES",
-    type=click.Path(path_type=Path),
-    help="A file of messages, as match reads it. Trial paths are like theirs, and their answers say how different the sender's map is: 80 line "
+    "MESSAGES",
+    "A file of messages, as match reads it. Trial paths are like theirs, and their answers say how different the sender's map is: 80 line "
     "references or more. By default nothing is known of the messages, and trials of all differences count.",
+    "messages",
 )
 @click.option(
     "--differ",
@@ -52,53 +38,38 @@ MOST_REFERENCES = 1_000_000
     help=f"How different the sender's map is: from 0, the same one, to {GREATEST_DIFFERENCE:g}; 1 is that of another vendor. By default the "
     "messages of --for say so.",
 )
-@click.option(
+@options.file_option(
     "--pair",
-    metavar="OTHER",
-    type=click.Path(path_type=Path),
-    help="The sender's map, in a folder, if you have it: trials are drawn on it. By default it is made up of the map of --map.",
+    "OTHER",
+    "The sender's map, in a folder, if you have it: trials are drawn on it. By default it is made up of the map of --map.",
 )
-@click.option(
+@options.file_option(
     "--checked",
-    "checked_file",
-    metavar="FILE",
-    type=click.Path(path_type=Path),
-    help="Answers that somebody checked: lines of a key of --for, a comma or a tab, and right or wrong, of the likeliest place: 20 or more. They "
+    "FILE",
+    "Answers that somebody checked: lines of a key of --for, a comma or a tab, and right or wrong, of the likeliest place: 20 or more. They "
     "shift all probabilities. By default none is known.",
+    "checked_file",
 )
-@click.option(
-    "--out",
-    "file",
-    metavar="FILE.json",
-    required=True,
-    type=click.Path(path_type=Path),
-    help="The file to write, for --confidence. Folders above are made as needed.",
+@options.out_option(
+    "FILE.json", "The file to write, for --confidence. Folders above are made as needed."
 )
-@click.option(
-    "--force",
-    is_flag=True,
-    help="Replace the file of --out, if it is there. By default a file that is there is refused.",
-)
-@click.option(
+@options.force_option()
+@options.count_option(
     "--references",
-    type=click.IntRange(1, MOST_REFERENCES),
+    "How many trial references are drawn and asked.",
+    greatest=MOST_REFERENCES,
     default=Drawing().references,
-    show_default=True,
-    metavar="N",
-    help="How many trial references are drawn and asked.",
 )
-@click.option(
+@options.count_option(
     "--seed",
-    type=click.IntRange(0),
+    "What is drawn: the same seed draws the same references, and makes the same file.",
+    least=0,
     default=Drawing().seed,
-    show_default=True,
-    metavar="N",
-    help="What is drawn: the same seed draws the same references, and makes the same file.",
 )
-@reading_options
-@tolerance_options
-@number_options({name: NUMBERS["places"][name] for name in ("apart", "look")})
-@patience_option("Then the command ends, and names the reference.")
+@options.reading_options
+@options.tolerance_options
+@options.number_options({name: NUMBERS["places"][name] for name in ("apart", "look")})
+@options.patience_option()
 def command(
     folder: Path,
     messages: Path | None,
@@ -111,14 +82,14 @@ def command(
     seed: int,
     reading: Reading,
     patience: float,
-    **options: int | str | None,
+    **chosen: int | str | None,
 ) -> None:
     """Find by trials how probable it is that a place is the one that the sender meant, and write it for --confidence.
 
     References to paths that are known are drawn on the map in DIR, changed as they come from another map, and asked. Trials count that look
     like the messages of --for. docs/CONFIDENCE.md says what the probabilities mean, and where they fail.
     """
-    asking = of_question("places", options)
+    asking = options.of_question("places", chosen)
     if messages is None and reading != Reading():
         raise click.UsageError("--format, --ref and --key are for --for")
     if messages is None and checked_file is not None:

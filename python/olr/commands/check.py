@@ -9,20 +9,19 @@ from olr.checking.files import check_files
 from olr.checking.lengths import look_at_lengths
 from olr.checking.map_arrays import MapArrays, arrays_of
 from olr.checking.network import look_at_network
+from olr.commands import options
 from olr.model.map_folder import store_of
 from olr.regions.scratch import scratch_map
 from olr.regions.store import Store
 
 
 @click.command()
-@click.argument("folder", metavar="DIR|STORE", type=click.Path(path_type=Path))
-@click.option(
+@click.argument("folder", metavar="DIR|STORE", type=options.FILE)
+@options.count_option(
     "--most",
-    metavar="N",
-    type=click.IntRange(min=0),
+    "How many faults of each kind, and examples of each remark, are shown at most: 0 or more.",
+    least=0,
     default=10,
-    show_default=True,
-    help="How many faults of each kind, and examples of each remark, are shown at most: 0 or more.",
 )
 def command(folder: Path, most: int) -> None:
     """Find what is wrong with a map: the nodes.csv, lines.csv and bans.csv of the folder DIR, or a STORE of olr-tools regions.

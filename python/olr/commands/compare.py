@@ -5,14 +5,7 @@ from contextlib import ExitStack
 from pathlib import Path
 
 from olr.client.map_client import Map
-from olr.commands.options import (
-    confidence_option,
-    number_options,
-    of_question,
-    patience_option,
-    reading_options,
-    tolerance_options,
-)
+from olr.commands import options
 from olr.comparing.asking import Comparison
 from olr.comparing.columns import CHANGES
 from olr.comparing.places import Limits
@@ -25,36 +18,18 @@ from olr.messages.message import Reading
 from olr.messages.opening import name_of
 from olr.messages.reading import count_of, messages_of
 from olr.model.map_folder import inputs_of
-from olr.model.questions import NUMBERS
 from olr.outputs import require_free_file, whole_file
 from olr.pages.compare.page import TEMPLATE, About, Changed, page_of
 from olr.pages.html import html_of, require_html
 from olr.progress import progress
 
-ROWS = 2000
-"""Of the page."""
-
 
 @click.command()
-@click.argument("file", metavar="MESSAGES", type=click.Path(path_type=Path))
-@click.option(
-    "--map",
-    "old",
-    metavar="OLD",
-    required=True,
-    type=click.Path(path_type=Path),
-    help="The old map: a folder with nodes.csv, lines.csv and perhaps bans.csv, or a store of olr-tools regions.",
-)
-@click.option(
-    "--with",
-    "new",
-    metavar="NEW",
-    required=True,
-    type=click.Path(path_type=Path),
-    help="The new map, likewise. Its ids may be others.",
-)
-@tolerance_options
-@number_options(NUMBERS["places"])
+@click.argument("file", metavar="MESSAGES", type=options.FILE)
+@options.map_option("OLD", f"The old map: {options.OR_STORE}.", "old")
+@options.map_option("NEW", "The new map, likewise. Its ids may be others.", "new", "--with")
+@options.tolerance_options
+@options.places_options
 @click.option(
     "--across",
     type=click.IntRange(0, 1000),
@@ -63,37 +38,22 @@ ROWS = 2000
     help="Take roads of both maps for one road if they lead the same way and lie no farther apart: 0 to 1000 metres, by default "
     f"{ACROSS}. How long the stretch of one place may be that the other one lacks, --apart says.",
 )
-@confidence_option
-@patience_option("Then the command ends, and names the reference.")
-@reading_options
-@click.option(
-    "--out",
-    metavar="OUT",
-    required=True,
-    type=click.Path(path_type=Path),
-    help="The file to write: .gpkg, .geojson, or .csv, which has no geometries. Folders above are made as needed.",
+@options.confidence_option
+@options.patience_option()
+@options.reading_options
+@options.out_option(
+    "OUT",
+    "The file to write: .gpkg, .geojson, or .csv, which has no geometries. Folders above are made as needed.",
+    "out",
 )
-@click.option(
+@options.file_option(
     "--page",
+    "PAGE.html",
+    "A page to write of the references that change, with a table and a map. It needs no network. By default there is none.",
     "page_file",
-    metavar="PAGE.html",
-    type=click.Path(path_type=Path),
-    help="A page to write of the references that change, with a table and a map. It needs no network. By default there is none.",
 )
-@click.option(
-    "--rows",
-    "most",
-    type=click.IntRange(min=1),
-    default=ROWS,
-    show_default=True,
-    metavar="N",
-    help="How many references the page shows at most: 1 or more. All are counted.",
-)
-@click.option(
-    "--force",
-    is_flag=True,
-    help="Replace the files to write, if they are there. By default a file that is there is refused.",
-)
+@options.rows_option("the page shows")
+@options.force_option("the files to write, if they are there")
 def command(
     file: Path,
     old: Path,
@@ -104,9 +64,9 @@ def command(
     reading: Reading,
     out: Path,
     page_file: Path | None,
-    most: int,
+    rows: int,
     force: bool,
-    **options: int | str | None,
+    **chosen: int | str | None,
 ) -> None:
     """Say what changes for the references of MESSAGES with another map: where each one has its place on the map OLD and on the map
     NEW, whether that is the same stretch of road, how far both maps agree, and why it has no place any more.
@@ -115,7 +75,7 @@ def command(
     reference, one for each map, of its likeliest place there. It is written whole or not at all, and so is PAGE. A summary is printed.
     Places are compared by their geometry, whatever the ids of the maps. docs/COLUMNS.md says what is in each column.
     """
-    asking = of_question("places", options)
+    asking = options.of_question("places", chosen)
     where: Where = "force" if force else "new"
     sure = judging_for(confidence, asking.tolerances, asking.numbers)
     own = [] if confidence is None else [confidence]
@@ -126,7 +86,7 @@ def command(
     total = count_of(file, reading)
     apart = asking.all_numbers()["apart"]
     more = f", across {across} m"
-    summary, changed = Summary(), Changed(0 if page_file is None else most)
+    summary, changed = Summary(), Changed(0 if page_file is None else rows)
     with ExitStack() as stack:
         before, after = (
             stack.enter_context(Map.of_folder(one, **asking.tolerances, patience=patience))
@@ -135,10 +95,10 @@ def command(
         limits = Limits(across, apart / 10)
         comparison = Comparison(before, after, asking.numbers, limits, sure.judging)
         made = page_file and stack.enter_context(whole_file(page_file, force, inputs))
-        rows = stack.enter_context(writing_rows(Output(out, "changes", CHANGES), where, inputs))
+        written = stack.enter_context(writing_rows(Output(out, "changes", CHANGES), where, inputs))
         advance = stack.enter_context(progress("comparing", total))
         for chunk in comparison.chunks(messages_of(file, reading)):
-            add_chunk(rows, chunk)
+            add_chunk(written, chunk)
             summary.add(chunk.references)
             changed.add(chunk.references)
             advance(len(chunk.references))
@@ -148,7 +108,7 @@ def command(
             about = About(name_of(file), old, new, numbers, asking.all_numbers(), by)
             page = page_of(about, summary, changed, after.network())
             made.write_text(page, encoding="utf-8")
-    click.echo(f"{out}: {rows.rows:,} rows of {summary.references:,} references")
+    click.echo(f"{out}: {written.rows:,} rows of {summary.references:,} references")
     if page_file is not None:
         click.echo(f"{page_file}: {len(changed.chosen()):,} of {changed.count:,} that change")
     for line in (*summary.lines(), asking.line(more), cut_off_line(summary.cut_off), sure.note):

@@ -1,9 +1,8 @@
 """The options that the commands of imports share."""
 
 import click
-from collections.abc import Callable
-from pathlib import Path
 
+from olr.commands import options
 from olr.commands.u_turns import dead_ends_option, u_turns_option
 from olr.model.box import Box
 from olr.model.sources import require_columns
@@ -37,19 +36,10 @@ def _kept_fields(
     return keep
 
 
-OPTIONS = (
-    click.option(
-        "--out",
-        "folder",
-        metavar="DIR",
-        required=True,
-        type=click.Path(path_type=Path),
-        help="The folder to write the map to: a new or an empty one.",
-    ),
-    click.option(
-        "--force",
-        is_flag=True,
-        help="Replace the map in the folder of --out. Its other files stay. By default a folder that isn't empty is refused.",
+import_options = options.in_order(
+    options.out_option("DIR", "The folder to write the map to: a new or an empty one.", "folder"),
+    options.force_option(
+        "the map in the folder of --out. Its other files stay", "a folder that isn't empty"
     ),
     click.option(
         "--bbox",
@@ -70,10 +60,4 @@ OPTIONS = (
         "given several times. By default the ids and names of roads alone are kept.",
     ),
 )
-
-
-def import_options(command: Callable[..., None]) -> Callable[..., None]:
-    """Gives a command the options of all imports: `folder`, `force`, `box`, `u_turns`, `dead_ends` and `keep`."""
-    for option in reversed(OPTIONS):
-        command = option(command)
-    return command
+"""The options of all imports: `folder`, `force`, `box`, `u_turns`, `dead_ends` and `keep`."""

@@ -3,6 +3,7 @@
 import click
 from pathlib import Path
 
+from olr.commands import options
 from olr.commands.import_options import import_options
 from olr.counts import Counts
 from olr.importing.u_turns import DeadEnds, UTurns
@@ -13,18 +14,16 @@ from olr.osm.importing import Options, import_osm
 
 
 @click.command()
-@click.argument("file", type=click.Path(path_type=Path))
+@click.argument("file", type=options.FILE)
 @import_options
-@click.option(
+@options.flag_option(
     "--service",
-    is_flag=True,
-    help="Take service roads in: drives, car parks, yards. By default they are left out.",
+    "Take service roads in: drives, car parks, yards. By default they are left out.",
 )
-@click.option(
+@options.file_option(
     "--tags",
-    metavar="TABLE.toml",
-    type=click.Path(path_type=Path),
-    help="A table of which tags are roads, and of what class and form they are: docs/IMPORT.md. By default tags.toml of this package.",
+    "TABLE.toml",
+    "A table of which tags are roads, and of what class and form they are: docs/IMPORT.md. By default tags.toml of this package.",
 )
 def command(
     file: Path,
@@ -42,5 +41,5 @@ def command(
     What was left out or changed is counted on standard error, and in the map's import.json."""
     require_free(folder, force, [file] if tags is None else [file, tags])
     counts = Counts()
-    options = Options(box, service, tags, u_turns, keep, dead_ends)
-    write_import(import_osm(file, options, counts), folder, force, counts)
+    wanted = Options(box, service, tags, u_turns, keep, dead_ends)
+    write_import(import_osm(file, wanted, counts), folder, force, counts)

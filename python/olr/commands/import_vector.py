@@ -3,6 +3,7 @@
 import click
 from pathlib import Path
 
+from olr.commands import options
 from olr.commands.import_options import import_options
 from olr.counts import Counts
 from olr.importing.roads import GREATEST_ROAD_ID
@@ -16,7 +17,7 @@ from olr.vector.options import TOLERANCE, Options
 
 
 @click.command()
-@click.argument("file", type=click.Path(path_type=Path))
+@click.argument("file", type=options.FILE)
 @import_options
 @click.option(
     "--layer",
@@ -59,11 +60,10 @@ from olr.vector.options import TOLERANCE, Options
     help="The field with a road's name, which is kept in ids.csv. By default the one that is called name, in whatever capitals, if there "
     "is one.",
 )
-@click.option(
+@options.file_option(
     "--mapping",
-    metavar="TABLE.toml",
-    type=click.Path(path_type=Path),
-    help="A table of what the values of fields mean as classes, forms and directions: docs/IMPORT_VECTOR.md. By default classes and "
+    "TABLE.toml",
+    "A table of what the values of fields mean as classes, forms and directions: docs/IMPORT_VECTOR.md. By default classes and "
     "forms are the numbers 0 to 7, and directions words such as FT, TF, B, yes and no.",
 )
 @click.option(
@@ -79,10 +79,9 @@ from olr.vector.options import TOLERANCE, Options
     show_default=True,
     help="Ends of roads that lie so near to each other, or to another road, are joined: 0 to 20 metres.",
 )
-@click.option(
+@options.flag_option(
     "--join-vertices",
-    is_flag=True,
-    help="Join roads also where they have a vertex in common between their ends, as files made of OpenStreetMap need it. By default "
+    "Join roads also where they have a vertex in common between their ends, as files made of OpenStreetMap need it. By default "
     "they are joined at their ends alone.",
 )
 def command(
@@ -109,7 +108,7 @@ def command(
     What was left out or changed is counted on standard error, and in the map's import.json."""
     require_free(folder, force, [file] if mapping is None else [file, mapping])
     counts = Counts()
-    options = Options(
+    wanted = Options(
         fields=Fields(road_class, form, oneway, id_field, name_field, keep),
         layer=layer,
         crs=crs,
@@ -120,4 +119,4 @@ def command(
         u_turns=u_turns,
         dead_ends=dead_ends,
     )
-    write_import(import_vector(file, options, counts), folder, force, counts)
+    write_import(import_vector(file, wanted, counts), folder, force, counts)

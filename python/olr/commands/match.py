@@ -7,14 +7,7 @@ from pathlib import Path
 from typing import Any
 
 from olr.client.map_client import Map
-from olr.commands.options import (
-    confidence_option,
-    map_options,
-    number_options,
-    of_question,
-    patience_option,
-    reading_options,
-)
+from olr.commands import options
 from olr.confidence.choosing import Chosen, cut_off_line, judging_for, listing
 from olr.confidence.judged import Judging
 from olr.matching.asking import Asked
@@ -28,22 +21,18 @@ from olr.model.questions import NUMBERS, What
 
 
 @click.command()
-@click.argument("file", type=click.Path(path_type=Path))
-@map_options
-@click.option(
-    "--places",
-    "what",
-    flag_value="places",
-    help="Write the places of each reference, with a verdict. By default its matchings are written.",
+@click.argument("file", type=options.FILE)
+@options.map_options
+@options.question_option(
+    "places",
+    "Write the places of each reference, with a verdict. By default its matchings are written.",
 )
-@number_options(NUMBERS["places"], "with --places, ")
-@click.option(
-    "--why",
-    "what",
-    flag_value="why",
-    help="Write why each reference has no matching, and what helps. By default its matchings are written.",
+@options.number_options(NUMBERS["places"], "with --places, ")
+@options.question_option(
+    "why",
+    "Write why each reference has no matching, and what helps. By default its matchings are written.",
 )
-@number_options(NUMBERS["match"], "without --places and --why, ")
+@options.number_options(NUMBERS["match"], "without --places and --why, ")
 @click.option(
     "--part",
     type=click.Choice(["outer", "inner"]),
@@ -51,33 +40,23 @@ from olr.model.questions import NUMBERS, What
     show_default=True,
     help="The part of a location to draw: what it covers at most, or what at least.",
 )
-@confidence_option
-@patience_option("Then the command ends, and names the reference.")
-@reading_options
-@click.option(
-    "--out",
-    metavar="OUT",
-    required=True,
-    type=click.Path(path_type=Path),
-    help="The file to write: .gpkg, .geojson, or .csv, which has no geometries. Folders above are made as needed.",
+@options.confidence_option
+@options.patience_option()
+@options.reading_options
+@options.out_option(
+    "OUT",
+    "The file to write: .gpkg, .geojson, or .csv, which has no geometries. Folders above are made as needed.",
+    "out",
 )
-@click.option(
+@options.file_option(
     "--pieces",
-    metavar="PIECES",
-    type=click.Path(path_type=Path),
-    help="A second file to write, with a row for each piece of a line that is covered: .csv, .gpkg or .geojson. By default "
-    "there is none.",
+    "PIECES",
+    "A second file to write, with a row for each piece of a line that is covered: .csv, .gpkg or .geojson. By default there is none.",
 )
-@click.option(
-    "--force",
-    is_flag=True,
-    help="Replace the files to write, if they are there. By default a file that is there is refused.",
-)
-@click.option(
+@options.force_option("the files to write, if they are there")
+@options.flag_option(
     "--append",
-    is_flag=True,
-    help="Add the rows to the files to write, if they are there: .gpkg or .csv, with the same columns. By default a "
-    "file that is there is refused.",
+    "Add the rows to the files to write, if they are there: .gpkg or .csv, with the same columns. By default a file that is there is refused.",
 )
 def command(
     file: Path,
@@ -91,7 +70,7 @@ def command(
     pieces: Path | None,
     force: bool,
     append: bool,
-    **options: int | str | None,
+    **chosen: int | str | None,
 ) -> None:
     """Match the references of FILE on a map, and write what they fit as geometries.
 
@@ -100,7 +79,7 @@ def command(
     PIECES. docs/COLUMNS.md says what is in each column.
     """
     question: What = what or "match"
-    asking = of_question(question, options)
+    asking = options.of_question(question, chosen)
     where = _where(force, append)
     outputs = _outputs(question, out, pieces)
     sure = _judging(confidence, asking)

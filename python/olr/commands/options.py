@@ -1,4 +1,5 @@
-"""The options that commands share: the map, the tolerances with their profile, the numbers of questions, files of messages, pages."""
+"""The options that commands share: files and counts, the map, the tolerances with their profile, the numbers of questions, files of
+messages, pages."""
 
 import click
 import functools
@@ -13,57 +14,106 @@ from olr.model.profiles import FEED, PROFILE, PROFILES, about_text
 from olr.model.questions import NUMBERS, TOLERANCES, Number, What, argument
 
 Command = Callable[..., None]
-
-MAP = click.option(
-    "--map",
-    "folder",
-    metavar="DIR|STORE",
-    required=True,
-    type=click.Path(path_type=Path),
-    help="The map: a folder with nodes.csv, lines.csv and perhaps bans.csv, or a store of olr-tools regions.",
-)
+Option = Callable[[Command], Command]
+FILE = click.Path(path_type=Path)
+FOLDER = "a folder with nodes.csv, lines.csv and perhaps bans.csv"
+OR_STORE = f"{FOLDER}, or a store of olr-tools regions"
+ROWS = 2000
+"""References that a page shows."""
 
 
-def number_options(numbers: Mapping[str, Number], before: str = "") -> Callable[[Command], Command]:
-    """Gives a command options by their names: None where one is left out. `before` stands before their help. A number that is out of
-    its range is a `Fault` of the map that is asked."""
+def file_option(
+    flag: str, metavar: str, text: str, name: str | None = None, required: bool = False
+) -> Option:
+    """An option that is a path. `text` is its help; `name` is that of the parameter, by default as the flag has it."""
+    names = (flag,) if name is None else (flag, name)
+    return click.option(*names, metavar=metavar, required=required, type=FILE, help=text)
+
+
+def flag_option(flag: str, text: str) -> Option:
+    """An option that is given or not."""
+    return click.option(flag, is_flag=True, help=text)
+
+
+def count_option(
+    flag: str, text: str, least: int = 1, greatest: int | None = None, default: int | None = None
+) -> Option:
+    """An option that is a whole number in a range, None where it is left out and has no default."""
+    return click.option(
+        flag,
+        type=click.IntRange(least, greatest),
+        default=default,
+        show_default=default is not None,
+        metavar="N",
+        help=text,
+    )
+
+
+def in_order(*options: Option) -> Option:
+    """Several options as one, which help lists in this order."""
 
     def decorate(command: Command) -> Command:
-        for name, number in reversed(numbers.items()):
-            span = number.tolerance_text() if name in TOLERANCES else number.range_text()
-            text = f"{before}{number.purpose}: {span}."
-            command = click.option(
-                f"--{name}",
-                argument(name),
-                type=click.INT,
-                metavar="N",
-                help=text[0].upper() + text[1:],
-            )(command)
-        return command
+        return functools.reduce(lambda made, option: option(made), reversed(options), command)
 
     return decorate
 
 
-def tolerance_options(command: Command) -> Command:
-    """Gives a command the tolerances by their names, None where one is left out, and their `profile`."""
-    about = "; ".join(map(about_text, PROFILES))
-    profile = click.option(
+def map_option(metavar: str, text: str, name: str = "folder", flag: str = "--map") -> Option:
+    """The option of a map."""
+    return file_option(flag, metavar, text, name, required=True)
+
+
+MAP = map_option("DIR|STORE", f"The map: {OR_STORE}.")
+
+
+def out_option(metavar: str, text: str, name: str = "file") -> Option:
+    """The option `--out` of what a command writes."""
+    return file_option("--out", metavar, text, name, required=True)
+
+
+def force_option(
+    what: str = "the file of --out, if it is there", refused: str = "a file that is there"
+) -> Option:
+    """The option `--force`, which replaces something, and what is refused without it."""
+    return flag_option("--force", f"Replace {what}. By default {refused} is refused.")
+
+
+def question_option(what: What, text: str) -> Option:
+    """A flag that asks another question, as the parameter `what`."""
+    return click.option(f"--{what}", "what", flag_value=what, help=text)
+
+
+def number_options(numbers: Mapping[str, Number], before: str = "") -> Option:
+    """Options by the names of numbers: None where one is left out. `before` stands before their help. A number that is out of its
+    range is a `Fault` of the map that is asked."""
+    return in_order(*(_number_option(name, it, before) for name, it in numbers.items()))
+
+
+def _number_option(name: str, number: Number, before: str) -> Option:
+    text = f"{before}{number.purpose}: {number.range_text()}."
+    help = text[0].upper() + text[1:]
+    return click.option(f"--{name}", argument(name), type=click.INT, metavar="N", help=help)
+
+
+tolerance_options = in_order(
+    click.option(
         f"--{PROFILE}",
         type=click.Choice(list(PROFILES)),
         default=FEED,
         show_default=True,
-        help=f"The tolerances that aren't given: {about}.",
-    )
-    return profile(number_options(TOLERANCES)(command))
+        help=f"The tolerances that aren't given: {'; '.join(map(about_text, PROFILES))}.",
+    ),
+    number_options(TOLERANCES),
+)
+"""The tolerances by their names, None where one is left out, and their `profile`."""
+map_options = in_order(MAP, tolerance_options)
+"""The map's `folder`, and the tolerances."""
+places_options = number_options(NUMBERS["places"])
+"""The numbers of `places`."""
 
 
-def map_options(command: Command) -> Command:
-    """Gives a command the map's `folder`, and the tolerances."""
-    return MAP(tolerance_options(command))
-
-
-def patience_option(then: str) -> Callable[[Command], Command]:
-    """Gives a command the option `--patience`, whose help says what happens `then`."""
+def patience_option(then: str = "Then the command ends, and names the reference.") -> Option:
+    """The option `--patience`, whose help says what happens `then`."""
     return click.option(
         "--patience",
         type=float,
@@ -83,19 +133,17 @@ def _patience(context: click.Context, parameter: click.Parameter, seconds: float
     return seconds
 
 
-def confidence_option(command: Command) -> Command:
-    """Gives a command the file of a confidence, `confidence`: None where it is left out."""
-    return click.option(
-        "--confidence",
-        metavar="FILE",
-        type=click.Path(path_type=Path),
-        help="The file by which places have probabilities: olr-tools calibrate makes one for your map and your feed. By default it is one "
-        "for the profile feed and maps that differ somewhat: with other tolerances there are no probabilities.",
-    )(command)
+confidence_option = file_option(
+    "--confidence",
+    "FILE",
+    "The file by which places have probabilities: olr-tools calibrate makes one for your map and your feed. By default it is one "
+    "for the profile feed and maps that differ somewhat: with other tolerances there are no probabilities.",
+)
+"""The file of a confidence, None where it is left out."""
 
 
-def reading_options(command: Callable[..., None]) -> Callable[..., None]:
-    """Gives a command the options of a file of messages, as one parameter `reading`."""
+def reading_options(command: Command) -> Command:
+    """The options of a file of messages, as one parameter `reading`."""
 
     @click.option(
         "--format",
@@ -103,18 +151,8 @@ def reading_options(command: Callable[..., None]) -> Callable[..., None]:
         type=click.Choice(FORMATS),
         help="The format of the file of messages. By default it is detected by the first line.",
     )
-    @click.option(
-        "--ref",
-        metavar="NAME",
-        help="The column of the file of messages, or the member, that has the reference, such as a.b for a member within another. "
-        f"By default {REF}.",
-    )
-    @click.option(
-        "--key",
-        metavar="NAME",
-        help="The column of the file of messages, or the member, that has the key, such as a.b for a member within another. "
-        f"By default {KEY}, if there is one.",
-    )
+    @_member_option("--ref", "reference", REF)
+    @_member_option("--key", "key", f"{KEY}, if there is one")
     @functools.wraps(command)
     def reading(
         *words: Any, kind: Format | None, ref: str | None, key: str | None, **others: Any
@@ -124,26 +162,35 @@ def reading_options(command: Callable[..., None]) -> Callable[..., None]:
     return reading
 
 
-def page_options(command: Command) -> Command:
-    """Gives a command the page to write, `file` and `force`, and `tiles`, a URL or None."""
-    command = click.option(
-        "--tiles",
-        metavar="URL",
-        help="The URL of tiles to draw behind the map's lines, with {z}, {x} and {y} in it. By default none are, and no network is needed.",
-    )(command)
-    command = click.option(
-        "--force",
-        is_flag=True,
-        help="Replace the file of --out, if it is there. By default a file that is there is refused.",
-    )(command)
-    return click.option(
-        "--out",
-        "file",
-        metavar="PAGE.html",
-        required=True,
-        type=click.Path(path_type=Path),
-        help="The page to write. Folders above are made as needed.",
-    )(command)
+def _member_option(flag: str, what: str, default: str) -> Option:
+    text = (
+        f"The column of the file of messages, or the member, that has the {what}, such as a.b for a member within another. "
+        f"By default {default}."
+    )
+    return click.option(flag, metavar="NAME", help=text)
+
+
+def rows_option(what: str) -> Option:
+    """How many references a page has."""
+    text = f"How many references {what} at most: 1 or more. All are counted."
+    return count_option("--rows", text, default=ROWS)
+
+
+def tiles_option(where: str = "") -> Option:
+    """The option `--tiles`, a URL or None."""
+    text = (
+        f"The URL of tiles to draw behind the map's lines{where}, with {{z}}, {{x}} and {{y}} in it. By default none are, and no network is "
+        "needed."
+    )
+    return click.option("--tiles", metavar="URL", help=text)
+
+
+page_options = in_order(
+    out_option("PAGE.html", "The page to write. Folders above are made as needed."),
+    force_option(),
+    tiles_option(),
+)
+"""The page to write, `file` and `force`, and `tiles`."""
 
 
 def of_question(question: What, options: Mapping[str, Any]) -> Asking:

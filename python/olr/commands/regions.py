@@ -3,6 +3,7 @@
 import click
 from pathlib import Path
 
+from olr.commands import options
 from olr.counts import Counts
 from olr.errors import ToolError
 from olr.model.map_folder import NODES, files_read
@@ -12,20 +13,12 @@ from olr.regions.store import Sizes
 
 
 @click.command()
-@click.argument("source", metavar="DIR|FILE", type=click.Path(path_type=Path))
-@click.option(
-    "--out",
-    "file",
-    metavar="STORE",
-    required=True,
-    type=click.Path(path_type=Path),
-    help="The store to write: one file, such as country.gpkg. Folders above are made as needed.",
+@click.argument("source", metavar="DIR|FILE", type=options.FILE)
+@options.out_option(
+    "STORE",
+    "The store to write: one file, such as country.gpkg. Folders above are made as needed.",
 )
-@click.option(
-    "--force",
-    is_flag=True,
-    help="Replace the file of --out, if it is there. By default a file that is there is refused.",
-)
+@options.force_option()
 def command(source: Path, file: Path, force: bool) -> None:
     """Make a store of a map of any size: one GeoPackage, of which olr-tools run reads what a reference needs.
 

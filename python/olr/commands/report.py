@@ -5,15 +5,7 @@ from contextlib import ExitStack
 from pathlib import Path
 
 from olr.client.map_client import Map
-from olr.commands.options import (
-    confidence_option,
-    map_options,
-    number_options,
-    of_question,
-    page_options,
-    patience_option,
-    reading_options,
-)
+from olr.commands import options
 from olr.confidence.choosing import judging_for
 from olr.likely.order import Shown
 from olr.matching.asking import Asked
@@ -22,7 +14,6 @@ from olr.messages.message import Reading
 from olr.messages.opening import name_of
 from olr.model.asked_with import name_for_program
 from olr.model.map_folder import inputs_of
-from olr.model.questions import NUMBERS
 from olr.outputs import require_free_file, write_whole
 from olr.pages.html import html_of, require_html
 from olr.pages.report.asking import count
@@ -31,25 +22,16 @@ from olr.pages.report.page import TEMPLATE, About, page_of
 from olr.pages.report.rows import rows_of
 from olr.pages.view.scene import add_command
 
-ROWS = 2000
-
 
 @click.command()
-@click.argument("messages", metavar="MESSAGES", type=click.Path(path_type=Path))
-@map_options
-@number_options(NUMBERS["places"])
-@patience_option("Then the command ends, and names the reference.")
-@reading_options
-@confidence_option
-@click.option(
-    "--rows",
-    type=click.IntRange(min=1),
-    default=ROWS,
-    show_default=True,
-    metavar="N",
-    help="How many references the table and the map have at most: 1 or more. All are counted.",
-)
-@page_options
+@click.argument("messages", metavar="MESSAGES", type=options.FILE)
+@options.map_options
+@options.places_options
+@options.patience_option()
+@options.reading_options
+@options.confidence_option
+@options.rows_option("the table and the map have")
+@options.page_options
 def command(
     messages: Path,
     folder: Path,
@@ -60,7 +42,7 @@ def command(
     tiles: str | None,
     file: Path,
     force: bool,
-    **options: int | str | None,
+    **chosen: int | str | None,
 ) -> None:
     """Say what is wrong with a feed, or with a map: where the references of MESSAGES fit and how well, how many of their places are
     expected to be right, and why others don't fit. The page is one file of HTML that needs no network, written whole or not at all.
@@ -68,7 +50,7 @@ def command(
     MESSAGES has a key, a tab and a reference on each line, or is CSV or JSON; - is standard input. All are counted; the table of
     references and the map have at most --rows of them, with an equal share of each verdict and fault. A summary is printed.
     """
-    asking = of_question("places", options)
+    asking = options.of_question("places", chosen)
     inputs = [messages, *inputs_of(folder), *([] if confidence is None else [confidence])]
     require_html(file)
     require_free_file(file, force, inputs)

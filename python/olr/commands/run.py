@@ -11,14 +11,7 @@ from typing import TYPE_CHECKING
 
 from olr.asking.program import find_program
 from olr.client.map_client import Map
-from olr.commands.options import (
-    confidence_option,
-    number_options,
-    of_question,
-    patience_option,
-    reading_options,
-    tolerance_options,
-)
+from olr.commands import options
 from olr.confidence.choosing import cut_off_line, judging_for
 from olr.content import Content, Stamp
 from olr.errors import ToolError
@@ -58,92 +51,67 @@ wouldn't say why."""
 
 
 @click.command()
-@click.argument("messages", type=click.Path(path_type=Path))
-@reading_options
-@click.option(
+@click.argument("messages", type=options.FILE)
+@options.reading_options
+@options.file_option(
     "--store",
-    metavar="STORE",
+    "STORE",
+    "The map: a store, made by olr-tools regions, or the folder to which an import wrote one.",
     required=True,
-    type=click.Path(path_type=Path),
-    help="The map: a store, made by olr-tools regions, or the folder to which an import wrote one.",
 )
-@click.option(
-    "--out",
-    metavar="DIR",
-    required=True,
-    type=click.Path(path_type=Path),
-    help="The folder of the run: a new or an empty one.",
-)
+@options.out_option("DIR", "The folder of the run: a new or an empty one.", "out")
 @click.option(
     "--scheduler",
     metavar="ADDRESS",
     help="The address of a scheduler of Dask, such as tcp://host:8786. By default the run has processes of its own on this machine.",
 )
-@click.option(
+@options.count_option(
     "--workers",
-    type=click.IntRange(1),
-    metavar="N",
-    help="How many processes a run without a scheduler has on this machine: 1 or more. By default one for each processor.",
+    "How many processes a run without a scheduler has on this machine: 1 or more. By default one for each processor.",
 )
-@click.option(
+@options.flag_option(
     "--resume",
-    is_flag=True,
-    help="Go on with the run that the folder of --out holds. By default a folder that holds one is refused.",
+    "Go on with the run that the folder of --out holds. By default a folder that holds one is refused.",
 )
-@click.option(
+@options.file_option(
     "--join",
+    "FILE",
+    "Write the lines of all parts to one file too, in the order of the records. By default there are the parts alone.",
     "joined",
-    metavar="FILE",
-    type=click.Path(path_type=Path),
-    help="Write the lines of all parts to one file too, in the order of the records. By default there are the parts alone.",
 )
-@click.option(
+@options.file_option(
     "--geometries",
-    metavar="FILE",
-    type=click.Path(path_type=Path),
-    help="Write the rows of olr-tools match too, part by part: .gpkg, .geojson or .csv. By default no geometries are written.",
+    "FILE",
+    "Write the rows of olr-tools match too, part by part: .gpkg, .geojson or .csv. By default no geometries are written.",
 )
-@click.option(
+@options.file_option(
     "--pieces",
-    metavar="FILE",
-    type=click.Path(path_type=Path),
-    help="Write a row for each piece of a line too, as olr-tools match --pieces. By default none are written.",
+    "FILE",
+    "Write a row for each piece of a line too, as olr-tools match --pieces. By default none are written.",
 )
-@click.option(
-    "--force",
-    is_flag=True,
-    help="Replace the files of --join, --geometries and --pieces, if they are there. By default a file that is there is refused.",
+@options.force_option("the files of --join, --geometries and --pieces, if they are there")
+@options.question_option(
+    "places",
+    "Ask for the places of each reference, with a verdict. By default its matchings are asked for.",
 )
-@click.option(
-    "--places",
-    "what",
-    flag_value="places",
-    help="Ask for the places of each reference, with a verdict. By default its matchings are asked for.",
+@options.question_option(
+    "why",
+    "Ask why each reference has no matching, and what helps. By default its matchings are asked for.",
 )
-@click.option(
-    "--why",
-    "what",
-    flag_value="why",
-    help="Ask why each reference has no matching, and what helps. By default its matchings are asked for.",
+@options.question_option(
+    "candidates",
+    "Ask for the candidates of each point of a reference. By default its matchings are asked for.",
 )
-@click.option(
-    "--candidates",
-    "what",
-    flag_value="candidates",
-    help="Ask for the candidates of each point of a reference. By default its matchings are asked for.",
-)
-@number_options(NUMBERS["match"], "without --places, --why and --candidates, ")
-@number_options(OF_LINES, "with --places, ")
-@number_options(OF_ROWS, "with --places, in the rows of --geometries and --pieces, ")
-@number_options(NUMBERS["why"], "with --why, ")
-@tolerance_options
-@confidence_option
-@patience_option("Then a record that stands alone gets the fault TimedOut.")
-@click.option(
+@options.number_options(NUMBERS["match"], "without --places, --why and --candidates, ")
+@options.number_options(OF_LINES, "with --places, ")
+@options.number_options(OF_ROWS, "with --places, in the rows of --geometries and --pieces, ")
+@options.number_options(NUMBERS["why"], "with --why, ")
+@options.tolerance_options
+@options.confidence_option
+@options.patience_option("Then a record that stands alone gets the fault TimedOut.")
+@options.count_option(
     "--per-group",
-    type=click.IntRange(1),
-    metavar="N",
-    help="How many records a group, and so a part, has at most: 1 or more. By default 50 to 4,000, by how many records there are.",
+    "How many records a group, and so a part, has at most: 1 or more. By default 50 to 4,000, by how many records there are.",
 )
 def command(
     messages: Path,
@@ -161,7 +129,7 @@ def command(
     confidence: Path | None,
     patience: float,
     per_group: int | None,
-    **options: int | str | None,
+    **chosen: int | str | None,
 ) -> None:
     """Match any number of references on a map of any size, on many processors or machines.
 
@@ -170,7 +138,7 @@ def command(
     whatever happens, --resume goes on after what is written.
     """
     question: What = what or "match"
-    asking = of_question(question, options)
+    asking = options.of_question(question, chosen)
     numbers = asking.tolerances | asking.numbers
     given = {name.removesuffix("_"): value for name, value in numbers.items()}
     if scheduler is not None and workers is not None:

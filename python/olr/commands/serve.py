@@ -7,7 +7,7 @@ import re
 import sys
 from pathlib import Path
 
-from olr.commands.options import MAP, confidence_option
+from olr.commands import options
 from olr.model.questions import NUMBERS
 from olr.serving.allowed import LOOPBACK
 from olr.serving.limits import MIB, Limits
@@ -18,36 +18,23 @@ ORIGIN = re.compile(r"https?://" + NAME.pattern)
 LIMITS = Limits()
 
 
-def _names(
-    context: click.Context, parameter: click.Parameter, values: tuple[str, ...]
-) -> tuple[str, ...]:
-    """Names of hosts. Raises `BadParameter`."""
-    return _all_match(NAME, "a name of a host", context, parameter, values)
+class Text(click.ParamType):
+    """A text of a form."""
 
+    name = "text"
 
-def _origins(
-    context: click.Context, parameter: click.Parameter, values: tuple[str, ...]
-) -> tuple[str, ...]:
-    """Origins. Raises `BadParameter`."""
-    about = "an origin, such as https://maps.example"
-    return _all_match(ORIGIN, about, context, parameter, values)
+    def __init__(self, pattern: re.Pattern[str], about: str) -> None:
+        self._pattern, self._about = pattern, about
 
-
-def _all_match(
-    pattern: re.Pattern[str],
-    about: str,
-    context: click.Context,
-    parameter: click.Parameter,
-    values: tuple[str, ...],
-) -> tuple[str, ...]:
-    for value in values:
-        if not pattern.fullmatch(value):
-            raise click.BadParameter(f"{value!r} isn't {about}", context, parameter)
-    return values
+    def convert(self, value: str, param: click.Parameter | None, ctx: click.Context | None) -> str:
+        """The text. Ends with a usage error if it hasn't the form."""
+        if not self._pattern.fullmatch(value):
+            self.fail(f"{value!r} isn't {self._about}", param, ctx)
+        return value
 
 
 @click.command()
-@MAP
+@options.MAP
 @click.option(
     "--host",
     default="127.0.0.1",
@@ -55,20 +42,18 @@ def _all_match(
     metavar="ADDRESS",
     help="The address to listen to. There is no login and no encryption: what others reach belongs behind a server that has them.",
 )
-@click.option(
+@options.count_option(
     "--port",
-    type=click.IntRange(0, 65_535),
+    "The port to listen to; 0 for any that is free. It is printed.",
+    least=0,
+    greatest=65_535,
     default=8000,
-    show_default=True,
-    metavar="N",
-    help="The port to listen to; 0 for any that is free. It is printed.",
 )
-@click.option(
+@options.count_option(
     "--workers",
-    type=click.IntRange(1, 1000),
-    metavar="N",
-    help="So many processes of the program at most, each of which holds the map in memory. By default as many as there are processors. "
+    "So many processes of the program at most, each of which holds the map in memory. By default as many as there are processors. "
     "A store is asked by one.",
+    greatest=1000,
 )
 @click.option(
     "--time-limit",
@@ -101,7 +86,7 @@ def _all_match(
     "--allow-host",
     "names",
     multiple=True,
-    callback=_names,
+    type=Text(NAME, "a name of a host"),
     metavar="NAME",
     help="Another name by which the server is called, as a server in front of it passes it on. May be given several times. By default "
     "it answers to localhost, 127.0.0.1, [::1] and ADDRESS alone, with its port.",
@@ -110,17 +95,12 @@ def _all_match(
     "--allow-origin",
     "origins",
     multiple=True,
-    callback=_origins,
+    type=Text(ORIGIN, "an origin, such as https://maps.example"),
     metavar="ORIGIN",
     help="A site whose pages may ask, such as https://maps.example. May be given several times. By default those of the server alone.",
 )
-@click.option(
-    "--tiles",
-    metavar="URL",
-    help="The URL of tiles to draw behind the map's lines on the page, with {z}, {x} and {y} in it. By default none are, and no network is "
-    "needed.",
-)
-@confidence_option
+@options.tiles_option(" on the page")
+@options.confidence_option
 @click.option(
     "--log",
     "logged",

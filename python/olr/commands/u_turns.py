@@ -5,6 +5,7 @@ from collections.abc import Mapping
 from pathlib import Path
 from typing import Any, get_args
 
+from olr.commands import options
 from olr.counts import Counts
 from olr.errors import ToolError
 from olr.importing.u_turns import (
@@ -45,7 +46,7 @@ dead_ends_option = click.option(
 
 
 @click.command()
-@click.argument("folder", metavar="DIR", type=click.Path(path_type=Path))
+@click.argument("folder", metavar="DIR", type=options.FILE)
 @u_turns_option
 @dead_ends_option
 def command(folder: Path, u_turns: UTurns, dead_ends: DeadEnds) -> None:

@@ -4,21 +4,12 @@ import click
 from pathlib import Path
 
 from olr.client.map_client import Map
-from olr.commands.options import (
-    confidence_option,
-    map_options,
-    number_options,
-    of_question,
-    page_options,
-    patience_option,
-    reading_options,
-)
+from olr.commands import options
 from olr.confidence.choosing import cut_off_line, judging_for
 from olr.messages.finding import message_of_key, message_of_record
 from olr.messages.message import Reading
 from olr.model.asked_with import name_for_program
 from olr.model.map_folder import inputs_of
-from olr.model.questions import NUMBERS
 from olr.outputs import require_free_file, write_whole
 from olr.pages.html import require_html
 from olr.pages.view.page import html_of
@@ -27,24 +18,21 @@ from olr.pages.view.scene import add_command, scene_of
 
 @click.command()
 @click.argument("reference", metavar="[REF]", required=False)
-@map_options
-@number_options(NUMBERS["places"])
-@confidence_option
-@patience_option("Then the command ends, and names the reference.")
-@click.option(
+@options.map_options
+@options.places_options
+@options.confidence_option
+@options.patience_option()
+@options.file_option(
     "--messages",
-    metavar="FILE",
-    type=click.Path(path_type=Path),
-    help="A file of messages, from which the reference is taken: REF is the key of one. By default REF is the reference.",
+    "FILE",
+    "A file of messages, from which the reference is taken: REF is the key of one. By default REF is the reference.",
 )
-@click.option(
+@options.count_option(
     "--record",
-    type=click.IntRange(1),
-    metavar="N",
-    help="The number of a message in the file of --messages: 1 or more. By default the message is found by its key, REF.",
+    "The number of a message in the file of --messages: 1 or more. By default the message is found by its key, REF.",
 )
-@reading_options
-@page_options
+@options.reading_options
+@options.page_options
 def command(
     reference: str | None,
     folder: Path,
@@ -56,14 +44,14 @@ def command(
     file: Path,
     force: bool,
     tiles: str | None,
-    **options: int | str | None,
+    **chosen: int | str | None,
 ) -> None:
     """Show a reference on a map: its points and their directions, the candidates, where it fits, one place or matching at a time, the
     likeliest one first, or else why it doesn't. The page is one file of HTML that needs no network, written whole or not at all.
 
     REF is a reference, a text in base64, or with --messages the key of a message in a file as match reads it.
     """
-    asking = of_question("places", options)
+    asking = options.of_question("places", chosen)
     text = _text(reference, messages, record, reading)
     inputs = [*inputs_of(folder), *(one for one in (messages, confidence) if one is not None)]
     require_html(file)

@@ -9,18 +9,6 @@ from olr.model.map_folder import store_of
 from olr.model.profiles import PROFILE, as_arguments, other_profile, resolved, tolerances_of
 from olr.model.questions import ALL, NUMBERS, TOLERANCES, What
 
-UNITS = {
-    "metres": " m",
-    "decimetres": " dm",
-    "percent": " %",
-    "penalty points": " points",
-    "sectors of 11.25 degrees": " sectors",
-    "matchings": " matchings",
-    "places": " places",
-    "lines": " lines",
-}
-"""Of numbers, as texts have them; classes have none."""
-
 
 def numbers_text(profile: str, tolerances: Mapping[str, int], numbers: Mapping[str, int]) -> str:
     """All tolerances with their profile, and other numbers of a question: `radius 75 m, ..., profile feed, page 10 matchings`. Tolerances
@@ -30,9 +18,9 @@ def numbers_text(profile: str, tolerances: Mapping[str, int], numbers: Mapping[s
     but = f" but for {' and '.join(others)}" if others else ""
     return ", ".join(
         [
-            *(_number_text(name, value) for name, value in asked.items()),
+            *(ALL[name].value_text(name, value) for name, value in asked.items()),
             f"{PROFILE} {profile}{but}",
-            *(_number_text(name, value) for name, value in numbers.items()),
+            *(ALL[name].value_text(name, value) for name, value in numbers.items()),
         ]
     )
 
@@ -40,10 +28,6 @@ def numbers_text(profile: str, tolerances: Mapping[str, int], numbers: Mapping[s
 def asked_with_line(text: str) -> str:
     """The line of a summary that has such a text."""
     return f"asked with: {text}"
-
-
-def _number_text(name: str, value: int) -> str:
-    return f"{name} {value}{UNITS.get(ALL[name].unit, '')}"
 
 
 def all_of_question(question: What, numbers: Mapping[str, int]) -> dict[str, int]:

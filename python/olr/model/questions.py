@@ -2,6 +2,7 @@
 
 import inspect
 import re
+from collections import ChainMap
 from collections.abc import Callable, Iterable, Mapping
 from keyword import iskeyword
 from numbers import Integral
@@ -14,6 +15,17 @@ Item = TypeVar("Item")
 Call = TypeVar("Call", bound=Callable[..., Any])
 
 
+SIGNS = {
+    "classes": "",
+    "decimetres": " dm",
+    "metres": " m",
+    "penalty points": " points",
+    "percent": " %",
+    "sectors of 11.25 degrees": " sectors",
+}
+"""What stands behind a number of a unit in a short text: behind others, the unit."""
+
+
 class Number(NamedTuple):
     """A number of a question: its range, what it is where it is left out, what it counts, and what it is for. The default of a tolerance
     is that of the program: `olr.model.profiles` has others."""
@@ -24,32 +36,54 @@ class Number(NamedTuple):
     unit: str
     purpose: str
 
-    def span_text(self) -> str:
-        """Its range, with its unit."""
-        return f"{self.least} to {self.greatest} {self.unit}"
-
     def range_text(self) -> str:
         """Its range, with its unit and its default."""
-        return f"{self.span_text()}, by default {self.default}"
+        return f"{self.least} to {self.greatest} {self.unit}, by default {self.default}"
 
-    def tolerance_text(self) -> str:
-        """The range of a tolerance, with its unit and where its default comes from."""
-        return f"{self.span_text()}, by default that of the profile"
+    def wanted_text(self, name: str) -> str:
+        """What a number of that name is, for one that isn't."""
+        return f"{name} is a whole number of {self.unit} from {self.least} to {self.greatest}"
+
+    def value_text(self, name: str, value: int) -> str:
+        """A value by its name, with its unit."""
+        return f"{name} {value}{SIGNS.get(self.unit, f' {self.unit}')}"
+
+    def fault_text(self, name: str, value: int) -> str:
+        """What the program says of a value that is out of its range."""
+        return f"BadPage {value}" if name == "page" else f"BadNumber {name}"
+
+    def at_most(self, greatest: int) -> "Number":
+        """The number where no greater one is admitted: its default isn't greater either."""
+        most = min(self.greatest, greatest)
+        return self._replace(greatest=most, default=min(self.default, most))
 
 
-TOLERANCES: Mapping[str, Number] = {
-    "radius": Number(1, 1000, 100, "metres", "admit lines this far from a point"),
-    "bearing": Number(
+class Tolerance(Number):
+    """A number that all questions have."""
+
+    def range_text(self) -> str:
+        """Its range, with its unit and where its default comes from."""
+        return f"{self.least} to {self.greatest} {self.unit}, by default that of the profile"
+
+    def fault_text(self, name: str, value: int) -> str:
+        return f"BadTolerance {name}"
+
+
+TOLERANCES: dict[str, Number] = {
+    "radius": Tolerance(1, 1000, 100, "metres", "admit lines this far from a point"),
+    "bearing": Tolerance(
         0, 16, 4, "sectors of 11.25 degrees", "admit lines whose direction differs by so much"
     ),
-    "class": Number(0, 7, 7, "classes", "admit lines whose class differs by so much"),
-    "lowest": Number(
+    "class": Tolerance(0, 7, 7, "classes", "admit lines whose class differs by so much"),
+    "lowest": Tolerance(
         0, 7, 0, "classes", "admit roads less important than the reference allows by so much"
     ),
-    "percent": Number(0, 100, 30, "percent", "admit paths shorter or longer by this share"),
-    "slack": Number(0, 10_000, 300, "decimetres", "admit paths shorter or longer by so much again"),
+    "percent": Tolerance(0, 100, 30, "percent", "admit paths shorter or longer by this share"),
+    "slack": Tolerance(
+        0, 10_000, 300, "decimetres", "admit paths shorter or longer by so much again"
+    ),
 }
-NUMBERS: Mapping[What, Mapping[str, Number]] = {
+NUMBERS: dict[What, dict[str, Number]] = {
     "candidates": {},
     "match": {"page": Number(1, 1000, 10, "matchings", "list so many of each reference")},
     "places": {
@@ -69,9 +103,9 @@ NUMBERS: Mapping[What, Mapping[str, Number]] = {
     "why": {"nearest": Number(0, 64, 8, "lines", "show so many near each point")},
 }
 """The numbers of each question besides the tolerances."""
-ALL = {
-    name: number for numbers in (TOLERANCES, *NUMBERS.values()) for name, number in numbers.items()
-}
+ALL = ChainMap(TOLERANCES, *NUMBERS.values())
+"""The table of all numbers. What asks, shows or checks one is made of its row: options of commands, of addresses and of the page, arguments in
+Python, and what is said of them."""
 BLANKS = " \t\r\n"
 CURSOR = re.compile("[0-9.:]+(@[0-9a-f]{64})?")
 """What a cursor looks like: of such texts the program says which is one."""
@@ -119,13 +153,13 @@ def many(call: str, items: Iterable[Item], instead: str) -> Iterable[Item]:
 def number_words(name: str, value: int) -> list[str]:
     """The words of a number, which may be one of numpy. Raises `TypeError` for what isn't one, and `Fault` for one that is out of its
     range, as the program does."""
-    least, greatest, _, unit, _ = ALL[name]
-    wanted = f"{name} is a whole number of {unit} from {least} to {greatest}, not {value!r}"
+    known = ALL[name]
+    wanted = f"{known.wanted_text(name)}, not {value!r}"
     if isinstance(value, bool) or not issubclass(type(value), Integral):
         raise TypeError(wanted)
     number = int(value)
-    if not least <= number <= greatest:
-        raise Fault(_fault_of(name, number), wanted)
+    if not known.least <= number <= known.greatest:
+        raise Fault(known.fault_text(name, number), wanted)
     return [f"--{name}", str(number)]
 
 
@@ -155,7 +189,7 @@ def with_tolerances(call: Call) -> Call:
         for name, number in TOLERANCES.items()
     ]
     lines = [
-        f"`{argument(name)}`: {number.purpose}: {number.tolerance_text()}."
+        f"`{argument(name)}`: {number.purpose}: {number.range_text()}."
         for name, number in TOLERANCES.items()
     ]
     call.__doc__ = "\n".join([f"{inspect.getdoc(call) or ''}\n", *lines])
@@ -177,13 +211,6 @@ def words_of(what: What, given: Mapping[str, int]) -> list[str]:
         number_words(name, given.get(name, number.default)) for name, number in numbers.items()
     ]
     return [word for pair in pairs for word in pair]
-
-
-def _fault_of(name: str, value: int) -> str:
-    """What the program says of a number that is out of its range."""
-    if name == "page":
-        return f"BadPage {value}"
-    return f"BadTolerance {name}" if name in TOLERANCES else f"BadNumber {name}"
 
 
 def cursor_of(text: str) -> str:

@@ -1,5 +1,5 @@
-"""The addresses as an OpenAPI document. Options, ranges and defaults are those of `client/questions.py`, and profiles those of
-`profiles.py`. A tolerance has no default here: who writes it into each request, as clients that are made from such documents do, would
+"""The addresses as an OpenAPI document. Options, ranges and defaults are those of `olr.model.questions`, and profiles those of
+`olr.model.profiles`. A tolerance has no default here: who writes it into each request, as clients that are made from such documents do, would
 never ask with another profile.
 """
 
@@ -11,7 +11,7 @@ from olr.model.profiles import FEED, PROFILE, PROFILES, PROGRAM, about_text, tol
 from olr.model.questions import NUMBERS, TOLERANCES, Number, What
 from olr.serving import features, lists, meters, problems, streaming
 from olr.serving.limits import Limits
-from olr.serving.queries import AFTER, REF
+from olr.serving.queries import AFTER, REF, numbers_of
 from olr.version import VERSION
 
 Json = dict[str, Any]
@@ -28,22 +28,32 @@ STATUSES = {
     "503": "Too much is asked at once, or the map can't be read: ask again later",
     "504": "The program took too long",
 }
+JSON, TEXT = "application/json", {"type": "string"}
 
 
-def document(limits: Limits, with_features: bool = True) -> Json:
+def document(limits: Limits) -> Json:
     """The document."""
-    paths: Json = {}
-    for what in NUMBERS:
-        paths[f"/{what}"] = {"get": _question(what, limits, with_features)}
-    paths["/show"] = {"get": _get("What a reference says, without the map", [_reference()], JSON)}
-    scene = [_reference(), *_tolerances(FEED), *_numbers(NUMBERS["places"], limits)]
-    paths["/scene"] = {"get": _get("All that the page draws of a reference", scene, JSON)}
-    for what in NUMBERS:
-        paths[f"/batch/{what}"] = {"post": _batch(what, limits)}
-    paths["/rows"] = {"post": _rows(limits)}
-    paths["/messages"] = {"post": _messages(limits)}
-    paths["/health"] = {"get": _health()}
-    paths["/metrics"] = {"get": _get("Figures for Prometheus", [], TEXT, own=True)}
+    likeliest = _numbers("places", limits, FEED)
+    paths = {
+        **{f"/{what}": {"get": _question(what, limits)} for what in NUMBERS},
+        "/show": {"get": _asked("What a reference says, without the map", [_reference()], JSON)},
+        "/scene": {
+            "get": _asked(
+                "All that the page draws of a reference", [_reference(), *likeliest], JSON
+            )
+        },
+        **{f"/batch/{what}": {"post": _batch(what, limits)} for what in NUMBERS},
+        "/rows": {
+            "post": _lines(
+                "The likeliest place of each reference, and how probable it is, as the page's list shows them: a line for each line",
+                likeliest,
+                limits,
+            )
+        },
+        "/messages": {"post": _messages(limits)},
+        "/health": {"get": _health()},
+        "/metrics": {"get": _address("Figures for Prometheus", [], meters.MEDIA_TYPE)},
+    }
     return {
         "openapi": "3.0.3",
         "info": {
@@ -55,32 +65,32 @@ def document(limits: Limits, with_features: bool = True) -> Json:
     }
 
 
-JSON, TEXT = "application/json", meters.MEDIA_TYPE
-
-
-def _question(what: What, limits: Limits, with_features: bool) -> Json:
-    parameters = [_reference()]
+def _question(what: What, limits: Limits) -> Json:
+    parameters = [_reference(), *_numbers(what, limits, PROGRAM)]
     if what == "match":
-        parameters.append(
-            _parameter(AFTER, {"type": "string"}, "a cursor: the page behind it is answered")
-        )
-    parameters += [*_tolerances(PROGRAM), *_numbers(NUMBERS[what], limits)]
-    found = _get(SUMMARIES[what], parameters, JSON)
-    if what in ("match", "places") and with_features:
-        found["responses"]["200"]["content"][features.MEDIA_TYPE] = {}
-    return found
+        after = _parameter(AFTER, TEXT, "a cursor: the page behind it is answered")
+        parameters.insert(1, after)
+    types = [JSON, *([features.MEDIA_TYPE] if what in ("match", "places") else [])]
+    return _asked(SUMMARIES[what], parameters, *types)
 
 
-def _get(summary: str, parameters: list[Json], media_type: str, own: bool = False) -> Json:
-    """An address that is read. `own` is one that asks the program nothing."""
-    responses: Json = {"200": {"description": "The answer", "content": {media_type: {}}}}
-    if not own:
-        responses |= {status: _problem(text) for status, text in STATUSES.items()}
-    return {"summary": summary, "parameters": parameters, "responses": responses}
+def _address(summary: str, parameters: list[Json], *media_types: str) -> Json:
+    """An address, and the types of its answers."""
+    answer = {"description": "The answer", "content": {kind: {} for kind in media_types}}
+    return {"summary": summary, "parameters": parameters, "responses": {"200": answer}}
 
 
-def _problem(text: str) -> Json:
-    return {"description": text, "content": {problems.MEDIA_TYPE: {}}}
+def _asked(summary: str, parameters: list[Json], *media_types: str) -> Json:
+    """An address for which the program is asked."""
+    return _with_problems(_address(summary, parameters, *media_types), STATUSES)
+
+
+def _with_problems(address: Json, problems_of: Mapping[str, str]) -> Json:
+    """An address with what it answers too: problems, by their statuses."""
+    for status, text in problems_of.items():
+        content: Json = {problems.MEDIA_TYPE: {}}
+        address["responses"][status] = {"description": text, "content": content}
+    return address
 
 
 def _health() -> Json:
@@ -93,26 +103,22 @@ def _health() -> Json:
 
 
 def _batch(what: What, limits: Limits) -> Json:
-    parameters = [*_tolerances(PROGRAM), *_numbers(NUMBERS[what], limits)]
-    return _lines(f"{SUMMARIES[what]}: a line for each line", parameters, limits)
-
-
-def _rows(limits: Limits) -> Json:
-    summary = "The likeliest place of each reference, and how probable it is, as the page's list shows them: a line for each line"
-    return _lines(summary, [*_tolerances(FEED), *_numbers(NUMBERS["places"], limits)], limits)
+    summary = f"{SUMMARIES[what]}: a line for each line"
+    return _lines(summary, _numbers(what, limits, PROGRAM), limits)
 
 
 def _lines(summary: str, parameters: list[Json], limits: Limits) -> Json:
     """An address that answers lines of JSON about lines of a body."""
-    found = _get(summary, parameters, streaming.MEDIA_TYPE)
-    found["requestBody"] = {
-        "required": True,
-        "description": "Lines of a key, a tab and a reference, or of a reference alone",
-        "content": {media_type: {"schema": {"type": "string"}} for media_type in streaming.TAKEN},
-    }
-    found["responses"]["413"] = _problem(f"A body of more than {limits.body:,} bytes")
-    found["responses"]["415"] = _problem("A body of another type")
-    return found
+    found = _asked(summary, parameters, streaming.MEDIA_TYPE)
+    about = "Lines of a key, a tab and a reference, or of a reference alone"
+    found["requestBody"] = _body(about, *streaming.TAKEN)
+    too_large, other = f"A body of more than {limits.body:,} bytes", "A body of another type"
+    return _with_problems(found, {"413": too_large, "415": other})
+
+
+def _body(about: str, *media_types: str) -> Json:
+    content = {kind: {"schema": TEXT} for kind in media_types}
+    return {"required": True, "description": about, "content": content}
 
 
 def _messages(limits: Limits) -> Json:
@@ -121,52 +127,40 @@ def _messages(limits: Limits) -> Json:
         "ref": "the column or member of references, by default ref",
         "key": "the column or member of keys, by default key",
     }
-    parameters = [_parameter(name, {"type": "string"}, text) for name, text in options.items()]
+    parameters = [_parameter(name, TEXT, text) for name, text in options.items()]
     summary = "What a list of messages has in it, as olr-tools match reads a file: record, key and reference, a line for each"
-    found = _get(summary, parameters, lists.MEDIA_TYPE)
-    found["requestBody"] = {
-        "required": True,
-        "description": f"Lines of a key, a tab and a reference, CSV or JSON. The first {lists.MOST_ROWS:,} messages are answered, and one more "
+    found = _asked(summary, parameters, lists.MEDIA_TYPE)
+    found["requestBody"] = _body(
+        f"Lines of a key, a tab and a reference, CSV or JSON. The first {lists.MOST_ROWS:,} messages are answered, and one more "
         "if there are more",
-        "content": {"application/octet-stream": {"schema": {"type": "string"}}},
-    }
-    found["responses"]["413"] = _problem(f"A list of more than {lists.most_bytes(limits):,} bytes")
-    found["responses"]["422"] = _problem("A list that isn't understood")
-    return found
+        "application/octet-stream",
+    )
+    too_large = f"A list of more than {lists.most_bytes(limits):,} bytes"
+    return _with_problems(found, {"413": too_large, "422": "A list that isn't understood"})
 
 
 def _reference() -> Json:
     text = "a reference: the text of its binary format, in base64. A plus sign may stand as it is"
-    found = _parameter(REF, {"type": "string"}, text)
-    return found | {"required": True, "example": EXAMPLE}
+    return _parameter(REF, TEXT, text) | {"required": True, "example": EXAMPLE}
 
 
-def _tolerances(profile: str) -> list[Json]:
-    """The profile, which is by default that one, and the tolerances."""
-    schema = {"type": "string", "enum": list(PROFILES), "default": profile}
+def _numbers(what: What, limits: Limits, profile: str) -> list[Json]:
+    """The profile, which is by default that one, the tolerances, and the other numbers of a question."""
+    names = {"type": "string", "enum": list(PROFILES), "default": profile}
     about = "; ".join(map(about_text, PROFILES))
-    found = [_parameter(PROFILE, schema, f"the tolerances that aren't given: {about}")]
+    found = [_parameter(PROFILE, names, f"the tolerances that aren't given: {about}")]
     for name, number in TOLERANCES.items():
-        span = {"type": "integer", "minimum": number.least, "maximum": number.greatest}
         defaults = ", ".join(f"{one} {tolerances_of(one)[name]}" for one in PROFILES)
-        text = f"{number.purpose} ({number.unit}); by default that of the profile: {defaults}"
-        found.append(_parameter(name, span, text))
+        text = f"; by default that of the profile: {defaults}"
+        found.append(_number(name, number, text))
+    for name, number in numbers_of(what, limits.look).items():
+        found.append(_number(name, number, default=number.default))
     return found
 
 
-def _numbers(numbers: Mapping[str, Number], limits: Limits) -> list[Json]:
-    """Options that are numbers."""
-    found = []
-    for name, (least, greatest, default, unit, purpose) in numbers.items():
-        most = min(greatest, limits.look) if name == "look" else greatest
-        schema = {
-            "type": "integer",
-            "minimum": least,
-            "maximum": most,
-            "default": min(default, most),
-        }
-        found.append(_parameter(name, schema, f"{purpose} ({unit})"))
-    return found
+def _number(name: str, number: Number, more: str = "", **schema: int) -> Json:
+    span = {"type": "integer", "minimum": number.least, "maximum": number.greatest}
+    return _parameter(name, span | schema, f"{number.purpose} ({number.unit}){more}")
 
 
 def _parameter(name: str, schema: Json, text: str) -> Json:

@@ -12,11 +12,12 @@ from typing import Any, NamedTuple
 
 from olr.model.fault_table import ROWS
 from olr.model.profiles import FEED, PROFILES, about_text, tolerances_of
-from olr.model.questions import NUMBERS, TOLERANCES
+from olr.model.questions import NUMBERS, TOLERANCES, Number
 from olr.pages.html import data_text, leaflet, leaflet_licence, origin_of
 from olr.serving.limits import Limits
 from olr.serving.lists import MOST_ROWS, most_bytes
 from olr.serving.problems import TITLES
+from olr.serving.queries import numbers_of
 
 INDEX = "index.html"
 SHARED = ("picture.css", "picture.js", "shared.css", "table.js")
@@ -72,8 +73,8 @@ def assets() -> dict[str, Asset]:
 def with_data(page: Asset, limits: Limits, tiles: str | None) -> Asset:
     """The page with what its script needs to know."""
     data = {
-        "tolerances": _numbers(TOLERANCES, limits),
-        "numbers": _numbers(NUMBERS["places"], limits),
+        "tolerances": _numbers(TOLERANCES),
+        "numbers": _numbers(numbers_of("places", limits.look)),
         "profiles": [
             {"name": name, "about": about_text(name), "tolerances": tolerances_of(name)}
             for name in PROFILES
@@ -87,14 +88,9 @@ def with_data(page: Asset, limits: Limits, tiles: str | None) -> Asset:
     return page._replace(content=page.content.replace(b"@DATA@", data_text(data).encode()))
 
 
-def _numbers(numbers: Mapping[str, Any], limits: Limits) -> list[dict[str, Any]]:
+def _numbers(numbers: Mapping[str, Number]) -> list[dict[str, Any]]:
     """What fields of numbers show."""
-    return [
-        {"name": name, "least": least, "greatest": most, "default": min(default, most)}
-        | {"unit": unit, "purpose": purpose}
-        for name, (least, greatest, default, unit, purpose) in numbers.items()
-        for most in [min(greatest, limits.look) if name == "look" else greatest]
-    ]
+    return [{"name": name} | number._asdict() for name, number in numbers.items()]
 
 
 def described(document: Mapping[str, Any]) -> str:

@@ -1,4 +1,4 @@
-"""The query of a URL as a question. Names and ranges are those of the command line: `client/questions.py` has them. So are the defaults, but
+"""The query of a URL as a question. Names and ranges are those of the command line: `olr.model.questions` has them. So are the defaults, but
 that tolerances are those of the profile `program` where none is named: who asks an address speaks for the program.
 """
 
@@ -10,7 +10,7 @@ from urllib.parse import unquote_to_bytes
 
 from olr.model.fault import Fault
 from olr.model.profiles import PROFILE, PROFILES, PROGRAM, names_text, tolerances_of
-from olr.model.questions import ALL, NUMBERS, What, cursor_of, number_words, record_text
+from olr.model.questions import ALL, NUMBERS, Number, What, cursor_of, number_words, record_text
 from olr.serving.problems import bad_request, of_fault
 
 REF, AFTER = "ref", "after"
@@ -91,32 +91,36 @@ def kind_of(what: What, options: Mapping[str, str], most_look: int) -> Kind:
     return _kind(what, tuple(options.items()), most_look)
 
 
+def numbers_of(what: What, most_look: int) -> dict[str, Number]:
+    """The numbers of a question besides the tolerances, as a server admits them whose greatest `look` is `most_look`."""
+    numbers = NUMBERS[what]
+    return numbers | {name: numbers[name].at_most(most_look) for name in numbers if name == "look"}
+
+
 @lru_cache(maxsize=KINDS)
 def _kind(what: What, options: tuple[tuple[str, str], ...], most_look: int) -> Kind:
-    profile = dict(options).get(PROFILE, PROGRAM)
+    given = dict(options)
+    profile = given.pop(PROFILE, PROGRAM)
     if profile not in PROFILES:
         raise bad_request(f"{profile!r} is no profile: {names_text()}")
-    defaults = {name: number.default for name, number in NUMBERS[what].items()}
-    numbers = {**tolerances_of(profile), **defaults}
-    if "look" in numbers:
-        numbers["look"] = min(numbers["look"], most_look)
-    for name, value in options:
-        if name == PROFILE:
-            continue
+    admitted = numbers_of(what, most_look)
+    numbers = tolerances_of(profile) | {name: it.default for name, it in admitted.items()}
+    for name, value in given.items():
         if name not in numbers:
             known = [REF, *([AFTER] if what == "match" else []), PROFILE, *numbers]
             raise bad_request(f"{name!r} is no option of /{what}: it has {', '.join(known)}")
         numbers[name] = _number(name, value)
-    if numbers.get("look", 0) > most_look:
-        raise bad_request(f"look is {most_look:,} at most on this server")
+    for name, number in admitted.items():
+        if numbers[name] > number.greatest:
+            raise bad_request(f"{name} is {number.greatest:,} at most on this server")
     return Kind(what, tuple(word for pair in numbers.items() for word in number_words(*pair)))
 
 
 def _number(name: str, value: str) -> int:
     """A number that is in its range. Raises `Problem`."""
-    least, greatest, _, unit, _ = ALL[name]
-    if not NUMBER.fullmatch(value) or not least <= int(value) <= greatest:
-        raise bad_request(f"{name} is a whole number of {unit} from {least} to {greatest}")
+    number = ALL[name]
+    if not NUMBER.fullmatch(value) or not number.least <= int(value) <= number.greatest:
+        raise bad_request(number.wanted_text(name))
     return int(value)
 
 
