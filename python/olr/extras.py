@@ -18,10 +18,10 @@ EXTRAS = {
     "geo": ("fiona", "geopandas", "numpy", "shapely"),
     "scale": ("distributed", "numpy"),
     "serve": (
-        "fastapi",
         "httptools",
         "numpy",
         "prometheus_client",
+        "starlette",
         "uvicorn",
         "uvloop",
     ),
@@ -43,7 +43,7 @@ EXTRA_OF = {
 }
 """The extra of each command of `olr-tools`."""
 
-COMES_WITH = {"dask": "distributed", "pandas": "geopandas", "starlette": "fastapi"}
+COMES_WITH = {"dask": "distributed", "pandas": "geopandas"}
 """Modules that come with another one, which alone is named."""
 
 

@@ -13,7 +13,6 @@ import sys
 MODULES = {
     "click": "python3-click",
     "distributed": "python3-distributed",
-    "fastapi": "python3-fastapi",
     "fiona": "python3-fiona",
     "geopandas": "python3-geopandas",
     "httptools": "python3-httptools",
@@ -24,6 +23,7 @@ MODULES = {
     "rich": "python3-rich",
     "scipy": "python3-scipy",
     "shapely": "python3-shapely",
+    "starlette": "python3-starlette",
     "uvicorn": "python3-uvicorn",
     "uvloop": "python3-uvloop",
 }

@@ -1,24 +1,28 @@
 """The addresses, and what each answers."""
 
 import json
-from collections.abc import AsyncGenerator, AsyncIterator, Awaitable, Callable, Coroutine, Iterator
+from collections.abc import AsyncGenerator, AsyncIterator, Iterator
 from contextlib import aclosing
-from fastapi import FastAPI
+from functools import partial
+from starlette.applications import Starlette
 from starlette.exceptions import HTTPException
 from starlette.requests import Request
 from starlette.responses import Response
 from starlette.routing import Route
-from typing import Any, NamedTuple
+from typing import NamedTuple
 
 from olr.confidence.confidence import Confidence
 from olr.errors import ToolError
 from olr.model.fault import Fault
 from olr.model.profiles import FEED
 from olr.model.questions import NUMBERS, What, record_text
-from olr.serving import features, openapi
+from olr.serving import openapi
+from olr.serving.features import MEDIA_TYPE as FEATURES
+from olr.serving.features import Features
 from olr.serving.limits import Limits
 from olr.serving.lists import Lists
-from olr.serving.meters import MEDIA_TYPE, Meters
+from olr.serving.meters import MEDIA_TYPE as FIGURES
+from olr.serving.meters import Meters
 from olr.serving.pages import INDEX, Asset, assets, described, with_data
 from olr.serving.problems import Problem, of_error, of_status
 from olr.serving.queries import Kind, options_of, question_of, reference_of, require_no_options
@@ -31,7 +35,6 @@ from olr.version import VERSION
 
 JSON = "application/json"
 VARIES = {"Vary": "Accept"}
-Answering = Callable[[Request], Awaitable[Response]]
 
 
 class Service(NamedTuple):
@@ -46,158 +49,110 @@ class Service(NamedTuple):
     """The URL of tiles for the page."""
 
 
-def application(service: Service) -> FastAPI:
-    """The application. All that isn't an answer is a problem document. Its addresses take a request as it is: FastAPI's own reading of
-    parameters passes over those that it doesn't know and those that are there twice. So the OpenAPI document is made here too.
-    """
-    room = Room(service.limits.time)
-    app = FastAPI(
+def application(service: Service) -> Starlette:
+    """The application. All that isn't an answer is a problem document."""
+    answers = _Answers(service)
+    app = Starlette(
         routes=[
-            *(Route(f"/{what}", _asking(service, what, room)) for what in NUMBERS),
-            Route("/show", _showing(service)),
-            Route("/scene", _scene(service, room)),
+            *(Route(f"/{what}", partial(answers.question, what)) for what in NUMBERS),
+            Route("/show", answers.show),
+            Route("/scene", answers.scene),
             Route("/messages", Lists(service.limits).answer, methods=["POST"]),
-            *(_streaming(service, what) for what in NUMBERS),
-            _rows(service, room),
-            Route("/health", _health(service)),
-            Route("/metrics", _metrics(service)),
+            *(Route(f"/batch/{what}", answers.batch(what), methods=["POST"]) for what in NUMBERS),
+            Route("/rows", answers.rows(), methods=["POST"]),
+            Route("/health", answers.health),
+            Route("/metrics", answers.metrics),
             *_pages(service),
         ],
-        exception_handlers={
-            Problem: _problem,
-            Fault: _counting(service),
-            ToolError: _error,
-            HTTPException: _of_starlette,
-            Exception: _unforeseen,
-        },
-        openapi_url=None,
+        exception_handlers=dict.fromkeys(
+            (Problem, ToolError, HTTPException, Exception), answers.refuse
+        ),
     )
     app.router.redirect_slashes = False
     return app
 
 
-def _is_gone(request: Request) -> IsGone:
-    """Whether the client of a request is gone."""
-    is_gone: IsGone = request.scope["is_gone"]
-    return is_gone
+class _Answers:
+    """What the addresses answer that ask the map."""
 
+    def __init__(self, service: Service) -> None:
+        self._service, self._served, self._limits = service, service.served, service.limits
+        self._room = Room(service.limits.time)
+        self._features = Features(self._served, service.confidence, self._room)
+        self._scenes = Scenes(self._served, self._limits, service.confidence, self._room)
 
-def _asking(service: Service, what: What, room: Room) -> Answering:
-    has_features = what in ("match", "places")
-    made = features.Features(service.served, service.confidence, room)
-
-    async def answer(request: Request) -> Response:
+    async def question(self, what: What, request: Request) -> Response:
+        """The answer to a question, as the program gives it or as GeoJSON."""
         options = options_of(request.scope["query_string"])
-        question = question_of(what, options, service.limits.look)
-        if has_features and features.MEDIA_TYPE in request.headers.get("accept", ""):
-            text = await made.of(question, _is_gone(request))
-            return Response(text, headers=VARIES, media_type=features.MEDIA_TYPE)
-        known = await service.served.answer(question, _is_gone(request))
+        question = question_of(what, options, self._limits.look)
+        has_features = what in ("match", "places")
+        if has_features and FEATURES in request.headers.get("accept", ""):
+            text = await self._features.of(question, request.scope["is_gone"])
+            return Response(text, headers=VARIES, media_type=FEATURES)
+        known = await self._served.answer(question, request.scope["is_gone"])
         return Response(known.json, headers=VARIES if has_features else None, media_type=JSON)
 
-    return answer
-
-
-def _showing(service: Service) -> Answering:
-    async def show(request: Request) -> Response:
+    async def show(self, request: Request) -> Response:
+        """What a reference says."""
         options = options_of(request.scope["query_string"])
         text = record_text(reference_of(options))
         require_no_options(options)
-        return Response(await service.served.show(text), media_type=JSON)
+        return Response(await self._served.show(text), media_type=JSON)
 
-    return show
-
-
-def _scene(service: Service, room: Room) -> Answering:
-    scenes = Scenes(service.served, service.limits, service.confidence, room)
-
-    async def scene(request: Request) -> Response:
+    async def scene(self, request: Request) -> Response:
+        """What the page draws."""
         options = options_of(request.scope["query_string"])
-        found = await scenes.scene(options, _is_gone(request))
-        return Response(json_of(found | {"tiles": service.tiles}), media_type=JSON)
+        found = await self._scenes.scene(options, request.scope["is_gone"])
+        return Response(json_of(found | {"tiles": self._service.tiles}), media_type=JSON)
 
-    return scene
+    def batch(self, what: What) -> Streaming:
+        """Answers to the lines of a body."""
 
+        async def lines(
+            kind: Kind, body: AsyncIterator[bytes], _: IsGone
+        ) -> AsyncGenerator[bytes, None]:
+            async with aclosing(self._served.batch(kind, body)) as answered:
+                async for some in answered:
+                    yield b"".join(one.line() for one in some)
 
-def _streaming(service: Service, what: What) -> Route:
-    async def lines(
-        kind: Kind, body: AsyncIterator[bytes], _: IsGone
-    ) -> AsyncGenerator[bytes, None]:
-        async with aclosing(service.served.batch(kind, body)) as answered:
-            async for some in answered:
-                yield b"".join(one.line() for one in some)
+        return Streaming(self._served, self._limits, what, lines)
 
-    streaming = Streaming(service.served, service.limits, what, lines)
-    return Route(f"/batch/{what}", streaming, methods=["POST"])
+    def rows(self) -> Streaming:
+        """The rows of the page's list."""
+        rows = Rows(self._served, self._service.confidence, self._room)
+        return Streaming(self._served, self._limits, "places", rows.lines, FEED)
 
+    async def health(self, _: Request) -> Response:
+        """Whether the server can answer."""
+        is_able, about = await self._served.health()
+        versions = {"olr": about.pop("program"), "olr-tools": VERSION}
+        text = json.dumps({"able": is_able, **about, "versions": versions}, ensure_ascii=False)
+        return Response(text, 200 if is_able else 503, media_type=JSON)
 
-def _rows(service: Service, room: Room) -> Route:
-    rows = Rows(service.served, service.confidence, room)
-    streaming = Streaming(service.served, service.limits, "places", rows.lines, FEED)
-    return Route("/rows", streaming, methods=["POST"])
+    async def metrics(self, _: Request) -> Response:
+        """What was counted."""
+        return Response(self._service.meters.text(), headers={"Content-Type": FIGURES})
+
+    async def refuse(self, _: Request, error: Exception) -> Response:
+        """Why there is no answer. Faults of references are counted."""
+        if isinstance(error, Fault):
+            self._service.meters.count_fault(error.name)
+        if isinstance(error, HTTPException):
+            return of_status(error.status_code, error.headers).response()
+        if isinstance(error, ToolError):
+            error = of_error(error)
+        return (error if isinstance(error, Problem) else of_status(500)).response()
 
 
 def _pages(service: Service) -> Iterator[Route]:
     """The pages, and what they load."""
     document = openapi.document(service.limits)
-    there = assets()
-    page = with_data(there.pop(INDEX), service.limits, service.tiles)
-    yield Route("/", _fixed(page))
-    yield Route("/docs", _fixed(Asset(described(document).encode(), "text/html")))
     text = json.dumps(document, ensure_ascii=False, indent=1)
-    yield Route("/openapi.json", _fixed(Asset(text.encode(), JSON)))
-    for name, asset in there.items():
-        yield Route(f"/assets/{name}", _fixed(asset))
-
-
-def _fixed(asset: Asset) -> Answering:
-    async def fixed(request: Request) -> Response:
-        return asset.response(request)
-
-    return fixed
-
-
-def _health(service: Service) -> Answering:
-    async def health(_: Request) -> Response:
-        is_able, about = await service.served.health()
-        versions = {"olr": about.pop("program"), "olr-tools": VERSION}
-        found = {"able": is_able, **about, "versions": versions}
-        text = json.dumps(found, ensure_ascii=False)
-        return Response(text, 200 if is_able else 503, media_type=JSON)
-
-    return health
-
-
-def _metrics(service: Service) -> Answering:
-    async def metrics(_: Request) -> Response:
-        return Response(service.meters.text(), headers={"Content-Type": MEDIA_TYPE})
-
-    return metrics
-
-
-async def _problem(_: Request, error: Exception) -> Response:
-    assert isinstance(error, Problem)
-    return error.response()
-
-
-async def _error(_: Request, error: Exception) -> Response:
-    assert isinstance(error, ToolError)
-    return of_error(error).response()
-
-
-def _counting(service: Service) -> Callable[[Request, Exception], Coroutine[Any, Any, Response]]:
-    async def fault(_: Request, error: Exception) -> Response:
-        assert isinstance(error, Fault)
-        service.meters.count_fault(error.name)
-        return of_error(error).response()
-
-    return fault
-
-
-async def _of_starlette(_: Request, error: Exception) -> Response:
-    assert isinstance(error, HTTPException)
-    return of_status(error.status_code, error.headers).response()
-
-
-async def _unforeseen(_: Request, error: Exception) -> Response:
-    return of_status(500).response()
+    there = assets()
+    fixed = {
+        "/": with_data(there.pop(INDEX), service.limits, service.tiles),
+        "/docs": Asset(described(document).encode(), "text/html"),
+        "/openapi.json": Asset(text.encode(), JSON),
+        **{f"/assets/{name}": asset for name, asset in there.items()},
+    }
+    return (Route(path, asset.answer) for path, asset in fixed.items())

@@ -37,7 +37,7 @@ class Asset(NamedTuple):
         """A file with the type that its name says."""
         return cls(text.encode(), mimetypes.guess_type(name)[0] or "text/plain")
 
-    def response(self, request: Request) -> Response:
+    async def answer(self, request: Request) -> Response:
         """The answer to a request for it: no content if the browser has it already."""
         tag = f'"{hashlib.sha256(self.content).hexdigest()[:32]}"'
         headers = {"ETag": tag, "Cache-Control": CACHING}
