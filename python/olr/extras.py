@@ -15,10 +15,11 @@ ALWAYS = ("click", "rich")
 
 EXTRAS = {
     "maps": ("fiona", "numpy", "osmium", "pyproj", "scipy"),
-    "geo": ("fiona", "geopandas", "numpy", "shapely"),
+    "geo": ("fiona", "geopandas", "jinja2", "numpy", "shapely"),
     "scale": ("distributed", "numpy"),
     "serve": (
         "httptools",
+        "jinja2",
         "numpy",
         "prometheus_client",
         "starlette",
@@ -43,7 +44,7 @@ EXTRA_OF = {
 }
 """The extra of each command of `olr-tools`."""
 
-COMES_WITH = {"dask": "distributed", "pandas": "geopandas"}
+COMES_WITH = {"dask": "distributed", "markupsafe": "jinja2", "pandas": "geopandas"}
 """Modules that come with another one, which alone is named."""
 
 

@@ -16,6 +16,7 @@ MODULES = {
     "fiona": "python3-fiona",
     "geopandas": "python3-geopandas",
     "httptools": "python3-httptools",
+    "jinja2": "python3-jinja2",
     "numpy": "python3-numpy",
     "osmium": "python3-pyosmium",
     "prometheus_client": "python3-prometheus-client",

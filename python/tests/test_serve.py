@@ -8,6 +8,7 @@ import re
 import socket
 import subprocess
 from collections.abc import Iterator
+from jinja2 import UndefinedError
 from pathlib import Path
 from typing import Any
 from urllib.parse import quote
@@ -19,6 +20,7 @@ from olr.model.fault_table import ROWS
 from olr.model.questions import NUMBERS, TOLERANCES
 from olr.pages.view.scene import scene_of
 from olr.serving import problems
+from olr.serving.pages import described
 from servers import Server, ask_all, expected_of, path_of, reply_on, serving
 
 REFERENCES = 2000
@@ -355,6 +357,24 @@ def test_the_description(server: Server) -> None:
     titles = re.findall(r'Problem\(\d+, "(\w+)"', "".join(file.read_text() for file in modules))
     assert {"Busy", "NotFound", "MethodNotAllowed", "InternalServerError", *titles} < set(marks)
     assert "<script" not in page
+
+
+def test_texts_of_the_description_are_no_markup() -> None:
+    """Each of them stands as it is, on the page that is made of it."""
+    text = "<script>\"'&"
+    option = {"name": text, "schema": {"type": "string"}, "description": text}
+    about = {
+        "summary": text,
+        "parameters": [option | {"required": True, "example": text}],
+        "responses": {"200": {"content": {text: {}}}},
+    }
+    info = {"title": text, "version": text, "description": text}
+    page = described({"info": info, "paths": {f"/{text}": {"get": about}}})
+    # Title twice, version and description; the path thrice; summary, type; the option's name and description; both in the example.
+    assert page.count("&lt;script&gt;&quot;&#x27;&amp;") == 2 + 2 + 3 + 2 + 2 + 2
+    assert "<script" not in page
+    with pytest.raises(UndefinedError):
+        described({"info": info, "paths": {"/x": {"get": {**about, "parameters": [{}]}}}})
 
 
 def test_pages_load_nothing_from_elsewhere(server: Server) -> None:

@@ -15,8 +15,8 @@ A page is a package with `page.html`, `page.css` and `page.js`, named in the pac
 
     html_of(Template("olr.pages.report", ("bars", "map", "table")), "title", data)
 
-Its `page.html` has the marks `@POLICY@`, `@TITLE@`, `@LICENCE@`, `@LEAFLET_CSS@`, `@CSS@`, `@LEAFLET_JS@`, `@DATA@` and `@JS@`, as that
-of `olr.pages.view` has. `@CSS@` is that of `shared.css` and the page, `@JS@` that of the components and the page. The script finds the data by
+Its `page.html` is a template of jinja2, with the values `policy`, `title`, `licence`, `leaflet_css`, `css`, `leaflet_js`, `data` and `js`, as
+that of `olr.pages.view`. `css` is that of `shared.css` and the page, `js` that of the components and the page. The script finds the data by
 `JSON.parse(document.getElementById("data").textContent)`, and calls what it needs:
 
     const map = mapOfMany({ place, legend, kinds, shapes, onChoose: (row) => table.choose(row) });

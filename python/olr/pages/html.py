@@ -5,6 +5,8 @@ import json
 import re
 from collections.abc import Mapping, Sequence
 from importlib import resources
+from jinja2 import Environment, StrictUndefined
+from markupsafe import Markup
 from pathlib import Path
 from typing import Any, NamedTuple
 from urllib.parse import urlsplit
@@ -16,6 +18,8 @@ LEAFLET = (Path(__file__).with_name("leaflet"), Path("/usr/share/javascript/leaf
 HOST = re.compile(r"([A-Za-z0-9._{}-]+|\[[0-9A-Fa-f:.]+\])(:[0-9]{1,5})?")
 """The host of tiles, with a port: nothing else may stand in the policy of a page."""
 SHARED = "olr.pages"
+FROM_PAGE = ("policy", "title", "leaflet_css", "leaflet_js", "data")
+"""What a page that makes others puts into their templates."""
 SUFFIXES = (".html", ".htm")
 STYLES = {"picture": "picture.css"}
 """Of components; the others have those of `shared.css`."""
@@ -45,13 +49,13 @@ def html_of(
     images = "data:" if tiles is None else f"data: {origin_of(tiles)}"
     policy = f"default-src 'none'; script-src 'unsafe-inline'; style-src 'unsafe-inline'; img-src {images}"
     values = {
-        "POLICY": html.escape(policy, quote=True),
-        "TITLE": html.escape(title),
-        "LEAFLET_CSS": re.sub(r"url\([^)]*\)", "none", leaflet("leaflet.css")),
-        "LEAFLET_JS": leaflet("leaflet.min.js").replace("</script", "<\\/script"),
-        "DATA": data_text({**data, "tiles": tiles}),
+        "policy": policy,
+        "title": title,
+        "leaflet_css": re.sub(r"url\([^)]*\)", "none", leaflet("leaflet.css")),
+        "leaflet_js": leaflet("leaflet.min.js").replace("</script", "<\\/script"),
+        "data": data_text({**data, "tiles": tiles}),
     }
-    return _filled(_file(template.package, "page.html"), _own(template) | values)
+    return _page(template, values)
 
 
 def data_text(data: Mapping[str, Any]) -> str:
@@ -63,25 +67,37 @@ def data_text(data: Mapping[str, Any]) -> str:
 def unfilled(template: Template) -> str:
     """A page with its own styles and scripts, but with the marks `@POLICY@`, `@TITLE@`, `@LEAFLET_CSS@`, `@LEAFLET_JS@` and `@DATA@`: for a
     page that makes others."""
-    return _filled(_file(template.package, "page.html"), _own(template))
+    return _page(template, {name: f"@{name.upper()}@" for name in FROM_PAGE})
 
 
-def _own(template: Template) -> dict[str, str]:
-    """What stands for the marks of a template that depend on nothing else."""
+def _page(template: Template, values: Mapping[str, str]) -> str:
+    """A page with values and what depends on nothing else: its styles and scripts."""
     styles = dict.fromkeys(STYLES.get(name, "shared.css") for name in template.components)
     scripts = [_file(SHARED, f"{name}.js") for name in template.components]
-    return {
-        "LICENCE": _file(SHARED, "leaflet_licence.html"),
-        "CSS": "".join(
+    own = {
+        "licence": _file(SHARED, "leaflet_licence.html"),
+        "css": "".join(
             [*(_file(SHARED, name) for name in styles), _file(template.package, "page.css")]
         ),
-        "JS": "".join([*scripts, _file(template.package, "page.js")]),
+        "js": "".join([*scripts, _file(template.package, "page.js")]),
     }
+    return filled(_file(template.package, "page.html"), own | values)
 
 
-def _filled(text: str, values: Mapping[str, str]) -> str:
-    """A template with values in place of their marks. It is gone through once: what looks like a mark in a value stays."""
-    return re.sub(r"@([A-Z_]+)@", lambda found: values.get(found[1], found[0]), text)
+def filled(text: str, values: Mapping[str, Any]) -> str:
+    """The text of a template of jinja2 with values, which are escaped where it doesn't call them safe. Raises `UndefinedError` where one
+    is missing."""
+    return TEMPLATES.from_string(text).render(values)
+
+
+def _escaped(value: object) -> object:
+    """What stands for a value: jinja2 has other references for quotes than Python's `html`."""
+    return value if hasattr(value, "__html__") else Markup(html.escape(str(value)))
+
+
+TEMPLATES = Environment(
+    autoescape=True, finalize=_escaped, keep_trailing_newline=True, undefined=StrictUndefined
+)
 
 
 def _file(package: str, name: str) -> str:
