@@ -1,12 +1,14 @@
 """Who may ask: the names of the server, and the sites whose pages may."""
 
-from collections.abc import Mapping, Sequence
+from collections.abc import Sequence
 from starlette.types import Scope
 from typing import NamedTuple
 
-from olr.serving.problems import Problem
+from olr.serving.problems import Problem, bad_request
 
 LOOPBACK = ("127.0.0.1", "localhost", "::1")
+OWN_SITE = (None, b"none", b"same-origin")
+"""What a browser says of the site that asks, if it isn't another one."""
 
 
 class Allowed(NamedTuple):
@@ -39,42 +41,21 @@ def _bytes(texts: set[str]) -> frozenset[bytes]:
     return frozenset(text.encode() for text in texts)
 
 
-class Head(NamedTuple):
-    """The fields of a head by which it is seen who asks."""
-
-    hosts: Sequence[bytes]
-    fields: Mapping[bytes, bytes]
-
-    @classmethod
-    def of(cls, scope: Scope) -> "Head":
-        """That of a request."""
-        hosts: list[bytes] = []
-        fields: dict[bytes, bytes] = {}
-        for name, value in scope["headers"]:
-            if name == b"host":
-                hosts.append(value.lower())
-            elif name in WATCHED:
-                fields[name] = value.lower()
-        return cls(hosts, fields)
-
-    def origin(self) -> bytes | None:
-        """The site whose page asks, if one does."""
-        return self.fields.get(b"origin")
+def fields_of(scope: Scope) -> dict[bytes, bytes]:
+    """The fields of a head by their names, in small letters. Of those that are there several times it has the last one."""
+    return {name: value.lower() for name, value in scope["headers"]}
 
 
-WATCHED = (b"origin", b"sec-fetch-site", b"sec-fetch-mode", b"access-control-request-method")
-OWN_SITE = (None, b"none", b"same-origin")
-
-
-def require_allowed(head: Head, allowed: Allowed) -> None:
+def require_allowed(scope: Scope, allowed: Allowed) -> None:
     """Raises `Problem` for a request to another name, as a page makes whose own name was made to lead here, and for one that a page of
     another site makes. A link on such a page may lead here."""
-    if len(head.hosts) != 1:
-        raise Problem(400, "BadRequest", "a request has one field Host")
-    if head.hosts[0] not in allowed.hosts:
+    fields = fields_of(scope)
+    if [name for name, _ in scope["headers"]].count(b"host") != 1:
+        raise bad_request("a request has one field Host")
+    if fields[b"host"] not in allowed.hosts:
         text = "the field Host has no name of this server: --allow-host adds one"
         raise Problem(421, "MisdirectedRequest", text)
-    origin, fields = head.origin(), head.fields
+    origin = fields.get(b"origin")
     is_foreign = origin is not None and origin not in allowed.origins
     if origin is None and fields.get(b"sec-fetch-site") not in OWN_SITE:
         is_foreign = fields.get(b"sec-fetch-mode") != b"navigate"

@@ -6,13 +6,18 @@ from collections.abc import Sequence
 from starlette.responses import Response
 from starlette.types import ASGIApp, Message, Receive, Scope, Send
 
-from olr.serving.allowed import Allowed, Head, require_allowed
+from olr.serving.allowed import Allowed, fields_of, require_allowed
 from olr.serving.limits import MOST_REQUESTS
 from olr.serving.meters import OTHER, Meters
 from olr.serving.problems import Problem, busy
 
 log = logging.getLogger("olr.serving.requests")
-SECONDS_OF_PREFLIGHT = "600"
+PREFLIGHT = {
+    "Access-Control-Allow-Methods": "GET, POST",
+    "Access-Control-Allow-Headers": "Content-Type",
+    "Access-Control-Max-Age": "600",
+}
+"""What a browser may send that asks for a page of an allowed site, and how many seconds it may keep that."""
 
 
 class Front:
@@ -29,36 +34,34 @@ class Front:
     async def __call__(self, scope: Scope, receive: Receive, send: Send) -> None:
         """Answers a request."""
         begin = time.perf_counter()
-        head = Head.of(scope)
-        origin = head.origin()
+        fields = fields_of(scope)
+        origin = fields.get(b"origin")
+        is_of_other = origin in self._allowed.others
         status = 0
 
         async def sending(message: Message) -> None:
             nonlocal status
             if message["type"] == "http.response.start":
                 status = message["status"]
-                if origin in self._allowed.others:
-                    fields = [(b"access-control-allow-origin", origin), (b"vary", b"Origin")]
-                    message["headers"] = [*message.get("headers", ()), *fields]
+                if is_of_other:
+                    allowing = [(b"access-control-allow-origin", origin), (b"vary", b"Origin")]
+                    message["headers"] = [*message.get("headers", ()), *allowing]
             await send(message)
 
         self._running += 1
         try:
-            await self._answer(head, scope, receive, sending)
+            require_allowed(scope, self._allowed)
+            if self._running > MOST_REQUESTS:
+                raise busy(f"there are {MOST_REQUESTS:,} requests at once")
+            app, asked = self._app, b"access-control-request-method" in fields
+            if is_of_other and asked and scope["method"] == "OPTIONS":
+                app = Response(None, 204, PREFLIGHT)
+            await app(scope, receive, sending)
         except Problem as problem:
             await problem.response()(scope, receive, sending)
         finally:
             self._running -= 1
             self._note(scope, status, time.perf_counter() - begin)
-
-    async def _answer(self, head: Head, scope: Scope, receive: Receive, send: Send) -> None:
-        require_allowed(head, self._allowed)
-        if self._running > MOST_REQUESTS:
-            raise busy(f"there are {MOST_REQUESTS:,} requests at once")
-        if scope["method"] == "OPTIONS" and _is_preflight(head, self._allowed):
-            await _preflight()(scope, receive, send)
-        else:
-            await self._app(scope, receive, send)
 
     def _note(self, scope: Scope, status: int, seconds: float) -> None:
         """Counts a request, and logs it if that is asked for. What it asked for isn't logged."""
@@ -66,18 +69,3 @@ class Front:
         self._meters.count(address, status, seconds)
         if log.isEnabledFor(logging.INFO):
             log.info("%s %s %d, %.1f ms", scope["method"], address, status, seconds * 1000)
-
-
-def _is_preflight(head: Head, allowed: Allowed) -> bool:
-    """Whether a browser asks if a page of an allowed site may ask."""
-    return head.origin() in allowed.others and b"access-control-request-method" in head.fields
-
-
-def _preflight() -> Response:
-    """Says that it may."""
-    fields = {
-        "Access-Control-Allow-Methods": "GET, POST",
-        "Access-Control-Allow-Headers": "Content-Type",
-        "Access-Control-Max-Age": SECONDS_OF_PREFLIGHT,
-    }
-    return Response(status_code=204, headers=fields)
