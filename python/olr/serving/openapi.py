@@ -3,7 +3,7 @@
 never ask with another profile.
 """
 
-from collections.abc import Mapping
+from collections.abc import Iterable, Mapping
 from typing import Any
 
 from olr.messages.message import FORMATS
@@ -28,31 +28,29 @@ STATUSES = {
     "503": "Too much is asked at once, or the map can't be read: ask again later",
     "504": "The program took too long",
 }
-JSON, TEXT = "application/json", {"type": "string"}
+JSON = "application/json"
+TEXT = {"type": "string"}
 
 
 def document(limits: Limits) -> Json:
     """The document."""
     likeliest = _numbers("places", limits, FEED)
-    paths = {
-        **{f"/{what}": {"get": _question(what, limits)} for what in NUMBERS},
-        "/show": {"get": _asked("What a reference says, without the map", [_reference()], JSON)},
-        "/scene": {
-            "get": _asked(
-                "All that the page draws of a reference", [_reference(), *likeliest], JSON
-            )
-        },
-        **{f"/batch/{what}": {"post": _batch(what, limits)} for what in NUMBERS},
-        "/rows": {
-            "post": _lines(
-                "The likeliest place of each reference, and how probable it is, as the page's list shows them: a line for each line",
-                likeliest,
-                limits,
-            )
-        },
-        "/messages": {"post": _messages(limits)},
-        "/health": {"get": _health()},
-        "/metrics": {"get": _address("Figures for Prometheus", [], meters.MEDIA_TYPE)},
+    rows = "The likeliest place of each reference, and how probable it is, as the page's list shows them: a line for each line"
+    gets = {
+        **{f"/{what}": _question(what, limits) for what in NUMBERS},
+        "/show": _address("What a reference says, without the map", [_reference()], [JSON]),
+        "/scene": _address(
+            "All that the page draws of a reference", [_reference(), *likeliest], [JSON]
+        ),
+    }
+    posts = {
+        **{f"/batch/{what}": _batch(what, limits) for what in NUMBERS},
+        "/rows": _lines(rows, likeliest, limits),
+        "/messages": _messages(limits),
+    }
+    own = {
+        "/health": _health(),
+        "/metrics": _address("Figures for Prometheus", [], [meters.MEDIA_TYPE], {}),
     }
     return {
         "openapi": "3.0.3",
@@ -61,45 +59,43 @@ def document(limits: Limits) -> Json:
             "version": VERSION,
             "description": "Where OpenLR references lie on a map. Each error is a problem document (RFC 9457).",
         },
-        "paths": paths,
+        "paths": {
+            path: {method: address}
+            for method, some in (("get", gets), ("post", posts), ("get", own))
+            for path, address in some.items()
+        },
     }
 
 
 def _question(what: What, limits: Limits) -> Json:
-    parameters = [_reference(), *_numbers(what, limits, PROGRAM)]
-    if what == "match":
-        after = _parameter(AFTER, TEXT, "a cursor: the page behind it is answered")
-        parameters.insert(1, after)
-    types = [JSON, *([features.MEDIA_TYPE] if what in ("match", "places") else [])]
-    return _asked(SUMMARIES[what], parameters, *types)
+    after = _parameter(AFTER, TEXT, "a cursor: the page behind it is answered")
+    own = [_reference(), after] if what == "match" else [_reference()]
+    types = [JSON, features.MEDIA_TYPE] if what in ("match", "places") else [JSON]
+    return _address(SUMMARIES[what], [*own, *_numbers(what, limits, PROGRAM)], types)
 
 
-def _address(summary: str, parameters: list[Json], *media_types: str) -> Json:
-    """An address, and the types of its answers."""
-    answer = {"description": "The answer", "content": {kind: {} for kind in media_types}}
-    return {"summary": summary, "parameters": parameters, "responses": {"200": answer}}
+def _address(
+    summary: str,
+    parameters: list[Json],
+    media_types: Iterable[str],
+    refusals: Mapping[str, str] = STATUSES,
+) -> Json:
+    """An address, with the types of its answers and the problems that it answers too, by their statuses."""
+    responses: Json = {"200": _content("The answer", media_types)}
+    for status, text in refusals.items():
+        responses[status] = _content(text, [problems.MEDIA_TYPE])
+    return {"summary": summary, "parameters": parameters, "responses": responses}
 
 
-def _asked(summary: str, parameters: list[Json], *media_types: str) -> Json:
-    """An address for which the program is asked."""
-    return _with_problems(_address(summary, parameters, *media_types), STATUSES)
-
-
-def _with_problems(address: Json, problems_of: Mapping[str, str]) -> Json:
-    """An address with what it answers too: problems, by their statuses."""
-    for status, text in problems_of.items():
-        content: Json = {problems.MEDIA_TYPE: {}}
-        address["responses"][status] = {"description": text, "content": content}
-    return address
+def _content(text: str, media_types: Iterable[str], **about: Json) -> Json:
+    """What an answer or a body has in it: one of these types, each of which has what is said about it."""
+    return {"description": text, "content": {kind: about for kind in media_types}}
 
 
 def _health() -> Json:
-    able = {"description": "It can answer", "content": {JSON: {}}}
-    return {
-        "summary": "Whether the server can answer, and the name, digest and versions of what it serves",
-        "parameters": [],
-        "responses": {"200": able, "503": able | {"description": "It can't"}},
-    }
+    summary = "Whether the server can answer, and the name, digest and versions of what it serves"
+    able = {"200": _content("It can answer", [JSON]), "503": _content("It can't", [JSON])}
+    return {"summary": summary, "parameters": [], "responses": able}
 
 
 def _batch(what: What, limits: Limits) -> Json:
@@ -109,16 +105,12 @@ def _batch(what: What, limits: Limits) -> Json:
 
 def _lines(summary: str, parameters: list[Json], limits: Limits) -> Json:
     """An address that answers lines of JSON about lines of a body."""
-    found = _asked(summary, parameters, streaming.MEDIA_TYPE)
-    about = "Lines of a key, a tab and a reference, or of a reference alone"
-    found["requestBody"] = _body(about, *streaming.TAKEN)
     too_large, other = f"A body of more than {limits.body:,} bytes", "A body of another type"
-    return _with_problems(found, {"413": too_large, "415": other})
-
-
-def _body(about: str, *media_types: str) -> Json:
-    content = {kind: {"schema": TEXT} for kind in media_types}
-    return {"required": True, "description": about, "content": content}
+    refusals = STATUSES | {"413": too_large, "415": other}
+    taken = "Lines of a key, a tab and a reference, or of a reference alone"
+    body = _content(taken, streaming.TAKEN, schema=TEXT)
+    found = _address(summary, parameters, [streaming.MEDIA_TYPE], refusals)
+    return found | {"requestBody": {"required": True} | body}
 
 
 def _messages(limits: Limits) -> Json:
@@ -129,14 +121,15 @@ def _messages(limits: Limits) -> Json:
     }
     parameters = [_parameter(name, TEXT, text) for name, text in options.items()]
     summary = "What a list of messages has in it, as olr-tools match reads a file: record, key and reference, a line for each"
-    found = _asked(summary, parameters, lists.MEDIA_TYPE)
-    found["requestBody"] = _body(
-        f"Lines of a key, a tab and a reference, CSV or JSON. The first {lists.MOST_ROWS:,} messages are answered, and one more "
-        "if there are more",
-        "application/octet-stream",
-    )
     too_large = f"A list of more than {lists.most_bytes(limits):,} bytes"
-    return _with_problems(found, {"413": too_large, "422": "A list that isn't understood"})
+    refusals = STATUSES | {"413": too_large, "422": "A list that isn't understood"}
+    taken = (
+        f"Lines of a key, a tab and a reference, CSV or JSON. The first {lists.MOST_ROWS:,} messages are answered, and one more "
+        "if there are more"
+    )
+    body = _content(taken, ["application/octet-stream"], schema=TEXT)
+    found = _address(summary, parameters, [lists.MEDIA_TYPE], refusals)
+    return found | {"requestBody": {"required": True} | body}
 
 
 def _reference() -> Json:
