@@ -1,6 +1,6 @@
-"""What the package needs besides Python: modules, by the extras of the wheel that bring them. It needs Python alone.
+"""What is said where a module is missing: by the commands and public names that need it. It needs Python alone.
 
-`olr.Map`, `olr.decode`, `olr.read_messages` and answers need none. What needs a module that isn't there says so by `lacking`, with
+`olr.Map`, `olr.decode`, `olr.read_messages` and answers need no module of others. What needs a module that isn't there says so by `lacking`, with
 Debian's package and the extra that have it.
 """
 
@@ -8,41 +8,23 @@ from collections.abc import Iterator
 from contextlib import contextmanager
 
 from olr.errors import MissingModule
-from olr.setup import MODULES
+from olr.setup import ALWAYS, EXTRAS, MODULES
 
-ALWAYS = ("click", "rich")
-"""Modules that each command needs, so that each extra brings them."""
-
-EXTRAS = {
-    "maps": ("fiona", "numpy", "osmium", "pyproj", "scipy"),
-    "geo": ("fiona", "geopandas", "jinja2", "numpy", "shapely"),
-    "scale": ("distributed", "numpy"),
-    "serve": (
-        "httptools",
-        "jinja2",
-        "numpy",
-        "prometheus_client",
-        "starlette",
-        "uvicorn",
-        "uvloop",
-    ),
+COMMANDS = {
+    "calibrate": ("maps", "Find by trials how probable places are, on a map of one's own."),
+    "check": ("maps", "Find what is wrong with a map."),
+    "compare": ("geo", "Say what changes for references with another map."),
+    "import osm": ("maps", "Make a map from an OpenStreetMap file."),
+    "import vector": ("maps", "Make a map from a GeoPackage, Shapefile or GeoJSON file."),
+    "match": ("geo", "Match a file of references, and write geometries."),
+    "regions": ("scale", "Make a store of a map of any size."),
+    "report": ("geo", "Say what is wrong with a feed, or with a map, as a page."),
+    "run": ("scale", "Match any number of references, on many machines."),
+    "serve": ("serve", "Answer questions about references, by HTTP."),
+    "u-turns": ("maps", "Add bans on turning back to a map."),
+    "view": ("geo", "Show a reference on a map, as a page."),
 }
-"""The extras, each with the modules that it brings besides."""
-
-EXTRA_OF = {
-    "calibrate": "maps",
-    "check": "maps",
-    "compare": "geo",
-    "import": "maps",
-    "match": "geo",
-    "regions": "scale",
-    "report": "geo",
-    "run": "scale",
-    "serve": "serve",
-    "u-turns": "maps",
-    "view": "geo",
-}
-"""The extra of each command of `olr-tools`."""
+"""The commands of `olr-tools`, each with its extra and its short help. `olr.commands` has a module for each, by its words."""
 
 COMES_WITH = {"dask": "distributed", "markupsafe": "jinja2", "pandas": "geopandas"}
 """Modules that come with another one, which alone is named."""
@@ -55,7 +37,7 @@ def lacking(user: str, missing: ModuleNotFoundError, extra: str | None = None) -
     if module == "olr":
         raise missing
     module = COMES_WITH.get(module, module)
-    of_command = EXTRA_OF.get(user.partition(" ")[0], "maps")
+    of_command, _ = COMMANDS.get(user, ("maps", ""))
     wanted = extra or of_command
     if module not in (*ALWAYS, *EXTRAS[wanted]):
         wanted = next((name for name, brought in EXTRAS.items() if module in brought), wanted)

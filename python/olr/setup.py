@@ -1,4 +1,5 @@
-"""What `olr-tools setup` installs: Debian's packages of the modules that are missing. It needs Python alone.
+"""What the package needs besides Python: modules, by the extras of the wheel that bring them, and what `olr-tools setup` installs, Debian's
+packages of those that are missing. It needs Python alone.
 
 `python3 -m olr.setup` ends with status 0 if the interpreter has all modules; the script `olr-tools` chooses one by it.
 """
@@ -9,26 +10,33 @@ import shlex
 import shutil
 import subprocess
 import sys
+from itertools import chain
 
-MODULES = {
-    "click": "python3-click",
-    "distributed": "python3-distributed",
-    "fiona": "python3-fiona",
-    "geopandas": "python3-geopandas",
-    "httptools": "python3-httptools",
-    "jinja2": "python3-jinja2",
-    "numpy": "python3-numpy",
-    "osmium": "python3-pyosmium",
-    "prometheus_client": "python3-prometheus-client",
-    "pyproj": "python3-pyproj",
-    "rich": "python3-rich",
-    "scipy": "python3-scipy",
-    "shapely": "python3-shapely",
-    "starlette": "python3-starlette",
-    "uvicorn": "python3-uvicorn",
-    "uvloop": "python3-uvloop",
+ALWAYS = ("click", "rich")
+"""Modules that each command needs, so that each extra brings them."""
+
+EXTRAS = {
+    "maps": ("fiona", "numpy", "osmium", "pyproj", "scipy"),
+    "geo": ("fiona", "geopandas", "jinja2", "numpy", "shapely"),
+    "scale": ("distributed", "numpy"),
+    "serve": (
+        "httptools",
+        "jinja2",
+        "numpy",
+        "prometheus_client",
+        "starlette",
+        "uvicorn",
+        "uvloop",
+    ),
 }
-"""Modules that the tools need, with Debian's packages."""
+"""The extras, each with the modules that it brings besides."""
+
+OTHER_NAMES = {"osmium": "python3-pyosmium"}
+MODULES = {
+    name: OTHER_NAMES.get(name, f"python3-{name.replace('_', '-')}")
+    for name in sorted({*ALWAYS, *chain(*EXTRAS.values())})
+}
+"""Modules that the tools need, with Debian's packages: these have their names."""
 
 FILES = {"/usr/share/javascript/leaflet/leaflet.min.js": "libjs-leaflet"}
 """Files that the tools read, with Debian's packages."""

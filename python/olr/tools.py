@@ -10,20 +10,24 @@ from functools import partial
 from typing import Any
 
 from olr.errors import MissingModule, ToolError, reason_of
-from olr.extras import lacking
+from olr.extras import COMMANDS, lacking
 from olr.streams import complain, ended
 from olr.version import VERSION
 
 
 class LateGroup(click.Group):
-    """A group of commands that are imported when they are asked for.
+    """A group of commands that are imported when they are asked for: those whose words begin with `words`, and have one more.
 
     `modules` has for each command its module and its short help.
     """
 
-    def __init__(self, modules: dict[str, tuple[str, str]], **attributes: Any) -> None:
+    def __init__(self, words: str = "", **attributes: Any) -> None:
         super().__init__(**attributes)
-        self.modules = modules
+        self.modules = {
+            name.removeprefix(words): (module_of(name), short)
+            for name, (_, short) in COMMANDS.items()
+            if name.startswith(words) and " " not in name.removeprefix(words)
+        }
 
     def list_commands(self, ctx: click.Context) -> list[str]:
         return sorted([*self.modules, *self.commands])
@@ -65,48 +69,19 @@ def _words(ctx: click.Context, name: str) -> str:
     return " ".join([*ctx.command_path.split()[1:], name])
 
 
+def module_of(words: str) -> str:
+    """The module of a command."""
+    return f"olr.commands.{words.replace(' ', '_').replace('-', '_')}"
+
+
 tools = LateGroup(
-    {
-        "calibrate": (
-            "olr.commands.calibrate",
-            "Find by trials how probable places are, on a map of one's own.",
-        ),
-        "check": ("olr.commands.check", "Find what is wrong with a map."),
-        "compare": (
-            "olr.commands.compare",
-            "Say what changes for references with another map.",
-        ),
-        "match": ("olr.commands.match", "Match a file of references, and write geometries."),
-        "regions": ("olr.commands.regions", "Make a store of a map of any size."),
-        "report": (
-            "olr.commands.report",
-            "Say what is wrong with a feed, or with a map, as a page.",
-        ),
-        "serve": ("olr.commands.serve", "Answer questions about references, by HTTP."),
-        "run": ("olr.commands.run", "Match any number of references, on many machines."),
-        "view": ("olr.commands.view", "Show a reference on a map, as a page."),
-        "u-turns": ("olr.commands.u_turns", "Add bans on turning back to a map."),
-    },
     name="olr-tools",
     help="Tools around olr, an OpenLR dereferencer.",
     # Commands have the settings of their group.
     context_settings={"help_option_names": ["-h", "--help"]},
 )
 tools = click.version_option(VERSION, prog_name="olr-tools")(tools)
-
-tools.add_command(
-    LateGroup(
-        {
-            "osm": ("olr.commands.import_osm", "Make a map from an OpenStreetMap file."),
-            "vector": (
-                "olr.commands.import_vector",
-                "Make a map from a GeoPackage, Shapefile or GeoJSON file.",
-            ),
-        },
-        name="import",
-        help="Make a map from a file of roads.",
-    )
-)
+tools.add_command(LateGroup("import ", name="import", help="Make a map from a file of roads."))
 
 
 @tools.command()

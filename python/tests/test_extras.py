@@ -16,8 +16,8 @@ import olr
 from conftest import REFERENCE, TOP, Program
 from olr import tools as command_line
 from olr.errors import MissingModule, ToolError
-from olr.extras import ALWAYS, COMES_WITH, EXTRA_OF, EXTRAS, needed_by
-from olr.setup import MODULES
+from olr.extras import COMES_WITH, COMMANDS, needed_by
+from olr.setup import ALWAYS, EXTRAS, MODULES
 
 PACKAGE = TOP / "python"
 LATE = {"regions": {"osmium", "pyproj"}, "run": {"fiona"}}
@@ -164,10 +164,18 @@ def test_pyproject_has_the_extras() -> None:
     assert all({"name"} == author.keys() for author in project["authors"]), "no addresses"
 
 
+def test_each_command_has_a_module() -> None:
+    """And each module of a command is one of these."""
+    modules = {module for _, (module, _) in modules_of(command_line.tools)}
+    paths = PACKAGE.joinpath("olr/commands").glob("*.py")
+    there = {f"olr.commands.{path.stem}" for path in paths if "\ndef command(" in path.read_text()}
+    assert modules == there and len(modules) == len(COMMANDS)
+
+
 def test_each_command_has_its_modules_by_its_extra() -> None:
     for name, (module, _) in modules_of(command_line.tools):
         wanted = {COMES_WITH.get(it, it) for it in imported_by(module)}
-        brought = {*ALWAYS, *EXTRAS[EXTRA_OF[name.partition(" ")[0]]], *LATE.get(name, ())}
+        brought = {*ALWAYS, *EXTRAS[COMMANDS[name][0]], *LATE.get(name, ())}
         assert wanted <= brought, name
         assert wanted - {"click"} or name == "u-turns"
 

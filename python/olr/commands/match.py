@@ -23,14 +23,10 @@ from olr.model.questions import NUMBERS, What
 @click.command()
 @click.argument("file", type=options.FILE)
 @options.map_options
-@options.question_option(
-    "places",
-    "Write the places of each reference, with a verdict. By default its matchings are written.",
-)
+@options.question_option("places", "written", "Write the places of each reference, with a verdict")
 @options.number_options(NUMBERS["places"], "with --places, ")
 @options.question_option(
-    "why",
-    "Write why each reference has no matching, and what helps. By default its matchings are written.",
+    "why", "written", "Write why each reference has no matching, and what helps"
 )
 @options.number_options(NUMBERS["match"], "without --places and --why, ")
 @click.option(

@@ -78,9 +78,10 @@ def force_option(
     return flag_option("--force", f"Replace {what}. By default {refused} is refused.")
 
 
-def question_option(what: What, text: str) -> Option:
-    """A flag that asks another question, as the parameter `what`."""
-    return click.option(f"--{what}", "what", flag_value=what, help=text)
+def question_option(what: What, done: str, text: str) -> Option:
+    """A flag that asks another question, as the parameter `what`. Matchings are what is `done` without it."""
+    about = f"{text}. By default its matchings are {done}."
+    return click.option(f"--{what}", "what", flag_value=what, help=about)
 
 
 def number_options(numbers: Mapping[str, Number], before: str = "") -> Option:

@@ -91,16 +91,13 @@ wouldn't say why."""
 )
 @options.force_option("the files of --join, --geometries and --pieces, if they are there")
 @options.question_option(
-    "places",
-    "Ask for the places of each reference, with a verdict. By default its matchings are asked for.",
+    "places", "asked for", "Ask for the places of each reference, with a verdict"
 )
 @options.question_option(
-    "why",
-    "Ask why each reference has no matching, and what helps. By default its matchings are asked for.",
+    "why", "asked for", "Ask why each reference has no matching, and what helps"
 )
 @options.question_option(
-    "candidates",
-    "Ask for the candidates of each point of a reference. By default its matchings are asked for.",
+    "candidates", "asked for", "Ask for the candidates of each point of a reference"
 )
 @options.number_options(NUMBERS["match"], "without --places, --why and --candidates, ")
 @options.number_options(OF_LINES, "with --places, ")

@@ -207,10 +207,12 @@ def words_of(what: What, given: Mapping[str, int]) -> list[str]:
     for name in given:
         if name not in numbers:
             raise TypeError(f"{what} has no number {name}: it has {', '.join(numbers) or 'none'}")
-    pairs = [
-        number_words(name, given.get(name, number.default)) for name, number in numbers.items()
-    ]
-    return [word for pair in pairs for word in pair]
+    return all_words({name: given.get(name, number.default) for name, number in numbers.items()})
+
+
+def all_words(numbers: Mapping[str, int]) -> list[str]:
+    """The words of numbers, by their names. Raises as `number_words`."""
+    return [word for name, value in numbers.items() for word in number_words(name, value)]
 
 
 def cursor_of(text: str) -> str:

@@ -16,13 +16,10 @@ from olr.errors import ToolError
 from olr.model.fault import Fault
 from olr.model.profiles import FEED
 from olr.model.questions import NUMBERS, What, record_text
-from olr.serving import openapi
-from olr.serving.features import MEDIA_TYPE as FEATURES
-from olr.serving.features import Features
+from olr.serving import features, openapi
 from olr.serving.limits import Limits
 from olr.serving.lists import Lists
-from olr.serving.meters import MEDIA_TYPE as FIGURES
-from olr.serving.meters import Meters
+from olr.serving.meters import MEDIA_TYPE, Meters
 from olr.serving.pages import INDEX, Asset, assets, described, with_data
 from olr.serving.problems import Problem, of_error, of_status
 from olr.serving.queries import Kind, options_of, question_of, reference_of, require_no_options
@@ -78,7 +75,7 @@ class _Answers:
     def __init__(self, service: Service) -> None:
         self._service, self._served, self._limits = service, service.served, service.limits
         self._room = Room(service.limits.time)
-        self._features = Features(self._served, service.confidence, self._room)
+        self._features = features.Features(self._served, service.confidence, self._room)
         self._scenes = Scenes(self._served, self._limits, service.confidence, self._room)
 
     async def question(self, what: What, request: Request) -> Response:
@@ -86,9 +83,9 @@ class _Answers:
         options = options_of(request.scope["query_string"])
         question = question_of(what, options, self._limits.look)
         has_features = what in ("match", "places")
-        if has_features and FEATURES in request.headers.get("accept", ""):
+        if has_features and features.MEDIA_TYPE in request.headers.get("accept", ""):
             text = await self._features.of(question, request.scope["is_gone"])
-            return Response(text, headers=VARIES, media_type=FEATURES)
+            return Response(text, headers=VARIES, media_type=features.MEDIA_TYPE)
         known = await self._served.answer(question, request.scope["is_gone"])
         return Response(known.json, headers=VARIES if has_features else None, media_type=JSON)
 
@@ -131,7 +128,7 @@ class _Answers:
 
     async def metrics(self, _: Request) -> Response:
         """What was counted."""
-        return Response(self._service.meters.text(), headers={"Content-Type": FIGURES})
+        return Response(self._service.meters.text(), headers={"Content-Type": MEDIA_TYPE})
 
     async def refuse(self, _: Request, error: Exception) -> Response:
         """Why there is no answer. Faults of references are counted."""

@@ -10,7 +10,7 @@ from urllib.parse import unquote_to_bytes
 
 from olr.model.fault import Fault
 from olr.model.profiles import PROFILE, PROFILES, PROGRAM, names_text, tolerances_of
-from olr.model.questions import ALL, NUMBERS, Number, What, cursor_of, number_words, record_text
+from olr.model.questions import ALL, NUMBERS, Number, What, all_words, cursor_of, record_text
 from olr.serving.problems import bad_request, of_fault
 
 REF, AFTER = "ref", "after"
@@ -113,7 +113,7 @@ def _kind(what: What, options: tuple[tuple[str, str], ...], most_look: int) -> K
     for name, number in admitted.items():
         if numbers[name] > number.greatest:
             raise bad_request(f"{name} is {number.greatest:,} at most on this server")
-    return Kind(what, tuple(word for pair in numbers.items() for word in number_words(*pair)))
+    return Kind(what, tuple(all_words(numbers)))
 
 
 def _number(name: str, value: str) -> int:
