@@ -18,9 +18,9 @@ from olr.messages.message import Reading
 from olr.messages.opening import name_of
 from olr.messages.reading import count_of, messages_of
 from olr.model.map_folder import inputs_of
-from olr.outputs import require_free_file, whole_file
+from olr.outputs import whole_file
 from olr.pages.compare.page import TEMPLATE, About, Changed, page_of
-from olr.pages.html import html_of, require_html
+from olr.pages.html import html_of, require_page
 from olr.progress import progress
 
 
@@ -123,6 +123,5 @@ def _probable_by(file: Path | None) -> str:
 
 def _require_page(file: Path, force: bool, inputs: list[Path]) -> None:
     """Raises `ToolError` if a page can't be written there, or Leaflet isn't installed: before anything is asked."""
-    require_html(file)
-    require_free_file(file, force, inputs)
+    require_page(file, force, inputs)
     html_of(TEMPLATE, "", {})

@@ -2,13 +2,12 @@
 
 import click
 from pathlib import Path
+from typing import Any
 
 from olr.commands import options
 from olr.commands.import_options import import_options
 from olr.counts import Counts
-from olr.importing.u_turns import DeadEnds, UTurns
 from olr.importing.writing import write_import
-from olr.model.box import Box
 from olr.model.map_folder import require_free
 from olr.osm.importing import Options, import_osm
 
@@ -25,21 +24,11 @@ from olr.osm.importing import Options, import_osm
     "TABLE.toml",
     "A table of which tags are roads, and of what class and form they are: docs/IMPORT.md. By default tags.toml of this package.",
 )
-def command(
-    file: Path,
-    folder: Path,
-    force: bool,
-    box: Box | None,
-    service: bool,
-    tags: Path | None,
-    u_turns: UTurns,
-    dead_ends: DeadEnds,
-    keep: tuple[str, ...],
-) -> None:
+def command(file: Path, folder: Path, force: bool, **chosen: Any) -> None:
     """Make a map from an OpenStreetMap file: FILE is .osm, .osm.pbf, .osm.bz2 or .osm.gz.
 
     What was left out or changed is counted on standard error, and in the map's import.json."""
-    require_free(folder, force, [file] if tags is None else [file, tags])
+    wanted = Options(**chosen)
+    require_free(folder, force, [file] if wanted.tags is None else [file, wanted.tags])
     counts = Counts()
-    wanted = Options(box, service, tags, u_turns, keep, dead_ends)
     write_import(import_osm(file, wanted, counts), folder, force, counts)

@@ -2,14 +2,13 @@
 
 import click
 from pathlib import Path
+from typing import Any
 
 from olr.commands import options
 from olr.commands.import_options import import_options
 from olr.counts import Counts
 from olr.importing.roads import GREATEST_ROAD_ID
-from olr.importing.u_turns import DeadEnds, UTurns
 from olr.importing.writing import write_import
-from olr.model.box import Box
 from olr.model.map_folder import require_free
 from olr.vector.fields import Fields
 from olr.vector.importing import import_vector
@@ -88,35 +87,18 @@ def command(
     file: Path,
     folder: Path,
     force: bool,
-    layer: str | None,
     road_class: str,
     form: str,
     oneway: str | None,
     id_field: str | None,
     name_field: str | None,
-    mapping: Path | None,
-    crs: str | None,
-    box: Box | None,
-    tolerance: float,
-    join_vertices: bool,
-    u_turns: UTurns,
-    dead_ends: DeadEnds,
     keep: tuple[str, ...],
+    **chosen: Any,
 ) -> None:
     """Make a map from a vector file of roads: FILE is a GeoPackage, a Shapefile, a GeoJSON, or another file that GDAL reads.
 
     What was left out or changed is counted on standard error, and in the map's import.json."""
-    require_free(folder, force, [file] if mapping is None else [file, mapping])
+    wanted = Options(Fields(road_class, form, oneway, id_field, name_field, keep), **chosen)
+    require_free(folder, force, [file] if wanted.mapping is None else [file, wanted.mapping])
     counts = Counts()
-    wanted = Options(
-        fields=Fields(road_class, form, oneway, id_field, name_field, keep),
-        layer=layer,
-        crs=crs,
-        box=box,
-        mapping=mapping,
-        tolerance=tolerance,
-        join_vertices=join_vertices,
-        u_turns=u_turns,
-        dead_ends=dead_ends,
-    )
     write_import(import_vector(file, wanted, counts), folder, force, counts)

@@ -14,8 +14,8 @@ from olr.messages.message import Reading
 from olr.messages.opening import name_of
 from olr.model.asked_with import name_for_program
 from olr.model.map_folder import inputs_of
-from olr.outputs import require_free_file, write_whole
-from olr.pages.html import html_of, require_html
+from olr.outputs import write_whole
+from olr.pages.html import html_of, require_page
 from olr.pages.report.asking import count
 from olr.pages.report.expectation import about_probabilities, expectations, remarks, sentence
 from olr.pages.report.page import TEMPLATE, About, page_of
@@ -52,8 +52,7 @@ def command(
     """
     asking = options.of_question("places", chosen)
     inputs = [messages, *inputs_of(folder), *([] if confidence is None else [confidence])]
-    require_html(file)
-    require_free_file(file, force, inputs)
+    require_page(file, force, inputs)
     sure = judging_for(confidence, asking.tolerances, asking.numbers)
     html_of(TEMPLATE, "", {}, tiles)  # What is missing is said before anything is asked.
     with ExitStack() as stack:

@@ -6,6 +6,7 @@ import os
 import re
 import sys
 from pathlib import Path
+from typing import Any
 
 from olr.commands import options
 from olr.model.questions import NUMBERS
@@ -112,16 +113,12 @@ class Text(click.ParamType):
 def command(
     folder: Path,
     host: str,
-    port: int,
     workers: int | None,
     time: float,
     body: int,
     look: int,
-    names: tuple[str, ...],
-    origins: tuple[str, ...],
-    tiles: str | None,
-    confidence: Path | None,
     logged: str,
+    **chosen: Any,
 ) -> None:
     """Answer questions about references on a map by HTTP, for browsers and other programs.
 
@@ -137,7 +134,7 @@ def command(
         )
     limits = Limits(time, body * MIB, look)
     many = workers or len(os.sched_getaffinity(0))
-    serve(Settings(folder, host, port, many, limits, names, origins, tiles, confidence))
+    serve(Settings(folder, host, workers=many, limits=limits, **chosen))
 
 
 def _log(requests: bool) -> None:

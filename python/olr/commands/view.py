@@ -10,8 +10,8 @@ from olr.messages.finding import message_of_key, message_of_record
 from olr.messages.message import Reading
 from olr.model.asked_with import name_for_program
 from olr.model.map_folder import inputs_of
-from olr.outputs import require_free_file, write_whole
-from olr.pages.html import require_html
+from olr.outputs import write_whole
+from olr.pages.html import require_page
 from olr.pages.view.page import html_of
 from olr.pages.view.scene import add_command, scene_of
 
@@ -54,8 +54,7 @@ def command(
     asking = options.of_question("places", chosen)
     text = _text(reference, messages, record, reading)
     inputs = [*inputs_of(folder), *(one for one in (messages, confidence) if one is not None)]
-    require_html(file)
-    require_free_file(file, force, inputs)
+    require_page(file, force, inputs)
     sure = judging_for(confidence, asking.tolerances, asking.numbers)
     with Map.of_folder(folder, **asking.tolerances, patience=patience) as asked:
         scene = scene_of(text, asked, sure.judging.confidence, **asking.numbers)

@@ -3,7 +3,7 @@
 import html
 import json
 import re
-from collections.abc import Mapping, Sequence
+from collections.abc import Iterable, Mapping, Sequence
 from importlib import resources
 from jinja2 import Environment, StrictUndefined
 from markupsafe import Markup
@@ -12,6 +12,7 @@ from typing import Any, NamedTuple
 from urllib.parse import urlsplit
 
 from olr.errors import ToolError
+from olr.outputs import require_free_file
 
 LEAFLET = (Path(__file__).with_name("leaflet"), Path("/usr/share/javascript/leaflet"))
 """Where Leaflet is looked for: it came with this package, as in a wheel, or Debian's package libjs-leaflet has it there."""
@@ -38,6 +39,12 @@ def require_html(file: Path) -> None:
     """Raises `ToolError` if a file has no suffix of a page."""
     if file.suffix.lower() not in SUFFIXES:
         raise ToolError(f"{file} has no suffix that is known: name a file .html")
+
+
+def require_page(file: Path, force: bool, inputs: Iterable[Path]) -> None:
+    """Raises `ToolError` as `require_html` and `require_free_file`."""
+    require_html(file)
+    require_free_file(file, force, inputs)
 
 
 def html_of(

@@ -10,11 +10,11 @@ from olr.extras import needed_by
 from olr.model.answers import AboutReference
 from olr.model.asked_with import all_of_question, name_for_program
 from olr.outputs import write_whole
-from olr.pages.html import require_html
 
 with needed_by("olr.view", "geo"):
     from olr.confidence.choosing import judging_with
     from olr.confidence.confidence import Confidence
+    from olr.pages.html import require_html
     from olr.pages.view.page import html_of, title_of
     from olr.pages.view.scene import add_command, scene_of
 
