@@ -30,7 +30,7 @@ from olr.serving.queries import kind_of
 
 def problem(what, options):
     try:
-        return kind_of(what, options, 5).words
+        return kind_of(what, options, limits.look).words
     except Problem as problem:
         return problem.detail
 
@@ -40,8 +40,9 @@ def fault(call):
     except olr.Fault as fault:
         return fault.text
 
-paths = openapi.document(Limits())["paths"]
-page = pages.with_data(pages.assets()["index.html"], Limits(), None).content.decode()
+limits = Limits(look=5)
+paths = openapi.document(limits)["paths"]
+page = pages.with_data(pages.assets()["index.html"], limits, None).content.decode()
 json.dump({
     "help": {
         name: " ".join(command.get_help(click.Context(command)).split())
@@ -54,6 +55,8 @@ json.dump({
         "range of height": problem("match", {"height": "1"}),
         "range of page": problem("match", {"page": "61"}),
         "other question": problem("match", {"depth": "31"}),
+        "greatest look": problem("places", {"look": "5"}),
+        "look": problem("places", {"look": "6"}),
     },
     "faults": {
         "height": fault(lambda: questions.number_words("height", 91)),
@@ -61,7 +64,7 @@ json.dump({
         "page": fault(lambda: questions.number_words("page", 61)),
     },
     "openapi": {
-        path: [it for it in methods[method]["parameters"] if it["name"] in ("height", "depth", "page")]
+        path: [it for it in methods[method]["parameters"] if it["name"] in ("height", "depth", "page", "look")]
         for path, methods in paths.items() for method in methods
     },
     "page": json.loads(page.partition('type="application/json">')[2].partition("</script>")[0]),
@@ -69,7 +72,7 @@ json.dump({
     "asked with": Asking("places", FEED, {"height": 41}, {}).text(),
 }, sys.stdout)
 """
-"""An interpreter that adds two rows before it imports what is made of them, and changes one."""
+"""An interpreter that adds two rows before it imports what is made of them, and changes one. Its server admits a `look` of 5."""
 
 
 @pytest.fixture(scope="module")
@@ -103,6 +106,8 @@ def test_addresses(shown: Any) -> None:
     assert kinds["range of depth"] == "depth is a whole number of fathoms from 3 to 70"
     assert kinds["range of height"] == "height is a whole number of storeys from 2 to 90"
     assert kinds["range of page"] == "page is a whole number of leaves from 4 to 60"
+    assert "--look" in kinds["greatest look"]
+    assert kinds["look"] == "look is 5 at most on this server"
     assert kinds["other question"].startswith("'depth' is no option of /match: it has ref, after, ")
     assert kinds["other question"].endswith("slack, height, page")
 
@@ -135,6 +140,10 @@ def test_openapi(shown: Any) -> None:
         {"type": "integer", "minimum": 4, "maximum": 60, "default": 20},
         "list so many leaves (leaves)",
     )
+    look = (
+        {"type": "integer", "minimum": 1, "maximum": 5, "default": 5},
+        "look at so many (matchings)",
+    )
     places = {"/places", "/scene", "/batch/places", "/rows"}
     matches = {"/match", "/batch/match"}
     others = {"/candidates", "/batch/candidates", "/why", "/batch/why"}
@@ -142,7 +151,7 @@ def test_openapi(shown: Any) -> None:
     assert {path for path in found if "page" in found[path]} == matches
     assert {path for path in found if "height" in found[path]} == places | matches | others
     for path in places:
-        assert found[path] == {"height": height, "depth": depth}
+        assert found[path] == {"height": height, "look": look, "depth": depth}
     assert found["/match"] == {"height": height, "page": page}
 
 
@@ -155,6 +164,10 @@ def test_page(shown: Any) -> None:
     assert data["numbers"][-1] == {
         **{"name": "depth", "least": 3, "greatest": 70, "default": 30},
         **{"unit": "fathoms", "purpose": "list places so deep"},
+    }
+    assert data["numbers"][2] == {
+        **{"name": "look", "least": 1, "greatest": 5, "default": 5},
+        **{"unit": "matchings", "purpose": "look at so many"},
     }
     assert data["names"]["places"] == ["apart", "within", "look", "most", "depth"]
     assert [profile["tolerances"]["height"] for profile in data["profiles"]] == [40, 40]
