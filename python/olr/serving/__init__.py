@@ -23,7 +23,7 @@
 | `connections` | connections and their limits |
 | `server` | the server |
 
-The page is `assets/index.html`, with components of `olr.pages`:
+`docs.html` is the template of the page that lists the addresses. The page for people is `assets/index.html`, with components of `olr.pages`:
 
 | file | subject |
 |---|---|
