@@ -26,7 +26,7 @@ def file_option(
     flag: str, metavar: str, text: str, name: str | None = None, required: bool = False
 ) -> Option:
     """An option that is a path. `text` is its help; `name` is that of the parameter, by default as the flag has it."""
-    names = (flag,) if name is None else (flag, name)
+    names = filter(None, (flag, name))
     return click.option(*names, metavar=metavar, required=required, type=FILE, help=text)
 
 
@@ -36,11 +36,16 @@ def flag_option(flag: str, text: str) -> Option:
 
 
 def count_option(
-    flag: str, text: str, least: int = 1, greatest: int | None = None, default: int | None = None
+    flag: str,
+    text: str,
+    name: str | None = None,
+    least: int = 1,
+    greatest: int | None = None,
+    default: int | None = None,
 ) -> Option:
-    """An option that is a whole number in a range, None where it is left out and has no default."""
+    """An option that is a whole number in a range, None where it is left out and has no default. `name` is as in `file_option`."""
     return click.option(
-        flag,
+        *filter(None, (flag, name)),
         type=click.IntRange(least, greatest),
         default=default,
         show_default=default is not None,
@@ -171,10 +176,10 @@ def _member_option(flag: str, what: str, default: str) -> Option:
     return click.option(flag, metavar="NAME", help=text)
 
 
-def rows_option(what: str) -> Option:
+def rows_option(what: str, name: str = "rows") -> Option:
     """How many references a page has."""
     text = f"How many references {what} at most: 1 or more. All are counted."
-    return count_option("--rows", text, default=ROWS)
+    return count_option("--rows", text, name, default=ROWS)
 
 
 def tiles_option(where: str = "") -> Option:

@@ -74,14 +74,12 @@ class Text(click.ParamType):
     metavar="MIB",
     help="The most that the body of a request has, in MiB of 1048576 bytes.",
 )
-@click.option(
+@options.count_option(
     "--look-limit",
+    "The greatest look that may be asked for, in matchings.",
     "look",
-    type=click.IntRange(1, NUMBERS["places"]["look"].greatest),
+    greatest=NUMBERS["places"]["look"].greatest,
     default=LIMITS.look,
-    show_default=True,
-    metavar="N",
-    help="The greatest look that may be asked for, in matchings.",
 )
 @click.option(
     "--allow-host",
