@@ -6,6 +6,7 @@ import pickle
 import pytest
 import re
 import threading
+import time
 from collections.abc import Iterator
 from pathlib import Path
 
@@ -96,6 +97,23 @@ def test_threads(program: Program, bad: Path) -> None:
         for thread in threads:
             thread.join()
     assert [said[number] for number in range(6)] == [BAD] * 2 + [expected] * 4
+
+
+@pytest.mark.parametrize("is_batch", [True, False])
+def test_all_that_a_program_started_is_ended(is_batch: bool, tmp_path: Path) -> None:
+    """It has a group of its own."""
+    script, child = tmp_path / "program", tmp_path / "child"
+    script.write_text(f"#!/bin/sh\nsleep 600 &\necho $! > {child}\nwait\n")
+    script.chmod(0o755)
+    with town(script, patience=1) as asked, pytest.raises(olr.TimedOut):
+        asked.match(REFERENCE, after=None if is_batch else "8:1.1")
+    status = Path(f"/proc/{child.read_text().strip()}/stat")
+    for _ in range(100):
+        if not status.exists() or status.read_text().split()[2] == "Z":
+            break
+        time.sleep(0.05)
+    else:
+        raise AssertionError("what the program started is left behind")
 
 
 def test_patience_without_end(program: Program, tmp_path: Path) -> None:

@@ -120,7 +120,15 @@ def test_how_often_the_program_is_started(group: Group) -> None:
 
 
 @pytest.mark.parametrize(
-    "line", ["exit 3", "kill -9 $$", "echo {}", "echo no >&2", "exec sleep 600"]
+    "line",
+    [
+        "exit 3",
+        "kill -9 $$",
+        "echo {}",
+        "echo no >&2",
+        "exec sleep 600",
+        "exec >&-; exec sleep 600",
+    ],
 )
 def test_a_program_that_always_fails(group: Group, line: str) -> None:
     script = group.folder / "script"
@@ -129,6 +137,16 @@ def test_a_program_that_always_fails(group: Group, line: str) -> None:
     error, patience = (TimedOut, 0.5) if "sleep" in line else (ProgramEnded, None)
     with pytest.raises(error, match="after 0 lines|no answer to what it was asked: is it the"):
         group.write(script, patience)
+    assert group.file.read_bytes() == b""
+
+
+def test_a_program_that_fails_behind_all_lines(group: Group) -> None:
+    """Its lines may be those that it could write before it failed."""
+    script = group.folder / "script"
+    script.write_text(f'#!/bin/sh\n{group.program.path} "$@"\nexit 3\n')
+    script.chmod(0o755)
+    with pytest.raises(ProgramEnded, match="script ended with status 3 after [0-9]+ lines: is it"):
+        group.write(script)
     assert group.file.read_bytes() == b""
 
 

@@ -248,9 +248,10 @@ def test_no_room_for_scratch_files(town: Town, scratch: Path) -> None:
 
 
 def test_a_reference_at_which_the_program_hangs(
-    town: Town, tmp_path: Path, program: Program
+    town: Town, tmp_path: Path, program: Program, monkeypatch: pytest.MonkeyPatch
 ) -> None:
-    """All before it have answers, and the error has its number."""
+    """All before it have answers, and the error has its number: here it is in a second lot."""
+    monkeypatch.setattr(store_source, "CHUNK", 8)
     texts = references(town, 20)
     bad = bad_program(tmp_path / "bad", program, {texts[13]: "hangs"})
     with olr.Map(town.folder) as folder:
@@ -311,10 +312,12 @@ def test_nothing_is_left_behind(town: Town) -> None:
     assert not folder.exists()
 
 
-def test_a_forked_process_may_not_ask(town: Town) -> None:
+def test_a_forked_process_may_not_ask(town: Town, scratch: Path) -> None:
+    """Nor does it take away what this one has."""
     text, other = references(town, 3)[1:]
     with olr.Map(town.store) as store:
         expected = store.match(text)
+        there = sorted(scratch.rglob("*"))
         child = os.fork()
         if child == 0:
             try:
@@ -324,7 +327,18 @@ def test_a_forked_process_may_not_ask(town: Town) -> None:
                 os._exit(7 if "another one here" in str(error) else 1)
             os._exit(0)
         assert os.waitstatus_to_exitcode(os.waitpid(child, 0)[1]) == 7
-        assert store.match(text) == expected
+        assert store.match(text) == expected and sorted(scratch.rglob("*")) == there != []
+
+
+def test_a_reference_that_isnt_read(town: Town, monkeypatch: pytest.MonkeyPatch) -> None:
+    """If Python took a reference for none, it would have no region: that is an error, and no answer."""
+    texts = [text for text in references(town, 9) if text]
+    with olr.Map(town.store) as store:
+        answers = list(store.matches(texts))
+        (good, *_) = (text for text, one in zip(texts, answers) if isinstance(one, olr.Page))
+        monkeypatch.setattr(store_source, "read_points", lambda text: None)
+        with pytest.raises(olr.ToolError, match="' is a reference that olr-tools can't read"):
+            list(store.matches([good]))
 
 
 def test_numpy_is_enough(town: Town, program: Program) -> None:
