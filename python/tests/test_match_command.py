@@ -7,10 +7,12 @@ import re
 import sqlite3
 import subprocess
 from pathlib import Path
+from typing import Any
 
 from conftest import ASKED_WITH_PROGRAM, OF_PROGRAM, REFERENCE, TOP, Program, Tools
 from olr import tools as command_line
 from olr.matching import columns as columns_of
+from olr.matching.tables import Columns
 from olr.model.questions import TOLERANCES
 
 EXAMPLES = TOP / "examples"
@@ -80,9 +82,9 @@ def test_why(tools: Tools, tmp_path: Path) -> None:
 KIOSK, UNMATCHED = "KwVGnCN20HPDBwFCATFjT5Y=", "CwVGnSN2zhtnBgEB/2IjAQ=="
 IN_FRONT = [("fid", "INTEGER"), ("geom", "GEOMETRY"), ("record", "INTEGER"), ("key", "TEXT")]
 TYPES = {"int64": "INTEGER", "float": "REAL", "str": "TEXT"}
+TABLES: list[Columns[Any]] = [columns_of.ANSWERS, columns_of.PIECES, columns_of.REASONS]
 ANSWERS, PIECES, REASONS = (
-    [(name, TYPES[kind]) for name, kind in columns.items()]
-    for columns in (columns_of.ANSWERS, columns_of.PIECES, columns_of.REASONS)
+    [(name, TYPES[column.kind]) for name, column in columns.items()] for columns in TABLES
 )
 
 

@@ -50,7 +50,7 @@ def test_the_rows_of_match(
     places: list[object], here: None, town: Town, tmp_path: Path, monkeypatch: pytest.MonkeyPatch
 ) -> None:
     """Of which part whatever, with the lines of some rows at a time."""
-    monkeypatch.setattr("olr.matching.rows.ROWS", 40)
+    monkeypatch.setattr("olr.matching.chunks.ROWS", 40)
     read: list[int] = []
     files = [tmp_path / "run.gpkg", tmp_path / "run-pieces.gpkg"]
     words = ["run", town.plain, "--store", town.store, "--out", tmp_path / "out", *places]

@@ -11,7 +11,7 @@ from olr.comparing.places import Answer, Limits, likeliest_places
 from olr.confidence.choosing import listing
 from olr.confidence.judged import Judged, Judging, judged
 from olr.geometry.network import Network
-from olr.matching.rows import Rows
+from olr.matching.rows import AnswerRows
 from olr.messages.message import Message
 from olr.model.answers import Places
 from olr.model.fault import Fault
@@ -25,8 +25,8 @@ class Chunk(NamedTuple):
     """Some references on both maps, and the row of each on the old one and on the new one."""
 
     references: Sequence[Compared]
-    old: Rows
-    new: Rows
+    old: AnswerRows
+    new: AnswerRows
 
 
 class Comparison:
@@ -66,7 +66,7 @@ class _Located(NamedTuple):
     """Where a map has references."""
 
     sides: Sequence[Side]
-    rows: Rows
+    rows: AnswerRows
 
 
 class _Asked(NamedTuple):

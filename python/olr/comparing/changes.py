@@ -45,6 +45,10 @@ class Side(NamedTuple):
     judged: Judged | None = None
     """How probable its places are; None for a fault."""
 
+    def fault(self) -> str | None:
+        """Why the map refuses the reference, or why it isn't said what stands in its way."""
+        return next((it.text for it in (self.answer, self.why) if isinstance(it, Fault)), None)
+
     def place(self) -> JudgedPlace | None:
         """The likeliest place, if there is one."""
         return self.judged.places[0] if self.judged and self.judged.places else None

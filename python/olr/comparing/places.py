@@ -28,7 +28,7 @@ from olr.geometry.network import Network, middle
 from olr.geometry.parts import parts_of
 from olr.geometry.plane import Plane, Segments
 from olr.geometry.stretches import hausdorff, longest_lacking, within
-from olr.matching.rows import Rows, rows_of_answers
+from olr.matching.rows import AnswerRows, rows_of
 from olr.model.answers import Matching, Places
 from olr.model.fault import Fault
 
@@ -77,11 +77,11 @@ class Difference(NamedTuple):
 
 def likeliest_places(
     answers: Sequence[Answer], judgements: Sequence[Judged | None], network: Network
-) -> tuple[Rows, list[Shape | None]]:
-    """A row for each answer, of its likeliest place if it has one, and the shapes of these. Raises as `rows_of_answers`."""
+) -> tuple[AnswerRows, list[Shape | None]]:
+    """A row for each answer, of its likeliest place if it has one, and the shapes of these. Raises as `rows_of`."""
     firsts = [one and one._replace(places=one.places[:1]) for one in judgements]
-    rows = rows_of_answers(answers, network, judgements=firsts)
-    matchings = list(map(_matching, firsts))
+    rows = AnswerRows(rows_of(answers, firsts, [None] * len(answers), network), network)
+    matchings = [row.matching for row in rows.rows]
     behind = np.cumsum(rows.shapes.sizes)
     parts = np.split(rows.shapes.points, behind[:-1])
     along = [one for one in matchings if one is not None and one.earliest is not None]
@@ -90,11 +90,6 @@ def likeliest_places(
         None if one is None else Stretch(points) if one.earliest is None else next(spots)
         for one, points in zip(matchings, parts)
     ]
-
-
-def _matching(judgement: Judged | None) -> Matching | None:
-    """That of the likeliest place of an answer."""
-    return judgement.places[0].place.matching if judgement and judgement.places else None
 
 
 def _spots(matchings: Sequence[Matching], network: Network) -> list[Spot]:

@@ -2,8 +2,10 @@
 
 | module | subject |
 |---|---|
-| `columns` | the columns of each table, with their types |
-| `rows` | answers as rows and as rows of pieces, some hundred at once |
+| `tables` | what a column is: what it holds, and how it is worked out |
+| `columns` | the columns of each table |
+| `rows` | what columns are worked out of: answers and pieces as rows, some hundred at once |
+| `chunks` | answers, judged, and their rows |
 | `reasons` | what `why` says as rows |
 | `shapes` | lines and points of many rows at once, as other programs read them |
 | `geopackage`, `texts` | rows into a GeoPackage; into CSV and GeoJSON |

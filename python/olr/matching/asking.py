@@ -3,33 +3,30 @@
 No more of them are held than are being asked, or are rows of one chunk.
 """
 
-from collections import Counter, deque
-from collections.abc import Iterable, Iterator, Mapping, Sequence
+from collections import Counter
+from collections.abc import Iterator, Mapping
 from itertools import islice, tee
 from pathlib import Path
-from typing import TypeVar
 
 from olr.client.map_client import Map
-from olr.confidence.judged import Judging, judged
+from olr.confidence.judged import Judging
 from olr.likely.order import listed_within
-from olr.matching.columns import Part
+from olr.matching.chunks import Answered, chunks_of
 from olr.matching.lacking import Lacking
 from olr.matching.reasons import rows_of_reasons
-from olr.matching.rows import Counted, Located, Rows, in_chunks, rows_of_answers, rows_of_pieces
+from olr.matching.rows import Extent
 from olr.matching.writing import Sink
 from olr.messages.message import Message, Reading
 from olr.messages.reading import count_of, messages_of
 from olr.model.answers import AnswerOrFault, Page, Places, Why
 from olr.model.fault import Fault
 from olr.model.questions import What
-from olr.model.reference import read_reference
 from olr.progress import progress
 
-Item = TypeVar("Item")
 NOWHERE = "none"
 """What an answer is counted as without a place or matching: it is the verdict of `places` too."""
 CHUNK = 256
-"""So many references are decoded at once, of which `why` was asked."""
+"""So many rows are made at once of what `why` says."""
 
 
 class Asked:
@@ -59,7 +56,7 @@ class Asked:
         self,
         question: What,
         numbers: Mapping[str, int],
-        part: Part,
+        part: Extent,
         judging: Judging,
         rows: Sink,
         pieces: Sink | None,
@@ -68,16 +65,15 @@ class Asked:
         network = self._map.network()
         messages, again = tee(self._messages)
         counted = self._map.answers("candidates", (message.reference for message in again))
-        answered = self._answered(messages, question, numbers)
-        for items, chunk in in_chunks(_with(answered, counted)):
-            found = [message for message, _ in items]
-            counts = [count for _, count in items]
-            references = [read_reference(message.reference) for message in found]
-            judgements = judged(chunk, references, network, judging)
-            self.cut_off += sum(one is not None and one.is_cut_off for one in judgements)
-            _add(rows, found, rows_of_answers(chunk, network, part, counts, judgements))
+        both = zip(self._answered(messages, question, numbers), counted, strict=True)
+        answered = (
+            Answered(message, message.reference, answer, count) for (message, answer), count in both
+        )
+        for chunk in chunks_of(answered, network, judging):
+            self.cut_off += chunk.cut_off()
+            rows.add(chunk.items, chunk.rows(part))
             if pieces is not None:
-                _add(pieces, found, rows_of_pieces(chunk, network, judgements))
+                pieces.add(chunk.items, chunk.pieces())
 
     def write_reasons(self, numbers: Mapping[str, int], rows: Sink) -> None:
         """Asks why references fit nothing, and writes a row for each. Raises `ToolError`."""
@@ -86,7 +82,7 @@ class Asked:
             messages = [message for message, _ in chunk]
             texts = [message.reference for message in messages]
             reasons = [answer for _, answer in chunk if isinstance(answer, (Why, Fault))]
-            _add(rows, messages, rows_of_reasons(texts, reasons))
+            rows.add(messages, rows_of_reasons(texts, reasons))
 
     def answered(
         self, question: What, numbers: Mapping[str, int]
@@ -103,43 +99,19 @@ class Asked:
         self, messages: Iterator[Message], question: What, numbers: Mapping[str, int]
     ) -> Iterator[tuple[Message, AnswerOrFault]]:
         """Messages with their answers, counted by their outcome, while it is shown how far they are."""
-        waiting: deque[Message] = deque()
-
-        def texts() -> Iterator[str]:
-            for message in messages:
-                waiting.append(message)
-                yield message.reference
-
+        messages, again = tee(messages)
+        texts = (message.reference for message in again)
+        answers = self._map.answers(question, texts, **numbers)
         with progress("matching", self._total) as advance:
-            for answer in self._map.answers(question, texts(), **numbers):
+            for message, answer in zip(messages, answers, strict=True):
                 if isinstance(answer, Places) and self._within is not None:
                     answer = listed_within(answer, self._within)
                 outcome = outcome_of(answer)
                 self.outcomes[outcome] += 1
-                message = waiting.popleft()
                 if outcome == NOWHERE and self._lacking is not None:
                     self._lacking.add(message.reference)
                 yield message, answer
                 advance(1)
-
-
-def _with(
-    answered: Iterable[tuple[Message, AnswerOrFault]], counted: Iterable[Counted]
-) -> Iterator[tuple[tuple[Message, Counted], Located]]:
-    """Answers that say where a reference is, with its message and its candidates."""
-    for (message, answer), count in zip(answered, counted, strict=True):
-        assert isinstance(answer, (Page, Places, Fault))
-        yield (message, count), answer
-
-
-def _add(sink: Sink, messages: list[Message], rows: Rows) -> None:
-    """Adds rows, with the record and the key of the message of each. Raises `OSError` and `sqlite3.Error`."""
-    of_rows = [messages[number] for number in rows.answers]
-    front: dict[str, Sequence[object]] = {
-        "record": [message.record for message in of_rows],
-        "key": [message.key for message in of_rows],
-    }
-    sink.add({**front, **rows.values}, rows.shapes)
 
 
 def outcome_of(answer: AnswerOrFault) -> str:

@@ -1,73 +1,215 @@
-"""The columns of the tables of answers. They are the same whatever is in them; docs/COLUMNS.md says what each one is.
+"""The tables of answers. Each column stands below its name with the sentence of docs/COLUMNS.md about it."""
 
-Lengths and positions are in metres, and end with `_m`; penalties are in points.
-"""
+from collections.abc import Callable, Mapping, Sequence
+from typing import Any
 
-from collections.abc import Mapping
-from typing import Literal
-
+from olr.confidence.judged import Judged, JudgedPlace
+from olr.confidence.likeness import Range
+from olr.matching.rows import AnswerRows, PieceRows, Row
+from olr.matching.tables import Column, Columns, columns_of
+from olr.messages.message import Message
+from olr.model.answers import Matching, Page, Remedy, Why
+from olr.model.fault import Fault
 from olr.model.questions import What
+from olr.model.road_map import Origin
 
-Part = Literal["outer", "inner"]
-Kind = Literal["int64", "float", "str"]
-"""What is in a column: whole numbers, numbers or texts, by the names of fiona. Each row may lack it."""
-Columns = Mapping[str, Kind]
-TYPES: Mapping[Kind, str] = {"int64": "Int64", "float": "float64", "str": "object"}
-"""The types of columns in a table of pandas. A text that isn't there is None, a number that isn't there NaN."""
+Reasons = Why | Fault
+Values = list[Any]
+DIGITS = 3
+"""Of probabilities behind the point."""
 
-ANSWERS: Columns = {
-    "likely": "int64",
-    "rank": "int64",
-    "verdict": "str",
-    "probability": "float",
-    "none_of_these": "float",
-    "map_differs": "float",
-    "map_differs_low": "float",
-    "map_differs_high": "float",
-    "total": "int64",
-    "point_penalty": "int64",
-    "leg_penalty": "int64",
-    "gap": "int64",
-    "margin": "int64",
-    "ends_m": "float",
-    "turns_back": "int64",
-    "members": "int64",
-    "candidates": "int64",
-    "part": "str",
-    "lines": "str",
-    "sources": "str",
-    "names": "str",
-    "from_m": "float",
-    "to_m": "float",
-    "outer_m": "float",
-    "inner_m": "float",
-    "reasons": "str",
-    "cursor": "str",
-    "fault": "str",
-}
-"""Those of matchings and of places, between the key and the geometry."""
-PIECES: Columns = {
-    "rank": "int64",
-    "part": "str",
-    "piece": "int64",
-    "line": "int64",
-    "source": "str",
-    "source_part": "int64",
-    "direction": "str",
-    "name": "str",
-    "from_m": "float",
-    "to_m": "float",
-}
-"""Those of pieces of lines, between the key and the geometry."""
-REASONS: Columns = {
-    "verdict": "str",
-    "at": "int64",
-    "remedies": "str",
-    "cursor": "str",
-    "fault": "str",
-}
-"""Those of what `why` says."""
-OF_QUESTION: Mapping[What, Columns] = {"match": ANSWERS, "places": ANSWERS, "why": REASONS}
+
+def of_rows(value: Callable[[Row], Any]) -> Callable[[AnswerRows], Values]:
+    """What each row has of its answer."""
+    return lambda rows: [value(row) for row in rows.rows]
+
+
+def of_matchings(value: Callable[[Matching], Any]) -> Callable[[AnswerRows], Values]:
+    """What each row has of its matching, or of that of its place."""
+    return lambda rows: [None if row.matching is None else value(row.matching) for row in rows.rows]
+
+
+def of_places(value: Callable[[JudgedPlace], Any]) -> Callable[[AnswerRows], Values]:
+    """What each row has of its place."""
+    return lambda rows: [None if row.place is None else value(row.place) for row in rows.rows]
+
+
+def of_first(value: Callable[[Judged], Any]) -> Callable[[AnswerRows], Values]:
+    """What the row of the likeliest place of an answer has of all of them."""
+    return of_rows(
+        lambda row: value(row.judged)
+        if row.judged is not None and row.place is not None and row.place.likely == 1
+        else None
+    )
+
+
+def of_difference(value: Callable[[Range], float]) -> Callable[[AnswerRows], Values]:
+    """What that row has of how different maps are."""
+    return of_first(lambda it: it.map_differs and rounded(value(it.map_differs)))
+
+
+def rounded(probability: float | None) -> float | None:
+    """A probability, or how different maps are, with the digits that are shown."""
+    return None if probability is None else round(probability, DIGITS)
+
+
+def verdict_of(row: Row) -> str:
+    """The verdict on an answer."""
+    if row.judged is not None:
+        return row.judged.verdict
+    if isinstance(row.answer, Fault):
+        return "fault"
+    return "none" if row.matching is None else "match"
+
+
+def gap_of(row: Row) -> int | None:
+    """How much worse a row is than the first one in the program's order."""
+    if row.place is not None:
+        return row.place.place.gap
+    if row.matching is None or not isinstance(row.answer, Page):
+        return None
+    return row.matching.total - row.answer.matchings[0].total
+
+
+class Answers:
+    """Those of matchings and of places, between the key and the geometry."""
+
+    likely = Column("int64", of_places(lambda it: it.likely))
+    """of a place in the likely order of those that are shown, from 1"""
+    rank = Column("int64", of_rows(lambda it: it.rank))
+    """of the matching or place in the program's order, from 1: that of totals"""
+    verdict = Column("str", of_rows(verdict_of))
+    """`match` or `none`; with `--places` `unique`, `ambiguous`, `open` or `none`, by totals; `fault` for a message that is refused"""
+    probability = Column("float", of_places(lambda it: rounded(it.probability)))
+    """how probable it is that the place is the right one, 0 to 1 ([CONFIDENCE.md](CONFIDENCE.md))"""
+    none_of_these = Column("float", of_first(lambda it: rounded(it.none_of_these)))
+    """once a message: how probable it is that none of all places that were found is the right one, 0 to 1"""
+    map_differs = Column("float", of_difference(lambda it: it.value))
+    """once a message: how different the map of the sender seems from yours, 0 as the same one and 1 as another vendor's"""
+    map_differs_low = Column("float", of_difference(lambda it: it.low))
+    """once a message: the lower end of its interval of 95 percent"""
+    map_differs_high = Column("float", of_difference(lambda it: it.high))
+    """once a message: the upper end"""
+    total = Column("int64", of_matchings(lambda it: it.total))
+    """penalty points in all: `point_penalty` and `leg_penalty` together"""
+    point_penalty = Column(
+        "int64", of_matchings(lambda it: sum([one.penalty for one in it.points]))
+    )
+    """penalty points of the points of the reference: for distance, direction, class and form"""
+    leg_penalty = Column("int64", of_matchings(lambda it: sum([one.penalty for one in it.legs])))
+    """penalty points of the paths between them: for their lengths"""
+    gap = Column("int64", of_rows(gap_of))
+    """by how many points its total is worse than the best one"""
+    margin = Column("int64", of_rows(lambda it: it.judged and it.judged.margin))
+    """the gap of the second place in the program's order, whether it is shown or not"""
+    ends_m = Column("float", of_places(lambda it: round(it.ends, 1)))
+    """how far the points of the place lie from the proper ends of their lines, all added up, in metres, 50 at most of each point: the start
+    of a line, and for the last point its end"""
+    turns_back = Column("int64", of_places(lambda it: int(it.turns_back)))
+    """1 if the route of the place turns back, which with the usual bans is at a dead end, else 0"""
+    members = Column("int64", of_places(lambda it: it.place.members))
+    """how many matchings are this place"""
+    candidates = Column("int64", of_rows(lambda it: it.candidates))
+    """how many lines all points of the reference may lie on: those of each point, added up"""
+    part = Column("str", AnswerRows.parts)
+    """which part of the location `lines` to `to_m` and the geometry are of: `outer`, which covers it, `inner`, which it covers at least, or
+    `point`"""
+    lines = Column("str", AnswerRows.lines)
+    """the ids of the lines of that part in the order of travel, with `;` between them"""
+    sources = Column[AnswerRows]("str", lambda rows: rows.texts(lambda it: it.source))
+    """their sources, by the map's `ids.csv`, with `;` between them: one that several lines in a row have is there once"""
+    names = Column[AnswerRows]("str", lambda rows: rows.texts(lambda it: it.name))
+    """their names, likewise"""
+    from_m = Column("float", AnswerRows.from_m)
+    """where the part begins, in metres from the start of its first line"""
+    to_m = Column("float", AnswerRows.to_m)
+    """where it ends, in metres from the start of its last line"""
+    outer_m = Column("float", AnswerRows.outer_m)
+    """the length of the outer part in metres"""
+    inner_m = Column("float", AnswerRows.inner_m)
+    """the length of the inner part in metres: 0 where the location may be nothing"""
+    reasons = Column("str", of_places(lambda it: it.reasons or None))
+    """why the place is as probable, the weightiest reason first, with `; ` between them"""
+    cursor = Column("str", of_matchings(lambda it: it.cursor))
+    """names the matching, as `olr match --after` takes it"""
+    fault = Column(
+        "str", of_rows(lambda it: it.answer.text if isinstance(it.answer, Fault) else None)
+    )
+    """why a message is refused, in the program's words"""
+
+
+def of_sources(value: Callable[[Origin], Any]) -> Callable[[PieceRows], Values]:
+    """What each piece has of the source of its line."""
+    return lambda rows: rows.sources.each(value)
+
+
+class Pieces:
+    """Those of pieces of lines, between the key and the geometry."""
+
+    rank = Column[PieceRows]("int64", lambda rows: [row.rank for row in rows.rows])
+    """of the matching or place, as in the answers"""
+    part = Column[PieceRows]("str", lambda rows: rows.parts)
+    """`outer` or `inner`; of a point along a line `point`, for what lies between its two positions"""
+    piece = Column[PieceRows]("int64", lambda rows: rows.numbers)
+    """the number of the piece along its part, from 1, in the order of travel"""
+    line = Column[PieceRows]("int64", lambda rows: rows.lines)
+    """the id of the line in the map"""
+    source = Column("str", of_sources(lambda it: it.source))
+    """what the line was made of, by the map's `ids.csv`: the number of your link, or of a way"""
+    source_part = Column("int64", of_sources(lambda it: it.part))
+    """which part of it the line is, from 0, because links are cut at junctions"""
+    direction = Column("str", of_sources(lambda it: it.direction))
+    """`forward` where the line goes as the source is drawn, `backward` where it goes against it"""
+    name = Column("str", of_sources(lambda it: it.name or None))
+    """the source's name"""
+    from_m = Column[PieceRows]("float", lambda rows: rows.starts)
+    """where the piece begins, in metres from the start of the line"""
+    to_m = Column[PieceRows]("float", lambda rows: rows.ends)
+    """where it ends, in metres from the start of the line"""
+
+
+def of_reasons(value: Callable[[Why], Any]) -> Callable[[Sequence[Reasons]], Values]:
+    """What each row has of its answer to `why`."""
+    return lambda rows: [None if isinstance(one, Fault) else value(one) for one in rows]
+
+
+def remedy_words(remedy: Remedy) -> str:
+    """A remedy as an option with its value, such as `lowest 2`."""
+    return remedy.option if remedy.value is None else f"{remedy.option} {remedy.value}"
+
+
+class WhyNot:
+    """Those of what `why` says, between the key and the geometry."""
+
+    verdict = Column[Sequence[Reasons]](
+        "str",
+        lambda rows: ["fault" if isinstance(one, Fault) else one.verdict.word for one in rows],
+    )
+    """`crowded`, `point`, `leg` or `chain`: what stands in the way; `match` if nothing does; `fault` for a message that is refused"""
+    at = Column("int64", of_reasons(lambda it: it.verdict.at))
+    """at which point or leg, from 1"""
+    remedies = Column("str", of_reasons(lambda it: ", ".join(map(remedy_words, it.remedies))))
+    """options of the program that help, the first one to be tried first, each in the option's own unit: `slack 300` is in decimetres"""
+    cursor = Column("str", of_reasons(lambda it: it.remedies[0].matching if it.remedies else None))
+    """of the matching that the first remedy brings"""
+    fault = Column[Sequence[Reasons]](
+        "str", lambda rows: [one.text if isinstance(one, Fault) else None for one in rows]
+    )
+    """why a message is refused, in the program's words"""
+
+
+class InFront:
+    """Those of messages, in front of all others in a file."""
+
+    record = Column[Sequence[Message]]("int64", lambda messages: [one.record for one in messages])
+    """the number of the message in its file, from 1"""
+    key = Column[Sequence[Message]]("str", lambda messages: [one.key for one in messages])
+    """its key, or nothing where it has none"""
+
+
+ANSWERS: Columns[AnswerRows] = columns_of(Answers)
+PIECES: Columns[PieceRows] = columns_of(Pieces)
+REASONS: Columns[Sequence[Reasons]] = columns_of(WhyNot)
+IN_FRONT: Columns[Sequence[Message]] = columns_of(InFront)
+OF_QUESTION: Mapping[What, Columns[Any]] = {"match": ANSWERS, "places": ANSWERS, "why": REASONS}
 """The columns of the table of answers to a question."""
-IN_FRONT: Columns = {"record": "int64", "key": "str"}
-"""The columns of a file in front of these."""

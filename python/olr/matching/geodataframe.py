@@ -1,7 +1,7 @@
 """Answers as tables with geometries. docs/COLUMNS.md says what is in each column."""
 
 from collections.abc import Iterable, Iterator, Mapping, Sequence
-from typing import Any, TypeVar
+from typing import Any
 
 from olr.extras import needed_by
 from olr.model.answers import Page, Places
@@ -14,16 +14,15 @@ with needed_by("olr.to_geodataframe", "geo"):
     import pandas
 
     from olr.confidence.confidence import Confidence
-    from olr.confidence.judged import Judging, judged
+    from olr.confidence.judged import Judging
     from olr.geometry.network import Network
     from olr.likely.order import Shown
-    from olr.matching.columns import ANSWERS, PIECES, TYPES, Columns, Part
-    from olr.matching.rows import Counted, Located, Rows, in_chunks, rows_of_answers, rows_of_pieces
+    from olr.matching.chunks import Answered, Counted, chunks_of
+    from olr.matching.columns import ANSWERS, PIECES
+    from olr.matching.rows import Extent, Located, Rows
     from olr.matching.shapes import wkb
-    from olr.model.reference import read_reference
+    from olr.matching.tables import TYPES, Columns
 
-Item = TypeVar("Item")
-Other = TypeVar("Other")
 CRS = "EPSG:4326"
 
 
@@ -31,7 +30,7 @@ def to_geodataframe(
     answers: Iterable[Located],
     network: Network,
     keys: Iterable[object] | None = None,
-    part: Part = "outer",
+    part: Extent = "outer",
     candidates: Iterable[Counted] | None = None,
     confidence: "Confidence | None" = None,
     references: Iterable[str] | None = None,
@@ -63,22 +62,9 @@ def to_geodataframe(
     `MapRefused` if the network is of another version of the map than an answer, `ToolError` if it hasn't a line of one, `ValueError`
     if there are more keys than answers or fewer, and `TypeError` for one answer or one key in place of many.
     """
-    _require_many("to_geodataframe", answers)
-    judging = Judging(confidence, _shown(within, most))
-    keyed = _keyed("to_geodataframe", answers, keys)
-    with_texts = _beside("references", keyed, references)
-    counted = _beside("candidates", with_texts, candidates)
-
-    def rows_of(items: Sequence[Any], chunk: Sequence[Located]) -> tuple[list[object], Rows]:
-        texts = [text for (_, text), _ in items]
-        said = [None if text is None else read_reference(text) for text in texts]
-        judgements = judged(chunk, said, network, judging)
-        counts = [count for _, count in items]
-        rows = rows_of_answers(chunk, network, part, counts, judgements)
-        return [key for (key, _), _ in items], rows
-
-    chunks = (rows_of(items, chunk) for items, chunk in in_chunks(counted))
-    return _table(chunks, ANSWERS, keys is None)
+    answered = _answered("to_geodataframe", answers, keys, references, candidates)
+    chunks = chunks_of(answered, network, Judging(confidence, _shown(within, most)))
+    return _table(((one.items, one.rows(part)) for one in chunks), ANSWERS, keys is None)
 
 
 def _shown(within: int | None, most: int | None) -> Shown | None:
@@ -106,46 +92,35 @@ def to_pieces(
     >>> pieces[["part", "line", "from_m", "to_m"]].values.tolist()[0]
     ['outer', 104, 87.9, 243.5]
     """
-    _require_many("to_pieces", answers)
-    chunks = (
-        (items, rows_of_pieces(chunk, network))
-        for items, chunk in in_chunks(_keyed("to_pieces", answers, keys))
-    )
-    return _table(chunks, PIECES, keys is None)
+    chunks = chunks_of(_answered("to_pieces", answers, keys), network)
+    return _table(((one.items, one.pieces()) for one in chunks), PIECES, keys is None)
 
 
-def _require_many(call: str, answers: object) -> None:
-    """Raises `TypeError` for one answer."""
+def _answered(
+    call: str,
+    answers: Iterable[Located],
+    keys: Iterable[object] | None,
+    references: Iterable[str] | None = None,
+    candidates: "Iterable[Counted] | None" = None,
+) -> "Iterator[Answered[object]]":
+    """Answers with what was given of each; without keys they are counted. Raises `TypeError` for one in place of many, and `ValueError` where
+    there are more or fewer."""
     if isinstance(answers, (Page, Places, Fault)):
         raise TypeError(f"{call} takes many answers, not one: give a list of it")
-
-
-def _keyed(
-    call: str, answers: Iterable[Located], keys: Iterable[object] | None
-) -> Iterator[tuple[object, Located]]:
-    """Answers with their keys. Raises `TypeError` for one key, and `ValueError` where there are more or fewer."""
-    if keys is None:
-        return iter(enumerate(answers))
-    found = many(f"{call} takes many keys", keys, "give a list, with one for each answer")
-    return zip(found, answers, strict=True)
-
-
-def _beside(
-    what: str, keyed: Iterator[tuple[Item, Located]], others: Iterable[Other] | None
-) -> Iterator[tuple[tuple[Item, Other | None], Located]]:
-    """Answers with what they have already, and with others, one for each; None where there are no others. Raises `TypeError` for one text,
-    and `ValueError` where there are more or fewer."""
-    if others is None:
-        return (((item, None), answer) for item, answer in keyed)
-    found = many(
-        f"to_geodataframe takes many {what}", others, "give a list, with one for each answer"
-    )
-    both = zip(keyed, found, strict=True)
-    return (((item, other), answer) for (item, answer), other in both)
+    others = {"keys": keys, "references": references, "candidates": candidates}
+    for name, items in others.items():
+        if items is not None:
+            many(f"{call} takes many {name}", items, "give a list, with one for each answer")
+    columns = {"keys": keys, "answers": answers} | others
+    given = {name: items for name, items in columns.items() if items is not None}
+    for number, values in enumerate(zip(*given.values(), strict=True)):
+        one: dict[str, Any] = {"keys": number} | dict(zip(given, values))
+        text, counted = one.get("references"), one.get("candidates")
+        yield Answered(one["keys"], text, one["answers"], counted)
 
 
 def _table(
-    chunks: Iterable[tuple[Sequence[object], Rows]], columns: Columns, are_counted: bool
+    chunks: Iterable[tuple[Sequence[object], Rows]], columns: "Columns[Any]", are_counted: bool
 ) -> "geopandas.GeoDataFrame":
     """A table of rows, with the keys of their answers in front of these columns."""
     keys: list[object] = []
@@ -158,7 +133,8 @@ def _table(
         geometries.extend(wkb(rows.shapes))
     kind = "int64" if are_counted else None if keys else "object"
     table = {"key": pandas.Series(keys, dtype=kind)} | {
-        name: pandas.Series(found, dtype=TYPES[columns[name]]) for name, found in values.items()
+        name: pandas.Series(found, dtype=TYPES[columns[name].kind])
+        for name, found in values.items()
     }
     shapes = geopandas.array.from_wkb(np.array(geometries, dtype=object), crs=CRS)
     return geopandas.GeoDataFrame(table, geometry=shapes, crs=CRS)

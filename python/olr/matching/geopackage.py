@@ -18,13 +18,13 @@ from olr.arrays import Floats, Integers
 from olr.curve import places_on_curve
 from olr.errors import ToolError
 from olr.geometry.network import Polylines
-from olr.matching.columns import Columns
 from olr.matching.shapes import blobs, boxes
+from olr.matching.tables import Columns, Kind
 from olr.regions.geopackage import insert, os_error
 from olr.regions.index import fill_index, outwards
 
 CRS = "EPSG:4326"
-TYPES = {"int64": "INTEGER", "float": "REAL", "str": "TEXT"}
+TYPES: Mapping[Kind, str] = {"int64": "INTEGER", "float": "REAL", "str": "TEXT"}
 """The types of columns, as GDAL writes them."""
 PAGE_BYTES = 16_384
 """A row has 2,000 bytes and more, which fill a page of the usual 4,096 badly."""
@@ -34,7 +34,7 @@ OPEN = ("-wal", "-journal")
 """Behind the name of a file that stand beside it while another program writes it."""
 
 
-def make(file: Path, layer: str, columns: Columns) -> None:
+def make(file: Path, layer: str, columns: Columns[Any]) -> None:
     """Makes a GeoPackage with a layer without rows. A row may have a line, a point or nothing. Raises `OSError`."""
     file.write_bytes(_empty(layer, columns))
     try:
@@ -45,9 +45,12 @@ def make(file: Path, layer: str, columns: Columns) -> None:
         raise os_error(error) from error
 
 
-def _empty(layer: str, columns: Columns) -> bytes:
+def _empty(layer: str, columns: Columns[Any]) -> bytes:
     """What GDAL makes: in memory, because it doesn't tell of each write to a disk that failed."""
-    schema = {"geometry": "Unknown", "properties": dict(columns)}
+    schema = {
+        "geometry": "Unknown",
+        "properties": {name: one.kind for name, one in columns.items()},
+    }
     with io.BytesIO() as content:
         with fiona.open(content, "w", driver="GPKG", crs=CRS, schema=schema, layer=layer):
             pass
@@ -146,7 +149,7 @@ class _Index:
 
 
 @contextmanager
-def opened(file: Path, layer: str, columns: Columns, name: Path) -> Iterator[Layer]:
+def opened(file: Path, layer: str, columns: Columns[Any], name: Path) -> Iterator[Layer]:
     """A layer of a file, which nobody else reads, to add rows to. All of them are in the file at the end.
 
     Raises `ToolError`, with the `name` that the file will have, if it hasn't a layer with these columns, and `OSError` if it can't be
@@ -175,7 +178,7 @@ def opened(file: Path, layer: str, columns: Columns, name: Path) -> Iterator[Lay
 
 
 def _require_schema(
-    connection: sqlite3.Connection, layer: str, columns: Columns, file: Path
+    connection: sqlite3.Connection, layer: str, columns: Columns[Any], file: Path
 ) -> None:
     """Raises `ToolError` if a file hasn't a layer with these columns and no others."""
     try:
@@ -186,7 +189,7 @@ def _require_schema(
         has = ", ".join(layers) or "none"
         raise ToolError(f"{file} has no layer {layer}, but {has}: name another file")
     wanted = {"fid": "INTEGER", "geom": "GEOMETRY"}
-    wanted |= {name: TYPES[kind] for name, kind in columns.items()}
+    wanted |= {name: TYPES[one.kind] for name, one in columns.items()}
     table = connection.execute("SELECT name, type FROM pragma_table_info(?)", (layer,))
     found = dict(table.fetchall())
     is_same = list(found.items()) == list(wanted.items())

@@ -15,9 +15,9 @@ with needed_by("olr.locate", "geo"):
     from olr.confidence.choosing import judging_with
     from olr.confidence.confidence import Confidence
     from olr.likely.order import LIST
-    from olr.matching.columns import ANSWERS, Part
+    from olr.matching.columns import ANSWERS
     from olr.matching.geodataframe import CRS, to_geodataframe
-    from olr.matching.rows import Located
+    from olr.matching.rows import Extent, Located
 
 
 def locate(
@@ -26,7 +26,7 @@ def locate(
     map: MapOrPath | None = None,
     *,
     places: bool = True,
-    part: Part = "outer",
+    part: Extent = "outer",
     confidence: "Confidence | None" = None,
     prefix: str = "",
 ) -> "geopandas.GeoDataFrame":

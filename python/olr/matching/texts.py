@@ -10,7 +10,7 @@ from typing import Any, TextIO
 
 from olr.errors import ToolError
 from olr.geometry.network import Polylines
-from olr.matching.columns import Columns
+from olr.matching.tables import Columns
 
 CRS = {"type": "name", "properties": {"name": "urn:ogc:def:crs:OGC:1.3:CRS84"}}
 DIGITS = 7
@@ -23,7 +23,7 @@ class Csv:
     def __init__(self, stream: TextIO) -> None:
         self._writer = csv.writer(stream, lineterminator="\n")
 
-    def begin(self, columns: Columns) -> None:
+    def begin(self, columns: Columns[Any]) -> None:
         """Writes the header. Raises `OSError`."""
         self._writer.writerow(columns)
 
@@ -83,7 +83,7 @@ def geojson(file: Path, layer: str) -> Iterator[GeoJson]:
 
 
 @contextmanager
-def table(file: Path, columns: Columns, is_new: bool, name: Path) -> Iterator[Csv]:
+def table(file: Path, columns: Columns[Any], is_new: bool, name: Path) -> Iterator[Csv]:
     """A CSV file, a new one or one to add rows to. Raises `ToolError`, with the `name` that the file will have, if one to add to has
     another header, and `OSError` if it can't be written."""
     header = ",".join(columns)

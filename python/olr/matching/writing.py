@@ -8,9 +8,12 @@ from typing import Any, Literal, NamedTuple, Protocol
 
 from olr.errors import ToolError
 from olr.geometry.network import Polylines
-from olr.matching.columns import IN_FRONT, Columns
+from olr.matching.columns import IN_FRONT
 from olr.matching.geopackage import make, opened, require_closed
+from olr.matching.rows import Rows
+from olr.matching.tables import Columns, values_of
 from olr.matching.texts import geojson, table
+from olr.messages.message import Message
 from olr.outputs import require_free_file, whole_file
 
 Suffix = Literal[".gpkg", ".geojson", ".csv"]
@@ -30,7 +33,7 @@ class Output(NamedTuple):
     file: Path
     layer: str
     """What a GeoPackage and GeoJSON call the rows."""
-    columns: Columns
+    columns: Columns[Any]
     """Behind `record` and `key`."""
 
 
@@ -48,10 +51,11 @@ class Sink:
         self._table = table
         self.rows = 0
 
-    def add(self, values: Mapping[str, Sequence[Any]], shapes: Polylines) -> None:
-        """Adds rows: their columns, and the geometry of each. Raises `OSError` and `sqlite3.Error`."""
-        self._table.add(values, shapes)
-        self.rows += len(shapes.sizes)
+    def add(self, messages: Sequence[Message], rows: Rows) -> None:
+        """Adds rows of the answers to messages, with the record and the key of each. Raises `OSError` and `sqlite3.Error`."""
+        front = values_of(IN_FRONT, [messages[number] for number in rows.answers])
+        self._table.add({**front, **rows.values}, rows.shapes)
+        self.rows += len(rows.answers)
 
 
 def require_writable(file: Path, where: Where, inputs: Iterable[Path] = ()) -> Suffix:

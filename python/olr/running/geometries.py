@@ -5,29 +5,19 @@ from contextlib import ExitStack
 from pathlib import Path
 from typing import NamedTuple
 
-from olr.confidence.judged import Judging, judged
+from olr.confidence.judged import Judging
 from olr.geometry.store_network import StoreNetwork
+from olr.matching.chunks import Answered, chunks_of
 from olr.matching.columns import ANSWERS, PIECES
-from olr.matching.rows import Located, Rows, in_chunks, rows_of_answers, rows_of_pieces
-from olr.matching.writing import Output, Sink, Where, require_writable, writing_rows
-from olr.model.answers import Page, Places
-from olr.model.fault import Fault
+from olr.matching.writing import Output, Where, require_writable, writing_rows
+from olr.messages.message import Message
 from olr.model.objects import line_of
 from olr.model.questions import What
-from olr.model.reference import read_reference
 from olr.progress import watched
 from olr.running.question import Question
 
 Line = tuple[bytes, str]
 """A line of a part, and the text of its reference."""
-
-
-class Named(NamedTuple):
-    """The message of a record."""
-
-    key: str | None
-    number: int
-    reference: str
 
 
 class Geometries(NamedTuple):
@@ -82,32 +72,17 @@ def write_geometries(
             stack.enter_context(writing_rows(one, asked.where, asked.inputs)) for one in outputs
         ]
         for part in watched(parts, "parts written as rows", len(parts)):
-            for records, answers in in_chunks(_located(part, network.digest)):
-                references = [read_reference(record.reference) for record in records]
-                judgements = judged(answers, references, network, asked.judging)
-                cut_off += sum(one is not None and one.is_cut_off for one in judgements)
+            for chunk in chunks_of(_answered(part, network.digest), network, asked.judging):
+                cut_off += chunk.cut_off()
                 for output, sink in zip(outputs, sinks):
-                    if output.columns is ANSWERS:
-                        rows = rows_of_answers(answers, network, judgements=judgements)
-                    else:
-                        rows = rows_of_pieces(answers, network, judgements)
-                    _add(sink, records, rows)
+                    rows = chunk.rows() if output.columns is ANSWERS else chunk.pieces()
+                    sink.add(chunk.items, rows)
     files = [(output.file, sink.rows) for output, sink in zip(outputs, sinks)]
     return Written(files, cut_off)
 
 
-def _located(lines: Iterable[Line], digest: str | None) -> Iterator[tuple[Named, Located]]:
+def _answered(lines: Iterable[Line], digest: str | None) -> Iterator[Answered[Message]]:
     """The answers of lines, with the messages of their records."""
     for line, reference in lines:
         key, record, answer = line_of(line, digest)
-        assert isinstance(answer, (Page, Places, Fault))
-        yield Named(key, record, reference), answer
-
-
-def _add(sink: Sink, records: Sequence[Named], rows: Rows) -> None:
-    """Adds rows, with the record and the key of each."""
-    front: dict[str, Sequence[object]] = {
-        "record": [records[number].number for number in rows.answers],
-        "key": [records[number].key for number in rows.answers],
-    }
-    sink.add({**front, **rows.values}, rows.shapes)
+        yield Answered(Message(record, key, reference), reference, answer)

@@ -5,14 +5,13 @@ from io import StringIO
 from typing import NamedTuple
 
 from olr.confidence.confidence import Confidence
-from olr.confidence.judged import Judging, judged
-from olr.matching.rows import Counted, rows_of_answers
+from olr.confidence.judged import Judging
+from olr.matching.chunks import Answered, Chunk, Counted
 from olr.matching.texts import GeoJson
-from olr.model.answers import Candidates, Page, Places
+from olr.model.answers import Candidates
 from olr.model.fault import Fault
 from olr.model.objects import read_answer
 from olr.model.questions import TOLERANCES
-from olr.model.reference import read_reference
 from olr.serving.judging import long_list_of
 from olr.serving.queries import Kind, Question
 from olr.serving.rooms import Room
@@ -75,11 +74,8 @@ def _text(
     """The text of a collection of features. `judging` says by what places are judged."""
     network, what = versions.network(), question.kind.what
     answer = read_answer(what, known.json, known.digest)
-    assert isinstance(answer, (Page, Places))
-    judgements = None
-    if judging is not None:
-        judgements = judged([answer], [read_reference(question.text.decode())], network, judging)
-    rows = rows_of_answers([answer], network, "outer", [counted], judgements)
+    asked = Answered(None, question.text.decode(), answer, counted)
+    rows = Chunk([asked], network, judging or Judging()).rows()
     stream = StringIO()
     written = GeoJson(stream, what)
     written.add(rows.values, rows.shapes)

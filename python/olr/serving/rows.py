@@ -14,7 +14,7 @@ from olr.confidence.confidence import Confidence
 from olr.confidence.judged import Judged, judged
 from olr.errors import MapRefused, ProgramEnded
 from olr.geometry.network import Network
-from olr.matching.rows import DIGITS
+from olr.matching.columns import DIGITS
 from olr.model.answers import Places
 from olr.model.fault import Fault
 from olr.model.objects import read_answer

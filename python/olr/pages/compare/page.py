@@ -7,12 +7,12 @@ from typing import Any, NamedTuple
 
 from olr.arrays import Floats
 from olr.comparing.changes import Compared, Side
+from olr.comparing.columns import reason_of, remedy_of, rounded
 from olr.comparing.places import Shape, Spot
-from olr.comparing.rows import reason_of, remedy_of, rounded
 from olr.comparing.summary import Summary
 from olr.geometry.agreement import AGREE
 from olr.geometry.network import Network
-from olr.matching.rows import DIGITS as OF_PROBABILITIES
+from olr.matching.columns import rounded as probability_shown
 from olr.model.asked_with import command_text, is_for_program
 from olr.model.fault import Fault
 from olr.pages.html import Template, html_of
@@ -143,15 +143,12 @@ def _verdict(side: Side) -> str:
 def _probability(side: Side) -> float | None:
     """How probable the likeliest place on a map is."""
     place = side.place()
-    if place is None or place.probability is None:
-        return None
-    return round(place.probability, OF_PROBABILITIES)
+    return None if place is None else probability_shown(place.probability)
 
 
 def _reason(side: Side) -> str | None:
     """Why a map has no place for a reference."""
-    fault = next((it for it in (side.answer, side.why) if isinstance(it, Fault)), None)
-    return reason_of(side.why) if fault is None else fault.text
+    return side.fault() or reason_of(side.why)
 
 
 def _shapes(reference: Compared) -> dict[str, Floats]:

@@ -1,18 +1,16 @@
 """A file of messages, asked and counted."""
 
-from collections.abc import Iterable, Iterator, Mapping
+from collections.abc import Mapping
 from typing import NamedTuple
 
 from olr.client.map_client import Map
 from olr.confidence.choosing import listing
-from olr.confidence.judged import Judging, judged
+from olr.confidence.judged import Judging
 from olr.matching.asking import Asked
+from olr.matching.chunks import Answered, chunks_of
 from olr.matching.lacking import Lacking
-from olr.matching.rows import Located, in_chunks
-from olr.messages.message import Message
-from olr.model.answers import AnswerOrFault, Places
+from olr.model.answers import Places
 from olr.model.fault import Fault
-from olr.model.reference import read_reference
 from olr.pages.report.counting import PlaceCounts
 from olr.pages.report.reasons import ReasonCounts
 from olr.pages.report.sample import Drawn, Sample
@@ -45,10 +43,12 @@ def count(
     places, reasons, sample = PlaceCounts(), ReasonCounts(), Sample(rows)
     network = asked.network()
     kept: list[_Kept] = []
-    for chunk, answers in in_chunks(_located(messages.answered("places", listing(numbers)))):
-        references = [read_reference(message.reference) for message in chunk]
-        judgements = judged(answers, references, network, judging)
-        for message, answer, judgement in zip(chunk, answers, judgements):
+    answered = (
+        Answered(message, message.reference, answer)
+        for message, answer in messages.answered("places", listing(numbers))
+    )
+    for chunk in chunks_of(answered, network, judging):
+        for message, answer, judgement in zip(chunk.items, chunk.answers, chunk.judgements):
             assert isinstance(answer, (Places, Fault))
             places.add(answer, judgement)
             sample.add(message, answer)
@@ -58,15 +58,6 @@ def count(
                 _count_reasons(kept, asked, reasons, lacking)
     _count_reasons(kept, asked, reasons, lacking)
     return Counted(places, reasons, sample.chosen(), lacking)
-
-
-def _located(
-    answered: Iterable[tuple[Message, AnswerOrFault]]
-) -> Iterator[tuple[Message, Located]]:
-    """Messages with their answers, which say where they are."""
-    for message, answer in answered:
-        assert isinstance(answer, (Places, Fault))
-        yield message, answer
 
 
 class _Kept(NamedTuple):

@@ -1,0 +1,100 @@
+"""Answers that say where references are, judged in chunks of some hundred rows."""
+
+from collections.abc import Iterable, Iterator, Sequence
+from functools import cached_property
+from typing import Generic, NamedTuple, TypeVar
+
+from olr.confidence.judged import Judging, judged
+from olr.geometry.network import Network
+from olr.matching.columns import ANSWERS, PIECES
+from olr.matching.rows import AnswerRows, Extent, Located, PieceRows, Row, Rows, rows_of
+from olr.matching.tables import values_of
+from olr.model.answers import AnswerOrFault, Candidates, Page, Places
+from olr.model.fault import Fault
+from olr.model.reference import read_reference
+
+Item = TypeVar("Item")
+Counted = Candidates | Fault | None
+"""An answer to `candidates`; None where nobody asked."""
+ROWS = 500
+"""So many rows are made at once, or some more: those of one answer stay together."""
+
+
+class Answered(NamedTuple, Generic[Item]):
+    """An answer to `match` or `places`."""
+
+    item: Item
+    """What it belongs to, such as a message."""
+    reference: str | None
+    """The text; without it nothing is said of how probable places are."""
+    answer: AnswerOrFault
+    candidates: Counted = None
+
+
+class Chunk(Generic[Item]):
+    """Some answers, judged."""
+
+    def __init__(
+        self, answered: Sequence[Answered[Item]], network: Network, judging: Judging
+    ) -> None:
+        """See `chunks_of`."""
+        self._network = network
+        self._counts = [_number_of(one.candidates) for one in answered]
+        self.items = [one.item for one in answered]
+        self.answers = [_located(one.answer) for one in answered]
+        references = [read_reference(one.reference or "") for one in answered]
+        self.judgements = judged(self.answers, references, network, judging)
+
+    def cut_off(self) -> int:
+        """How many answers may lack a place that would be shown: looking was cut off before."""
+        return sum(one is not None and one.is_cut_off for one in self.judgements)
+
+    def rows(self, extent: Extent = "outer") -> Rows:
+        """The table of answers: of lines the outer or the inner part. Raises as `rows_of`."""
+        made = AnswerRows(self._rows, self._network, extent)
+        return Rows([row.number for row in made.rows], values_of(ANSWERS, made), made.shapes)
+
+    def pieces(self) -> Rows:
+        """The table of pieces. Raises as `rows_of`."""
+        made = PieceRows(self._rows, self._network)
+        return Rows([row.number for row in made.rows], values_of(PIECES, made), made.shapes)
+
+    @cached_property
+    def _rows(self) -> list[Row]:
+        return rows_of(self.answers, self.judgements, self._counts, self._network)
+
+
+def chunks_of(
+    answered: Iterable[Answered[Item]], network: Network, judging: Judging = Judging()
+) -> Iterator[Chunk[Item]]:
+    """Answers in chunks of some hundred rows. Raises `TypeError` for an answer to another question, `ToolError` if the network hasn't a line
+    of one, and `MapRefused` if it is of another version of the map."""
+    some: list[Answered[Item]] = []
+    rows = 0
+    for one in answered:
+        some.append(one)
+        rows += _count(_located(one.answer))
+        if rows >= ROWS:
+            yield Chunk(some, network, judging)
+            some, rows = [], 0
+    if some:
+        yield Chunk(some, network, judging)
+
+
+def _located(answer: AnswerOrFault) -> Located:
+    """An answer that says where a reference is. Raises `TypeError` for another one."""
+    if isinstance(answer, (Page, Places, Fault)):
+        return answer
+    raise TypeError(f"{type(answer).__name__} has no matchings: ask match or places")
+
+
+def _count(answer: Located) -> int:
+    """How many rows an answer has at most."""
+    if isinstance(answer, Fault):
+        return 1
+    return max(1, len(answer.matchings if isinstance(answer, Page) else answer.places))
+
+
+def _number_of(counted: Counted) -> int | None:
+    """How many candidates all points of a reference have together."""
+    return sum(map(len, counted.points)) if isinstance(counted, Candidates) else None

@@ -1,0 +1,36 @@
+"""Tables as data. A class names the columns of a table in their order; a column has what it holds, and how it is worked out of the rows
+of some hundred answers at once. What it is stands below it, as docs/COLUMNS.md says it too.
+
+The columns of a table are the same whatever is in them. Lengths and positions are in metres, and their names end with `_m`; penalties are
+in points.
+"""
+
+from collections.abc import Callable, Mapping, Sequence
+from typing import Any, Generic, Literal, NamedTuple, TypeVar
+
+Rows = TypeVar("Rows", contravariant=True)
+Kind = Literal["int64", "float", "str"]
+"""What is in a column: whole numbers, numbers or texts, by the names of fiona. Each row may lack it."""
+TYPES: Mapping[Kind, str] = {"int64": "Int64", "float": "float64", "str": "object"}
+"""The types of columns in a table of pandas. A text that isn't there is None, a number that isn't there NaN."""
+
+
+class Column(NamedTuple, Generic[Rows]):
+    """A column of a table."""
+
+    kind: Kind
+    values: Callable[[Rows], Sequence[Any]]
+    """Gives the value of each row; None where it has none."""
+
+
+Columns = Mapping[str, Column[Rows]]
+
+
+def columns_of(table: type) -> dict[str, Column[Any]]:
+    """The columns that a class names."""
+    return {name: it for name, it in vars(table).items() if isinstance(it, Column)}
+
+
+def values_of(columns: Columns[Rows], rows: Rows) -> dict[str, Sequence[Any]]:
+    """The values of columns."""
+    return {name: column.values(rows) for name, column in columns.items()}
