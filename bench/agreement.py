@@ -13,7 +13,6 @@ minutes.
 """
 
 import argparse
-import math
 import random
 import subprocess
 import sys
@@ -21,6 +20,8 @@ import tempfile
 from collections import Counter
 from itertools import islice
 from pathlib import Path
+
+from scipy.stats import binomtest
 
 HERE = Path(__file__).resolve().parent
 sys.path[:0] = [str(HERE.parent / "python"), str(HERE.parent / "python/tests")]
@@ -134,10 +135,7 @@ def counted(name, road_map, chosen, scratch):
 
 def interval(right, count):
     """The interval of 95 percent of a share, by Wilson's score."""
-    share, z = right / count, 1.96
-    middle = (share + z * z / 2 / count) / (1 + z * z / count)
-    half = z / (1 + z * z / count) * math.sqrt(share * (1 - share) / count + z * z / 4 / count**2)
-    return middle - half, middle + half
+    return binomtest(right, count).proportion_ci(method="wilson")
 
 
 def main():
