@@ -17,6 +17,9 @@ import olr
 from asking import draw_map, draw_references
 from conftest import OF_PROGRAM, REFERENCE, TOP, Program
 from exact_paths import LineGraph, drawn_references
+from olr.errors import ToolError
+from olr.matching.columns import ANSWERS
+from olr.matching.writing import Output, writing_rows
 from olr.model.map_folder import read_map
 from olr.tools import run
 from olr.trials.encoder import text_of
@@ -185,6 +188,18 @@ def test_rows_are_added_whole_or_not_at_all(
     messages.write_text(f'{{"ref":"{REFERENCE}"}}\n' * 300 + "{\n")
     assert match(out, "--append", messages=messages) == 1
     assert contents(tmp_path) == before
+
+
+@pytest.mark.parametrize("name", ["out.csv", "out.gpkg"])
+def test_a_file_that_changes_while_rows_are_added(name: str, tmp_path: Path) -> None:
+    """What another program writes into it meanwhile isn't lost."""
+    out = tmp_path / name
+    assert match(out) == 0
+    changed = out.read_bytes() + b"\n"
+    with pytest.raises(ToolError, match="was changed while rows were added to it: append again"):
+        with writing_rows(Output(out, "match", ANSWERS), "append"):
+            out.write_bytes(changed)
+    assert out.read_bytes() == changed and os.listdir(tmp_path) == [name]
 
 
 @pytest.mark.parametrize(

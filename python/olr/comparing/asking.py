@@ -54,19 +54,13 @@ class Comparison:
     ) -> Chunk:
         """Messages with their answers, compared."""
         texts = [message.reference for message in messages]
-        before, after = self._old.located(texts, old), self._new.located(texts, new)
+        before, old_rows = self._old.located(texts, old)
+        after, new_rows = self._new.located(texts, new)
         references = [
             compared(message, one, other, self._limits)
-            for message, one, other in zip(messages, before.sides, after.sides)
+            for message, one, other in zip(messages, before, after)
         ]
-        return Chunk(references, before.rows, after.rows)
-
-
-class _Located(NamedTuple):
-    """Where a map has references."""
-
-    sides: Sequence[Side]
-    rows: AnswerRows
+        return Chunk(references, old_rows, new_rows)
 
 
 class _Asked(NamedTuple):
@@ -81,8 +75,10 @@ class _Asked(NamedTuple):
         texts = (message.reference for message in messages)
         return cast(Iterator[Answer], self.map.answers("places", texts, **numbers))
 
-    def located(self, texts: Sequence[str], answers: Sequence[Answer]) -> _Located:
-        """Where the map has references, by the answers about their places, and why those have none that have none."""
+    def located(
+        self, texts: Sequence[str], answers: Sequence[Answer]
+    ) -> tuple[list[Side], AnswerRows]:
+        """Where the map has references, by the answers about their places, and why those have none that have none; and their rows."""
         references = list(map(read_reference, texts))
         judgements = judged(answers, references, self.network, self.judging)
         rows, shapes = likeliest_places(answers, judgements, self.network)
@@ -93,7 +89,7 @@ class _Asked(NamedTuple):
             Side(_shown(answer, judgement), shape, next(reasons) if lacks else None, judgement)
             for answer, judgement, shape, lacks in zip(answers, judgements, shapes, lacking)
         ]
-        return _Located(sides, rows)
+        return sides, rows
 
 
 def _shown(answer: Answer, judgement: Judged | None) -> Answer:

@@ -18,18 +18,18 @@ The place of a reference on a map is the likeliest one.
 """
 
 import numpy as np
-from collections.abc import Sequence
+from collections.abc import Iterator, Sequence
 from typing import NamedTuple
 
 from olr.arrays import Floats
 from olr.confidence.judged import Judged
 from olr.geometry.agreement import DIGITS, agreement, agreement_of_segments
-from olr.geometry.network import Network, middle
+from olr.geometry.network import Network
 from olr.geometry.parts import parts_of
 from olr.geometry.plane import Plane, Segments
 from olr.geometry.stretches import hausdorff, longest_lacking, within
 from olr.matching.rows import AnswerRows, rows_of
-from olr.model.answers import Matching, Places
+from olr.model.answers import Places
 from olr.model.fault import Fault
 
 
@@ -81,35 +81,25 @@ def likeliest_places(
     """A row for each answer, of its likeliest place if it has one, and the shapes of these. Raises as `rows_of`."""
     firsts = [one and one._replace(places=one.places[:1]) for one in judgements]
     rows = AnswerRows(rows_of(answers, firsts, [None] * len(answers), network), network)
-    matchings = [row.matching for row in rows.rows]
-    behind = np.cumsum(rows.shapes.sizes)
-    parts = np.split(rows.shapes.points, behind[:-1])
-    along = [one for one in matchings if one is not None and one.earliest is not None]
-    spots = iter(_spots(along, network))
-    return rows, [
-        None if one is None else Stretch(points) if one.earliest is None else next(spots)
-        for one, points in zip(matchings, parts)
-    ]
+    along = _along(rows, network)
+    shapes: list[Shape | None] = []
+    for row, points in zip(rows.rows, rows.shapes.each()):
+        if row.matching is None:
+            shapes.append(None)
+        else:
+            shapes.append(Spot(points[0], *next(along)) if row.is_point() else Stretch(points))
+    return rows, shapes
 
 
-def _spots(matchings: Sequence[Matching], network: Network) -> list[Spot]:
-    """The shapes of points along lines."""
-    if not matchings:
-        return []
-    routes = parts_of([one.route for one in matchings])
-    halfway = [
-        middle(one.route, one.earliest, one.latest)
-        for one in matchings
-        if one.earliest is not None and one.latest is not None
-    ]
-    decimetres = np.array([(one.line, max(one.at - 1, 0), max(one.at, 1)) for one in halfway])
-    pieces = np.concatenate([routes.pieces, decimetres])
-    counts = np.concatenate([routes.counts, np.ones(len(halfway), dtype=np.int64)])
-    lines = network.polylines(pieces, counts)
-    parts = np.split(lines.points, np.cumsum(lines.sizes)[:-1])
-    points = network.points_at(np.array(halfway, dtype=np.int64))
-    behind = parts[len(matchings) :]
-    return [Spot(*one) for one in zip(points, behind, parts)]
+def _along(rows: AnswerRows, network: Network) -> Iterator[tuple[Floats, Floats]]:
+    """The decimetre behind each point along a line, and its route."""
+    if rows.halfway:
+        routes = parts_of([route for route, _ in rows.halfway])
+        behind = [(one.line, max(one.at - 1, 0), max(one.at, 1)) for _, one in rows.halfway]
+        pieces = np.concatenate([behind, routes.pieces])
+        counts = np.concatenate([np.ones(len(behind), dtype=np.int64), routes.counts])
+        lines = network.polylines(pieces, counts).each()
+        yield from zip(lines, lines[len(behind) :])
 
 
 def difference(old: Shape, new: Shape, limits: Limits) -> Difference:

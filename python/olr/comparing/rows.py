@@ -2,7 +2,6 @@
 
 import numpy as np
 
-from olr.arrays import Floats
 from olr.comparing.asking import Chunk
 from olr.comparing.columns import CHANGES, ChangeRow, ChangeRows, alternating
 from olr.geometry.network import Polylines
@@ -17,7 +16,7 @@ def add_chunk(sink: Sink, chunk: Chunk) -> None:
     after = [ChangeRow(one, "new", one.new) for one in chunk.references]
     rows = ChangeRows(alternating(before, after), chunk.old, chunk.new)
     numbers = range(len(chunk.references))
-    lines = alternating(_each(chunk.old.shapes), _each(chunk.new.shapes))
+    lines = alternating(chunk.old.shapes.each(), chunk.new.shapes.each())
     sizes = np.array(list(map(len, lines)), dtype=np.int64)
     sink.add(
         [one.message for one in chunk.references],
@@ -27,8 +26,3 @@ def add_chunk(sink: Sink, chunk: Chunk) -> None:
             Polylines(np.concatenate(lines), sizes),
         ),
     )
-
-
-def _each(shapes: Polylines) -> list[Floats]:
-    """The points of each geometry."""
-    return np.split(shapes.points, np.cumsum(shapes.sizes)[:-1])

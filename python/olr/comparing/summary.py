@@ -1,7 +1,9 @@
 """How many references change in which way. It holds counts alone, however many references there are."""
 
+from bisect import bisect_right
 from collections import Counter
 from collections.abc import Iterable, Iterator
+from itertools import accumulate
 from typing import NamedTuple
 
 from olr.comparing.changes import Compared
@@ -101,10 +103,7 @@ def _by_count(counts: Counter[str]) -> list[tuple[str, int]]:
 
 def _median(counts: Counter[int]) -> float:
     """The median of numbers, each of which is there so many times; the mean of the two in the middle if there are two."""
-    total, behind = sum(counts.values()), 0
-    wanted = (total - 1) // 2, total // 2
-    found: list[int] = []
-    for number in sorted(counts):
-        behind += counts[number]
-        found += [number for at in wanted[len(found) :] if at < behind]
-    return sum(found) / 2
+    numbers = sorted(counts)
+    behind = list(accumulate(counts[number] for number in numbers))
+    middle = (behind[-1] - 1) // 2, behind[-1] // 2
+    return sum(numbers[bisect_right(behind, at)] for at in middle) / 2

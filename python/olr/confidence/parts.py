@@ -161,7 +161,7 @@ def parts_of_pair(folder: Path, sender: Path, drawing: Drawing, asking: Asking) 
             found = answered.found
             arrays = arrays_of([one.outer for one in found.matchings])
             lines = asked.network().polylines(arrays.pieces, arrays.counts)
-            places = np.split(lines.points, np.cumsum(lines.sizes)[:-1])
+            places = lines.each()
             true = [_points_of(path, geometry) for path in tried.paths]
             are_right = [
                 is_right_by_geometry(true[owner], place)

@@ -47,6 +47,10 @@ class Polylines(NamedTuple):
     sizes: Integers
     """How many points each has: at least two, or none."""
 
+    def each(self) -> list[Floats]:
+        """The points of each."""
+        return np.split(self.points, np.cumsum(self.sizes))[:-1]
+
 
 class Network:
     """The nodes of a map in the order of their ids, and its lines in that of their file, as arrays: coordinates in degrees, lengths in

@@ -69,10 +69,9 @@ def to_geodataframe(
 
 def _shown(within: int | None, most: int | None) -> Shown | None:
     """Which places are shown: all for None."""
-    if within is None and most is None:
-        return None
-    usual = Shown()
-    return Shown(usual.within if within is None else within, usual.most if most is None else most)
+    numbers = {"within": within, "most": most}
+    given = {name: number for name, number in numbers.items() if number is not None}
+    return Shown(**given) if given else None
 
 
 def to_pieces(

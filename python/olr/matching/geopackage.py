@@ -69,8 +69,7 @@ class Layer:
     def __init__(self, connection: sqlite3.Connection, name: str) -> None:
         """A layer with its columns; see `opened`."""
         self._connection, self._name = connection, name
-        ((last,),) = connection.execute(f'SELECT coalesce(max(fid), 0) FROM "{name}"')
-        self._next = int(last) + 1
+        self._next = _value(connection, f'SELECT coalesce(max(fid), 0) + 1 FROM "{name}"')
         self._index = _Index(connection, f"rtree_{name}_geom")
         self._box = np.array([np.inf, -np.inf, np.inf, -np.inf])
 
@@ -115,14 +114,9 @@ class _Index:
     def __init__(self, connection: sqlite3.Connection, table: str) -> None:
         self._connection, self._table = connection, table
         there = "SELECT count(*) FROM sqlite_master WHERE name = ?"
-        ((tables,),) = connection.execute(there, (table,))
-        self._is_there = bool(tables)
-        self._is_new = (
-            self._is_there
-            and not connection.execute(f'SELECT EXISTS (SELECT 1 FROM "{table}_rowid")').fetchone()[
-                0
-            ]
-        )
+        empty = f'SELECT NOT EXISTS (SELECT 1 FROM "{table}_rowid")'
+        self._is_there = _value(connection, there, table) > 0
+        self._is_new = self._is_there and _value(connection, empty) > 0
         self._held: list[tuple[Integers, Floats]] = []
         self._count = 0
 
@@ -146,6 +140,12 @@ class _Index:
             edges = np.stack([outwards(column, side) for column, side in columns])
             fill_index(self._connection, self._table, ids[order], edges)
         self._held, self._is_new = [], False
+
+
+def _value(connection: sqlite3.Connection, query: str, *parameters: str) -> int:
+    """The number that a query gives. Raises `sqlite3.Error`."""
+    ((value,),) = connection.execute(query, parameters)
+    return int(value)
 
 
 @contextmanager

@@ -5,8 +5,8 @@ Nothing is asked where all fit somewhere.
 
 from collections import Counter
 from collections.abc import Callable, Iterable, Iterator, Sequence
+from contextlib import AbstractContextManager
 from pathlib import Path
-from types import TracebackType
 from typing import NamedTuple
 
 from olr.client.map_client import Map
@@ -36,7 +36,7 @@ class Other(NamedTuple):
         return cls(profile, lambda: Map.of_folder(folder, **tolerances, patience=patience))
 
 
-class Lacking:
+class Lacking(AbstractContextManager["Lacking"]):
     """References that fit nowhere. It owns the map of another profile, which is opened when that is first asked, and closed by the `with`
     statement."""
 
@@ -59,10 +59,15 @@ class Lacking:
             self._ask()
 
     def add_answered(self, references: Sequence[str], reasons: Iterable[Why | Fault]) -> None:
-        """Adds references, of each of which it is known why it fits nowhere."""
+        """Adds references, with the answers why each of them fits nowhere."""
         self.count += len(references)
-        self._count_reasons(reasons)
-        self._unless_failed(lambda: self._count_others(references))
+        if self._failure is not None:
+            return
+        try:
+            self._count_reasons(reasons)
+            self._count_others(references)
+        except ToolError as error:
+            self._failure = error
 
     def line(self) -> str | None:
         """The line of a summary: None if all fit somewhere. Where asking more failed it says how many there are, and why no more is known:
@@ -88,36 +93,15 @@ class Lacking:
         if self.count and self._other is not None and self._failure is None:
             yield f"With --profile {self._other.profile} {self.by_profile:,} of the {self.count:,} that fit nothing have a matching."
 
-    def __enter__(self) -> "Lacking":
-        return self
-
-    def __exit__(
-        self,
-        kind: type[BaseException] | None,
-        error: BaseException | None,
-        trace: TracebackType | None,
-    ) -> None:
+    def __exit__(self, *error: object) -> None:
         if self._map is not None:
             self._map.close()
 
     def _ask(self) -> None:
         """Asks about the references that are kept, and forgets them."""
         kept, self._kept = self._kept, []
-        self.count += len(kept)
         if kept:
-            self._unless_failed(
-                lambda: self._count_reasons(self._asked.answers("why", kept, nearest=0))
-            )
-            self._unless_failed(lambda: self._count_others(kept))
-
-    def _unless_failed(self, count: Callable[[], None]) -> None:
-        """Counts, unless that failed before."""
-        if self._failure is not None:
-            return
-        try:
-            count()
-        except ToolError as error:
-            self._failure = error
+            self.add_answered(kept, self._asked.answers("why", kept, nearest=0))
 
     def _count_reasons(self, reasons: Iterable[Why | Fault]) -> None:
         for reason in reasons:

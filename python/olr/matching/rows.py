@@ -12,7 +12,7 @@ from olr.geometry.network import Network, Polylines, between, middle
 from olr.geometry.parts import Parts, parts_of
 from olr.model.answers import Matching, Page, Places
 from olr.model.fault import Fault
-from olr.model.pieces import Pieces
+from olr.model.pieces import Pieces, Place
 from olr.model.road_map import Origin
 
 Located = Page | Places | Fault
@@ -164,20 +164,26 @@ class AnswerRows:
         return _filled(there, metres[there])
 
     @cached_property
+    def halfway(self) -> list[tuple[Pieces, Place]]:
+        """Of each row that is a point along a line the route, and the place on it halfway between the two positions."""
+        matchings = (row.matching for row in self.rows if row.matching is not None)
+        return [
+            (one.route, middle(one.route, one.earliest, one.latest))
+            for one in matchings
+            if one.earliest is not None and one.latest is not None
+        ]
+
+    @cached_property
     def shapes(self) -> Polylines:
         """The geometry of each row: the line of what is shown, or the point halfway between two positions."""
         counts = np.where(self._are_points, 0, self._shown.counts)
         of_lines = ~np.repeat(self._are_points, self._shown.counts)
         lines = self._network.polylines(self._shown.pieces[of_lines], counts)
-        places = [
-            middle(one.route, one.earliest, one.latest)
-            for one in (row.matching for row in self.rows)
-            if one is not None and one.earliest is not None and one.latest is not None
-        ]
-        if not places:
+        if not self.halfway:
             return lines
         at = (np.cumsum(lines.sizes) - lines.sizes)[self._are_points]
-        points = self._network.points_at(np.array(places, dtype=np.int64))
+        places = np.array([place for _, place in self.halfway], dtype=np.int64)
+        points = self._network.points_at(places)
         sizes = np.where(self._are_points, 1, lines.sizes)
         return Polylines(np.insert(lines.points, at, points, axis=0), sizes)
 

@@ -18,14 +18,10 @@ DIGITS = 7
 
 
 class Csv:
-    """A CSV file with a header, in UTF-8. It has no geometries. What a row lacks is an empty field."""
+    """A CSV file, in UTF-8. It has no geometries. What a row lacks is an empty field."""
 
     def __init__(self, stream: TextIO) -> None:
         self._writer = csv.writer(stream, lineterminator="\n")
-
-    def begin(self, columns: Columns[Any]) -> None:
-        """Writes the header. Raises `OSError`."""
-        self._writer.writerow(columns)
 
     def add(self, values: Mapping[str, Sequence[Any]], shapes: Polylines) -> None:
         """Adds rows. Raises `OSError`."""
@@ -36,10 +32,11 @@ class GeoJson:
     """A GeoJSON file with a feature for each row. What a row lacks is null. Coordinates are in degrees, with seven decimals."""
 
     def __init__(self, stream: TextIO, layer: str) -> None:
-        self._stream = stream
-        self._before = (
+        """Writes what stands in front of the rows. Raises `OSError`."""
+        stream.write(
             f'{{"type":"FeatureCollection","name":"{layer}","crs":{json.dumps(CRS)},"features":[\n'
         )
+        self._stream, self._before = stream, ""
 
     def add(self, values: Mapping[str, Sequence[Any]], shapes: Polylines) -> None:
         """Adds rows. Raises `OSError`."""
@@ -47,21 +44,15 @@ class GeoJson:
         behind = np.cumsum(shapes.sizes).tolist()
         for size, end, row in zip(shapes.sizes.tolist(), behind, zip(*values.values())):
             geometry = _geometry(points[end - size : end])
-            feature = {
-                "type": "Feature",
-                "properties": dict(zip(values, row)),
-                "geometry": geometry,
-            }
+            properties = dict(zip(values, row))
+            feature = {"type": "Feature", "properties": properties, "geometry": geometry}
             text = json.dumps(feature, ensure_ascii=False, separators=(",", ":"))
             self._stream.write(f"{self._before}{text}")
             self._before = ",\n"
 
     def end(self) -> None:
         """Writes what stands behind the rows. Raises `OSError`."""
-        self._stream.write(f"{'' if self._before == _COMMA else self._before}\n]}}\n")
-
-
-_COMMA = ",\n"
+        self._stream.write("\n]}\n")
 
 
 def _geometry(points: Sequence[Sequence[float]]) -> Mapping[str, Any] | None:
@@ -100,7 +91,6 @@ def table(file: Path, columns: Columns[Any], is_new: bool, name: Path) -> Iterat
                 else f"{name} ends within a line, so rows can't be added: name another file"
             )
     with file.open("w" if is_new else "a", encoding="utf-8", newline="") as stream:
-        written = Csv(stream)
         if is_new:
-            written.begin(columns)
-        yield written
+            stream.write(f"{header}\n")
+        yield Csv(stream)

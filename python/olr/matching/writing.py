@@ -6,6 +6,7 @@ from contextlib import contextmanager
 from pathlib import Path
 from typing import Any, Literal, NamedTuple, Protocol
 
+from olr.content import Stamp
 from olr.errors import ToolError
 from olr.geometry.network import Polylines
 from olr.matching.columns import IN_FRONT
@@ -85,7 +86,7 @@ def writing_rows(output: Output, where: Where, inputs: Iterable[Path] = ()) -> I
     suffix = require_writable(output.file, where, others)
     columns = {**IN_FRONT, **output.columns}
     is_new = where != "append" or not output.file.exists()
-    before = None if is_new else _stamp(output.file)
+    before = None if is_new else Stamp.of(output.file)
     with whole_file(output.file, where != "new", others) as made:
         if not is_new:
             shutil.copyfile(output.file, made)
@@ -100,11 +101,5 @@ def writing_rows(output: Output, where: Where, inputs: Iterable[Path] = ()) -> I
         else:
             with geojson(made, output.layer) as features:
                 yield Sink(features)
-        if before is not None and _stamp(output.file) != before:
+        if before is not None and Stamp.of(output.file) != before:
             raise ToolError(f"{output.file} was changed while rows were added to it: append again")
-
-
-def _stamp(file: Path) -> tuple[int, int, int]:
-    """What changes with a file. Raises `OSError`."""
-    about = file.stat()
-    return about.st_ino, about.st_size, about.st_mtime_ns

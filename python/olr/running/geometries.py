@@ -34,12 +34,8 @@ class Geometries(NamedTuple):
 
     def outputs(self, question: What) -> list[Output]:
         """These files with their columns."""
-        found = []
-        if self.answers is not None:
-            found.append(Output(self.answers, question, ANSWERS))
-        if self.pieces is not None:
-            found.append(Output(self.pieces, "pieces", PIECES))
-        return found
+        answers = [] if self.answers is None else [Output(self.answers, question, ANSWERS)]
+        return answers + ([] if self.pieces is None else [Output(self.pieces, "pieces", PIECES)])
 
     def require_writable(self) -> None:
         """Raises `ToolError` if a file can't be written there."""

@@ -18,7 +18,7 @@ class Histogram:
     """Numbers of penalty points, counted by ranges."""
 
     def __init__(self) -> None:
-        self._counts = [0] * len(EDGES)
+        self._counts: Counter[int] = Counter()
 
     def add(self, points: int) -> None:
         """Counts a number, of 0 or more."""
@@ -26,12 +26,11 @@ class Histogram:
 
     def rows(self) -> list[tuple[str, int]]:
         """The ranges with their counts, up to the last one that has any."""
-        used = max((at for at, count in enumerate(self._counts) if count), default=-1)
-        return [(_range(at), count) for at, count in enumerate(self._counts[: used + 1])]
+        return [(_range(at), self._counts[at]) for at in range(max(self._counts, default=-1) + 1)]
 
     def total(self) -> int:
         """How many there are."""
-        return sum(self._counts)
+        return self._counts.total()
 
 
 def _range(at: int) -> str:

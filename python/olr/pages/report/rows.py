@@ -1,13 +1,14 @@
 """Messages as rows of the table of references, with what the map shows of them, and the scene of each one's page."""
 
 import numpy as np
-from collections.abc import Iterable, Iterator, Mapping, Sequence
+from collections.abc import Iterator, Mapping, Sequence
+from itertools import islice
 from typing import Any, NamedTuple
 
 from olr.client.map_client import Map
 from olr.confidence.judged import Judged, Judging
 from olr.geometry.network import Network
-from olr.geometry.store_network import StoreNetwork
+from olr.matching.columns import rounded
 from olr.model.answers import Candidates, Page, Places, Why
 from olr.model.fault import Fault
 from olr.model.reference import read_reference
@@ -24,7 +25,6 @@ MOST_LINES = 20_000
 ORDER = ("none", "refused", "unique", "open", "ambiguous", "lacking")
 """Of what the map shows: the last ones are seen best."""
 GEOMETRIES = ("route", "outer", "inner")
-DIGITS_OF_PROBABILITY = 3
 TURNS_BACK = "turns back"
 """What the table says of a likeliest place that turns back."""
 
@@ -54,7 +54,8 @@ def rows_of(
     rows: list[Row] = []
     scenes: list[Scene | None] = []
     shapes: list[Row] = []
-    for chunk in _chunks(watched(drawn, "references drawn", len(drawn))):
+    messages = iter(watched(drawn, "references drawn", len(drawn)))
+    while chunk := list(islice(messages, CHUNK)):
         answers = _answers_about(chunk, asked, numbers)
         made = _scenes(answers, network, judging)
         lines.add(network, [scene for scene, _ in made if scene is not None])
@@ -74,27 +75,14 @@ def _scenes(
 ) -> list[tuple[Scene | None, Judged | None]]:
     """The scene of each answer, and how its places are judged; None where a text is no reference."""
     known = [one for one in answers if one is not None]
-    part = _network_of(known, network)
+    # The lines of a store are read at once.
+    part = network.having(line for one in known for line in _lines_of(one))
     judgements = judgements_of(known, part, judging)
-    found = iter(
-        [
-            (scene_of_answers(one, part, judgement, judging.confidence), judgement)
-            for one, judgement in zip(known, judgements)
-        ]
+    found = (
+        (scene_of_answers(one, part, judgement, judging.confidence), judgement)
+        for one, judgement in zip(known, judgements)
     )
     return [(None, None) if one is None else next(found) for one in answers]
-
-
-def _chunks(drawn: Iterable[Drawn]) -> Iterator[list[Drawn]]:
-    """Messages, some at a time."""
-    chunk: list[Drawn] = []
-    for one in drawn:
-        chunk.append(one)
-        if len(chunk) == CHUNK:
-            yield chunk
-            chunk = []
-    if chunk:
-        yield chunk
 
 
 def _answers_about(
@@ -109,13 +97,6 @@ def _answers_about(
     ]
     answers = iter(answers_about(known, asked, **numbers))
     return [None if reference is None else next(answers) for reference in references]
-
-
-def _network_of(answers: Iterable[Answered], network: Network) -> Network:
-    """A network with all lines of answers. Those of a store are read at once."""
-    if not isinstance(network, StoreNetwork):
-        return network
-    return network.having(line for answered in answers for line in _lines_of(answered))
 
 
 def _lines_of(answered: Answered) -> Iterator[int]:
@@ -193,8 +174,8 @@ def _row(drawn: Drawn, answered: Answered | None, judgement: Judged | None) -> R
     if likeliest.turns_back:
         row["turns_back"] = TURNS_BACK
     if likeliest.probability is not None and judgement.none_of_these is not None:
-        row["probability"] = round(likeliest.probability, DIGITS_OF_PROBABILITY)
-        row["none_of_these"] = round(judgement.none_of_these, DIGITS_OF_PROBABILITY)
+        row["probability"] = rounded(likeliest.probability)
+        row["none_of_these"] = rounded(judgement.none_of_these)
     return row
 
 
