@@ -1,6 +1,7 @@
 """The tables of answers. Each column stands below its name with the sentence of docs/COLUMNS.md about it."""
 
 from collections.abc import Callable, Mapping, Sequence
+from operator import attrgetter
 from typing import Any
 
 from olr.confidence.judged import Judged, JudgedPlace
@@ -8,13 +9,14 @@ from olr.confidence.likeness import Range
 from olr.matching.rows import AnswerRows, PieceRows, Row
 from olr.matching.tables import Column, Columns, columns_of
 from olr.messages.message import Message
-from olr.model.answers import Matching, Page, Remedy, Why
+from olr.model.answers import Matching, Remedy, Why
 from olr.model.fault import Fault
 from olr.model.questions import What
 from olr.model.road_map import Origin
 
 Reasons = Why | Fault
 Values = list[Any]
+penalty_of = attrgetter("penalty")
 DIGITS = 3
 """Of probabilities behind the point."""
 
@@ -26,21 +28,17 @@ def of_rows(value: Callable[[Row], Any]) -> Callable[[AnswerRows], Values]:
 
 def of_matchings(value: Callable[[Matching], Any]) -> Callable[[AnswerRows], Values]:
     """What each row has of its matching, or of that of its place."""
-    return lambda rows: [None if row.matching is None else value(row.matching) for row in rows.rows]
+    return lambda rows: [None if one is None else value(one) for one in rows.matchings]
 
 
 def of_places(value: Callable[[JudgedPlace], Any]) -> Callable[[AnswerRows], Values]:
     """What each row has of its place."""
-    return lambda rows: [None if row.place is None else value(row.place) for row in rows.rows]
+    return lambda rows: [None if one is None else value(one) for one in rows.places]
 
 
 def of_first(value: Callable[[Judged], Any]) -> Callable[[AnswerRows], Values]:
     """What the row of the likeliest place of an answer has of all of them."""
-    return of_rows(
-        lambda row: value(row.judged)
-        if row.judged is not None and row.place is not None and row.place.likely == 1
-        else None
-    )
+    return lambda rows: [None if one is None else value(one) for one in rows.firsts]
 
 
 def of_difference(value: Callable[[Range], float]) -> Callable[[AnswerRows], Values]:
@@ -53,24 +51,6 @@ def rounded(probability: float | None) -> float | None:
     return None if probability is None else round(probability, DIGITS)
 
 
-def verdict_of(row: Row) -> str:
-    """The verdict on an answer."""
-    if row.judged is not None:
-        return row.judged.verdict
-    if isinstance(row.answer, Fault):
-        return "fault"
-    return "none" if row.matching is None else "match"
-
-
-def gap_of(row: Row) -> int | None:
-    """How much worse a row is than the first one in the program's order."""
-    if row.place is not None:
-        return row.place.place.gap
-    if row.matching is None or not isinstance(row.answer, Page):
-        return None
-    return row.matching.total - row.answer.matchings[0].total
-
-
 class Answers:
     """Those of matchings and of places, between the key and the geometry."""
 
@@ -78,7 +58,7 @@ class Answers:
     """of a place in the likely order of those that are shown, from 1"""
     rank = Column("int64", of_rows(lambda it: it.rank))
     """of the matching or place in the program's order, from 1: that of totals"""
-    verdict = Column("str", of_rows(verdict_of))
+    verdict = Column("str", of_rows(lambda it: it.verdict))
     """`match` or `none`; with `--places` `unique`, `ambiguous`, `open` or `none`, by totals; `fault` for a message that is refused"""
     probability = Column("float", of_places(lambda it: rounded(it.probability)))
     """how probable it is that the place is the right one, 0 to 1 ([CONFIDENCE.md](CONFIDENCE.md))"""
@@ -92,13 +72,11 @@ class Answers:
     """once a message: the upper end"""
     total = Column("int64", of_matchings(lambda it: it.total))
     """penalty points in all: `point_penalty` and `leg_penalty` together"""
-    point_penalty = Column(
-        "int64", of_matchings(lambda it: sum([one.penalty for one in it.points]))
-    )
+    point_penalty = Column("int64", of_matchings(lambda it: sum(map(penalty_of, it.points))))
     """penalty points of the points of the reference: for distance, direction, class and form"""
-    leg_penalty = Column("int64", of_matchings(lambda it: sum([one.penalty for one in it.legs])))
+    leg_penalty = Column("int64", of_matchings(lambda it: sum(map(penalty_of, it.legs))))
     """penalty points of the paths between them: for their lengths"""
-    gap = Column("int64", of_rows(gap_of))
+    gap = Column("int64", of_rows(lambda it: it.gap))
     """by how many points its total is worse than the best one"""
     margin = Column("int64", of_rows(lambda it: it.judged and it.judged.margin))
     """the gap of the second place in the program's order, whether it is shown or not"""
@@ -132,15 +110,13 @@ class Answers:
     """why the place is as probable, the weightiest reason first, with `; ` between them"""
     cursor = Column("str", of_matchings(lambda it: it.cursor))
     """names the matching, as `olr match --after` takes it"""
-    fault = Column(
-        "str", of_rows(lambda it: it.answer.text if isinstance(it.answer, Fault) else None)
-    )
+    fault = Column("str", of_rows(lambda it: it.fault))
     """why a message is refused, in the program's words"""
 
 
 def of_sources(value: Callable[[Origin], Any]) -> Callable[[PieceRows], Values]:
     """What each piece has of the source of its line."""
-    return lambda rows: rows.sources.each(value)
+    return lambda rows: rows.distinct.of_sources(value)
 
 
 class Pieces:

@@ -40,14 +40,16 @@ class Row(NamedTuple):
 
     number: int
     """Of the answer, from 0."""
-    answer: Located
-    judged: Judged | None
-    """The answer in the likely order, if it is one to `places`."""
     candidates: int | None
     """How many all points of the reference have together, if that is known."""
+    verdict: str
+    judged: Judged | None = None
+    """The answer in the likely order, if it is one to `places`."""
     rank: int | None = None
+    gap: int | None = None
     matching: Matching | None = None
     place: JudgedPlace | None = None
+    fault: str | None = None
 
     def is_point(self) -> bool:
         """Whether it is a point along a line."""
@@ -85,17 +87,19 @@ def rows_of(
 
 def _rows(number: int, answer: Located, judged: Judged | None, count: int | None) -> list[Row]:
     """The rows of an answer."""
+    if isinstance(answer, Fault):
+        return [Row(number, count, "fault", fault=answer.text)]
     if isinstance(answer, Page):
-        found = [
-            Row(number, answer, None, count, rank, one)
-            for rank, one in enumerate(answer.matchings, 1)
-        ]
-    else:
-        found = [
-            Row(number, answer, judged, count, one.rank, one.place.matching, one)
-            for one in (judged.places if judged is not None else ())
-        ]
-    return found or [Row(number, answer, judged, count)]
+        found = answer.matchings[:]
+        return [
+            Row(number, count, "match", None, rank, one.total - found[0].total, one)
+            for rank, one in enumerate(found, 1)
+        ] or [Row(number, count, "none")]
+    assert judged is not None
+    return [
+        Row(number, count, judged.verdict, judged, it.rank, it.place.gap, it.place.matching, it)
+        for it in judged.places
+    ] or [Row(number, count, judged.verdict, judged)]
 
 
 class AnswerRows:
@@ -104,31 +108,36 @@ class AnswerRows:
     def __init__(self, rows: Sequence[Row], network: Network, extent: Extent = "outer") -> None:
         """Rows that show the outer or the inner part of a location."""
         self.rows, self._network, self._extent = rows, network, extent
+        self.matchings = [row.matching for row in rows]
+        self.places = [row.place for row in rows]
+        self.firsts = [
+            row.judged if row.place is not None and row.place.likely == 1 else None for row in rows
+        ]
+        """The answers, in the rows of their likeliest places."""
         self._outers = [row.pieces("outer") for row in rows]
         self._outer = parts_of(self._outers)
         self._shown = self._outer
         if extent == "inner":
             self._shown = parts_of([row.pieces("inner") for row in rows])
         self._behind: Integers = np.cumsum(self._shown.counts)
-        self._are_points: Booleans = np.array([row.is_point() for row in rows], dtype=np.bool_)
-        are_located = [row.matching is not None for row in rows]
-        self._are_located: Booleans = np.array(are_located, dtype=np.bool_)
+        parts = self.parts()
+        self._are_located: Booleans = np.array([one is not None for one in parts], dtype=np.bool_)
+        self._are_points: Booleans = np.array([one == "point" for one in parts], dtype=np.bool_)
 
     def parts(self) -> list[str | None]:
         """What is shown."""
         return [
-            None if row.matching is None else "point" if row.is_point() else self._extent
-            for row in self.rows
+            None if one is None else self._extent if one.earliest is None else "point"
+            for one in self.matchings
         ]
 
     def lines(self) -> list[str | None]:
         """The ids of its lines."""
-        words = list(map(str, self._shown.pieces[:, 0].tolist()))
-        return [BETWEEN.join(some) or None for some in self._each(words)]
+        return [BETWEEN.join(some) or None for some in self._each(self._lines.texts())]
 
     def texts(self, text: Callable[[Origin], str]) -> list[str | None]:
         """Texts of the sources of its lines: one that several lines in a row have is there once."""
-        words = self._sources.each(text)
+        words = self._lines.of_sources(text)
         if not any(words):
             return [None] * len(self.rows)
         return [
@@ -166,11 +175,10 @@ class AnswerRows:
     @cached_property
     def halfway(self) -> list[tuple[Pieces, Place]]:
         """Of each row that is a point along a line the route, and the place on it halfway between the two positions."""
-        matchings = (row.matching for row in self.rows if row.matching is not None)
         return [
             (one.route, middle(one.route, one.earliest, one.latest))
-            for one in matchings
-            if one.earliest is not None and one.latest is not None
+            for one in self.matchings
+            if one is not None and one.earliest is not None and one.latest is not None
         ]
 
     @cached_property
@@ -188,8 +196,8 @@ class AnswerRows:
         return Polylines(np.insert(lines.points, at, points, axis=0), sizes)
 
     @cached_property
-    def _sources(self) -> "_Sources":
-        return _Sources(self._shown.pieces[:, 0], self._network)
+    def _lines(self) -> "_Lines":
+        return _Lines(self._shown.pieces[:, 0], self._network)
 
     def _each(self, words: Sequence[Item]) -> list[Sequence[Item]]:
         """The words of each row, of which each piece has one."""
@@ -218,7 +226,7 @@ class PieceRows:
         self.lines: list[int] = found.pieces[:, 0].tolist()
         self.starts: list[float] = (found.pieces[:, 1] / 10).tolist()
         self.ends: list[float] = (found.pieces[:, 2] / 10).tolist()
-        self.sources = _Sources(found.pieces[:, 0], network)
+        self.distinct = _Lines(found.pieces[:, 0], network)
 
     @property
     def shapes(self) -> Polylines:
@@ -226,21 +234,32 @@ class PieceRows:
         return self._network.polylines(self._pieces, np.ones(len(self._pieces), dtype=np.int64))
 
 
-class _Sources:
-    """The sources of lines, of which many are there several times."""
+class _Lines:
+    """Lines of which many are there several times: what they have is worked out once."""
 
     def __init__(self, lines: Integers, network: Network) -> None:
         """By their ids."""
-        ids, self._codes = np.unique(lines, return_inverse=True)
-        sources = network.sources()
-        self._origins = (
-            [sources.get(line) for line in ids.tolist()] if sources else [None] * len(ids)
-        )
+        ids, self._numbers = np.unique(lines, return_inverse=True)
+        self._ids: list[int] = ids.tolist()
+        self._network = network
 
-    def each(self, value: Callable[[Origin], Item]) -> list[Item | None]:
+    def texts(self) -> list[str]:
+        """The ids."""
+        return self._each(list(map(str, self._ids)))
+
+    def of_sources(self, value: Callable[[Origin], Item]) -> list[Item | None]:
         """What the source of each line has, if there is one."""
-        found = [None if one is None else value(one) for one in self._origins]
-        result: list[Item | None] = np.array(found, dtype=object)[self._codes].tolist()
+        if not self._network.sources():
+            return [None] * len(self._numbers)
+        return self._each([None if one is None else value(one) for one in self._origins])
+
+    @cached_property
+    def _origins(self) -> list[Origin | None]:
+        sources = self._network.sources()
+        return [sources.get(line) for line in self._ids]
+
+    def _each(self, values: Sequence[Item]) -> list[Item]:
+        result: list[Item] = np.array(values, dtype=object)[self._numbers].tolist()
         return result
 
 
