@@ -26,6 +26,8 @@ from typing import NamedTuple
 TESTS = Path(__file__).resolve().parent
 TOP = TESTS.parents[1]
 LISTS = TESTS / "mutations"
+MOST_SAID = 100
+"""Letters of what tests say that are shown."""
 SECONDS = 300
 """Tests that take longer hang, and so they see the change."""
 
@@ -135,7 +137,8 @@ def run_tests(tests: Iterable[str], place: Path) -> Seen:
         process.wait()
     failed = [line for line in text.splitlines() if line.startswith(("FAILED ", "ERROR "))]
     last = (failed or text.strip().splitlines() or ["nothing"])[0 if failed else -1]
-    return Seen(process.returncode == 0, last.partition(" - ")[0].partition(" ")[2] or last)
+    said = last.partition(" - ")[0].partition(" ")[2] or last
+    return Seen(process.returncode == 0, said[:MOST_SAID])
 
 
 def try_change(change: Change, base: Path) -> Seen:
