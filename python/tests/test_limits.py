@@ -8,6 +8,7 @@ from pathlib import Path
 from olr.counts import Counts
 from olr.errors import ToolError
 from olr.importing.roads import Road, Source, cut_roads, junctions_of, lines_of
+from olr.messages.first import with_one
 from olr.messages.message import Message, Reading
 from olr.messages.reading import messages_in
 from olr.messages.texts import looks_like_a_reference
@@ -113,3 +114,15 @@ def test_parts_of_a_road(parts: int) -> None:
     assert [line.id for line in lines[len(of_first) :]] == [20_000, 30_000, 30_002]
     left_out = dict(counts.left_out)
     assert left_out == ({} if parts == PARTS else {"parts of a road beyond its first 5,000": 1})
+
+
+@pytest.mark.parametrize("before, is_right", [(0, True), (99, True), (100, False)])
+def test_records_that_are_held_back(before: int, is_right: bool) -> None:
+    """One of the first hundred has to be right (docs/MESSAGES.md), and then all of them come."""
+    items = [*range(before), -1, *range(5)]
+    found = with_one(iter(items), lambda item: item < 0, lambda held: ToolError(f"{len(held)}"))
+    if is_right:
+        assert list(found) == items
+    else:
+        with pytest.raises(ToolError, match="^100$"):
+            list(found)

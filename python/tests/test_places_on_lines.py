@@ -4,10 +4,11 @@ import pytest
 from pathlib import Path
 
 import olr
-from olr.errors import MapRefused
+from olr.errors import MapRefused, ToolError
+from olr.geometry.network import between, middle
 from olr.matching.rows import rows_of_answers
 from olr.model.objects import page_of
-from olr.model.pieces import Pieces
+from olr.model.pieces import Piece, Pieces, Place
 from stores import folder_of
 
 # 0.002 degrees east along the equator, with vertices at a quarter and at half of it: shares that have exact numbers.
@@ -71,3 +72,41 @@ def test_rows_of_another_version(matchings: int, digest: str, network: olr.Netwo
 def test_pieces_of_another_version(network: olr.Network) -> None:
     with pytest.raises(MapRefused, match="is another version than the answer is of"):
         network.path(Pieces(b"[[7,0,2000]]", "other"))
+
+
+@pytest.mark.parametrize("at, is_on", [(-1, False), (0, True), (2000, True), (2001, False)])
+def test_positions_on_a_line(at: int, is_on: bool, network: olr.Network) -> None:
+    """From its start to its end."""
+    if is_on:
+        assert network.point((7, at)).x * 1e6 == pytest.approx(at)
+        assert len(network.path([(7, at, at)])) == 2
+        return
+    said = f"position {at} isn't on line 7 of the map in .*, which is 2000 dm long"
+    with pytest.raises(ToolError, match=said):
+        network.point((7, at))
+    with pytest.raises(ToolError, match=said):
+        network.path([(7, 0, at)])
+
+
+def test_a_place_on_a_line_that_is_driven_twice() -> None:
+    """It is where the route has its position."""
+    route = Pieces([Piece(7, 0, 10), Piece(8, 0, 5), Piece(7, 20, 40)])
+    found = between(route, Place(7, 30), Place(7, 35))
+    assert found == [Piece(7, 30, 35)]
+    assert between(route, Place(7, 4), Place(7, 35)) == [
+        Piece(7, 4, 10),
+        Piece(8, 0, 5),
+        Piece(7, 20, 35),
+    ]
+    assert middle(route, Place(7, 4), Place(7, 35)) == Place(7, 22)
+    assert middle(route, Place(7, 4), Place(7, 4)) == Place(7, 4)
+
+
+def test_a_map_that_changes_while_it_is_read(
+    tmp_path: Path, monkeypatch: pytest.MonkeyPatch
+) -> None:
+    digests = iter(["one", "other"])
+    monkeypatch.setattr("olr.geometry.network.digest_of", lambda *_: next(digests))
+    folder = folder_of(tmp_path / "map", NODES, LINES, "from,to\n")
+    with pytest.raises(ToolError, match="was changed while it was read: read it again"):
+        olr.Network.read(folder)

@@ -24,12 +24,13 @@ def line(
     return Line(id, start, end, road_class, 3, 100, tuple(Position(*it) for it in shape))
 
 
+@pytest.mark.parametrize("north", [100, -100])
 @pytest.mark.parametrize("east, is_sharp", [(17, True), (1000, False)])
-def test_a_turn_that_is_sharp_about_north(east: int, is_sharp: bool) -> None:
-    """The two directions of a road are drawn apart, and leave their node to the north: the one a little west of it, the other a little
-    or far east."""
-    nodes = [Node(1, Position(0, 0)), Node(2, Position(0, 5000))]
-    roads = [line(7, 2, 1, [(-17, 100)]), line(8, 1, 2, [(east, 100)]), line(9, 1, 3)]
+def test_a_turn_that_is_sharp(east: int, is_sharp: bool, north: int) -> None:
+    """The two directions of a road are drawn apart, and leave their node to the north or south: the one a little to the west, the other a
+    little or far to the east."""
+    nodes = [Node(1, Position(0, 0)), Node(2, Position(0, 50 * north))]
+    roads = [line(7, 2, 1, [(-17, north)]), line(8, 1, 2, [(east, north)]), line(9, 1, 3)]
     found = u_turn_bans(RoadMap(nodes, roads, []), "dead-ends", Counts())
     assert found == ([Ban(7, 8)] if is_sharp else [])
 
