@@ -16,7 +16,6 @@ import subprocess
 import sys
 import tempfile
 import tomllib
-from collections import Counter
 from collections.abc import Iterable, Sequence
 from concurrent.futures import ThreadPoolExecutor, as_completed
 from contextlib import suppress
@@ -165,10 +164,12 @@ def try_all(changes: Sequence[Change], base: Path, jobs: int) -> list[tuple[Chan
 
 def require_passing(changes: Sequence[Change], base: Path, jobs: int) -> None:
     """Runs all tests without a change. Ends the program if one fails."""
-    tests = Counter(test for change in changes for test in change.tests)
+    tests = {test for change in changes for test in change.tests}
     files: dict[str, list[str]] = {}
-    for test in tests:
-        files.setdefault(test.partition("::")[0], []).append(test)
+    for test in sorted(tests):
+        file = test.partition("::")[0]
+        if file == test or file not in tests:
+            files.setdefault(file, []).append(test)
     print(f"{len(tests)} tests of {len(files)} files, without a change", flush=True)
     with ThreadPoolExecutor(jobs) as pool:
         for seen in pool.map(lambda some: run_tests(some, base), files.values()):

@@ -6,7 +6,7 @@ import pytest
 import shutil
 from pathlib import Path
 
-from olr.content import Stamp, sha256_of
+from olr.content import Stamp, digest_of, sha256_of
 from olr.errors import MapRefused, ToolError
 from olr.regions.current import CurrentStore
 from olr.regions.making import make_store_of_folder
@@ -92,6 +92,17 @@ def test_a_file_that_changes_behind_its_time(tmp_path: Path) -> None:
             break
     after = Stamp.of(file)
     assert after != before and after._replace(changed=before.changed) == before
+
+
+def test_the_digest_of_several_files(tmp_path: Path) -> None:
+    """It is of all of them in their order; there is none if one can't be read."""
+    one, other = tmp_path / "one", tmp_path / "other"
+    one.write_bytes(b"1")
+    other.write_bytes(b"2")
+    texts = [hashlib.sha256(it).hexdigest() for it in (b"1", b"2")]
+    assert digest_of(one, other) == hashlib.sha256("".join(texts).encode()).hexdigest()
+    assert digest_of(other, one) == hashlib.sha256("".join(texts[::-1]).encode()).hexdigest()
+    assert digest_of(one, tmp_path / "none") is None
 
 
 def test_another_file_of_the_name(tmp_path: Path) -> None:

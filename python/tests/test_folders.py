@@ -29,3 +29,21 @@ def test_folders_that_others_use_meanwhile(tmp_path: Path) -> None:
             (tmp_path / "a/mine").write_bytes(b"x")
             raise KeyboardInterrupt
     assert sorted(tmp_path.rglob("*")) == [tmp_path / "a", tmp_path / "a/mine"]
+
+
+def test_a_link(tmp_path: Path) -> None:
+    """It is followed: the file that it leads to is replaced, in its own folder."""
+    (tmp_path / "there").mkdir()
+    (tmp_path / "there/file").write_bytes(b"old")
+    (tmp_path / "link").symlink_to("there/file")
+    write_whole(tmp_path / "link", b"new", force=True)
+    assert (tmp_path / "link").is_symlink() and (tmp_path / "there/file").read_bytes() == b"new"
+
+
+def test_an_input_under_another_name(tmp_path: Path) -> None:
+    """It isn't replaced."""
+    (tmp_path / "file").write_bytes(b"old")
+    (tmp_path / "other").hardlink_to(tmp_path / "file")
+    with pytest.raises(ToolError, match="is one of the inputs: name another file"):
+        write_whole(tmp_path / "other", b"new", force=True, inputs=[tmp_path / "file"])
+    assert (tmp_path / "file").read_bytes() == b"old"

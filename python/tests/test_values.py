@@ -1,8 +1,11 @@
 """What fields of a map's files spell, and what is measured of positions, by hand."""
 
+import numpy as np
 import pytest
 from pyproj import Geod
 
+from olr.counts import Counts
+from olr.curve import places_on_curve
 from olr.model.box import Box
 from olr.model.measure import lengths, position_of
 from olr.model.pieces import Piece, Pieces
@@ -113,3 +116,20 @@ def test_the_length_of_pieces() -> None:
 )
 def test_a_box_has_its_edges(lon: int, lat: int, is_in: bool) -> None:
     assert Box(1, 2, 3, 4).holds(Position(lon, lat)) == is_in
+
+
+def test_the_ends_of_the_curve() -> None:
+    """It begins in the south-west of the earth, and ends in the south-east; longitude 180 is on it too."""
+    lon, lat = (np.array(edges) for edges in ([-180_000_000, 180_000_000], [-180_000_000] * 2))
+    assert places_on_curve(lon, lat).tolist() == [0, 2**48 - 1]
+
+
+def test_counts_add_up() -> None:
+    counts = Counts()
+    for number in (2, 0, 3):
+        counts.change("roads that were cut", number)
+        counts.leave_out("roads that are shut", number)
+    assert counts.as_table() == {
+        "changed": {"roads that were cut": 5},
+        "left_out": {"roads that are shut": 5},
+    }
