@@ -3,7 +3,8 @@
 import asyncio
 import pytest
 from collections import deque
-from typing import cast
+from collections.abc import Coroutine
+from typing import Any, TypeVar, cast
 
 from olr.errors import MapRefused, ProgramEnded, ToolError
 from olr.serving.edition import Edition
@@ -12,6 +13,7 @@ from olr.serving.pool import Pool
 from olr.serving.process import Answer, Owner, Request
 from olr.serving.queries import Kind, kind_of
 
+Made = TypeVar("Made")
 MATCH = kind_of("match", {}, 10_000)
 
 
@@ -133,3 +135,8 @@ async def turns(count: int = 5) -> None:
     """Lets all tasks go on that can."""
     for _ in range(count):
         await asyncio.sleep(0)
+
+
+def run_within(work: Coroutine[Any, Any, Made], seconds: float = 20) -> Made:
+    """Runs something that may take so long at most: what never comes fails, and doesn't hang."""
+    return asyncio.run(asyncio.wait_for(work, seconds))

@@ -27,7 +27,7 @@ TOP = TESTS.parents[1]
 LISTS = TESTS / "mutations"
 MOST_SAID = 100
 """Letters of what tests say that are shown."""
-SECONDS = 300
+SECONDS = 120
 """Tests that take longer hang, and so they see the change."""
 
 

@@ -7,7 +7,7 @@ from typing import Any
 from uvicorn.config import Config
 from uvicorn.server import ServerState
 
-from fake_pool import FakeClock, turns
+from fake_pool import FakeClock, run_within, turns
 from olr.serving.connections import Connection, Connections
 
 HEAD = b"GET /health HTTP/1.1\r\nHost: localhost\r\n"
@@ -91,7 +91,7 @@ def test_requests_that_are_sent_ahead(ahead: int, answers: int) -> None:
         assert transport.written.count(b"HTTP/1.1 200 OK") == answers
         assert transport.is_closed == (answers == 1)
 
-    asyncio.run(run())
+    run_within(run())
 
 
 @pytest.mark.parametrize("sent", [b"", b"GET /", HEAD + b"X: "])
@@ -112,7 +112,7 @@ def test_heads_that_dont_come(sent: bytes) -> None:
         clients.all.look()
         assert transport.is_aborted and len(clients.all) == 0
 
-    asyncio.run(run())
+    run_within(run())
 
 
 def test_connections_that_are_idle() -> None:
@@ -136,7 +136,7 @@ def test_connections_that_are_idle() -> None:
         clients.all.look()
         assert transport.is_aborted
 
-    asyncio.run(run())
+    run_within(run())
 
 
 def test_too_many_connections() -> None:
@@ -157,7 +157,7 @@ def test_too_many_connections() -> None:
         clients.answering.set()
         await turns(20)
 
-    asyncio.run(run())
+    run_within(run())
 
 
 def test_answers_that_arent_taken() -> None:
@@ -177,4 +177,44 @@ def test_answers_that_arent_taken() -> None:
         clients.all.look()
         assert not there[1][1].is_aborted
 
-    asyncio.run(run())
+    run_within(run())
+
+
+@pytest.mark.parametrize("size, status", [(8192, b"200"), (8193, b"414")])
+def test_the_longest_url(size: int, status: bytes) -> None:
+    run_within(_ask(b"GET /".ljust(4 + size, b"x") + b" HTTP/1.1\r\nHost: x\r\n\r\n", status))
+
+
+@pytest.mark.parametrize("more, status", [(0, b"200"), (1, b"431")])
+def test_the_longest_head(more: int, status: bytes) -> None:
+    """All names and values together have 16,384 bytes."""
+    sizes = (8000, 16_384 - 8000 - len("HostxAB") + more)
+    fields = [b"%c: %b\r\n" % pair for pair in zip(b"AB", (b"y" * size for size in sizes))]
+    head = b"GET / HTTP/1.1\r\nHost: x\r\n" + b"".join(fields) + b"\r\n"
+    run_within(_ask(head, status))
+
+
+@pytest.mark.parametrize(
+    "fields, status",
+    [
+        (b"Upgrade: h2c\r\n", b"200"),
+        (b"Upgrade: H2C\r\n", b"200"),
+        (b"Upgrade: websocket\r\n", b"400"),
+        (b"Upgrade: h2c\r\nContent-Length: 1\r\n", b"400"),
+        (b"Upgrade: h2c\r\nTransfer-Encoding: chunked\r\n", b"400"),
+    ],
+)
+def test_offers_of_other_protocols(fields: bytes, status: bytes) -> None:
+    """HTTP/2 may be offered, but not with a body, of which a part would be passed over."""
+    run_within(_ask(HEAD + b"Connection: Upgrade\r\n" + fields + b"\r\n", status))
+
+
+async def _ask(data: bytes, status: bytes) -> None:
+    """Sees that some bytes are answered by a status."""
+    clients = Clients()
+    clients.answering.set()
+    connection, transport = clients.connect()
+    connection.data_received(data)
+    await turns(20)
+    assert transport.written.startswith(b"HTTP/1.1 %b " % status)
+    assert transport.is_closed or status == b"200"

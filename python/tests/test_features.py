@@ -1,10 +1,10 @@
 """GeoJSON of `olr-tools serve`, with a made-up map: when it is wanted, and that all of it is of one version of the map."""
 
-import asyncio
 import pytest
 from collections.abc import Mapping
 from typing import Any, cast
 
+from fake_pool import run_within
 from olr.asking.files import Version
 from olr.confidence.confidence import Confidence
 from olr.errors import MapRefused
@@ -52,6 +52,7 @@ def test_geojson_is_wanted(accept: str) -> None:
         f"{GEOJSON};q=0, */*;q=0",
         f"{GEOJSON};q=0.5, application/json",
         f"{GEOJSON};q=0.5, */*",
+        "application/json;q=0.5, application/*;q=0, */*",
         "application/geo+jsonp",
         "x/application/geo+json",
     ],
@@ -94,5 +95,5 @@ def test_answers_of_another_version(other: str) -> None:
         await features.of(question, lambda: False)
 
     with pytest.raises(MapRefused, match="another version of the map"):
-        asyncio.run(run())
+        run_within(run())
     assert fake.asked == 4

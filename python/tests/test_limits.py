@@ -119,7 +119,7 @@ def test_parts_of_a_road(parts: int) -> None:
 @pytest.mark.parametrize("before, is_right", [(0, True), (99, True), (100, False)])
 def test_records_that_are_held_back(before: int, is_right: bool) -> None:
     """One of the first hundred has to be right (docs/MESSAGES.md), and then all of them come."""
-    items = [*range(before), -1, *range(5)]
+    items: list[int] = [*range(before), -1, *range(5)]
     found = with_one(iter(items), lambda item: item < 0, lambda held: ToolError(f"{len(held)}"))
     if is_right:
         assert list(found) == items

@@ -4,9 +4,11 @@ import asyncio
 import pytest
 import random
 from contextlib import AsyncExitStack
+from typing import cast
 
-from fake_pool import MATCH, FakePool, turns
-from olr.errors import MapRefused, TimedOut
+from fake_pool import MATCH, FakeEdition, FakePool, run_within, turns
+from olr.errors import MapRefused, ProgramEnded, TimedOut
+from olr.serving.edition import Edition
 from olr.serving.limits import ABREAST
 from olr.serving.problems import Problem
 from olr.serving.queries import kind_of
@@ -48,7 +50,7 @@ def test_more_kinds_than_processes(monkeypatch: pytest.MonkeyPatch) -> None:
         assert found == [text for text, _ in texts]
         assert reading < answered
 
-    asyncio.run(run())
+    run_within(run())
 
 
 def test_a_lull(monkeypatch: pytest.MonkeyPatch) -> None:
@@ -72,7 +74,7 @@ def test_a_lull(monkeypatch: pytest.MonkeyPatch) -> None:
         second.answer()
         assert await asked == b"x"
 
-    asyncio.run(run())
+    run_within(run())
 
 
 def test_a_turn(monkeypatch: pytest.MonkeyPatch) -> None:
@@ -108,7 +110,7 @@ def test_a_turn(monkeypatch: pytest.MonkeyPatch) -> None:
             third.answer()
         assert await asyncio.gather(*asked) == [b"%d" % number for number in range(2 * ABREAST)]
 
-    asyncio.run(run())
+    run_within(run())
 
 
 def test_a_process_that_isnt_used(monkeypatch: pytest.MonkeyPatch) -> None:
@@ -138,7 +140,7 @@ def test_a_process_that_isnt_used(monkeypatch: pytest.MonkeyPatch) -> None:
         await fake.pool.close()
         await asyncio.gather(*asked, return_exceptions=True)
 
-    asyncio.run(run())
+    run_within(run())
 
 
 def test_what_takes_too_long(monkeypatch: pytest.MonkeyPatch) -> None:
@@ -172,7 +174,7 @@ def test_what_takes_too_long(monkeypatch: pytest.MonkeyPatch) -> None:
         await fake.pool.close()
         await asyncio.gather(*asked[2:], return_exceptions=True)
 
-    asyncio.run(run())
+    run_within(run())
 
 
 def test_clients_that_left(monkeypatch: pytest.MonkeyPatch) -> None:
@@ -199,7 +201,7 @@ def test_clients_that_left(monkeypatch: pytest.MonkeyPatch) -> None:
         await fake.pool.close()
         await asyncio.gather(*asked, last, *others, return_exceptions=True)
 
-    asyncio.run(run())
+    run_within(run())
 
 
 def test_files_that_come_back(monkeypatch: pytest.MonkeyPatch) -> None:
@@ -212,7 +214,7 @@ def test_files_that_come_back(monkeypatch: pytest.MonkeyPatch) -> None:
         await fake.pool.look_at_files()
         with pytest.raises(MapRefused):
             await fake.asked("x", OTHER)
-        assert len(fake.started) == 1
+        assert len(fake.started) == 1 and fake.pool.is_able()
         fake.edition.refused = None
         await fake.pool.look_at_files()
         asked = fake.asked("x", OTHER)
@@ -222,7 +224,7 @@ def test_files_that_come_back(monkeypatch: pytest.MonkeyPatch) -> None:
         fake.started[1].answer()
         assert await asked == b"x"
 
-    asyncio.run(run())
+    run_within(run())
 
 
 @pytest.mark.parametrize("workers, most", [(1, 1), (2, 1), (3, 2), (8, 7)])
@@ -239,7 +241,7 @@ def test_processes_of_their_own(workers: int, most: int, monkeypatch: pytest.Mon
             assert fake.pool.sizes()["apart"] == most
         assert fake.pool.sizes()["apart"] == 0
 
-    asyncio.run(run())
+    run_within(run())
 
 
 @pytest.mark.parametrize("when", ["it waits", "it has just got it"])
@@ -271,4 +273,138 @@ def test_a_request_that_ends_before_it_has_its_place(
         async with asyncio.timeout(5), fake.pool.place():
             assert fake.pool.sizes()["apart"] == 1
 
-    asyncio.run(run())
+    run_within(run())
+
+
+def test_a_kind_with_several_processes(monkeypatch: pytest.MonkeyPatch) -> None:
+    """One of them ends at once for another kind: the one with the fewest requests."""
+
+    async def run() -> None:
+        fake = FakePool(monkeypatch, workers=2)
+        first = await fake.ready()
+        asked = [fake.asked(f"{number}") for number in range(ABREAST + 1)]
+        await turns()
+        second = fake.started[1]
+        second.read()
+        await turns()
+        while second.requests:
+            second.answer()
+        assert len(first.requests) > 0
+        other = fake.asked("other", OTHER)
+        await turns()
+        assert second.is_retiring and not first.is_retiring
+        assert fake.there()[1].kind == OTHER
+        await fake.pool.close()
+        await asyncio.gather(*asked, other, return_exceptions=True)
+
+    run_within(run())
+
+
+def test_a_process_that_ends(monkeypatch: pytest.MonkeyPatch) -> None:
+    """What it left is asked once more, in its order. The request at which processes end twice is refused."""
+
+    async def run() -> None:
+        fake = FakePool(monkeypatch, workers=1)
+        first = await fake.ready()
+        bad, *others = [fake.asked(text) for text in ("bad", "1", "2")]
+        await turns()
+        first.fail(ProgramEnded("it ended"))
+        second = fake.started[1]
+        second.read()
+        await turns()
+        assert second.texts == [b"bad", b"1", b"2"]
+        second.fail(ProgramEnded("it ended again"))
+        with pytest.raises(ProgramEnded, match="it ended again"):
+            await bad
+        third = fake.started[2]
+        third.read()
+        await turns()
+        assert third.texts == [b"1", b"2"]
+        while third.requests:
+            third.answer()
+        assert await asyncio.gather(*others) == [b"1", b"2"]
+        assert fake.pool.restarts == {"ended": 2}
+
+    run_within(run())
+
+
+def test_a_process_that_refuses_the_map(monkeypatch: pytest.MonkeyPatch) -> None:
+    """What it was asked is refused, and no other one is started."""
+
+    async def run() -> None:
+        fake = FakePool(monkeypatch, workers=2)
+        await fake.ready()
+        asked = fake.asked("x", OTHER)
+        await turns()
+        fake.started[1].fail(MapRefused("the map is refused"))
+        with pytest.raises(MapRefused):
+            await asked
+        assert len(fake.started) == 2 and fake.pool.sizes()["waiting"] == 0
+
+    run_within(run())
+
+
+def test_a_process_that_reads_the_map_for_long(monkeypatch: pytest.MonkeyPatch) -> None:
+    """That isn't the time of a request."""
+
+    async def run() -> None:
+        fake = FakePool(monkeypatch, workers=2, seconds=10)
+        await fake.ready()
+        asked = fake.asked("x", OTHER)
+        await turns()
+        fake.clock.now += 11
+        fake.pool.look()
+        await turns()
+        assert not asked.done()
+        fake.started[1].read()
+        await turns()
+        fake.started[1].answer()
+        assert await asked == b"x"
+
+    run_within(run())
+
+
+def test_files_that_are_read_anew_for_a_kind_that_waits(monkeypatch: pytest.MonkeyPatch) -> None:
+    """The process that reads them answers what waits, and no other one is started for it."""
+
+    async def run() -> None:
+        fake = FakePool(monkeypatch, workers=2)
+        first = await fake.ready()
+        first.fail(ProgramEnded("it ended"))
+        others = [fake.asked("other", kind) for kind in KINDS[:2]]
+        await turns()
+        waiting = fake.asked("x")
+        await turns()
+        assert fake.pool.sizes()["waiting"] == 1
+        renewing = asyncio.create_task(fake.pool.renew(cast(Edition, FakeEdition()), MATCH))
+        await turns()
+        *olds, new = fake.started[1:]
+        new.read()
+        await renewing
+        new.answer()
+        for one in olds:
+            one.read()
+            await turns()
+            one.answer()
+        assert await asyncio.gather(waiting, *others) == [b"x", b"other", b"other"]
+        assert len(fake.started) == 4 and fake.there() == [new]
+
+    run_within(run())
+
+
+def test_the_end(monkeypatch: pytest.MonkeyPatch) -> None:
+    """What waits is refused, and so is what is asked later."""
+
+    async def run() -> None:
+        fake = FakePool(monkeypatch, workers=1)
+        await fake.ready()
+        asked = [fake.asked("x"), fake.asked("y", OTHER)]
+        placed = asyncio.create_task(fake.pool.place().__aenter__())
+        await turns()
+        await fake.pool.close()
+        asked.append(fake.asked("z"))
+        for one in (*asked, placed):
+            with pytest.raises(Problem, match="the server ends"):
+                await one
+
+    run_within(run())

@@ -38,7 +38,8 @@ def test_a_road_that_passes_its_own_end(east: float, visits: int, is_reversed: b
     """Of three ends in a row the first one is the node, so that a road may begin two tolerances away from its own end. It isn't cut
     there, as it is where it passes it further on."""
     third = [(1.8, 0.0), (east, 0.6), (east, 60.0)]
-    roads = [[(-50, 0), (0, 0)], [(0.9, 0), (0.9, -50)], third[::-1] if is_reversed else third]
+    roads: list[list[tuple[float, float]]] = [[(-50, 0), (0, 0)], [(0.9, 0), (0.9, -50)]]
+    roads.append(third[::-1] if is_reversed else third)
     joined, counts = joined_roads(roads)
     ends = [road.vertices[0] for road in joined.roads], [it.vertices[-1] for it in joined.roads]
     node = ends[1][0]

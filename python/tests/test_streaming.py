@@ -9,6 +9,8 @@ from pathlib import Path
 from typing import Any, cast
 
 from conftest import Program
+from fake_pool import FakeClock, run_within, turns
+from olr.errors import ProgramEnded
 from olr.regions.making import make_store_of_folder
 from olr.serving.folder_map import FolderMap
 from olr.serving.limits import Limits
@@ -16,7 +18,7 @@ from olr.serving.problems import Problem
 from olr.serving.queries import Kind, kind_of
 from olr.serving.served import IsGone, Served
 from olr.serving.store_map import StoreMap
-from olr.serving.streaming import Streaming
+from olr.serving.streaming import Lines, Streaming
 from stores import folder_of
 
 MATCH = kind_of("match", {}, 10_000)
@@ -39,45 +41,120 @@ async def echoed(_: Kind, body: AsyncIterator[bytes], __: IsGone) -> AsyncGenera
     yield b"".join(pieces)
 
 
-async def answer_to(
-    pieces: Sequence[bytes], most: int, length: int | None = None
-) -> tuple[int, bytes]:
-    """The status and the body of the answer to a body in pieces, of which a server reads so many bytes at most."""
-    came = iter(enumerate(pieces, 1))
-    sent: list[Any] = []
+class Client:
+    """A client of an address whose answer is lines: it sends a body in pieces, and then is gone."""
 
-    async def receive() -> Any:
-        number, piece = next(came)
-        return {"type": "http.request", "body": piece, "more_body": number < len(pieces)}
+    def __init__(self, pieces: Sequence[bytes], is_whole: bool = True, **fields: str) -> None:
+        """The names of fields have `_` in place of `-`."""
+        self._left = iter(pieces)
+        self._last = len(pieces) if is_whole else 0
+        self._came = 0
+        self.sent: list[Any] = []
+        self.is_aborted = False
+        named = {"content-type": "text/plain"}
+        named |= {name.lower().replace("_", "-"): it for name, it in fields.items()}
+        self.scope: dict[str, Any] = {"type": "http", "method": "POST", "query_string": b""}
+        self.scope["headers"] = [(name.encode(), it.encode()) for name, it in named.items()]
+        self.scope |= {"is_gone": lambda: self.is_aborted, "abort": self.abort}
 
-    async def send(message: Any) -> None:
-        sent.append(message)
+    def abort(self) -> None:
+        """The connection is closed."""
+        self.is_aborted = True
 
-    headers = [(b"content-type", b"text/plain")]
-    if length is not None:
-        headers.append((b"content-length", b"%d" % length))
-    scope: dict[str, Any] = {"type": "http", "method": "POST", "query_string": b""}
-    scope |= {"headers": headers, "is_gone": lambda: False}
-    streaming = Streaming(cast(Served, FakeMap()), Limits(body=most), "match", echoed)
-    try:
-        await streaming(scope, receive, send)
-    except Problem as problem:
-        return problem.status, b""
-    return sent[0]["status"], b"".join(message.get("body", b"") for message in sent)
+    async def receive(self) -> Any:
+        """The next piece."""
+        piece = next(self._left, None)
+        self._came += 1
+        if piece is None:
+            return {"type": "http.disconnect"}
+        return {"type": "http.request", "body": piece, "more_body": self._came != self._last}
+
+    async def send(self, message: Any) -> None:
+        """Takes a message."""
+        self.sent.append(message)
+
+    async def ask(self, lines: Lines = echoed, **limits: Any) -> tuple[int, bytes]:
+        """The status and the body of what is answered; the status 0 if nothing is."""
+        streaming = Streaming(cast(Served, FakeMap()), Limits(**limits), "match", lines)
+        try:
+            await streaming(self.scope, self.receive, self.send)
+        except Problem as problem:
+            return problem.status, b""
+        if not self.sent:
+            return 0, b""
+        return self.sent[0]["status"], b"".join(one.get("body", b"") for one in self.sent)
 
 
 def test_a_body_that_says_no_length() -> None:
     """Its bytes are counted as they come."""
     ten = [b"x" * 10] * 10
-    assert asyncio.run(answer_to(ten, 100)) == (200, b"x" * 100)
-    status, said = asyncio.run(answer_to(ten, 99))
+    assert run_within(Client(ten).ask(body=100)) == (200, b"x" * 100)
+    status, said = run_within(Client(ten).ask(body=99))
     assert status == 413 and b"a body has 99 bytes at most: --body-limit" in said
 
 
 def test_a_body_that_says_its_length() -> None:
     """It is refused before it comes."""
-    assert asyncio.run(answer_to([b"x" * 100], 100, 100)) == (200, b"x" * 100)
-    assert asyncio.run(answer_to([], 99, 100))[0] == 413
+    hundred = [b"x" * 100]
+    assert run_within(Client(hundred, Content_Length="100").ask(body=100)) == (200, b"x" * 100)
+    assert run_within(Client([], Content_Length="100").ask(body=99))[0] == 413
+
+
+@pytest.mark.parametrize(
+    "kind, status",
+    [
+        ("text/plain", 200),
+        ("TEXT/plain ; charset=utf-8", 200),
+        ("application/x-ndjson", 200),
+        ("application/json", 415),
+        ("text/plainer", 415),
+        ("", 415),
+    ],
+)
+def test_types_of_bodies(kind: str, status: int) -> None:
+    assert run_within(Client([b"x"], Content_Type=kind).ask())[0] == status
+
+
+def test_a_client_that_goes() -> None:
+    """Nothing is answered."""
+    assert run_within(Client([b"x", b"y"], is_whole=False).ask()) == (0, b"")
+
+
+async def failing(_: Kind, body: AsyncIterator[bytes], __: IsGone) -> AsyncGenerator[bytes, None]:
+    """A line for each piece, but for the last one."""
+    async for piece in body:
+        if piece == b"bad":
+            raise ProgramEnded("it ended")
+        yield piece
+
+
+def test_an_answer_that_fails() -> None:
+    """Before it has begun it is a problem; later the connection is closed, without an end."""
+    status, said = run_within(Client([b"bad"]).ask(failing))
+    assert status == 503 and b"ProgramFailed" in said
+    client = Client([b"x", b"bad"])
+    assert run_within(client.ask(failing)) == (200, b"x") and client.is_aborted
+    assert client.sent[-1] == {"type": "http.response.body", "body": b"x", "more_body": True}
+
+
+@pytest.mark.parametrize("pause, is_late", [(29.0, False), (31.0, True)])
+def test_a_stream_that_moves(pause: float, is_late: bool) -> None:
+    """It may take any time, but no longer than the limit between two pieces: by a clock that is set here."""
+    clock = FakeClock()
+
+    async def slow(_: Kind, __: Any, ___: IsGone) -> AsyncGenerator[bytes, None]:
+        for seconds in (20.0, 20.0, pause, 20.0):
+            clock.now += seconds
+            await turns()
+            yield b"x"
+
+    async def run() -> None:
+        setattr(asyncio.get_running_loop(), "time", clock)
+        client = Client([b""])
+        assert await client.ask(slow, time=30) == (200, b"xx" if is_late else b"xxxx")
+        assert client.is_aborted == is_late
+
+    run_within(run())
 
 
 async def lines_about(served: Served, body: AsyncIterator[bytes]) -> bytes:
@@ -106,10 +183,11 @@ def test_a_body_that_fails_while_nobody_reads_it(
         served = FolderMap(folder_of(tmp_path / "map"), 1, Limits())
         with pytest.raises(Problem, match="it is too long"):
             await lines_about(served, body())
-        gc.collect()
-        await asyncio.sleep(0)
+        for _ in range(3):
+            await asyncio.sleep(0.01)
+            gc.collect()
 
-    asyncio.run(run())
+    run_within(run())
     assert not logged
 
 
@@ -138,4 +216,4 @@ def test_a_long_record_of_a_store(
             assert await lines_about(served, pieces(cuts)) == expected
         await served.close()
 
-    asyncio.run(run())
+    run_within(run())

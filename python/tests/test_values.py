@@ -87,7 +87,7 @@ def test_lengths_of_polylines() -> None:
     one = [Position(0, 0), Position(10_000, 0), Position(10_000, 10_000)]
     other = [Position(7_000_000, 50_000_000), Position(7_000_000, 50_000_000)]
     third = [Position(0, 80_000_000), Position(1_000_000, 80_000_000)]
-    metres = [ELLIPSOID.line_length(*zip(*[(it.lon / 1e6, it.lat / 1e6) for it in one]))]
+    metres = [ELLIPSOID.line_length([0, 0.01, 0.01], [0, 0, 0.01])]
     metres.append(ELLIPSOID.line_length([0, 1], [80, 80]))
     expected = [round(10 * metres[0]), 1, round(10 * metres[1])]
     assert lengths([one, other, third]) == expected
