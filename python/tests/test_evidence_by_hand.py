@@ -7,7 +7,7 @@ from pathlib import Path
 
 import olr
 from olr.confidence.choosing import judging_for
-from olr.confidence.feed import STATISTICS, Answered, statistics_of
+from olr.confidence.feed import Answered, statistics_of
 from olr.confidence.reasons import reasons_of
 from olr.confidence.weights import WEIGHTS
 from olr.errors import MapRefused
@@ -130,7 +130,7 @@ def test_how_far_long_legs_are_off(length: float, off: float) -> None:
     found = evidence(length=(300, length))._replace(told=np.array([350, 1000.0]))
     weights = np.zeros(len(WEIGHTS))
     one = Listed(np.array([1]), [matching(0)], found.fit, np.array([0.0]))
-    numbers = dict(zip(STATISTICS, statistics_of(Answered([None], one, found), weights)))
+    numbers = statistics_of(Answered([None], one, found), weights)
     median = "median share by which long legs differ from the middle of what it says"
     assert numbers[median] == pytest.approx(off, abs=1e-6)
 

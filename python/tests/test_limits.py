@@ -7,7 +7,7 @@ from pathlib import Path
 
 from olr.counts import Counts
 from olr.errors import ToolError
-from olr.importing.roads import Road, Source, cut_roads, junctions_of, lines_of
+from olr.importing.roads import Kind, Road, Source, cut_roads, map_of
 from olr.messages.first import with_one
 from olr.messages.message import Message, Reading
 from olr.messages.reading import messages_in
@@ -101,19 +101,16 @@ def test_parts_of_a_road(parts: int) -> None:
     """Their lines have ids of their own: beyond the last one parts are left out, and counted."""
     vertices = range(1, parts + 2)
     roads = [
-        Road(1, Source("a"), 3, 3, True, True, vertices),
-        Road(2, Source("b"), 3, 3, True, False, [1, parts + 1]),
-        *(Road(3, Source("c"), 3, 3, True, False, [it, parts + 2]) for it in (2, 3)),
+        Road(1, Source("a"), Kind(3, 3, True, True), vertices),
+        Road(2, Source("b"), Kind(3, 3, True, False), vertices),
     ]
-    positions = {it: Position(10 * it, 0) for it in vertices} | {parts + 2: Position(0, 100)}
+    positions = {it: Position(10 * it, 0) for it in vertices}
     counts = Counts()
-    cut = cut_roads(roads, positions, junctions_of(roads) | set(vertices), counts)
-    lines = lines_of(cut.parts, positions, counts).lines
-    of_first = [line.id for line in lines if line.id < 20_000]
-    assert of_first == list(range(10_000, 20_000))
-    assert [line.id for line in lines[len(of_first) :]] == [20_000, 30_000, 30_002]
+    lines = map_of(cut_roads(roads, positions, counts).parts, positions, [], counts).lines
+    ids = [line.id for line in lines]
+    assert ids == [*range(10_000, 20_000), *range(20_000, 30_000, 2)]
     left_out = dict(counts.left_out)
-    assert left_out == ({} if parts == PARTS else {"parts of a road beyond its first 5,000": 1})
+    assert left_out == ({} if parts == PARTS else {"parts of a road beyond its first 5,000": 2})
 
 
 @pytest.mark.parametrize("before, is_right", [(0, True), (99, True), (100, False)])

@@ -7,7 +7,7 @@ from collections.abc import Sequence
 from pathlib import Path
 
 from olr.model.road_map import MICRODEGREE
-from olr.regions.blocks import Block, Blocks, Directory, digest_of
+from olr.regions.blocks import Block, Blocks, Directory, digest_of_parts
 from olr.regions.index import outwards
 from olr.regions.making import make_store_of_folder
 from olr.regions.options import Options
@@ -84,7 +84,9 @@ def test_blocks_of_many_levels() -> None:
 
 def test_digests_of_parts() -> None:
     """Where one ends and the next one begins counts."""
-    found = {digest_of(parts) for parts in ([b"ab", b"c"], [b"a", b"bc"], [b"abc"], [b"abc", b""])}
+    found = {
+        digest_of_parts(parts) for parts in ([b"ab", b"c"], [b"a", b"bc"], [b"abc"], [b"abc", b""])
+    }
     assert len(found) == 4
 
 

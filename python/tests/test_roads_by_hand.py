@@ -7,7 +7,7 @@ from pathlib import Path
 
 from olr.counts import Counts
 from olr.errors import ToolError
-from olr.importing.roads import Road, Source, cut_roads
+from olr.importing.roads import Kind, Road, Source, cut_roads
 from olr.model.road_map import Position
 from olr.vector.fields import Fields, Meanings
 from olr.vector.joining import Joined, join_roads
@@ -17,15 +17,14 @@ from olr.vector.whole import require_whole_shapefile
 
 LAT_METRES = 111_195.0
 """Metres of a degree on the sphere of the earth's size; at the equator of longitude too."""
+ONE_WAY = Kind(3, 3, True, False)
 MEETS = "places where an end of a road meets another road, which is cut there"
 
 
 def joined_roads(roads: Sequence[Sequence[tuple[float, float]]]) -> tuple[Joined, Counts]:
     """Roads with coordinates in metres east and north of a place on the equator, joined within a metre."""
     made = [
-        VectorRoad(
-            id, Source(f"{id}"), 3, 3, True, False, np.array(points, dtype=float) / LAT_METRES
-        )
+        VectorRoad(id, Source(f"{id}"), ONE_WAY, np.array(points, dtype=float) / LAT_METRES)
         for id, points in enumerate(roads, 1)
     ]
     counts = Counts()
@@ -69,7 +68,7 @@ def test_classes_that_seem_to_be_counted_from_1(classes: Sequence[str], is_hinte
     counts = Counts()
     meanings = Meanings(Fields("kind", "3"), ["kind"], ValueTable(), counts)
     for value in classes:
-        meanings.attributes_of({"kind": value})
+        meanings.kind_of({"kind": value})
     meanings.count_unnamed()
     assert len(counts.hints) == is_hinted
     if is_hinted:
@@ -97,11 +96,9 @@ def test_three_nodes_in_one_microdegree() -> None:
     here, there = Position(5, 5), Position(900, 5)
     for chain in ([(3, 2), (2, 1)], [(2, 1), (3, 2)], [(1, 2), (1, 3)]):
         ends = [*chain, (3, 9)]
-        roads = [
-            Road(id, Source(f"{id}"), 3, 3, True, True, pair) for id, pair in enumerate(ends, 1)
-        ]
+        roads = [Road(id, Source(f"{id}"), ONE_WAY, pair) for id, pair in enumerate(ends, 1)]
         positions = {1: here, 2: here, 3: here, 9: there}
-        cut = cut_roads(roads, positions, {1, 2, 3, 9}, Counts())
+        cut = cut_roads(roads, positions, Counts())
         assert cut.merged == {2: 1, 3: 1}
         assert [list(part.vertices) for part in cut.parts] == [[1, 9]]
 

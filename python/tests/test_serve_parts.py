@@ -5,18 +5,20 @@ import json
 import pytest
 from collections.abc import Awaitable, Callable, Iterator
 from starlette.requests import Request
+from starlette.types import Scope
 from typing import Any, cast
 
 from conftest import REFERENCE
 from fake_pool import run_within
+from olr.asking.exchange import AnswerTooLarge
 from olr.errors import MapRefused, ProgramEnded, ProgramNotFound, TimedOut, ToolError
 from olr.model.fault import Fault
-from olr.serving.allowed import Head, allowed_for, require_allowed
+from olr.serving.allowed import allowed_for, require_allowed
 from olr.serving.front import Front
 from olr.serving.limits import MIB, MOST_REQUESTS, Limits
 from olr.serving.lists import MOST_ROWS, Lists, lines_of, most_bytes, reading_of
 from olr.serving.meters import Meters
-from olr.serving.problems import AnswerTooLarge, Problem, of_error, of_status
+from olr.serving.problems import Problem, of_error, of_status
 from olr.serving.queries import kind_of, options_of, question_of
 from olr.serving.served import Served
 
@@ -81,10 +83,10 @@ def test_cursors() -> None:
     assert refused(lambda: question_of("match", {}, 500))[2].startswith("ref is missing")
 
 
-def head_of(*fields: tuple[str, str]) -> Head:
-    """A head with these fields."""
+def head_of(*fields: tuple[str, str]) -> Scope:
+    """A request with these fields."""
     pairs = [(name.lower().encode(), value.encode()) for name, value in fields]
-    return Head.of({"type": "http", "headers": pairs})
+    return {"type": "http", "headers": pairs}
 
 
 @pytest.mark.parametrize(

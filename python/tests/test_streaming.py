@@ -159,7 +159,7 @@ def test_a_stream_that_moves(pause: float, is_late: bool) -> None:
 
 async def lines_about(served: Served, body: AsyncIterator[bytes]) -> bytes:
     """The lines of a map about the records of a body."""
-    return b"".join([piece async for piece in served.batch(MATCH, body)])
+    return b"".join([one.line() async for some in served.batch(MATCH, body) for one in some])
 
 
 def test_a_body_that_fails_while_nobody_reads_it(

@@ -9,11 +9,11 @@ from olr.errors import ToolError
 from olr.model.answers import ReferencePoint
 from olr.model.road_map import Ban, Line, Node, Position, RoadMap
 from olr.near_paths.streets import Lines, Streets
-from olr.trials.changing import changed_points
+from olr.trials.changing import Spreads, changed_points
 from olr.trials.differing import Difference, differing, without_lines
-from olr.trials.encoder import Network, points_of_legs
+from olr.trials.encoder import Lines as Known
+from olr.trials.encoder import points_of_legs
 from olr.trials.roads import Roads
-from olr.trials.spreads import Spreads
 
 EXACT = Spreads(0, 0, 0, 0, 0)
 
@@ -75,8 +75,8 @@ def test_the_other_direction_of_a_road() -> None:
 def test_points_of_a_path(legs: int, points: int | None) -> None:
     """A reference has 32 at most."""
     ids = list(range(1, legs + 1))
-    network = Network(map_of([line(id, id, id + 1) for id in ids]))
-    found = points_of_legs(network, [*([id, id + 1] for id in ids[:-1]), ids[-1:]])
+    known = Known(map_of([line(id, id, id + 1) for id in ids]))
+    found = points_of_legs(known, [*([id, id + 1] for id in ids[:-1]), ids[-1:]])
     assert (None if found is None else len(found)) == points
 
 

@@ -19,7 +19,7 @@ LONGEST = 344
     "text, record",
     [
         (f" \t{REFERENCE}\r\n", REFERENCE.encode()),
-        ("a\nb\0c", b"a b c"),
+        ("a\nb\0c", b"a!b!c"),
         ("x" * LONGEST, b"x" * LONGEST),
         (" " + "x" * LONGEST + "\n", b"x" * LONGEST),
         ("x" * (LONGEST + 1), b"A" * (LONGEST + 1)),
@@ -30,7 +30,7 @@ LONGEST = 344
     ids=range(8),
 )
 def test_texts_of_records(text: str, record: bytes) -> None:
-    """A text is one record, whatever it has."""
+    """A text is one record, whatever it has: what ends a record, or text, is no base64, as what stands for it isn't."""
     assert record_text(text) == record
 
 
