@@ -84,4 +84,14 @@ def _run(
         traceback.print_exc()
     finally:
         sys.stdout.flush()
+        _keep_measured()
         os._exit(status)
+
+
+def _keep_measured() -> None:
+    """Keeps which lines were run, where `measure.py` asks for that."""
+    coverage = sys.modules.get("coverage")
+    measuring = None if coverage is None else coverage.Coverage.current()
+    if measuring is not None:
+        measuring.stop()
+        measuring.save()

@@ -3,7 +3,6 @@
 import asyncio
 import json
 import pytest
-import random
 import re
 import socket
 import subprocess
@@ -83,26 +82,6 @@ def test_many_at_once(server: Server, program: Program, drawn: Path, texts: list
     assert len(replies) == len(answers)
     assert all(expected.agrees(reply) for expected, reply in zip(answers, replies))
     assert len(server.programs()) <= 2
-
-
-def test_more_kinds_than_processes(
-    server: Server, program: Program, drawn: Path, texts: list[str]
-) -> None:
-    """They take turns: a process is started for many requests."""
-    kinds = [("match", 40 + number) for number in range(3)] + [("why", 30), ("places", 90)]
-    expected = {
-        path_of(what, text, radius=radius): one
-        for what, radius in kinds
-        for text, one in zip(
-            texts[:200], expected_of(program, drawn, what, texts[:200], "--radius", radius)
-        )
-    }
-    paths = list(expected)
-    random.Random(5).shuffle(paths)
-    before = server.figure("olr_starts_total")
-    replies = asyncio.run(ask_all(server, paths))
-    assert all(expected[path].agrees(reply) for path, reply in zip(paths, replies, strict=True))
-    assert server.figure("olr_starts_total") - before < len(paths) / 10
 
 
 @pytest.mark.parametrize("what", NUMBERS)

@@ -288,31 +288,6 @@ def test_an_offer_of_http_2(server: Server) -> None:
     assert said.status == 400 and is_well(server)
 
 
-def test_heads_that_dont_come(server: Server) -> None:
-    """Also those of which a byte comes now and then: each has some seconds."""
-    begun = (b"", b"GET /", b"GET /health HTTP/1.1\r\nHost: x\r\nX: ")
-    connections = {socket.create_connection(("127.0.0.1", server.port)): sent for sent in begun}
-    begin = time.monotonic()
-    for connection, sent in connections.items():
-        connection.settimeout(0.2)
-        connection.sendall(sent)
-    left = set(connections)
-    while left:
-        assert time.monotonic() - begin < 20
-        for connection in list(left):
-            try:
-                if connections[connection]:
-                    connection.sendall(b"y")
-                is_closed = connection.recv(1) == b""
-            except TimeoutError:
-                continue
-            except ConnectionError:
-                is_closed = True
-            assert is_closed and time.monotonic() - begin > 5
-            left.discard(connection)
-            connection.close()
-
-
 def test_thousands_of_silent_connections(server: Server) -> None:
     """Others are answered meanwhile, and the server holds no more of them than it may."""
     soft, hard = resource.getrlimit(resource.RLIMIT_NOFILE)

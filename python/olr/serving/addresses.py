@@ -83,7 +83,7 @@ class _Answers:
         options = options_of(request.scope["query_string"])
         question = question_of(what, options, self._limits.look)
         has_features = what in ("match", "places")
-        if has_features and features.MEDIA_TYPE in request.headers.get("accept", ""):
+        if has_features and features.is_wanted(",".join(request.headers.getlist("accept"))):
             text = await self._features.of(question, request.scope["is_gone"])
             return Response(text, headers=VARIES, media_type=features.MEDIA_TYPE)
         known = await self._served.answer(question, request.scope["is_gone"])

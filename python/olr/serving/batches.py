@@ -57,7 +57,7 @@ async def answered_by(
     process = await started(edition.program, edition.words(kind))
     waiting: deque[Record] = deque()
     feeding = asyncio.create_task(_feed(process, exchange, body, waiting))
-    assert process.stdout is not None and process.stderr is not None
+    assert process.stdin and process.stdout and process.stderr
     is_kept = False
     try:
         while piece := await process.stdout.read(PIECE):
@@ -77,6 +77,9 @@ async def answered_by(
         with suppress(asyncio.CancelledError, Exception):
             await feeding
         await process.wait()
+        # It has what went wrong with the pipe, which asyncio would log if nobody asked.
+        with suppress(OSError):
+            await process.stdin.wait_closed()
 
 
 async def _feed(

@@ -2,12 +2,14 @@
 
 import asyncio
 import logging
+import time
 from httptools import HttpRequestParser
 from typing import Any
 from uvicorn.config import Config
 from uvicorn.protocols.http.httptools_impl import HttpToolsProtocol
 from uvicorn.server import ServerState
 
+from olr.progress import Clock
 from olr.serving.limits import (
     MOST_AHEAD,
     MOST_HEAD,
@@ -28,8 +30,8 @@ OF_BODIES = {b"content-length", b"transfer-encoding"}
 class Connections:
     """All connections, the one that has been silent for longest first."""
 
-    def __init__(self, most: int) -> None:
-        self._most = most
+    def __init__(self, most: int, clock: Clock = time.monotonic) -> None:
+        self._most, self.clock = most, clock
         self._there: "dict[Connection, None]" = {}
 
     def __len__(self) -> int:
@@ -60,20 +62,22 @@ class Connections:
             self._abort(one)
 
     async def watch(self) -> None:
-        """Closes those that are silent for too long, and those that don't take their answers where these are too much, each second, until it
-        is cancelled."""
-        loop = asyncio.get_running_loop()
+        """Closes what has to be closed, each second, until it is cancelled."""
         while True:
             await asyncio.sleep(1)
-            now = loop.time()
-            for one in [one for one in self._there if one.is_late(now)]:
+            self.look()
+
+    def look(self) -> None:
+        """Closes those that are silent for too long, and those that don't take their answers where these are too much."""
+        now = self.clock()
+        for one in [one for one in self._there if one.is_late(now)]:
+            self._abort(one)
+        unread = {one: one.unread() for one in self._there if one.is_idle()}
+        too_much = sum(unread.values()) - MOST_UNREAD
+        for one, size in unread.items():
+            if too_much > 0 and size:
                 self._abort(one)
-            unread = {one: one.unread() for one in self._there if one.is_idle()}
-            too_much = sum(unread.values()) - MOST_UNREAD
-            for one, size in unread.items():
-                if too_much > 0 and size:
-                    self._abort(one)
-                    too_much -= size
+                too_much -= size
 
     def _abort(self, connection: "Connection") -> None:
         """Closes one, whatever it has to send."""
@@ -91,7 +95,7 @@ class Connection(HttpToolsProtocol):  # type: ignore[misc]
     def __init__(self, connections: Connections, config: Config, server_state: ServerState) -> None:
         super().__init__(config=config, server_state=server_state)
         self._all = connections
-        self._heard = self._head_since = self.loop.time()
+        self._heard = self._head_since = connections.clock()
         self._is_in_head = True
         self._bytes_of_head = self._unread = 0
         self._problem: Problem | None = None
@@ -129,14 +133,14 @@ class Connection(HttpToolsProtocol):  # type: ignore[misc]
         """The client sent something."""
         if self._problem is not None:
             return
-        self._heard = self.loop.time()
+        self._heard = self._all.clock()
         self._all.heard(self)
         super().data_received(data)
 
     def on_message_begin(self) -> None:
         """A head begins."""
         super().on_message_begin()
-        self._is_in_head, self._head_since = True, self.loop.time()
+        self._is_in_head, self._head_since = True, self._all.clock()
         self._bytes_of_head = 0
 
     def on_url(self, url: bytes) -> None:
@@ -166,7 +170,7 @@ class Connection(HttpToolsProtocol):  # type: ignore[misc]
 
     def on_response_complete(self) -> None:
         """A request was answered."""
-        self._heard = self.loop.time()
+        self._heard = self._all.clock()
         self._all.heard(self)
         if self._problem is not None:
             self.pipeline.clear()

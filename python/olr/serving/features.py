@@ -1,6 +1,7 @@
 """Answers as GeoJSON, with the columns of docs/COLUMNS.md: those that `olr-tools match` writes."""
 
 import asyncio
+import re
 from io import StringIO
 from typing import NamedTuple
 
@@ -18,6 +19,24 @@ from olr.serving.rooms import Room
 from olr.serving.served import IsGone, Known, Served, Versions, of_one_edition
 
 MEDIA_TYPE = "application/geo+json"
+WEIGHT = re.compile(r"q=(0(?:\.[0-9]{0,3})?|1(?:\.0{0,3})?)", re.IGNORECASE)
+"""How well a client likes a type, from 0 for not at all to 1: 1 where it doesn't say so."""
+
+
+def is_wanted(accept: str) -> bool:
+    """Whether the field Accept of a request asks for GeoJSON rather than for JSON: that is what a client gets that likes both alike, unless
+    it names GeoJSON."""
+    weights: dict[str, float] = {}
+    for item in accept.split(","):
+        kind, *parameters = (part.strip() for part in item.split(";"))
+        said = filter(None, map(WEIGHT.fullmatch, parameters))
+        weights[kind.lower()] = next((float(weight[1]) for weight in said), 1.0)
+
+    def weight_of(kind: str) -> float:
+        return next((weights[it] for it in (kind, "application/*", "*/*") if it in weights), 0.0)
+
+    geojson, json = weight_of(MEDIA_TYPE), weight_of("application/json")
+    return geojson > json or MEDIA_TYPE in weights and geojson == json > 0
 
 
 class Features(NamedTuple):

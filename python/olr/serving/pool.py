@@ -2,6 +2,7 @@
 
 import asyncio
 import logging
+import time
 from collections import Counter, deque
 from collections.abc import AsyncIterator, Callable, Coroutine
 from contextlib import asynccontextmanager, suppress
@@ -10,6 +11,7 @@ from typing import Any
 
 from olr.asking.exchange import AnswerTooLarge
 from olr.errors import MapRefused, TimedOut, ToolError
+from olr.progress import Clock
 from olr.serving.edition import Edition
 from olr.serving.limits import ABREAST, Limits
 from olr.serving.problems import busy
@@ -35,12 +37,13 @@ SECONDS_UNUSED = 5.0
 class Place:
     """What waits for room for a process of its own."""
 
-    __slots__ = ("is_free", "since")
+    __slots__ = ("is_free", "is_given", "since")
 
-    def __init__(self) -> None:
-        loop = asyncio.get_running_loop()
-        self.is_free: asyncio.Future[None] = loop.create_future()
-        self.since = loop.time()
+    def __init__(self, since: float) -> None:
+        self.is_free: asyncio.Future[None] = asyncio.get_running_loop().create_future()
+        self.is_given = False
+        """Whether there was room for it: then it has to be given back, even if nobody waits for it any more."""
+        self.since = since
 
     def refuse(self, error: Exception) -> None:
         """Gives an error in place of room."""
@@ -57,8 +60,10 @@ class Pool:
     been idle for longest, else the one that has answered for longest.
     """
 
-    def __init__(self, edition: Edition, workers: int, limits: Limits) -> None:
-        self.edition, self.workers, self.limits = edition, workers, limits
+    def __init__(
+        self, edition: Edition, workers: int, limits: Limits, clock: Clock = time.monotonic
+    ) -> None:
+        self.edition, self.workers, self.limits, self.clock = edition, workers, limits, clock
         self.trouble: ToolError | None = None
         """Why the last process that was started didn't read the map, or why none can be: None if all is well."""
         self.restarts: Counter[str] = Counter()
@@ -95,7 +100,7 @@ class Pool:
         """What the program answers about the text of a reference. Raises `MapRefused`, `ProgramEnded`, `ProgramNotFound`, `TimedOut`, and
         `Problem` where no process is free for too long."""
         self._require_open()
-        request = Request(kind, text, is_gone)
+        request = Request(kind, text, is_gone, self.clock())
         self._hand(request)
         return await request.answer
 
@@ -110,14 +115,14 @@ class Pool:
             raise busy("too many requests have a process of their own") from error
         try:
             self._require_open()
-            place = Place()
+            place = Place(self.clock())
             self._claims.append(place)
             self._serve_claims()
-            await place.is_free
             try:
+                await place.is_free
                 yield
             finally:
-                self.reserved -= 1
+                self.reserved -= place.is_given
         finally:
             self._places.release()
             self._serve_claims()
@@ -126,14 +131,18 @@ class Pool:
         """Ends what takes too long, and looks whether the files are still those of the edition, until it is cancelled."""
         for tick in count(1):
             await asyncio.sleep(TICK)
-            behind = self._loop.time() - self.limits.time
-            for process in list(self._processes):
-                if process.is_ready and process.requests and process.working_since < behind:
-                    self._end_slow(process)
-            self._refuse_late(behind)
-            self._serve_claims()
+            self.look()
             if tick % TICKS_OF_FILES == 0 and not self._is_looking:
-                self._task(self._look_at_files())
+                self._task(self.look_at_files())
+
+    def look(self) -> None:
+        """Ends what takes too long, refuses what has waited for too long, and gives room to those who have a claim to it."""
+        behind = self.clock() - self.limits.time
+        for process in list(self._processes):
+            if process.is_ready and process.requests and process.working_since < behind:
+                self._end_slow(process)
+        self._refuse_late(behind)
+        self._serve_claims()
 
     async def open(self, kind: Kind) -> None:
         """Starts the first process, and waits until it has read the map. Raises `ToolError` if it doesn't."""
@@ -226,6 +235,7 @@ class Pool:
             if isinstance(claim, Place):
                 if not claim.is_free.done():
                     self.reserved += 1
+                    claim.is_given = True
                     claim.is_free.set_result(None)
             elif claim in self._queues and not self._of_kind(claim):
                 self._feed(self._started(claim))
@@ -246,13 +256,13 @@ class Pool:
         idle = self._longest_idle(SECONDS_OF_LULL)
         if idle is not None:
             return idle
-        begin = self._loop.time() - SECONDS_OF_TURN
+        begin = self.clock() - SECONDS_OF_TURN
         longest = min(ready, key=lambda one: one.ready_since, default=None)
         return longest if longest is not None and longest.ready_since < begin else None
 
     def _longest_idle(self, seconds: float) -> Process | None:
         """The process that has been idle for longest, and for so many seconds."""
-        begin = self._loop.time() - seconds
+        begin = self.clock() - seconds
         idle = [
             one
             for one in self._processes
@@ -308,7 +318,7 @@ class Pool:
     def _end_slow(self, process: Process) -> None:
         """Ends a process that has worked at a request for too long."""
         slow = process.requests.popleft()
-        process.working_since = self._loop.time()
+        process.working_since = self.clock()
         waited = TimedOut(f"olr answered nothing for {self.limits.time:g} seconds", None)
         slow.refuse(waited)
         log.warning("a process was ended: olr %s, %s", process.kind.what, waited)
@@ -330,7 +340,7 @@ class Pool:
             elif not isinstance(claim, Place) and claim not in self._queues:
                 self._claims.remove(claim)
 
-    async def _look_at_files(self) -> None:
+    async def look_at_files(self) -> None:
         """Notes whether a process could be started that reads what the others have read. It may take long, where files don't answer."""
         edition = self.edition
         self._is_looking = True
@@ -388,7 +398,7 @@ class Pool:
             if process.requests[0].tries >= MOST_TRIES:
                 process.requests.popleft().refuse(error)
         for request in reversed(process.requests):
-            request.since = self._loop.time()
+            request.since = self.clock()
             self._queues.setdefault(process.kind, deque()).appendleft(request)
 
 

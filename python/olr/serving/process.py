@@ -13,6 +13,7 @@ from olr.asking.exchange import AnswerTooLarge, Exchange
 from olr.asking.starting import command_of, kill_group_of, not_started
 from olr.errors import ProgramEnded, TimedOut, ToolError
 from olr.model.objects import RawLine
+from olr.progress import Clock
 from olr.serving.edition import Edition
 from olr.serving.limits import MOST_ANSWER, MOST_SAID, SECONDS_TO_READ
 from olr.serving.queries import Kind
@@ -38,14 +39,13 @@ class Request:
 
     __slots__ = ("kind", "text", "answer", "is_gone", "tries", "since")
 
-    def __init__(self, kind: Kind, text: bytes, is_gone: Callable[[], bool]) -> None:
+    def __init__(self, kind: Kind, text: bytes, is_gone: Callable[[], bool], since: float) -> None:
         """`is_gone` says whether nobody waits for the answer any more."""
-        loop = asyncio.get_running_loop()
         self.kind, self.text, self.is_gone = kind, text, is_gone
-        self.answer: asyncio.Future[Answer] = loop.create_future()
+        self.answer: asyncio.Future[Answer] = asyncio.get_running_loop().create_future()
         self.tries = 0
         """How many processes ended while they worked at it."""
-        self.since = loop.time()
+        self.since = since
         """Since when it waits for a process."""
 
     def give(self, answer: Answer) -> None:
@@ -61,6 +61,9 @@ class Request:
 
 class Owner(Protocol):
     """Who owns a process."""
+
+    clock: Clock
+    """By which it is said since when a process works."""
 
     def became_free(self, process: "Process") -> None:
         """It has read the map, or has given an answer."""
@@ -107,7 +110,7 @@ class Process(asyncio.SubprocessProtocol):
             await self.ended()
             raise
         self.is_ready = True
-        self.ready_since = self.working_since = self._loop.time()
+        self.ready_since = self.working_since = self._owner.clock()
         self._write(request.text for request in self.requests)
         self._owner.became_free(self)
 
@@ -136,7 +139,7 @@ class Process(asyncio.SubprocessProtocol):
     def ask(self, request: Request) -> None:
         """Hands over a request. It doesn't wait."""
         if not self.requests:
-            self.working_since = self._loop.time()
+            self.working_since = self._owner.clock()
         self.requests.append(request)
         if self.is_ready:
             self._write([request.text])
@@ -196,7 +199,7 @@ class Process(asyncio.SubprocessProtocol):
             self._map_is_read.set_result(None)
             return
         self.requests.popleft().give(Answer(line.answer, line.fault, self.edition))
-        self.working_since = self._loop.time()
+        self.working_since = self._owner.clock()
         self._owner.became_free(self)
 
     def pipe_connection_lost(self, fd: int, exc: Exception | None) -> None:

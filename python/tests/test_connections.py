@@ -1,0 +1,220 @@
+"""Connections of `olr-tools serve`, without a network: what is sent ahead, and by a clock that the tests set, what doesn't come."""
+
+import asyncio
+import pytest
+from collections.abc import Awaitable, Callable
+from typing import Any
+from uvicorn.config import Config
+from uvicorn.server import ServerState
+
+from fake_pool import FakeClock, run_within, turns
+from olr.serving.connections import Connection, Connections
+
+HEAD = b"GET /health HTTP/1.1\r\nHost: localhost\r\n"
+
+
+class FakeTransport:
+    """A transport whose client takes all of an answer, or nothing."""
+
+    def __init__(self) -> None:
+        self.written = b""
+        self.is_closed = self.is_aborted = False
+        self.unread = 0
+
+    def write(self, data: bytes) -> None:
+        """Takes a part of an answer."""
+        self.written += data
+
+    def close(self) -> None:
+        """Closes the connection behind what was written."""
+        self.is_closed = True
+
+    def abort(self) -> None:
+        """Closes the connection at once."""
+        self.is_closed = self.is_aborted = True
+
+    def is_closing(self) -> bool:
+        """Whether the connection is being closed."""
+        return self.is_closed
+
+    def get_write_buffer_size(self) -> int:
+        """How many bytes the client hasn't taken."""
+        return self.unread
+
+    def get_extra_info(self, _: str) -> None:
+        """Of the socket nothing is known."""
+
+    def pause_reading(self) -> None:
+        """Nothing is read by itself."""
+
+    resume_reading = set_write_buffer_limits = pause_reading
+
+
+class Clients:
+    """Clients of a server that answers when a test lets it."""
+
+    def __init__(self, most: int = 100) -> None:
+        self.clock = FakeClock()
+        self.all = Connections(most, self.clock)
+        self.answering = asyncio.Event()
+        self._state = ServerState()
+        self._config = Config(
+            self._app, interface="asgi3", lifespan="off", loop="none", log_config=None
+        )
+        self._config.load()
+
+    async def _app(
+        self, _: Any, __: Any, send: Callable[[dict[str, Any]], Awaitable[None]]
+    ) -> None:
+        await self.answering.wait()
+        headers = [(b"content-length", b"2")]
+        await send({"type": "http.response.start", "status": 200, "headers": headers})
+        await send({"type": "http.response.body", "body": b"ok"})
+
+    def connect(self) -> tuple[Connection, FakeTransport]:
+        """A new connection."""
+        connection, transport = Connection(self.all, self._config, self._state), FakeTransport()
+        connection.connection_made(transport)
+        return connection, transport
+
+
+@pytest.mark.parametrize("ahead, answers", [(16, 17), (17, 1)])
+def test_requests_that_are_sent_ahead(ahead: int, answers: int) -> None:
+    """Sixteen may be sent while one is answered. With one more all but that one are left, and the connection is closed."""
+
+    async def run() -> None:
+        clients = Clients()
+        connection, transport = clients.connect()
+        connection.data_received((HEAD + b"\r\n") * (1 + ahead))
+        clients.answering.set()
+        await turns(100)
+        assert transport.written.count(b"HTTP/1.1 200 OK") == answers
+        assert transport.is_closed == (answers == 1)
+
+    run_within(run())
+
+
+@pytest.mark.parametrize("sent", [b"", b"GET /", HEAD + b"X: "])
+def test_heads_that_dont_come(sent: bytes) -> None:
+    """Also those of which a byte comes now and then: each has ten seconds."""
+
+    async def run() -> None:
+        clients = Clients()
+        connection, transport = clients.connect()
+        connection.data_received(sent)
+        for _ in range(10):
+            clients.clock.now += 1
+            if sent:
+                connection.data_received(b"y")
+            clients.all.look()
+            assert not transport.is_closed
+        clients.clock.now += 0.1
+        clients.all.look()
+        assert transport.is_aborted and len(clients.all) == 0
+
+    run_within(run())
+
+
+def test_connections_that_are_idle() -> None:
+    """They are closed after a minute, from when the last request was answered on."""
+
+    async def run() -> None:
+        clients = Clients()
+        connection, transport = clients.connect()
+        connection.data_received(HEAD + b"\r\n")
+        await turns(20)
+        clients.clock.now += 1000
+        clients.all.look()
+        assert not transport.is_closed
+        clients.answering.set()
+        await turns(20)
+        assert b"HTTP/1.1 200 OK" in transport.written
+        clients.clock.now += 60
+        clients.all.look()
+        assert not transport.is_closed
+        clients.clock.now += 0.1
+        clients.all.look()
+        assert transport.is_aborted
+
+    run_within(run())
+
+
+def test_too_many_connections() -> None:
+    """The one that has been silent for longest is closed for a new one, and a new one if none is idle."""
+
+    async def run() -> None:
+        clients = Clients(most=2)
+        (first, one), (_, two) = clients.connect(), clients.connect()
+        first.data_received(b"GET /")
+        _, three = clients.connect()
+        assert (one.is_aborted, two.is_aborted, three.is_aborted) == (False, True, False)
+        first.data_received(b"health HTTP/1.1\r\nHost: localhost\r\n\r\n")
+        third, four = clients.connect()
+        assert (one.is_aborted, three.is_aborted, four.is_aborted) == (False, True, False)
+        third.data_received(HEAD + b"\r\n")
+        _, five = clients.connect()
+        assert (one.is_aborted, four.is_aborted, five.is_aborted) == (False, False, True)
+        clients.answering.set()
+        await turns(20)
+
+    run_within(run())
+
+
+def test_answers_that_arent_taken() -> None:
+    """Beyond 128 MiB of all together the connections are closed that are silent for longest, as many as it takes."""
+
+    async def run() -> None:
+        clients = Clients()
+        clients.answering.set()
+        there = [clients.connect() for _ in range(3)]
+        for connection, transport in there:
+            connection.data_received(HEAD + b"\r\n")
+            await turns(20)
+            transport.unread = 50 << 20
+        clients.all.look()
+        assert [transport.is_aborted for _, transport in there] == [True, False, False]
+        there[1][1].unread = 78 << 20
+        clients.all.look()
+        assert not there[1][1].is_aborted
+
+    run_within(run())
+
+
+@pytest.mark.parametrize("size, status", [(8192, b"200"), (8193, b"414")])
+def test_the_longest_url(size: int, status: bytes) -> None:
+    run_within(_ask(b"GET /".ljust(4 + size, b"x") + b" HTTP/1.1\r\nHost: x\r\n\r\n", status))
+
+
+@pytest.mark.parametrize("more, status", [(0, b"200"), (1, b"431")])
+def test_the_longest_head(more: int, status: bytes) -> None:
+    """All names and values together have 16,384 bytes."""
+    sizes = (8000, 16_384 - 8000 - len("HostxAB") + more)
+    fields = [b"%c: %b\r\n" % pair for pair in zip(b"AB", (b"y" * size for size in sizes))]
+    head = b"GET / HTTP/1.1\r\nHost: x\r\n" + b"".join(fields) + b"\r\n"
+    run_within(_ask(head, status))
+
+
+@pytest.mark.parametrize(
+    "fields, status",
+    [
+        (b"Upgrade: h2c\r\n", b"200"),
+        (b"Upgrade: H2C\r\n", b"200"),
+        (b"Upgrade: websocket\r\n", b"400"),
+        (b"Upgrade: h2c\r\nContent-Length: 1\r\n", b"400"),
+        (b"Upgrade: h2c\r\nTransfer-Encoding: chunked\r\n", b"400"),
+    ],
+)
+def test_offers_of_other_protocols(fields: bytes, status: bytes) -> None:
+    """HTTP/2 may be offered, but not with a body, of which a part would be passed over."""
+    run_within(_ask(HEAD + b"Connection: Upgrade\r\n" + fields + b"\r\n", status))
+
+
+async def _ask(data: bytes, status: bytes) -> None:
+    """Sees that some bytes are answered by a status."""
+    clients = Clients()
+    clients.answering.set()
+    connection, transport = clients.connect()
+    connection.data_received(data)
+    await turns(20)
+    assert transport.written.startswith(b"HTTP/1.1 %b " % status)
+    assert transport.is_closed or status == b"200"

@@ -1,0 +1,99 @@
+"""GeoJSON of `olr-tools serve`, with a made-up map: when it is wanted, and that all of it is of one version of the map."""
+
+import pytest
+from collections.abc import Mapping
+from typing import Any, cast
+
+from fake_pool import run_within
+from olr.asking.files import Version
+from olr.confidence.confidence import Confidence
+from olr.errors import MapRefused
+from olr.serving.features import Features, is_wanted
+from olr.serving.queries import Question, kind_of
+from olr.serving.rooms import Room
+from olr.serving.served import Known, Served
+
+GEOJSON = "application/geo+json"
+
+
+@pytest.mark.parametrize(
+    "accept",
+    [
+        GEOJSON,
+        "Application/GEO+JSON",
+        f"{GEOJSON};q=0.001",
+        f"{GEOJSON}; Q=1.000",
+        f"{GEOJSON};charset=utf-8;q=0.5",
+        f"{GEOJSON}, application/json",
+        f"application/json;q=0.9,{GEOJSON}",
+        f"{GEOJSON};q=0.5, application/json;q=0.5",
+        f"{GEOJSON}, */*",
+        f"text/html, {GEOJSON};q=0.4, */*;q=0.3",
+        f"*/*;q=0, {GEOJSON}",
+        "application/json;q=0, */*",
+        "application/json;q=0.2, application/*;q=0.3",
+        f"{GEOJSON};q=nonsense",
+    ],
+)
+def test_geojson_is_wanted(accept: str) -> None:
+    assert is_wanted(accept)
+
+
+@pytest.mark.parametrize(
+    "accept",
+    [
+        "",
+        "application/json",
+        "*/*",
+        "application/*",
+        "text/html,application/xhtml+xml,application/xml;q=0.9,*/*;q=0.8",
+        f"{GEOJSON};q=0",
+        f"{GEOJSON}; q=0.000, */*",
+        f"{GEOJSON};q=0, */*;q=0",
+        f"{GEOJSON};q=0.5, application/json",
+        f"{GEOJSON};q=0.5, */*",
+        "application/json;q=0.5, application/*;q=0, */*",
+        "application/geo+jsonp",
+        "x/application/geo+json",
+    ],
+)
+def test_json_is_wanted(accept: str) -> None:
+    assert not is_wanted(accept)
+
+
+class FakeMap:
+    """A map whose answers are of other versions."""
+
+    def __init__(self, versions: Mapping[str, str], network: str) -> None:
+        """The digest of the version of each kind of answers, and that of the network."""
+        self.versions, self.asked = versions, 0
+        self.digest = network
+
+    async def answer(self, question: Question, _: Any) -> Known:
+        """An answer in which there is nothing."""
+        self.asked += 1
+        empty = {"match": b'{"matchings":[],"next":null}', "candidates": b'{"points":[]}'}
+        what = question.kind.what
+        return Known(empty[what], Version(self.versions[what], None))
+
+    def network(self) -> "FakeMap":
+        """What has the digest."""
+        return self
+
+
+@pytest.mark.parametrize("other", ["match", "candidates", "network"])
+def test_answers_of_another_version(other: str) -> None:
+    """They are asked once more, and then refused."""
+    digests = {
+        what: "old" if what == other else "new" for what in ("match", "candidates", "network")
+    }
+    fake = FakeMap(digests, digests["network"])
+    question = Question(kind_of("match", {}, 10_000), b"x", None)
+
+    async def run() -> None:
+        features = Features(cast(Served, fake), Confidence.default(), Room(5))
+        await features.of(question, lambda: False)
+
+    with pytest.raises(MapRefused, match="another version of the map"):
+        run_within(run())
+    assert fake.asked == 4

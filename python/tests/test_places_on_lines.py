@@ -1,0 +1,112 @@
+"""Pieces of lines on a map by hand: where they begin and end at vertices, and of which version of the map they have to be."""
+
+import pytest
+from pathlib import Path
+
+import olr
+from olr.errors import MapRefused, ToolError
+from olr.geometry.network import between, middle
+from olr.matching.rows import rows_of_answers
+from olr.model.objects import page_of
+from olr.model.pieces import Piece, Pieces, Place
+from stores import folder_of
+
+# 0.002 degrees east along the equator, with vertices at a quarter and at half of it: shares that have exact numbers.
+NODES = "id,lon,lat\n1,0,0\n2,2000,0\n"
+LINES = "id,from,to,class,form,length,shape\n7,1,2,3,3,2000,500 0;1000 0\n8,2,1,3,3,2000,\n"
+MATCHING = (
+    '{"rank":%d,"total":0,"legs":[],"points":[],"route":[[7,0,2000]],"outer":[[7,0,2000]],"inner":[[7,0,2000]],'
+    '"cursor":"0:0"}'
+)
+
+
+@pytest.fixture
+def network(tmp_path: Path) -> olr.Network:
+    """That map as arrays."""
+    return olr.Network.read(folder_of(tmp_path / "map", NODES, LINES, "from,to\n"))
+
+
+@pytest.mark.parametrize(
+    "start, end, east",
+    [
+        (0, 2000, [0, 500, 1000, 2000]),
+        (0, 500, [0, 500]),
+        (0, 1000, [0, 500, 1000]),
+        (500, 1000, [500, 1000]),
+        (500, 2000, [500, 1000, 2000]),
+        (1000, 2000, [1000, 2000]),
+        (499, 501, [499, 500, 501]),
+        (501, 999, [501, 999]),
+        (1000, 1000, [1000, 1000]),
+    ],
+)
+def test_a_piece_that_ends_at_a_vertex(
+    start: int, end: int, east: list[int], network: olr.Network
+) -> None:
+    """Each vertex is there once."""
+    points = network.path([(7, start, end)])
+    assert (points * 1e6).round(6).tolist() == [[it, 0] for it in east]
+
+
+def test_pieces_one_behind_the_other(network: olr.Network) -> None:
+    """Where one ends and the next one begins there is one point."""
+    points = network.path([(7, 0, 500), (7, 500, 2000), (8, 0, 1000)])
+    assert (points[:, 0] * 1e6).round(6).tolist() == [0, 500, 1000, 2000, 1000]
+
+
+@pytest.mark.parametrize("digest", ["own", "other"])
+@pytest.mark.parametrize("matchings", [1, 2])
+def test_rows_of_another_version(matchings: int, digest: str, network: olr.Network) -> None:
+    """They are refused, also where a page has one matching."""
+    found = ",".join(MATCHING % rank for rank in range(1, matchings + 1))
+    assert network.digest is not None
+    text = f'{{"matchings":[{found}],"next":null}}'.encode()
+    page = page_of(text, network.digest if digest == "own" else "other")
+    if digest == "own":
+        assert rows_of_answers([page], network).values["lines"] == ["7"] * matchings
+    else:
+        with pytest.raises(MapRefused, match="is another version than the answer is of"):
+            rows_of_answers([page], network)
+
+
+def test_pieces_of_another_version(network: olr.Network) -> None:
+    with pytest.raises(MapRefused, match="is another version than the answer is of"):
+        network.path(Pieces(b"[[7,0,2000]]", "other"))
+
+
+@pytest.mark.parametrize("at, is_on", [(-1, False), (0, True), (2000, True), (2001, False)])
+def test_positions_on_a_line(at: int, is_on: bool, network: olr.Network) -> None:
+    """From its start to its end."""
+    if is_on:
+        assert network.point((7, at)).x * 1e6 == pytest.approx(at)
+        assert len(network.path([(7, at, at)])) == 2
+        return
+    said = f"position {at} isn't on line 7 of the map in .*, which is 2000 dm long"
+    with pytest.raises(ToolError, match=said):
+        network.point((7, at))
+    with pytest.raises(ToolError, match=said):
+        network.path([(7, 0, at)])
+
+
+def test_a_place_on_a_line_that_is_driven_twice() -> None:
+    """It is where the route has its position."""
+    route = Pieces([Piece(7, 0, 10), Piece(8, 0, 5), Piece(7, 20, 40)])
+    found = between(route, Place(7, 30), Place(7, 35))
+    assert found == [Piece(7, 30, 35)]
+    assert between(route, Place(7, 4), Place(7, 35)) == [
+        Piece(7, 4, 10),
+        Piece(8, 0, 5),
+        Piece(7, 20, 35),
+    ]
+    assert middle(route, Place(7, 4), Place(7, 35)) == Place(7, 22)
+    assert middle(route, Place(7, 4), Place(7, 4)) == Place(7, 4)
+
+
+def test_a_map_that_changes_while_it_is_read(
+    tmp_path: Path, monkeypatch: pytest.MonkeyPatch
+) -> None:
+    digests = iter(["one", "other"])
+    monkeypatch.setattr("olr.geometry.network.digest_of", lambda *_: next(digests))
+    folder = folder_of(tmp_path / "map", NODES, LINES, "from,to\n")
+    with pytest.raises(ToolError, match="was changed while it was read: read it again"):
+        olr.Network.read(folder)

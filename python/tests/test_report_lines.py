@@ -1,0 +1,23 @@
+"""The lines of the map in the page of `report`: the more important ones, and how many more there are."""
+
+import pytest
+from pathlib import Path
+
+from conftest import OF_PROGRAM, TOP, Program
+from feeds import data_of
+from olr.tools import run
+
+
+def test_more_lines_than_a_page_has(
+    program: Program, tmp_path: Path, monkeypatch: pytest.MonkeyPatch
+) -> None:
+    """All lines of the town of the examples are around its references."""
+    monkeypatch.setenv("OLR_PROGRAM", str(program.path))
+    monkeypatch.setattr("olr.pages.report.rows.MOST_LINES", 5)
+    rows = (TOP / "examples/lines.csv").read_text().splitlines()[1:]
+    classes = sorted(int(row.split(",")[3]) for row in rows)
+    words = ["report", TOP / "examples/messages.tsv", "--map", TOP / "examples", *OF_PROGRAM]
+    assert run([str(word) for word in (*words, "--out", tmp_path / "page.html")]) == 0
+    data = data_of(tmp_path / "page.html")
+    assert [line["class"] for line in data["lines"]] == classes[:5]
+    assert data["cut"] == len(rows) - 5

@@ -1,0 +1,310 @@
+"""Parts of `olr-tools serve` without a server: queries, who may ask, how many at once, lists, problems and figures."""
+
+import asyncio
+import json
+import pytest
+from collections.abc import Awaitable, Callable, Iterator
+from starlette.requests import Request
+from starlette.types import Scope
+from typing import Any, cast
+
+from conftest import REFERENCE
+from fake_pool import run_within
+from olr.asking.exchange import AnswerTooLarge
+from olr.errors import MapRefused, ProgramEnded, ProgramNotFound, TimedOut, ToolError
+from olr.model.fault import Fault
+from olr.serving.allowed import allowed_for, require_allowed
+from olr.serving.front import Front
+from olr.serving.limits import MIB, MOST_REQUESTS, Limits
+from olr.serving.lists import MOST_ROWS, Lists, lines_of, most_bytes, reading_of
+from olr.serving.meters import Meters
+from olr.serving.problems import Problem, of_error, of_status
+from olr.serving.queries import kind_of, options_of, question_of
+from olr.serving.served import Served
+
+ALLOWED = allowed_for("127.0.0.1", 8000, ["olr.example"], ["https://Maps.example"])
+
+
+def refused(call: Callable[[], object]) -> tuple[int, str, str]:
+    """The status, title and detail of the problem that a call raises."""
+    with pytest.raises(Problem) as raised:
+        call()
+    return raised.value.status, raised.value.title, raised.value.detail
+
+
+@pytest.mark.parametrize(
+    "query, options",
+    [
+        (b"", {}),
+        (b"ref=a+b/c=", {"ref": "a+b/c="}),
+        (b"ref=%2B%2F&r%C3%A4dius=5", {"ref": "+/", "rädius": "5"}),
+        (b"ref", {"ref": ""}),
+    ],
+)
+def test_options_of_a_query(query: bytes, options: dict[str, str]) -> None:
+    """A plus sign stands for itself."""
+    assert options_of(query) == options
+
+
+@pytest.mark.parametrize("query", [b"a=1&a=2", b"a=1&%61=2", b"a=%ff", b"%ff=1"])
+def test_queries_that_arent_understood(query: bytes) -> None:
+    assert refused(lambda: options_of(query))[:2] == (400, "BadRequest")
+
+
+def test_how_far_is_looked() -> None:
+    """By default no farther than the server allows, and no farther if that is asked for."""
+    assert kind_of("places", {}, 500).numbers()["look"] == 500
+    assert kind_of("places", {}, 5000).numbers()["look"] == 1000
+    assert kind_of("places", {"look": "500"}, 500).numbers()["look"] == 500
+    said = refused(lambda: kind_of("places", {"look": "501"}, 500))
+    assert said[0] == 400 and said[2] == "look is 500 at most on this server"
+
+
+@pytest.mark.parametrize("value", ["", "0", "1001", "+5", " 5", "5.0", "٣", "0x5", "00000005"])
+def test_numbers_that_arent_in_their_range(value: str) -> None:
+    """A number has seven digits at most."""
+    said = refused(lambda: kind_of("match", {"radius": value}, 500))
+    assert said == (400, "BadRequest", "radius is a whole number of metres from 1 to 1000")
+
+
+def test_numbers_by_profile() -> None:
+    """Those that are given win."""
+    assert kind_of("match", {"profile": "feed"}, 500).numbers()["radius"] == 75
+    assert kind_of("match", {"profile": "feed", "radius": "9"}, 500).numbers()["radius"] == 9
+    assert kind_of("match", {"radius": "0000009"}, 500) == kind_of("match", {"radius": "9"}, 500)
+
+
+def test_cursors() -> None:
+    """Of `match` alone."""
+    question = question_of("match", {"ref": f" {REFERENCE}\n", "after": "0:1"}, 500)
+    assert (question.text, question.after) == (REFERENCE.encode(), "0:1")
+    assert refused(lambda: question_of("match", {"ref": "x", "after": "x"}, 500))[1] == "BadCursor"
+    assert refused(lambda: question_of("why", {"ref": "x", "after": "0:1"}, 500))[0] == 400
+    assert refused(lambda: question_of("match", {}, 500))[2].startswith("ref is missing")
+
+
+def head_of(*fields: tuple[str, str]) -> Scope:
+    """A request with these fields."""
+    pairs = [(name.lower().encode(), value.encode()) for name, value in fields]
+    return {"type": "http", "headers": pairs}
+
+
+@pytest.mark.parametrize(
+    "fields",
+    [
+        [("Host", "127.0.0.1:8000")],
+        [("Host", "[::1]:8000")],
+        [("Host", "LOCALHOST:8000"), ("Origin", "http://localhost:8000")],
+        [("Host", "olr.example"), ("Origin", "https://olr.example")],
+        [("Host", "olr.example:8000"), ("Origin", "https://maps.example")],
+        [("Host", "olr.example"), ("Sec-Fetch-Site", "same-origin")],
+        [("Host", "olr.example"), ("Sec-Fetch-Site", "cross-site"), ("Sec-Fetch-Mode", "navigate")],
+    ],
+)
+def test_who_may_ask(fields: list[tuple[str, str]]) -> None:
+    require_allowed(head_of(*fields), ALLOWED)
+
+
+@pytest.mark.parametrize(
+    "fields, status",
+    [
+        ([], 400),
+        ([("Host", "olr.example"), ("Host", "olr.example")], 400),
+        ([("Host", "127.0.0.1")], 421),
+        ([("Host", "127.0.0.1:8001")], 421),
+        ([("Host", "evil.example:8000")], 421),
+        ([("Host", "olr.example"), ("Origin", "https://evil.example")], 403),
+        ([("Host", "olr.example"), ("Origin", "null"), ("Sec-Fetch-Mode", "navigate")], 403),
+        ([("Host", "olr.example"), ("Sec-Fetch-Site", "same-site")], 403),
+        (
+            [("Host", "olr.example"), ("Sec-Fetch-Site", "cross-site"), ("Sec-Fetch-Mode", "cors")],
+            403,
+        ),
+    ],
+)
+def test_who_may_not_ask(fields: list[tuple[str, str]], status: int) -> None:
+    assert refused(lambda: require_allowed(head_of(*fields), ALLOWED))[0] == status
+
+
+def test_names_at_the_port_of_the_web() -> None:
+    """A browser leaves it out."""
+    require_allowed(head_of(("Host", "localhost")), allowed_for("::", 80, [], []))
+    assert refused(lambda: require_allowed(head_of(("Host", "localhost")), ALLOWED))[0] == 421
+
+
+class FakeMap:
+    """A map of which some figures are known."""
+
+    def sizes(self) -> dict[str, int]:
+        """Of its processes."""
+        return {"working": 1, "idle": 2, "apart": 0, "waiting": 5}
+
+    def starts(self) -> int:
+        """So many were started."""
+        return 7
+
+    def restarts(self) -> dict[str, int]:
+        """And so many ended."""
+        return {"time": 3}
+
+
+def figures(meters: Meters) -> dict[str, float]:
+    """What a page of figures has."""
+    lines = meters.text().decode().splitlines()
+    pairs = [line.rpartition(" ") for line in lines if not line.startswith("#")]
+    return {name: float(value) for name, _, value in pairs}
+
+
+def test_figures() -> None:
+    """Requests by address and status, faults, times, and processes."""
+    meters = Meters(cast(Served, FakeMap()))
+    for status, seconds in ((200, 0.001), (200, 0.3), (422, 40.0)):
+        meters.count("/match", status, seconds)
+    meters.count_fault("BadLength")
+    found = figures(meters)
+    assert found['olr_requests_total{address="/match",status="200"}'] == 2
+    assert found['olr_requests_total{address="/match",status="422"}'] == 1
+    assert found['olr_faults_total{fault="BadLength"}'] == 1
+    assert found['olr_request_seconds_bucket{address="/match",le="0.001"}'] == 1
+    assert found['olr_request_seconds_bucket{address="/match",le="0.5"}'] == 2
+    assert found['olr_request_seconds_bucket{address="/match",le="+Inf"}'] == 3
+    assert found['olr_request_seconds_sum{address="/match"}'] == pytest.approx(40.301)
+    assert (found["olr_waiting_requests"], found["olr_starts_total"]) == (5, 7)
+    assert found['olr_processes{state="idle"}'] == 2 and 'state="waiting"' not in str(found)
+    assert found['olr_restarts_total{reason="time"}'] == 3
+    assert found['olr_restarts_total{reason="map"}'] == 0
+
+
+Send = Callable[[Any], Awaitable[None]]
+
+
+async def status_of(front: Front, method: str = "GET", **fields: str) -> Any:
+    """The first message of what is answered to a request."""
+    sent: list[Any] = []
+
+    async def send(message: Any) -> None:
+        sent.append(message)
+
+    named = [(name.lower().replace("_", "-").encode(), it.encode()) for name, it in fields.items()]
+    scope = {"type": "http", "method": method, "path": "/x", "headers": named}
+
+    async def receive() -> Any:
+        return {"type": "http.request"}
+
+    await front(scope, receive, send)
+    return sent[0]
+
+
+def test_how_many_at_once() -> None:
+    """A thousand; and as many again when they have ended, also where one fails."""
+
+    async def run() -> None:
+        waiting = asyncio.Event()
+        answered = 0
+
+        async def app(_: Any, __: Any, send: Send) -> None:
+            nonlocal answered
+            await waiting.wait()
+            answered += 1
+            if answered % 2:
+                raise ToolError("it failed")
+            await send({"type": "http.response.start", "status": 200, "headers": []})
+
+        front = Front(app, ["/x"], ALLOWED, Meters(cast(Served, FakeMap())))
+        for _ in range(2):
+            waiting.clear()
+            there = [
+                asyncio.create_task(status_of(front, Host="olr.example"))
+                for _ in range(MOST_REQUESTS)
+            ]
+            await asyncio.sleep(0)
+            assert (await status_of(front, Host="olr.example"))["status"] == 503
+            waiting.set()
+            found = await asyncio.gather(*there, return_exceptions=True)
+            assert sum(isinstance(one, ToolError) for one in found) == MOST_REQUESTS / 2
+
+    run_within(run())
+
+
+def test_pages_of_other_sites_that_may_ask() -> None:
+    """The browser asks whether they may, and each answer says so; of own pages nothing is said."""
+
+    async def app(_: Any, __: Any, send: Send) -> None:
+        await send({"type": "http.response.start", "status": 200, "headers": []})
+
+    async def run() -> None:
+        front = Front(app, ["/x"], ALLOWED, Meters(cast(Served, FakeMap())))
+        site = {"Host": "olr.example", "Origin": "https://maps.example"}
+        asked = await status_of(front, "OPTIONS", Access_Control_Request_Method="POST", **site)
+        assert asked["status"] == 204
+        assert (b"access-control-allow-methods", b"GET, POST") in asked["headers"]
+        for fields in (site, {"Host": "olr.example", "Origin": "https://olr.example"}):
+            named = dict((await status_of(front, **fields))["headers"])
+            allowed = named.get(b"access-control-allow-origin")
+            assert allowed == (b"https://maps.example" if fields is site else None)
+        assert (await status_of(front, "OPTIONS", **site))["status"] == 200
+
+    run_within(run())
+
+
+@pytest.mark.parametrize(
+    "error, status, title, retries",
+    [
+        (Fault("BadLength 3"), 422, "BadLength", False),
+        (AnswerTooLarge("x"), 422, "AnswerTooLarge", False),
+        (MapRefused("/secret"), 503, "MapRefused", False),
+        (TimedOut("/secret", None), 504, "TimedOut", False),
+        (ProgramEnded("/secret"), 503, "ProgramFailed", True),
+        (ProgramNotFound("/secret"), 503, "ProgramFailed", True),
+        (ToolError("/secret"), 500, "InternalError", False),
+    ],
+)
+def test_errors_as_problems(error: ToolError, status: int, title: str, retries: bool) -> None:
+    """Their own texts are for the log alone."""
+    found = of_error(error)
+    assert (found.status, found.title) == (status, title)
+    assert ("Retry-After" in found.headers) == retries and "secret" not in found.detail
+    assert json.loads(found.document())["type"] == f"/docs#{title}"
+
+
+def test_problems_of_a_status() -> None:
+    assert (of_status(404).title, of_status(405, {"Allow": "GET"}).headers) == (
+        "NotFound",
+        {"Allow": "GET"},
+    )
+
+
+def test_bytes_of_a_list() -> None:
+    """Sixteen MiB, or the limit of all bodies if that is less."""
+    assert most_bytes(Limits()) == 16 * MIB and most_bytes(Limits(body=5)) == 5
+
+    async def run(size: int) -> int:
+        pieces: Iterator[bytes] = iter([b"x" * 4, b"y" * (size - 4)])
+
+        async def receive() -> Any:
+            piece = next(pieces)
+            return {"type": "http.request", "body": piece, "more_body": piece.startswith(b"x")}
+
+        scope = {"type": "http", "method": "POST", "headers": [], "query_string": b"format=tab"}
+        try:
+            return (await Lists(Limits(body=10)).answer(Request(scope, receive))).status_code
+        except Problem as problem:
+            return problem.status
+
+    assert run_within(run(11)) == 413
+    assert run_within(run(10)) == 200
+
+
+def test_messages_of_a_list() -> None:
+    """One more than are shown says that there are more."""
+    for count, lines in ((MOST_ROWS, MOST_ROWS), (MOST_ROWS + 5, MOST_ROWS + 1)):
+        body = f"k\t{REFERENCE}\n".encode() * count
+        found = lines_of(body, reading_of({})).splitlines()
+        assert len(found) == lines
+        assert json.loads(found[-1]) == {"record": lines, "key": "k", "reference": REFERENCE}
+
+
+def test_options_of_a_list() -> None:
+    assert reading_of({"format": "csv", "ref": "a"})[:2] == ("csv", "a")
+    for options in ({"format": "xml"}, {"column": "a"}):
+        assert refused(lambda: reading_of(options))[0] == 400
