@@ -6,7 +6,6 @@ from pathlib import Path
 import olr
 from olr.errors import MapRefused, ToolError
 from olr.geometry.network import between, middle
-from olr.matching.rows import rows_of_answers
 from olr.model.objects import page_of
 from olr.model.pieces import Piece, Pieces, Place
 from stores import folder_of
@@ -63,10 +62,10 @@ def test_rows_of_another_version(matchings: int, digest: str, network: olr.Netwo
     text = f'{{"matchings":[{found}],"next":null}}'.encode()
     page = page_of(text, network.digest if digest == "own" else "other")
     if digest == "own":
-        assert rows_of_answers([page], network).values["lines"] == ["7"] * matchings
+        assert olr.to_geodataframe([page], network)["lines"].tolist() == ["7"] * matchings
     else:
         with pytest.raises(MapRefused, match="is another version than the answer is of"):
-            rows_of_answers([page], network)
+            olr.to_geodataframe([page], network)
 
 
 def test_pieces_of_another_version(network: olr.Network) -> None:
