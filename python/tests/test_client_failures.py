@@ -283,6 +283,8 @@ def test_numbers_out_of_range(program: Program) -> None:
     with town(program) as asked:
         with pytest.raises(olr.Fault, match="BadPage 0: the page size 0 is out of its range"):
             asked.match(REFERENCE, page=0)
+        with pytest.raises(olr.Fault, match="BadPage 1001"):
+            asked.pages(REFERENCE, page=1001)
         with pytest.raises(olr.Fault, match="BadNumber most"):
             asked.answers("places", [REFERENCE], most=0)
         assert asked.match(REFERENCE).matchings
