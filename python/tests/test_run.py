@@ -224,7 +224,8 @@ def test_runs_that_dont_begin(
 
 def test_words_that_arent_understood(runs: Runs, capfd: pytest.CaptureFixture[str]) -> None:
     both = ["--scheduler", "tcp://x:1", "--workers", "2"]
-    for words in (["--nearest", "3"], ["--places", "--page", "3"], ["--force"], both):
+    rows = ["--join", f"{runs.folder}/rows.CSV"]
+    for words in (["--nearest", "3"], ["--places", "--page", "3"], ["--force"], both, rows):
         assert run(runs.words(*words)[1:]) == 2
         assert "Error: --" in capfd.readouterr().err
     assert not runs.out.exists()
