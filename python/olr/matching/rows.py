@@ -117,8 +117,8 @@ class AnswerRows:
         self._outers = [row.pieces("outer") for row in rows]
         self._outer = parts_of(self._outers)
         self._shown = self._outer
-        if extent == "inner":
-            self._shown = parts_of([row.pieces("inner") for row in rows])
+        if extent != "outer":
+            self._shown = parts_of([row.pieces(extent) for row in rows])
         self._behind: Integers = np.cumsum(self._shown.counts)
         parts = self.parts()
         self._are_located: Booleans = np.array([one is not None for one in parts], dtype=np.bool_)
