@@ -1,11 +1,15 @@
 """Pieces of lines on a map by hand: where they begin and end at vertices, and of which version of the map they have to be."""
 
+import numpy as np
 import pytest
 from pathlib import Path
 
 import olr
+from olr.comparing.places import Limits, Spot, Stretch, difference, likeliest_places
+from olr.confidence.judged import judged
 from olr.errors import MapRefused, ToolError
 from olr.geometry.network import between, middle
+from olr.model.answers import Candidate, Leg, Matching, PlaceOfReference, Places
 from olr.model.objects import page_of
 from olr.model.pieces import Piece, Pieces, Place
 from stores import folder_of
@@ -109,3 +113,31 @@ def test_a_map_that_changes_while_it_is_read(
     folder = folder_of(tmp_path / "map", NODES, LINES, "from,to\n")
     with pytest.raises(ToolError, match="was changed while it was read: read it again"):
         olr.Network.read(folder)
+
+
+def test_places_that_differ_by_just_so_much() -> None:
+    """They are the same if no run of one that the other lacks is longer than it may be."""
+    old = Stretch(np.array([[0.0, 0.0], [0.002, 0.0]]))
+    new = Stretch(np.array([[0.0, 0.0], [0.0015, 0.0]]))
+    found = difference(old, new, Limits(10, 1000))
+    assert found.is_same and found.old_alone is not None and found.new_alone == 0
+    assert found.old_alone == pytest.approx(0.0005 * 111_319.49 - 10, abs=0.5)
+    assert difference(old, new, Limits(10, found.old_alone)).is_same
+    assert not difference(old, new, Limits(10, found.old_alone - 1e-6)).is_same
+
+
+@pytest.mark.parametrize(
+    "at, lead", [(0, (1, 0)), (500, (1, 0)), (1000, (1, 0)), (1001, (0, 1)), (2000, (0, 1))]
+)
+def test_the_direction_of_travel_at_a_point(at: int, lead: tuple[int, int], tmp_path: Path) -> None:
+    """At a bend it is that of the way there, and at the start of a line that of the way on."""
+    bent = "id,from,to,class,form,length,shape\n7,1,2,3,3,2000,1000 0\n"
+    folder = folder_of(tmp_path / "bent", "id,lon,lat\n1,0,0\n2,1000,1000\n", bent, "from,to\n")
+    network = olr.Network.read(folder)
+    route, point = Pieces([Piece(7, 0, 2000)], network.digest), Candidate(0, 7, 0)
+    place = Place(7, at)
+    one = Matching("0:1", (Leg(2000, 0),), (point, point), route, 0, earliest=place, latest=place)
+    places = [Places(1, (PlaceOfReference(0, one, 1),), "unique")]
+    _, (shape,) = likeliest_places(places, judged(places, [None], network), network)
+    assert isinstance(shape, Spot)
+    assert (np.diff(shape.behind, axis=0)[0] * 1e7).round().tolist() == [10 * it for it in lead]

@@ -175,7 +175,7 @@ def test_a_body_that_fails_while_nobody_reads_it(
     async def body() -> AsyncIterator[bytes]:
         # More than a pipe takes, and less than is waited for.
         for _ in range(3):
-            yield b"x" * 40_000
+            yield (b"x" * 99 + b"\n") * 400
         raise Problem(413, "BodyTooLarge", "it is too long")
 
     async def run() -> None:
