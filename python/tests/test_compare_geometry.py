@@ -7,10 +7,15 @@ import random
 from shapely.geometry import LineString
 from typing import Any
 
-from olr.comparing.places import Limits, Spot, Stretch, difference
+import olr
+from conftest import TOP
+from olr.comparing.places import Limits, Spot, Stretch, difference, likeliest_places
+from olr.confidence.judged import judged
 from olr.geometry.agreement import agreement
 from olr.geometry.plane import DEGREE, Plane, Segments
 from olr.geometry.stretches import hausdorff, longest_lacking, share_within, within
+from olr.model.answers import Candidate, Leg, Matching, PlaceOfReference, Places
+from olr.model.pieces import Piece, Pieces, Place
 
 LIMITS = Limits(across=10, apart=75)
 Spots = list[tuple[float, float]]
@@ -259,6 +264,9 @@ def test_apart_is_up_to_where_places_are_the_same() -> None:
     assert not difference(road, too_long, LIMITS).is_same
     assert difference(road, too_long, Limits(10, 75.2)).is_same
     assert not difference(road, stretch((0, 1), (1000, 1)), Limits(0, 75)).is_same
+    # A stretch as long as that isn't longer.
+    alone = difference(road, longer, LIMITS).new_alone
+    assert alone is not None and difference(road, longer, Limits(10, alone)).is_same
 
 
 def spot(x: float, y: float, lead: tuple[float, float], reach: float = 500) -> Spot:
@@ -302,6 +310,23 @@ def test_points_along_lines_agree_as_their_routes_do() -> None:
     )
     assert difference(here, spot(300, 0, (1, 0)), LIMITS).agreement == 0.71
     assert difference(here, spot(0, 0, (-1, 0)), LIMITS).agreement == 0
+
+
+def test_a_point_at_either_end_of_its_line() -> None:
+    """Line 701 of the example begins and ends at a node: the decimetre behind its start is its first one, and that behind its end the last."""
+    network = olr.Network.read(TOP / "examples")
+    (index,) = network.indices_of(np.array([701]))
+    length = int(network.length[index])
+    for at, decimetre in ((0, (701, 0, 1)), (length, (701, length - 1, length))):
+        points, place = (Candidate(at, 701, 0),) * 2, Place(701, at)
+        route = Pieces([Piece(701, 0, length)])
+        matching = Matching("", (Leg(0, 0),), points, route, 0, None, None, place, place)
+        answer = Places(1, (PlaceOfReference(0, matching, 1),), "unique")
+        _, (found,) = likeliest_places([answer], judged([answer], [None], network), network)
+        assert isinstance(found, Spot)
+        assert found.behind.tolist() == network.path([decimetre]).tolist()
+        assert found.route.tolist() == network.path(route).tolist()
+        assert found.point.tolist() == network.points_at(np.array([place]))[0].tolist()
 
 
 def test_a_degree_of_longitude_is_shorter_in_the_north() -> None:
