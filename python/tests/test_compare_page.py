@@ -192,6 +192,15 @@ def test_rows_that_are_left_out(tools: Tools, browser: Browser, maps: Path) -> N
     )
 
 
+def test_places_and_rows_are_limited_apart(tools: Tools, browser: Browser, maps: Path) -> None:
+    """`--most` is of the places of a reference, `--rows` of the references of the page."""
+    page, printed = made(tools, maps, "--most", 2)
+    assert f"{page}: 6 of 6 that change" in printed
+    assert ", most 2 places" in printed
+    opened(browser, page)
+    assert len(shown(browser)) == 6
+
+
 def data_of(page: Path) -> Any:
     """The data of a page, without what names the maps."""
     text = page.read_text(encoding="utf-8")

@@ -173,6 +173,13 @@ def test_each_option_is_explained_by_itself() -> None:
     assert found > 60
 
 
+def test_no_two_options_of_a_command_are_one() -> None:
+    """Two that take a value for one name would each be the other."""
+    for words, command in commands(command_line.tools):
+        names = [one.name for one in command.params if not getattr(one, "is_flag", False)]
+        assert len(set(names)) == len(names), words
+
+
 @pytest.mark.parametrize(
     ("name", "option", "words"),
     [

@@ -52,7 +52,7 @@ from olr.progress import progress
     "A page to write of the references that change, with a table and a map. It needs no network. By default there is none.",
     "page_file",
 )
-@options.rows_option("the page shows", "most")
+@options.rows_option("the page shows")
 @options.force_option("the files to write, if they are there")
 def command(
     file: Path,
@@ -64,7 +64,7 @@ def command(
     reading: Reading,
     out: Path,
     page_file: Path | None,
-    most: int,
+    rows: int,
     force: bool,
     **chosen: int | str | None,
 ) -> None:
@@ -86,7 +86,7 @@ def command(
     total = count_of(file, reading)
     apart = asking.all_numbers()["apart"]
     more = f", across {across} m"
-    summary, changed = Summary(), Changed(0 if page_file is None else most)
+    summary, changed = Summary(), Changed(0 if page_file is None else rows)
     with ExitStack() as stack:
         before, after = (
             stack.enter_context(Map.of_folder(one, **asking.tolerances, patience=patience))

@@ -176,10 +176,10 @@ def _member_option(flag: str, what: str, default: str) -> Option:
     return click.option(flag, metavar="NAME", help=text)
 
 
-def rows_option(what: str, name: str = "rows") -> Option:
+def rows_option(what: str) -> Option:
     """How many references a page has."""
     text = f"How many references {what} at most: 1 or more. All are counted."
-    return count_option("--rows", text, name, default=ROWS)
+    return count_option("--rows", text, default=ROWS)
 
 
 def tiles_option(where: str = "") -> Option:
