@@ -393,6 +393,12 @@ def test_one_way_roads_of_another_maker(tempe: RoadMap) -> None:
     assert max(pairs.values()) == 1
 
 
+@pytest.mark.filterwarnings("error")
+def test_a_map_without_lines_is_its_only_part() -> None:
+    empty = RoadMap((), ())
+    assert Neighbourhoods(empty, Roads(empty), 1).drawn(random.Random(1)) is empty
+
+
 def test_a_part_of_a_large_map(tempe: RoadMap) -> None:
     """The lines that lie nearest to a node: no line that is left out lies nearer than one that is there."""
     roads, draws = Roads(tempe), random.Random(2)

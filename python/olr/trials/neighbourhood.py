@@ -17,7 +17,8 @@ class Neighbourhoods:
         self._map, self._roads, self._most = road_map, roads, most
         lat = np.array([node.position.lat for node in road_map.nodes], dtype=np.float64)
         lon = np.array([node.position.lon for node in road_map.nodes], dtype=np.float64)
-        self._places: Floats = np.stack([lon * np.cos(np.radians(lat.mean() / 1e6)), lat], axis=1)
+        middle = lat.mean() / 1e6 if len(lat) else 0
+        self._places: Floats = np.stack([lon * np.cos(np.radians(middle)), lat], axis=1)
         number = {node.id: at for at, node in enumerate(road_map.nodes)}
         ends = [(number[line.start], number[line.end]) for line in road_map.lines]
         self._ends: Integers = np.array(ends, dtype=np.int64).reshape(-1, 2)
