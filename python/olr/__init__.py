@@ -44,7 +44,7 @@ digests), `curve` and `sphere` (places along a space-filling curve, and in metre
 (standard output and standard error of commands), `extras` and `setup` (the modules of others that are needed), `version`. docs/ARCHITECTURE.md says which package may lean on which.
 """
 
-import importlib
+import importlib.util
 from typing import TYPE_CHECKING, Any
 
 if TYPE_CHECKING:
@@ -94,18 +94,23 @@ _MODULES = {
     "olr.asking.decoding": ("decode",),
     "olr.client.map_client": ("Map",),
     "olr.client.written": ("answers",),
-    "olr.confidence.confidence": ("Confidence",),
     "olr.errors": ("MapRefused", "ProgramEnded", "ProgramNotFound", "TimedOut", "ToolError"),
-    "olr.geometry.network": ("Network",),
-    "olr.matching.geodataframe": ("to_geodataframe", "to_pieces"),
-    "olr.matching.locating": ("locate",),
     "olr.messages.reading": ("read_messages",),
     "olr.model.answers": ("Candidates", "Matching", "Page", "Places", "Reference", "Why"),
     "olr.model.fault": ("Fault",),
     "olr.model.pieces": ("Piece", "Place"),
+}
+_OF_GEOMETRIES = {
+    "olr.confidence.confidence": ("Confidence",),
+    "olr.geometry.network": ("Network",),
+    "olr.matching.geodataframe": ("to_geodataframe", "to_pieces"),
+    "olr.matching.locating": ("locate",),
     "olr.pages.view.showing": ("view",),
 }
-_MODULE_OF = {name: module for module, names in _MODULES.items() for name in names}
+"""These need modules of others."""
+_MODULE_OF = {
+    name: module for module, names in (_MODULES | _OF_GEOMETRIES).items() for name in names
+}
 
 
 def __getattr__(name: str) -> Any:
@@ -118,5 +123,11 @@ def __getattr__(name: str) -> Any:
 
 
 def __dir__() -> list[str]:
-    """The public names, before they are imported too."""
-    return sorted([*__all__, "__version__", *(name for name in globals() if name.startswith("__"))])
+    """The public names, before they are imported too. Those that lack modules of others are left out: `help` would fail at them."""
+    from olr.setup import EXTRAS
+
+    lacking: set[str] = set()
+    if not all(map(importlib.util.find_spec, EXTRAS["geo"])):
+        lacking.update(*_OF_GEOMETRIES.values())
+    own = (name for name in globals() if name.startswith("__"))
+    return sorted({*__all__, "__version__", *own} - lacking)

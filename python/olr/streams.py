@@ -62,12 +62,17 @@ def ended(command: Callable[[], int]) -> int:
 
 
 class _Stream:
-    """A stream for text, with what is done where it doesn't take one."""
+    """A stream, with what is done where it doesn't take what is written."""
 
-    def __init__(self, stream: TextIO, failed: Callable[[OSError], None]) -> None:
+    def __init__(self, stream: Any, failed: Callable[[OSError], None]) -> None:
         self._stream, self._failed = stream, failed
 
-    def write(self, text: str) -> int:
+    @property
+    def buffer(self) -> "_Stream":
+        """The stream of bytes below: click writes to that where an encoding lacks what it says."""
+        return _Stream(self._stream.buffer, self._failed)
+
+    def write(self, text: str | bytes) -> Any:
         try:
             return self._stream.write(text)
         except OSError as error:

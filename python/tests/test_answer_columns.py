@@ -8,6 +8,7 @@ import numpy as np
 import pandas
 import pytest
 import random
+from dataclasses import replace
 from pathlib import Path
 from pyproj import Geod
 from shapely.affinity import scale
@@ -164,6 +165,16 @@ def test_columns_by_hand(program: Program) -> None:
     assert parts[0] == ["a", 1, "outer", 1, 104, 87.9, 243.5]
     assert parts[4] == ["a", 1, "inner", 1, 104, 88.9, 243.5]
     assert parts[8:] == [["b", 1, "point", 1, 701, 269.7, 271.6]]
+
+
+def test_a_line_that_is_there_twice_is_named_twice(program: Program) -> None:
+    with olr.Map.of_folder(TOP / "examples", program=program.path) as town:
+        page, network = town.match(REFERENCE), town.network()
+    (one, *_) = page.matchings
+    assert one.outer is not None
+    there_and_back = type(one.outer)([*one.outer[:2], one.outer[0]])
+    page = replace(page, matchings=(replace(one, outer=there_and_back),))
+    assert olr.to_geodataframe([page], network)["lines"].tolist() == ["104;107;104"]
 
 
 def test_pieces_sum_to_the_lengths(folder: Path, texts: list[str], program: Program) -> None:

@@ -10,7 +10,9 @@ import sys
 import threading
 import time
 from collections.abc import Iterator
+from concurrent.futures import Future
 from pathlib import Path
+from typing import Any, NoReturn
 
 import olr
 from asking import as_json
@@ -18,6 +20,7 @@ from conftest import REFERENCE, TOP, Program
 from olr.asking.processes import AHEAD
 from olr.errors import ToolError
 from olr.model.fault_table import ROWS
+from servers import wait_until
 
 ROADWORKS = "CwVGnSN2zhvHCgDX/tIzAw=="
 
@@ -162,6 +165,24 @@ def test_an_interrupted_question(program: Program, monkeypatch: pytest.MonkeyPat
         assert asked.match(ROADWORKS) == expected
         (pair,) = asked._source._processes._batches["match"]  # type: ignore[attr-defined]
         assert not pair[1]._arrived and not pair[1]._dropped
+
+
+def test_an_interrupted_start(program: Program, monkeypatch: pytest.MonkeyPatch) -> None:
+    """What was started meanwhile ends."""
+
+    class Interrupted(Future[Any]):
+        def result(self, timeout: float | None = None) -> NoReturn:
+            super().result(timeout)
+            raise KeyboardInterrupt
+
+    before = children()
+    with town(program) as asked, monkeypatch.context() as patch:
+        patch.setattr("olr.asking.threaded.Future", Interrupted)
+        with pytest.raises(KeyboardInterrupt):
+            asked.match(REFERENCE)
+        wait_until(lambda: children() <= before and threading.active_count() == 1)
+        patch.undo()
+        assert asked.match(REFERENCE)
 
 
 def test_two_maps_at_once(program: Program) -> None:

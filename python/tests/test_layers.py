@@ -37,8 +37,8 @@ def imported(module: tuple[str, ...]) -> Iterator[tuple[str, ...]]:
             ]
         for name in names:
             head, *below = name.split(".")
-            if head == "olr" and below:
-                yield tuple(below)
+            if head == "olr":
+                yield tuple(below) or ("olr",)
 
 
 def test_each_package_has_a_layer() -> None:

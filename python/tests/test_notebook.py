@@ -153,6 +153,10 @@ def test_the_part_of_the_geometry(town: olr.Map) -> None:
     assert best.outer and best.inner
     assert outer.equals(town.network().geometry(best.outer))
     assert inner.equals(town.network().geometry(best.inner))
+    with pytest.raises(ValueError, match="outer or inner, not 'middle'"):
+        olr.locate(table_of(SLOW), "ref", None, part="middle")  # type: ignore[arg-type]
+    with pytest.raises(ValueError, match="outer or inner, not 'middle'"):
+        olr.to_geodataframe([], town.network(), part="middle")  # type: ignore[arg-type]
 
 
 def test_a_series_becomes_a_column() -> None:
@@ -302,6 +306,16 @@ def test_a_view_is_the_page_of_the_command(text: str, tmp_path: Path, own_folder
         answer = about(asked.why(text), text)
         assert olr.view(answer, asked, within=1).page == of_feed.read_text()
     assert olr.view(text, own_folder, within=1).page == of_program.read_text()
+
+
+def test_a_view_by_the_program_of_its_map(
+    program: Program, monkeypatch: pytest.MonkeyPatch
+) -> None:
+    """All of the page is by the one that was named, whatever the environment names."""
+    expected = olr.view(SLOW, EXAMPLES).page
+    monkeypatch.setenv("OLR_PROGRAM", "/nowhere/olr")
+    with olr.Map(EXAMPLES, program=program.path) as asked:
+        assert olr.view(SLOW, asked).page == expected
 
 
 def test_a_view_in_a_notebook(tmp_path: Path) -> None:

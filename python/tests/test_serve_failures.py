@@ -283,6 +283,12 @@ def test_an_answer_that_is_too_large(drawn: Path, tmp_path: Path) -> None:
         assert server.get("/match?ref=100").problem()[:2] == (422, "AnswerTooLarge")
         assert server.get("/match?ref=x").problem()[:2] == (422, "Empty")
         assert len(server.get("/match?ref=20").body) == (20 << 20) + 2
+        one = server.get("/batch/match", "POST", b"100\n", content_type="text/plain")
+        assert one.problem()[:2] == (422, "AnswerTooLarge")
+        with pytest.raises(http.client.IncompleteRead) as caught:
+            server.get("/batch/match", "POST", b"x\n" * 50_000 + b"100", content_type="text/plain")
+        assert caught.value.partial.count(b"Empty") >= 1
+        assert server.log().count("a stream was cut off: AnswerTooLarge") == 1
         assert server.memory() < 400_000
 
 

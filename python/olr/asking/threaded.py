@@ -54,7 +54,12 @@ class Batch:
             target=self._run, args=(started,), name="olr batch", daemon=True
         )
         self._writer.start()
-        self._process = started.result()
+        try:
+            self._process = started.result()
+        except BaseException:
+            # Interrupted: what is started ends by itself then.
+            self._outbox.put(None)
+            raise
         assert self._process.stdout is not None
         self._answers = self._process.stdout.fileno()
         _widen(self._answers)

@@ -152,6 +152,16 @@ class Map:
         return dict(self._settings.tolerances)
 
     @property
+    def program(self) -> Path | None:
+        """The program that was named for this map; None for the one that is found.
+
+        >>> import olr
+        >>> olr.Map("examples").program is None
+        True
+        """
+        return self._settings.program
+
+    @property
     def files(self) -> MapFiles:
         """The files of this map: what is read of them within `files.reading()` is of the version that its answers are of.
 

@@ -19,7 +19,7 @@ with needed_by("olr.to_geodataframe", "geo"):
     from olr.likely.order import Shown
     from olr.matching.chunks import Answered, Counted, chunks_of
     from olr.matching.columns import ANSWERS, PIECES
-    from olr.matching.rows import Extent, Located, Rows
+    from olr.matching.rows import Extent, Located, Rows, require_extent
     from olr.matching.shapes import wkb
     from olr.matching.tables import TYPES, Columns
 
@@ -60,8 +60,9 @@ def to_geodataframe(
 
     The columns and their types are the same whatever is in them: `Int64`, `float64`, or `object` with texts or None. Raises
     `MapRefused` if the network is of another version of the map than an answer, `ToolError` if it hasn't a line of one, `ValueError`
-    if there are more keys than answers or fewer, and `TypeError` for one answer or one key in place of many.
+    if there are more keys than answers or fewer, or the part is another one, and `TypeError` for one answer or one key in place of many.
     """
+    require_extent(part)
     answered = _answered("to_geodataframe", answers, keys, references, candidates)
     chunks = chunks_of(answered, network, Judging(confidence, _shown(within, most)))
     return _table(((one.items, one.rows(part)) for one in chunks), ANSWERS, keys is None)

@@ -17,7 +17,7 @@ with needed_by("olr.locate", "geo"):
     from olr.likely.order import LIST
     from olr.matching.columns import ANSWERS
     from olr.matching.geodataframe import CRS, to_geodataframe
-    from olr.matching.rows import Extent, Located
+    from olr.matching.rows import Extent, Located, require_extent
 
 
 def locate(
@@ -54,10 +54,11 @@ def locate(
     (['a', 'b'], 'EPSG:4326')
 
     Raises `ValueError` where `data` has a column of these names already (give a `prefix` for those of the answers, or rename yours), or
-    more than one column `ref`; `KeyError` where it has none, and `TypeError` for other things than a table and a map. Raises `ToolError` where
+    more than one column `ref`, and for another part; `KeyError` where it has none, and `TypeError` for other things than a table and a map. Raises `ToolError` where
     the `confidence` is for other tolerances, and as `Map.answers` where the map can't be asked: `MapRefused`, `ProgramNotFound`, `ProgramEnded`
     and `TimedOut`, with the number of the row from 1.
     """
+    require_extent(part)
     if map is None:
         raise TypeError("locate needs a map: give an olr.Map, or the path of one")
     table, cells = _table_of(data, ref)

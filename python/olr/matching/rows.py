@@ -4,7 +4,7 @@ import numpy as np
 from collections.abc import Callable, Mapping, Sequence
 from functools import cached_property
 from itertools import groupby
-from typing import Any, Literal, NamedTuple, TypeVar
+from typing import Any, Literal, NamedTuple, TypeVar, get_args
 
 from olr.arrays import Booleans, Floats, Integers
 from olr.confidence.judged import Judged, JudgedPlace
@@ -33,6 +33,12 @@ class Rows(NamedTuple):
     """The columns, in the order of the table."""
     shapes: Polylines
     """The geometry of each row: a size of 1 is a point, and a size of 0 none."""
+
+
+def require_extent(part: str) -> None:
+    """Raises `ValueError` for what is no `Extent`."""
+    if part not in get_args(Extent):
+        raise ValueError(f"part is outer or inner, not {part!r}")
 
 
 class Row(NamedTuple):

@@ -1,7 +1,7 @@
 """How an answer is shown: as plain dicts, in one line, and in a notebook, as a picture and a table.
 
 An answer has no geometry. A route is drawn where this process has a network of the same version of the map, and the points of a reference
-where the answer knows its reference. Nothing is read for a picture.
+where the answer knows its reference. No map is read anew for a picture; the network of a store reads a few lines of it.
 """
 
 import math

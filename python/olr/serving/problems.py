@@ -87,7 +87,7 @@ def of_error(error: ToolError) -> Problem:
     if isinstance(error, Fault):
         return of_fault(error)
     if isinstance(error, AnswerTooLarge):
-        text = f"the answer has more than {MOST_ANSWER:,} bytes: ask for fewer matchings or places, or by POST /batch"
+        text = f"the answer has more than {MOST_ANSWER:,} bytes: ask for fewer matchings or places"
         return Problem(422, "AnswerTooLarge", text)
     if isinstance(error, MapRefused):
         text = "the files of the map aren't those that are served, or can't be read: whoever runs the server finds more in its log"

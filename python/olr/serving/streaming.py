@@ -1,9 +1,11 @@
 """`POST /batch/{command}` and `POST /rows`: lines about the records of a body, while it comes.
 
-What the client doesn't take isn't made: the server then reads neither the program's answers nor the body, and holds about a MiB.
+What the client doesn't take isn't made: the server then reads neither the program's answers nor the body, and holds about a MiB, or the
+answer that comes if that is longer.
 """
 
 import asyncio
+import logging
 from collections.abc import AsyncGenerator, AsyncIterator, Callable
 from contextlib import aclosing, asynccontextmanager
 from starlette.requests import Request
@@ -17,6 +19,7 @@ from olr.serving.problems import Problem, of_error
 from olr.serving.queries import Kind, kind_of, options_of
 from olr.serving.served import IsGone, Served
 
+log = logging.getLogger("olr.serving")
 TAKEN = (
     "text/plain",
     "text/tab-separated-values",
@@ -65,7 +68,8 @@ class Streaming:
                     body = self._body(receive, deadline)
                     async with aclosing(self._lines(kind, body, scope["is_gone"])) as lines:
                         async for piece in lines:
-                            await sent.put(piece)
+                            if piece:
+                                await sent.put(piece)
                             deadline.reschedule(loop.time() + limit)
                             if scope["is_gone"]():
                                 raise _Gone
@@ -137,6 +141,7 @@ class _Sent:
     async def stop(self, problem: Problem, scope: Scope, receive: Receive) -> None:
         """Says why there is no answer; or, where it has begun, closes the connection without an end, by which the client sees it."""
         if self._has_begun:
+            log.warning("a stream was cut off: %s: %s", problem.title, problem.detail)
             scope["abort"]()
             await receive()
             return

@@ -41,7 +41,7 @@ def scene_of(text: str, asked: Map, confidence: Confidence | None = None, **numb
     numbers are those of `places`. Raises `Fault` if it is no reference, or a number is out of its range, and `MapRefused` if the map's
     files change meanwhile."""
     judging = Judging(confidence, Shown.of(numbers))
-    reference = decode(text)
+    reference = decode(text, asked.program)
     network = asked.network()
     (answered,) = answers_about([(text, reference)], asked, **numbers)
     if isinstance(answered.why, Fault):
