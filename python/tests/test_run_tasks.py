@@ -1,12 +1,15 @@
 """`olr-tools run` whose tasks have several groups: they are answered on one map, and none fails because of another one."""
 
 import pytest
+from collections import Counter
+from collections.abc import Sequence
+from distributed import Client
 from pathlib import Path
 
 from bad_programs import bad_program, starts
 from conftest import Program
-from olr.running.answering import GroupsFailed, answer_groups
-from olr.running.cluster import tasks_of
+from olr.running.answering import ANSWERED, GroupsFailed, Job, answer_groups
+from olr.running.cluster import answer_all, tasks_of
 from olr.running.grouping import Grouped
 from runs import Begun, Runs, Town, assert_resumes, identities, lines_of_batch
 
@@ -89,6 +92,27 @@ def test_tasks(records: int, groups: int, workers: int, sizes: list[int]) -> Non
     tasks = tasks_of(Grouped(records, groups, ""), workers)
     assert [len(task) for task in tasks] == sizes
     assert [group for task in tasks for group in task] == list(range(groups))
+
+
+TRIES: "Counter[int]" = Counter()
+
+
+def failing_twice(_job: Job, groups: Sequence[int]) -> "Counter[str]":
+    """A task whose third try is the first one without an error."""
+    TRIES.update(groups)
+    if TRIES[groups[0]] < 3:
+        raise OSError("not yet")
+    return Counter({ANSWERED: len(groups)})
+
+
+def test_a_task_that_fails_is_tried_again(begun: Begun, monkeypatch: pytest.MonkeyPatch) -> None:
+    monkeypatch.setattr("olr.running.cluster.answer_groups", failing_twice)
+    with Client(
+        processes=False, n_workers=1, threads_per_worker=1, dashboard_address=None
+    ) as client:
+        ended = answer_all(client, begun.job, begun.grouped)
+    assert not ended.failed and ended.counts == {ANSWERED: len(begun.groups())}
+    assert TRIES == dict.fromkeys(begun.groups(), 3)
 
 
 def test_a_run_in_which_a_group_fails(runs: Runs) -> None:

@@ -13,7 +13,7 @@ from itertools import pairwise
 from pathlib import Path
 from typing import Any
 
-from conftest import Program
+from conftest import REFERENCE, Program
 from olr import curve
 from olr.asking.records import Record
 from olr.content import Content
@@ -27,7 +27,7 @@ from olr.running import answering
 from olr.running.answering import ANSWERED, Job, answer_groups
 from olr.running.grouping import Grouped, digests_of, read_group, usual_size, write_groups
 from olr.running.identity import Build
-from olr.running.joining import MOST_OPEN, join, lines_of, number_of
+from olr.running.joining import MOST_OPEN, Lines, join, lines_of, number_of
 from olr.running.records import END, read_records, reference_of
 from olr.running.run_folder import RunFolder
 from runs import Town, question_about
@@ -118,6 +118,19 @@ def test_groups_are_near_together(town: Town, tmp_path: Path) -> None:
     assert way(along) < way(records) / 5
 
 
+def test_records_without_a_position_are_together(town: Town, tmp_path: Path) -> None:
+    """Before those with one."""
+    data = base64.b64decode(REFERENCE)
+    south_west = base64.b64encode(data[:1] + b"\xce\0\0\xce\0\0" + data[7:])
+    records = [*read_records(town.messages, Reading()), Record(1000, south_west)]
+    grouped = write_groups(records, tmp_path, 1)
+    positions = [
+        first_position(reference_of(record.data)) for (record,) in groups_of(tmp_path, grouped)
+    ]
+    are_there = [position is not None for position in positions]
+    assert are_there == sorted(are_there) and 1 < are_there.count(False) < 100
+
+
 def answer_all(run: RunFolder, town: Town, program: Program, messages: Path) -> Counter[str]:
     """Answers all groups of messages, with pages of two, and joins them."""
     counts = Counter[str]()
@@ -177,7 +190,17 @@ def test_many_files_are_joined(tmp_path: Path) -> None:
     for number, part in enumerate(parts):
         part.write_bytes(b"".join(lines[number::count]))
     assert [number_of(line) for line in lines] == list(range(3 * count))
-    join([lines_of(part) for part in parts], tmp_path / "new" / "joined", len(lines))
+    there = most = 0
+
+    def counted(part: Path) -> Lines:
+        nonlocal there, most
+        there += 1
+        most = max(most, there)
+        yield from lines_of(part)
+        there -= 1
+
+    join([counted(part) for part in parts], tmp_path / "new" / "joined", len(lines))
+    assert most == MOST_OPEN
     assert (tmp_path / "new/joined").read_bytes() == b"".join(lines)
     assert os.listdir(tmp_path / "new") == ["joined"]
 
@@ -241,7 +264,10 @@ def test_folders_of_runs(town: Town, program: Program, tmp_path: Path) -> None:
         with run.begun(asked, records, True) as again:
             assert again == grouped
     assert not left.exists()
+    table = json.loads((run.path / "run.json").read_text())
+    table["grouped"]["sha256"] = "0" * 64
     for text, said in (
+        (json.dumps(table), "has groups of another version of olr-tools: name another folder"),
         ("{}", "isn't understood"),
         ('{"version": 2}', "isn't understood"),
         ('{"version": 1}', "holds a run of another version of olr-tools: name another folder"),
