@@ -6,12 +6,13 @@ from collections import deque
 from collections.abc import Coroutine
 from typing import Any, TypeVar, cast
 
+from olr.asking.processes import Kind
 from olr.errors import MapRefused, ProgramEnded, ToolError
 from olr.serving.edition import Edition
 from olr.serving.limits import Limits
 from olr.serving.pool import Pool
 from olr.serving.process import Answer, Owner, Request
-from olr.serving.queries import Kind, kind_of
+from olr.serving.queries import kind_of
 
 Made = TypeVar("Made")
 MATCH = kind_of("match", {}, 10_000)

@@ -86,9 +86,7 @@ def test_cursors_that_arent_of_a_matching(program: Program) -> None:
 
 def test_names() -> None:
     """Those that are public can be listed, before what they need is imported."""
-    code = (
-        "import olr, sys; print(*dir(olr)); print(*{'shapely', 'subprocess'} & sys.modules.keys())"
-    )
+    code = "import olr, sys; print(*dir(olr)); print(*{'geopandas', 'numpy'} & sys.modules.keys())"
     environment = os.environ | {"PYTHONPATH": str(TOP / "python")}
     command = [sys.executable, "-c", code]
     ended = subprocess.run(command, env=environment, capture_output=True, text=True, check=True)

@@ -219,6 +219,19 @@ def anchors(name: str) -> set[str]:
     }
 
 
+def test_files_that_pages_name_are_there() -> None:
+    """But for those that are built, and for names that stand for any."""
+    folders = r"(?:\.ci|attacks|bench|crates|docs|examples|python|released)"
+    named = {
+        (name, path)
+        for name in pages_of_the_tree()
+        for path in re.findall(rf"`({folders}/[\w./-]+)`", read(name))
+        if "/out/" not in path and not re.search("[A-Z]{4}", path)
+    }
+    assert len(named) > 100
+    assert not [one for one in named if not (TOP / one[1]).exists()]
+
+
 def test_links_lead_somewhere() -> None:
     checked = 0
     for name in pages_of_the_tree():

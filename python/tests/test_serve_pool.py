@@ -8,6 +8,7 @@ from contextlib import AsyncExitStack
 from pathlib import Path
 
 from asking import draw_map
+from olr.asking.processes import Kind
 from olr.errors import TimedOut
 from olr.serving import process
 from olr.serving.edition import Edition
@@ -15,7 +16,7 @@ from olr.serving.folder_map import FIRST, FolderMap
 from olr.serving.limits import Limits
 from olr.serving.pool import Pool
 from olr.serving.problems import Problem
-from olr.serving.queries import Kind, Question, kind_of
+from olr.serving.queries import Question, kind_of
 from olr.serving.rooms import ABREAST, Room
 
 OTHER = kind_of("places", {}, 10_000)

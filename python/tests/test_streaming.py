@@ -10,12 +10,13 @@ from typing import Any, cast
 
 from conftest import Program
 from fake_pool import FakeClock, run_within, turns
+from olr.asking.processes import Kind
 from olr.errors import ProgramEnded
 from olr.regions.making import make_store_of_folder
 from olr.serving.folder_map import FolderMap
 from olr.serving.limits import Limits
 from olr.serving.problems import Problem
-from olr.serving.queries import Kind, kind_of
+from olr.serving.queries import kind_of
 from olr.serving.served import IsGone, Served
 from olr.serving.store_map import StoreMap
 from olr.serving.streaming import Lines, Streaming

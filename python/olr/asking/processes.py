@@ -18,7 +18,7 @@ from olr.asking.program import find_program
 from olr.asking.threaded import Batch
 from olr.errors import TimedOut, closed_error
 from olr.model.answers import AnswerOrFault
-from olr.model.questions import What, number_words, record_text, words_of
+from olr.model.questions import What, all_words, record_text, words_of
 
 Read = TypeVar("Read")
 AHEAD = 256
@@ -39,18 +39,18 @@ class Settings(NamedTuple):
 
     def words(self) -> list[str]:
         """The words of the tolerances."""
-        return [word for pair in self.tolerances.items() for word in number_words(*pair)]
+        return all_words(self.tolerances)
 
 
-class Question(NamedTuple):
-    """What is asked of references, with the words of all its numbers."""
+class Kind(NamedTuple):
+    """A kind of questions about references: what is asked, with the words of its numbers. A process answers those of one kind."""
 
     what: What
     words: tuple[str, ...]
 
     @classmethod
-    def of(cls, what: What, numbers: Mapping[str, int]) -> "Question":
-        """A question with numbers, those that aren't given at their defaults. Raises `ValueError`, `TypeError` and `Fault` as `words_of`."""
+    def of(cls, what: What, numbers: Mapping[str, int]) -> "Kind":
+        """The kind with numbers, those that aren't given at their defaults. Raises `ValueError`, `TypeError` and `Fault` as `words_of`."""
         return cls(what, tuple(words_of(what, numbers)))
 
     def numbers(self) -> dict[str, int]:
@@ -77,7 +77,7 @@ class Processes:
             self._closed = True
             self._end()
 
-    def ask(self, question: Question, text: bytes, read: Callable[[Batch, int], Read]) -> Read:
+    def ask(self, question: Kind, text: bytes, read: Callable[[Batch, int], Read]) -> Read:
         """What is read of the line of one reference. Raises `ToolError`."""
         with self._process(question) as batch:
             keys = range(0)
@@ -93,9 +93,7 @@ class Processes:
             finally:
                 batch.drop(keys)
 
-    def answers(
-        self, question: Question, left: Iterator[str]
-    ) -> Generator[AnswerOrFault, None, None]:
+    def answers(self, question: Kind, left: Iterator[str]) -> Generator[AnswerOrFault, None, None]:
         """The answers about the references that are left, in their order. Up to AHEAD of them are taken before the first answer is given.
         Where the process answers nothing for too long, what was handed over is asked again, one by one. Raises `ToolError`.
         """
@@ -113,7 +111,7 @@ class Processes:
 
     def behind(
         self,
-        question: Question,
+        question: Kind,
         text: bytes,
         cursor: str,
         read: Callable[[bytes, str | None], Read],
@@ -134,7 +132,7 @@ class Processes:
             return run_once(program, words, read_page, self._settings.patience)
 
     def _ahead(
-        self, question: Question, left: Iterator[str], waiting: deque[bytes]
+        self, question: Kind, left: Iterator[str], waiting: deque[bytes]
     ) -> Iterator[AnswerOrFault]:
         """Answers about references, which are handed over before their answers are taken. Those whose answers weren't given yet are
         kept in `waiting`, and asked first. It ends early where the process answers nothing for too long: any of them may be the reason.
@@ -161,7 +159,7 @@ class Processes:
 
     def _one_by_one(
         self,
-        question: Question,
+        question: Kind,
         waiting: deque[bytes],
         read: Callable[[Batch, int], Read],
         before: int | None = None,
@@ -181,7 +179,7 @@ class Processes:
                 yield answer
 
     @contextmanager
-    def _process(self, question: Question) -> Iterator[Batch]:
+    def _process(self, question: Kind) -> Iterator[Batch]:
         """The process for a question, while it is used. One with other numbers is ended when nobody uses it."""
         with self._lock:
             batch = self._running(question)
@@ -193,7 +191,7 @@ class Processes:
                 batch.users -= 1
                 self._end_idle(question.what)
 
-    def _running(self, question: Question) -> Batch:
+    def _running(self, question: Kind) -> Batch:
         """The process for a question: the one that runs, or a new one. It is the last of its kind."""
         if self._closed:
             raise closed_error()
@@ -208,21 +206,21 @@ class Processes:
         self._end_idle(question.what)
         return batch
 
-    def _started(self, question: Question) -> Batch:
+    def _started(self, question: Kind) -> Batch:
         """A new process for a question."""
         options = [*self._settings.words(), *question.words]
         asked = Asked(find_program(self._settings.program), question.what, options)
         return Batch(asked, self.files, self._settings.patience)
 
     @contextmanager
-    def _process_alone(self, question: Question) -> Iterator[Batch]:
+    def _process_alone(self, question: Kind) -> Iterator[Batch]:
         """A new process for a question, which nobody else asks."""
         with self._lock:
             if self._closed:
                 raise closed_error()
             batch = self._started(question)
             batch.users = 1
-            alone: "tuple[Question | None, Batch]" = (None, batch)
+            alone: "tuple[Kind | None, Batch]" = (None, batch)
             self._batches.setdefault(question.what, []).insert(0, alone)
         try:
             yield batch
@@ -242,7 +240,7 @@ class Processes:
                 pair[1].end()
 
 
-_Batches = dict[What, list[tuple[Question | None, Batch]]]
+_Batches = dict[What, list[tuple[Kind | None, Batch]]]
 """For each kind of question its processes, with what they are asked: None for one that isn't for others. The last one was asked last."""
 
 

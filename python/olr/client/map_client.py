@@ -9,7 +9,7 @@ from typing import TYPE_CHECKING, Any, Literal, cast, overload
 
 from olr.asking.files import MapFiles
 from olr.asking.patience import PATIENCE, require_patience
-from olr.asking.processes import Question, Read, Settings
+from olr.asking.processes import Kind, Read, Settings
 from olr.asking.program import PathLike
 from olr.asking.threaded import Batch
 from olr.client.source import FilesSource, Source
@@ -203,7 +203,7 @@ class Map:
         """
         if after is None:
             return cast(Page, self._answer("match", ref, {"page": page}))
-        question = Question.of("match", {"page": page})
+        question = Kind.of("match", {"page": page})
         return about(self._behind(ref, question, cursor_of(after), page_of), ref)
 
     def pages(self, ref: str, *, page: int = 10, after: str | None = None) -> Iterator[Page]:
@@ -218,7 +218,7 @@ class Map:
         [3, 1]
         """
         record_text(ref)
-        Question.of("match", {"page": page})
+        Kind.of("match", {"page": page})
         return self._pages(ref, page, None if after is None else cursor_of(after))
 
     def matches(self, refs: Iterable[str], *, page: int = 10) -> Iterator[Page | Fault]:
@@ -331,7 +331,7 @@ class Map:
         m4 none
         m5 BadLength 12
         """
-        question = Question.of(what, numbers)
+        question = Kind.of(what, numbers)
         texts = many("answers takes many references", refs, f"ask {what} about one")
         asked, again = tee(texts)
         return _known(self._source.answers(question, asked), again)
@@ -349,7 +349,7 @@ class Map:
         b'{"matchings":[],"next":null}'
         """
         if after is not None:
-            return self._behind(ref, Question.of("match", numbers), cursor_of(after), _raw_page)
+            return self._behind(ref, Kind.of("match", numbers), cursor_of(after), _raw_page)
         raw = self._asked_alone(what, ref, numbers, Batch.raw)
         if raw.fault is not None:
             raise Fault(raw.fault)
@@ -366,7 +366,7 @@ class Map:
         self, what: What, ref: str, numbers: dict[str, int], read: Callable[[Batch, int], Read]
     ) -> Read:
         """What is read of the line of one reference."""
-        text, question = record_text(ref), Question.of(what, numbers)
+        text, question = record_text(ref), Kind.of(what, numbers)
         with self._source.one(question, text.decode()) as processes:
             return processes.ask(question, text, read)
 
@@ -381,7 +381,7 @@ class Map:
     def _behind(
         self,
         ref: str,
-        question: Question,
+        question: Kind,
         cursor: str,
         read: Callable[[bytes, str | None], Read],
     ) -> Read:

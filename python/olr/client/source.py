@@ -6,7 +6,7 @@ from contextlib import AbstractContextManager, nullcontext
 from typing import TYPE_CHECKING, Protocol
 
 from olr.asking.files import MapFiles
-from olr.asking.processes import Processes, Question, Settings
+from olr.asking.processes import Kind, Processes, Settings
 from olr.model.answers import AnswerOrFault
 
 if TYPE_CHECKING:
@@ -20,13 +20,11 @@ class Source(Protocol):
     def files(self) -> MapFiles:
         """Its files: all answers are of one version of them."""
 
-    def one(self, question: Question, text: str) -> AbstractContextManager[Processes]:
+    def one(self, question: Kind, text: str) -> AbstractContextManager[Processes]:
         """What answers a question about one reference, while it is used. Raises `Fault` if the reference needs more than the program's
         limits, and `ToolError`."""
 
-    def answers(
-        self, question: Question, left: Iterator[str]
-    ) -> Generator[AnswerOrFault, None, None]:
+    def answers(self, question: Kind, left: Iterator[str]) -> Generator[AnswerOrFault, None, None]:
         """The answers about the references that are left, in their order. Raises `ToolError`."""
 
     def network(self) -> "Network":
@@ -44,13 +42,11 @@ class FilesSource:
         self.files = files
         self._processes = Processes(files, settings)
 
-    def one(self, question: Question, text: str) -> AbstractContextManager[Processes]:
+    def one(self, question: Kind, text: str) -> AbstractContextManager[Processes]:
         """As `Source.one`: the whole map."""
         return nullcontext(self._processes)
 
-    def answers(
-        self, question: Question, left: Iterator[str]
-    ) -> Generator[AnswerOrFault, None, None]:
+    def answers(self, question: Kind, left: Iterator[str]) -> Generator[AnswerOrFault, None, None]:
         """As `Source.answers`."""
         return self._processes.answers(question, left)
 

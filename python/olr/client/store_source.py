@@ -13,7 +13,7 @@ from typing import NamedTuple
 
 from olr.arrays import Integers
 from olr.asking.files import MapFiles, PartFiles, Version
-from olr.asking.processes import Processes, Question, Settings, timed_out
+from olr.asking.processes import Kind, Processes, Settings, timed_out
 from olr.errors import TimedOut, ToolError, closed_error
 from olr.extras import needed_by
 from olr.geometry.network import Network
@@ -70,7 +70,7 @@ class StoreSource:
         return network
 
     @contextmanager
-    def one(self, question: Question, text: str) -> Iterator[Processes]:
+    def one(self, question: Kind, text: str) -> Iterator[Processes]:
         """As `Source.one`."""
         with self._asking, self._store.reading() as store:
             (group,) = self._groups(question, [read_points(text)], store)
@@ -78,9 +78,7 @@ class StoreSource:
                 raise Fault(TOO_LARGE)
             yield self._region(group.lines, store)
 
-    def answers(
-        self, question: Question, left: Iterator[str]
-    ) -> Generator[AnswerOrFault, None, None]:
+    def answers(self, question: Kind, left: Iterator[str]) -> Generator[AnswerOrFault, None, None]:
         """As `Source.answers`: some at a time, so that those that are neighbours share a part of the map."""
         before = 0
         size = _size_of_chunk(question)
@@ -97,7 +95,7 @@ class StoreSource:
                 yield chunk.answers.pop(number)
             before += len(texts)
 
-    def _answer(self, question: Question, chunk: "_Chunk") -> None:
+    def _answer(self, question: Kind, chunk: "_Chunk") -> None:
         """Asks about references, at least about all of those before the first one that has an error."""
         with self._asking, self._store.reading() as store:
             for group in self._groups(question, chunk.points, store):
@@ -111,7 +109,7 @@ class StoreSource:
                         chunk.take(numbers, answers)
 
     def _groups(
-        self, question: Question, points: Sequence[list[Point] | None], store: Store
+        self, question: Kind, points: Sequence[list[Point] | None], store: Store
     ) -> Iterator[Group]:
         """References by their points in groups that one map has room for. Raises `ToolError`."""
         if os.getpid() != self._owner:
@@ -231,7 +229,7 @@ def _delete(kept: _Kept, owner: int) -> None:
         shutil.rmtree(folder, ignore_errors=True)
 
 
-def _size_of_chunk(question: Question) -> int:
+def _size_of_chunk(question: Kind) -> int:
     """How many references are asked together."""
     numbers = question.numbers()
     items = max(numbers.get(name, 1) for name in ("page", "most", "nearest"))

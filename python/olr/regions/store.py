@@ -9,8 +9,8 @@ What others build on is `Store.open`, `Store.lines_meeting`, `Store.sizes_of` an
 
 Lines are named by their ids, in sorted arrays without repeats: `numpy.union1d` joins those of two references. On a map of these
 lines, or of more lines of the store, the reference has the answer that it has on the whole map. For many references hand over the discs
-of all of them at once, as `region.discs_of_each` has them: places that they share are looked up once. `reading.read_reference` reads a
-reference without the program.
+of all of them at once, as `region.discs_of_each` has them: places that they share are looked up once. `olr.model.reference.read_reference` reads
+a reference without the program.
 
 All that is read of the map comes from the store's blocks (see `blocks`) and its table of facts. The layers for other programs, and their
 index, aren't looked at. `Store.sources` says where lines came from.

@@ -18,7 +18,7 @@ from olr.asking.program import find_program
 from olr.asking.records import Record
 from olr.errors import ToolError
 from olr.model.fault import TOO_LARGE
-from olr.model.questions import What, number_words
+from olr.model.questions import What, all_words
 from olr.model.reference import read_points
 from olr.regions.options import Options
 from olr.regions.sharing import groups_of
@@ -61,8 +61,7 @@ class Job:
 
     def words(self) -> list[str]:
         """The options of the program."""
-        pairs = [number_words(name, value) for name, value in self.numbers.items()]
-        return [word for pair in pairs for word in pair]
+        return all_words(self.numbers)
 
 
 class GroupsFailed(ToolError):

@@ -1,4 +1,4 @@
-"""Messages as records of `olr batch` (docs/specification/batch.md): what it is asked, in the bytes that it reads."""
+"""Messages as records of `olr batch` (docs/specification/batch.md): each with its number, and the bytes that it was read from."""
 
 from collections.abc import Iterable, Iterator
 from itertools import chain, islice

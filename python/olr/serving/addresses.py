@@ -11,6 +11,7 @@ from starlette.responses import Response
 from starlette.routing import Route
 from typing import NamedTuple
 
+from olr.asking.processes import Kind
 from olr.confidence.confidence import Confidence
 from olr.errors import ToolError
 from olr.model.fault import Fault
@@ -22,7 +23,7 @@ from olr.serving.lists import Lists
 from olr.serving.meters import MEDIA_TYPE, Meters
 from olr.serving.pages import INDEX, Asset, assets, described, with_data
 from olr.serving.problems import Problem, of_error, of_status
-from olr.serving.queries import Kind, options_of, question_of, reference_of, require_no_options
+from olr.serving.queries import options_of, question_of, reference_of, require_no_options
 from olr.serving.rooms import Room
 from olr.serving.rows import Rows
 from olr.serving.scenes import Scenes, json_of

@@ -9,11 +9,11 @@ from pathlib import Path
 from typing import NamedTuple
 
 from olr.asking.exchange import Exchange
+from olr.asking.processes import Kind
 from olr.asking.records import Record, Splitter
 from olr.asking.starting import command_of, kill_group_of, not_started
 from olr.serving.edition import Edition
 from olr.serving.limits import MOST_ANSWER, MOST_SAID
-from olr.serving.queries import Kind
 
 PIECE = 1 << 18
 

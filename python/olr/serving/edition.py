@@ -7,9 +7,9 @@ from typing import TYPE_CHECKING
 
 from olr.asking.exchange import Asked
 from olr.asking.files import MapFiles, Version
+from olr.asking.processes import Kind
 from olr.asking.program import PathLike, find_program
 from olr.errors import MapRefused
-from olr.serving.queries import Kind
 
 if TYPE_CHECKING:
     from olr.geometry.network import Network

@@ -5,6 +5,7 @@ import re
 from io import StringIO
 from typing import NamedTuple
 
+from olr.asking.processes import Kind
 from olr.confidence.confidence import Confidence
 from olr.confidence.judged import Judging
 from olr.matching.chunks import Answered, Chunk, Counted
@@ -14,7 +15,7 @@ from olr.model.fault import Fault
 from olr.model.objects import read_answer
 from olr.model.questions import TOLERANCES
 from olr.serving.judging import long_list_of
-from olr.serving.queries import Kind, Question
+from olr.serving.queries import Question
 from olr.serving.rooms import Room
 from olr.serving.served import IsGone, Known, Served, Versions, of_one_edition
 

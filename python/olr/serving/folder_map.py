@@ -8,6 +8,7 @@ from pathlib import Path
 from typing import TYPE_CHECKING, Any
 
 from olr.asking.files import Version
+from olr.asking.processes import Kind
 from olr.errors import MapRefused, ToolError
 from olr.model.answers import Matching, Reference
 from olr.model.fault import Fault
@@ -16,7 +17,7 @@ from olr.serving.edition import Edition
 from olr.serving.limits import Limits
 from olr.serving.pool import Pool
 from olr.serving.problems import busy
-from olr.serving.queries import Kind, Question, kind_of
+from olr.serving.queries import Question, kind_of
 from olr.serving.runs import printed_by, version_of
 from olr.serving.served import IsGone, Known
 

@@ -2,11 +2,11 @@
 
 from typing import NamedTuple
 
+from olr.asking.processes import Kind
 from olr.confidence.choosing import judging_by, listing
 from olr.confidence.confidence import Confidence
 from olr.confidence.judged import Judging
-from olr.model.questions import TOLERANCES, number_words
-from olr.serving.queries import Kind
+from olr.model.questions import TOLERANCES, all_words
 
 
 class LongList(NamedTuple):
@@ -26,5 +26,5 @@ def long_list_of(kind: Kind, confidence: Confidence) -> LongList:
     numbers = kind.numbers()
     tolerances = {name: numbers[name] for name in TOLERANCES}
     chosen = judging_by(confidence, tolerances, numbers)
-    words = (word for pair in listing(numbers).items() for word in number_words(*pair))
-    return LongList(Kind(kind.what, tuple(words)), chosen.judging, chosen.note)
+    asked = Kind(kind.what, tuple(all_words(listing(numbers))))
+    return LongList(asked, chosen.judging, chosen.note)

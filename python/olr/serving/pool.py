@@ -10,13 +10,13 @@ from itertools import count
 from typing import Any
 
 from olr.asking.exchange import AnswerTooLarge
+from olr.asking.processes import Kind
 from olr.errors import MapRefused, TimedOut, ToolError
 from olr.progress import Clock
 from olr.serving.edition import Edition
 from olr.serving.limits import ABREAST, Limits
 from olr.serving.problems import busy
 from olr.serving.process import Answer, Process, Request
-from olr.serving.queries import Kind
 
 log = logging.getLogger("olr.serving")
 TICK = 0.1
@@ -34,7 +34,7 @@ SECONDS_UNUSED = 5.0
 """A process that has been idle for so long ends for another kind that has too few."""
 
 
-class Place:
+class Slot:
     """What waits for room for a process of its own."""
 
     __slots__ = ("is_free", "is_given", "since")
@@ -74,7 +74,7 @@ class Pool:
         """How many processes of their own there may be besides."""
         self._processes: list[Process] = []
         self._queues: dict[Kind, deque[Request]] = {}
-        self._claims: deque[Kind | Place] = deque()
+        self._claims: deque[Kind | Slot] = deque()
         self._places = asyncio.Semaphore(max(1, workers - 1))
         self._tasks: set[asyncio.Task[None]] = set()
         self._is_looking = False
@@ -84,7 +84,7 @@ class Pool:
     def sizes(self) -> dict[str, int]:
         """How many processes there are, by what they do, and how many requests wait."""
         working = sum(1 for one in self._processes if one.requests)
-        places = sum(1 for one in self._claims if isinstance(one, Place))
+        places = sum(1 for one in self._claims if isinstance(one, Slot))
         return {
             "working": working,
             "idle": len(self._processes) - working,
@@ -115,14 +115,14 @@ class Pool:
             raise busy("too many requests have a process of their own") from error
         try:
             self._require_open()
-            place = Place(self.clock())
-            self._claims.append(place)
+            slot = Slot(self.clock())
+            self._claims.append(slot)
             self._serve_claims()
             try:
-                await place.is_free
+                await slot.is_free
                 yield
             finally:
-                self.reserved -= place.is_given
+                self.reserved -= slot.is_given
         finally:
             self._places.release()
             self._serve_claims()
@@ -166,7 +166,7 @@ class Pool:
         """Ends all processes, and waits until they have ended. What waits is refused."""
         self._is_closed = True
         processes, self._processes = self._processes, []
-        left: list[Request | Place] = [one for one in self._claims if isinstance(one, Place)]
+        left: list[Request | Slot] = [one for one in self._claims if isinstance(one, Slot)]
         for requests in (*self._queues.values(), *(process.requests for process in processes)):
             left += requests
         self._claims.clear()
@@ -232,7 +232,7 @@ class Pool:
         """Gives room to those who have a claim to it, in their order, and ends processes for those who are left."""
         while self._claims and self._has_room():
             claim = self._claims.popleft()
-            if isinstance(claim, Place):
+            if isinstance(claim, Slot):
                 if not claim.is_free.done():
                     self.reserved += 1
                     claim.is_given = True
@@ -334,10 +334,10 @@ class Pool:
             if not queue:
                 del self._queues[kind]
         for claim in list(self._claims):
-            if isinstance(claim, Place) and claim.since < behind:
+            if isinstance(claim, Slot) and claim.since < behind:
                 self._claims.remove(claim)
                 claim.refuse(late)
-            elif not isinstance(claim, Place) and claim not in self._queues:
+            elif not isinstance(claim, Slot) and claim not in self._queues:
                 self._claims.remove(claim)
 
     async def look_at_files(self) -> None:

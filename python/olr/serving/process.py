@@ -10,13 +10,13 @@ from collections.abc import Callable, Iterable
 from typing import NamedTuple, Protocol, cast
 
 from olr.asking.exchange import AnswerTooLarge, Exchange
+from olr.asking.processes import Kind
 from olr.asking.starting import command_of, kill_group_of, not_started
 from olr.errors import ProgramEnded, TimedOut, ToolError
 from olr.model.objects import RawLine
 from olr.progress import Clock
 from olr.serving.edition import Edition
 from olr.serving.limits import MOST_ANSWER, MOST_SAID, SECONDS_TO_READ
-from olr.serving.queries import Kind
 
 STDOUT, STDERR = 1, 2
 PROBE = b"probe"

@@ -8,6 +8,7 @@ from functools import lru_cache
 from typing import NamedTuple
 from urllib.parse import unquote_to_bytes
 
+from olr.asking.processes import Kind
 from olr.model.fault import Fault
 from olr.model.profiles import PROFILE, PROFILES, PROGRAM, names_text, tolerances_of
 from olr.model.questions import ALL, NUMBERS, Number, What, all_words, cursor_of, record_text
@@ -17,19 +18,6 @@ REF, AFTER = "ref", "after"
 NUMBER = re.compile("[0-9]{1,7}", re.ASCII)
 KINDS = 1024
 """So many combinations of options are remembered."""
-
-
-class Kind(NamedTuple):
-    """What is asked about a reference: one process answers such questions."""
-
-    what: What
-    words: tuple[str, ...]
-    """Of the tolerances and the numbers, with those that were left out."""
-
-    def numbers(self) -> dict[str, int]:
-        """All numbers by their names."""
-        pairs = zip(self.words[::2], self.words[1::2])
-        return {name.removeprefix("--"): int(value) for name, value in pairs}
 
 
 class Question(NamedTuple):

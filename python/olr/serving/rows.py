@@ -10,18 +10,18 @@ from collections.abc import AsyncGenerator, AsyncIterator, Sequence
 from contextlib import aclosing
 from typing import Any, NamedTuple
 
+from olr.asking.processes import Kind
 from olr.confidence.confidence import Confidence
 from olr.confidence.judged import Judged, judged
 from olr.errors import MapRefused, ProgramEnded
 from olr.geometry.network import Network
-from olr.matching.columns import DIGITS
+from olr.matching.columns import rounded
 from olr.model.answers import Places
 from olr.model.fault import Fault
 from olr.model.objects import read_answer
 from olr.model.reference import read_reference
 from olr.serving.batches import Answered
 from olr.serving.judging import LongList, long_list_of
-from olr.serving.queries import Kind
 from olr.serving.rooms import Room
 from olr.serving.served import IsGone, Served
 
@@ -95,8 +95,8 @@ def _row(answer: Places | Fault, judgement: Judged | None) -> dict[str, Any]:
     first = judgement.places[0] if judgement is not None and judgement.places else None
     return {
         "verdict": "fault" if judgement is None else judgement.verdict,
-        "probability": None if first is None else _rounded(first.probability),
-        "none_of_these": None if judgement is None else _rounded(judgement.none_of_these),
+        "probability": None if first is None else rounded(first.probability),
+        "none_of_these": None if judgement is None else rounded(judgement.none_of_these),
         "reasons": None if first is None else first.reasons or None,
         "total": None if first is None else first.place.matching.total,
         "margin": None if judgement is None else judgement.margin,
@@ -104,8 +104,3 @@ def _row(answer: Places | Fault, judgement: Judged | None) -> dict[str, Any]:
         "cut_off": judgement is not None and judgement.is_cut_off,
         "fault": answer.text if isinstance(answer, Fault) else None,
     }
-
-
-def _rounded(value: float | None) -> float | None:
-    """A probability with the digits that are shown."""
-    return None if value is None else round(value, DIGITS)

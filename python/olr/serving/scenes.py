@@ -1,4 +1,4 @@
-"""All that a page draws of a reference, as JSON: `view/scene.py` says what."""
+"""All that a page draws of a reference, as JSON: `olr.pages.view.scene` says what."""
 
 import asyncio
 import json
@@ -7,6 +7,7 @@ from collections.abc import Mapping
 from functools import partial
 from typing import NamedTuple, TypeVar
 
+from olr.asking.processes import Kind
 from olr.confidence.confidence import Confidence
 from olr.confidence.judged import Judging
 from olr.geometry.network import Network
@@ -21,7 +22,7 @@ from olr.pages.view.scene import Answered, add_command, fits, judgements_of, sce
 from olr.pages.view.surroundings import Scene, Surroundings, box_of, network_around
 from olr.serving.judging import long_list_of
 from olr.serving.limits import Limits
-from olr.serving.queries import Kind, Options, Question, kind_of, reference_of
+from olr.serving.queries import Options, Question, kind_of, reference_of
 from olr.serving.rooms import Room
 from olr.serving.served import IsGone, Served, Versions, of_one_edition
 

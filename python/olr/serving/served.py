@@ -5,10 +5,11 @@ from contextlib import AbstractAsyncContextManager
 from typing import TYPE_CHECKING, Any, NamedTuple, Protocol, TypeVar
 
 from olr.asking.files import Version
+from olr.asking.processes import Kind
 from olr.errors import MapRefused
 from olr.model.answers import Matching, Reference
 from olr.serving.batches import Answered
-from olr.serving.queries import Kind, Question
+from olr.serving.queries import Question
 
 if TYPE_CHECKING:
     from olr.geometry.network import Network

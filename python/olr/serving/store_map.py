@@ -10,6 +10,7 @@ from pathlib import Path
 from typing import TYPE_CHECKING, Any, TypeVar
 
 from olr.asking.files import Version
+from olr.asking.processes import Kind
 from olr.asking.program import find_program
 from olr.client.map_client import Map
 from olr.errors import MapRefused, ToolError
@@ -22,7 +23,7 @@ from olr.regions.current import CurrentStore
 from olr.serving.batches import Answered, records_of
 from olr.serving.limits import Limits
 from olr.serving.problems import busy
-from olr.serving.queries import Kind, Question
+from olr.serving.queries import Question
 from olr.serving.runs import printed_by, version_of
 from olr.serving.served import IsGone, Known
 

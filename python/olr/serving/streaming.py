@@ -11,12 +11,13 @@ from contextlib import aclosing, asynccontextmanager
 from starlette.requests import Request
 from starlette.types import Receive, Scope, Send
 
+from olr.asking.processes import Kind
 from olr.errors import ToolError
 from olr.model.profiles import PROFILE, PROGRAM
 from olr.model.questions import What
 from olr.serving.limits import Limits
 from olr.serving.problems import Problem, of_error
-from olr.serving.queries import Kind, kind_of, options_of
+from olr.serving.queries import kind_of, options_of
 from olr.serving.served import IsGone, Served
 
 log = logging.getLogger("olr.serving")
