@@ -3,19 +3,27 @@
 import asyncio
 import pytest
 from collections import deque
-from collections.abc import Coroutine
+from collections.abc import Container, Coroutine
 from typing import Any, TypeVar, cast
 
 from olr.asking.processes import Kind
 from olr.errors import MapRefused, ProgramEnded, ToolError
 from olr.serving.edition import Edition
-from olr.serving.limits import Limits
+from olr.serving.limits import Capacity, Limits
 from olr.serving.pool import Pool
 from olr.serving.process import Answer, Owner, Request
 from olr.serving.queries import kind_of
+from olr.serving.waiting import CLIENT
 
 Made = TypeVar("Made")
 MATCH = kind_of("match", {}, 10_000)
+
+
+class Every:
+    """All kinds: each of them may have all turns."""
+
+    def __contains__(self, _: object) -> bool:
+        return True
 
 
 class FakeClock:
@@ -37,7 +45,8 @@ class FakeProcess:
         self.texts: list[bytes] = []
         """Of all requests that it was asked."""
         self.is_ready = self.is_retiring = False
-        self.working_since = self.ready_since = 0.0
+        self.working_since = self.ready_since = self.busy_since = 0.0
+        self.client = ""
         self.since = owner.clock()
         """Since when it reads the map."""
         self._reading: asyncio.Future[None] = asyncio.get_running_loop().create_future()
@@ -57,8 +66,9 @@ class FakeProcess:
     def ask(self, request: Request) -> None:
         """Hands over a request."""
         if not self.requests:
-            self.working_since = self.owner.clock()
+            self.working_since = self.busy_since = self.owner.clock()
         self.requests.append(request)
+        self.client = request.client
         self.texts.append(request.text)
 
     def answer(self) -> None:
@@ -99,7 +109,14 @@ class FakeEdition:
 class FakePool:
     """A pool, its clock, its files, and all processes that it started."""
 
-    def __init__(self, monkeypatch: pytest.MonkeyPatch, workers: int, seconds: float = 30) -> None:
+    def __init__(
+        self,
+        monkeypatch: pytest.MonkeyPatch,
+        workers: int,
+        seconds: float = 30,
+        processes: int | None = None,
+        defaults: Container[Kind] = Every(),
+    ) -> None:
         self.clock, self.edition = FakeClock(), FakeEdition()
         self.started: list[FakeProcess] = []
 
@@ -109,7 +126,8 @@ class FakePool:
 
         monkeypatch.setattr("olr.serving.pool.Process", made)
         edition = cast(Edition, self.edition)
-        self.pool = Pool(edition, workers, Limits(time=seconds), self.clock)
+        capacity = Capacity(workers, processes or workers)
+        self.pool = Pool(edition, capacity, Limits(time=seconds), self.clock, defaults)
 
     def there(self) -> list[FakeProcess]:
         """The processes that haven't ended."""
@@ -123,10 +141,13 @@ class FakePool:
         await opening
         return self.started[0]
 
-    def asked(self, text: str, kind: Kind = MATCH, is_gone: bool = False) -> "asyncio.Task[bytes]":
+    def asked(
+        self, text: str, kind: Kind = MATCH, is_gone: bool = False, client: str = ""
+    ) -> "asyncio.Task[bytes]":
         """What the pool answers to a text, once it does; nobody waits for it if the client is gone."""
 
         async def ask() -> bytes:
+            CLIENT.set(client)
             return (await self.pool.answer(kind, text.encode(), lambda: is_gone)).json
 
         return asyncio.create_task(ask())

@@ -12,7 +12,7 @@ from conftest import REFERENCE, Program, Tools
 from olr.pages.view.scene import scene_of
 from olr.regions.making import make_store_of_folder
 from olr.serving.folder_map import FolderMap
-from olr.serving.limits import Limits
+from olr.serving.limits import Capacity, Limits
 from olr.serving.served import Known, Versions
 from servers import path_of, serving, wait_until
 from test_near_paths import block
@@ -101,7 +101,7 @@ def read_map_of(folder: Path) -> FolderMap:
     """A map as it is served once a process has read it."""
 
     async def read() -> FolderMap:
-        served = FolderMap(folder, 1, Limits())
+        served = FolderMap(folder, Capacity(1, 1), Limits())
         edition = served.pool.edition
         await edition.keep(await edition.found())
         return served

@@ -13,7 +13,7 @@ from olr.errors import TimedOut
 from olr.serving import process
 from olr.serving.edition import Edition
 from olr.serving.folder_map import FIRST, FolderMap
-from olr.serving.limits import Limits
+from olr.serving.limits import Capacity, Limits
 from olr.serving.pool import Pool
 from olr.serving.problems import Problem
 from olr.serving.queries import Question, kind_of
@@ -53,7 +53,7 @@ for number, record in enumerate(sys.stdin.buffer, 1):
 
 def pool_of(folder: Path, program: Path, workers: int, seconds: float = 30) -> Pool:
     """A pool."""
-    return Pool(Edition(folder, program), workers, Limits(time=seconds))
+    return Pool(Edition(folder, program), Capacity(workers, workers), Limits(time=seconds))
 
 
 async def asked(pool: Pool, kind: Kind, text: str) -> "bytes | Exception":
@@ -175,7 +175,7 @@ def test_a_page_that_nobody_waits_for(
     monkeypatch.setenv("OLR_PROGRAM", str(slow_program(tmp_path / "slow")))
 
     async def run() -> None:
-        served = FolderMap(folder, 1, Limits())
+        served = FolderMap(folder, Capacity(1, 1), Limits())
         with pytest.raises(Problem, match="nobody"):
             await served.answer(Question(FIRST, b"x", "0"), lambda: True)
         assert served.sizes()["apart"] == 0

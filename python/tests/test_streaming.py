@@ -14,7 +14,7 @@ from olr.asking.processes import Kind
 from olr.errors import ProgramEnded
 from olr.regions.making import make_store_of_folder
 from olr.serving.folder_map import FolderMap
-from olr.serving.limits import Limits
+from olr.serving.limits import Capacity, Limits
 from olr.serving.problems import Problem
 from olr.serving.queries import kind_of
 from olr.serving.served import IsGone, Served
@@ -181,7 +181,7 @@ def test_a_body_that_fails_while_nobody_reads_it(
 
     async def run() -> None:
         asyncio.get_running_loop().set_exception_handler(lambda _, about: logged.append(about))
-        served = FolderMap(folder_of(tmp_path / "map"), 1, Limits())
+        served = FolderMap(folder_of(tmp_path / "map"), Capacity(1, 1), Limits())
         with pytest.raises(Problem, match="it is too long"):
             await lines_about(served, body())
         for _ in range(3):

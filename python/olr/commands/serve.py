@@ -11,12 +11,15 @@ from typing import Any
 from olr.commands import options
 from olr.model.questions import NUMBERS
 from olr.serving.allowed import LOOPBACK
-from olr.serving.limits import MIB, Limits
+from olr.serving.limits import MIB, Capacity, Limits
 from olr.serving.server import Settings, serve
 
 NAME = re.compile(r"([A-Za-z0-9._-]+|\[[0-9A-Fa-f:.]+\])(:[0-9]{1,5})?")
 ORIGIN = re.compile(r"https?://" + NAME.pattern)
 LIMITS = Limits()
+PROCESSES_OF_WORKER, MOST_PROCESSES = 4, 16
+"""So many processes there are by default for each that works, and in all."""
+MOST_WORKERS = 1000
 
 
 class Text(click.ParamType):
@@ -52,9 +55,14 @@ class Text(click.ParamType):
 )
 @options.count_option(
     "--workers",
-    "So many processes of the program at most, each of which holds the map in memory. By default as many as there are processors. "
-    "A store is asked by one.",
-    greatest=1000,
+    "So many processes of the program work at once at most. By default as many as there are processors. A store is asked by one.",
+    greatest=MOST_WORKERS,
+)
+@options.count_option(
+    "--processes",
+    "So many processes there are at most, each of which holds the map in memory, and has answered the same question with the same "
+    "numbers. By default four for each of --workers, up to 16, but at least as many as those.",
+    greatest=MOST_WORKERS,
 )
 @click.option(
     "--time-limit",
@@ -112,6 +120,7 @@ def command(
     folder: Path,
     host: str,
     workers: int | None,
+    processes: int | None,
     time: float,
     body: int,
     look: int,
@@ -131,8 +140,16 @@ def command(
             err=True,
         )
     limits = Limits(time, body * MIB, look)
-    many = workers or len(os.sched_getaffinity(0))
-    serve(Settings(folder, host, workers=many, limits=limits, **chosen))
+    serve(Settings(folder, host, capacity=_capacity(workers, processes), limits=limits, **chosen))
+
+
+def _capacity(workers: int | None, processes: int | None) -> Capacity:
+    """How many processes there are. Ends with a usage error where fewer may be there than work."""
+    many = workers or min(len(os.sched_getaffinity(0)), processes or MOST_WORKERS)
+    most = processes or max(many, min(PROCESSES_OF_WORKER * many, MOST_PROCESSES))
+    if most < many:
+        raise click.UsageError(f"--processes is {most}, fewer than the {many} of --workers")
+    return Capacity(many, most)
 
 
 def _log(requests: bool) -> None:

@@ -14,7 +14,8 @@ from olr.model.answers import Matching, Reference
 from olr.model.fault import Fault
 from olr.serving.batches import Answered, answered_by
 from olr.serving.edition import Edition
-from olr.serving.limits import Limits
+from olr.serving.judging import default_kinds
+from olr.serving.limits import Capacity, Limits
 from olr.serving.pool import Pool
 from olr.serving.problems import busy
 from olr.serving.queries import Question, kind_of
@@ -33,10 +34,10 @@ FIRST = kind_of("match", {}, 0)
 class FolderMap:
     """The map of a folder. See `served.Served`."""
 
-    def __init__(self, folder: Path, workers: int, limits: Limits) -> None:
+    def __init__(self, folder: Path, capacity: Capacity, limits: Limits) -> None:
         self._folder, self._limits = folder, limits
-        self.pool = Pool(Edition(folder), workers, limits)
-        self._showing = asyncio.Semaphore(workers)
+        self.pool = Pool(Edition(folder), capacity, limits, defaults=default_kinds(limits.look))
+        self._showing = asyncio.Semaphore(capacity.workers)
         self._renewing = asyncio.Lock()
         self._refused: str | None = None
         self._version = ""
@@ -108,7 +109,7 @@ class FolderMap:
             return await printed_by(self.pool.edition.program, words, self._limits.time)
 
     def place(self, is_gone: IsGone) -> AbstractAsyncContextManager[None]:
-        """Room for a process of its own, while it runs. Raises `Problem`."""
+        """Capacity for a process of its own, while it runs. Raises `Problem`."""
         return self.pool.place()
 
     def batch(self, kind: Kind, body: AsyncIterator[bytes]) -> AsyncGenerator[list[Answered], None]:

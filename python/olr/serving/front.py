@@ -10,6 +10,7 @@ from olr.serving.allowed import Allowed, fields_of, require_allowed
 from olr.serving.limits import MOST_REQUESTS
 from olr.serving.meters import OTHER, Meters
 from olr.serving.problems import Problem, busy
+from olr.serving.waiting import CLIENT
 
 log = logging.getLogger("olr.serving.requests")
 PREFLIGHT = {
@@ -48,6 +49,7 @@ class Front:
                     message["headers"] = [*message.get("headers", ()), *allowing]
             await send(message)
 
+        CLIENT.set(scope["client"][0] if scope.get("client") else "")
         self._running += 1
         try:
             require_allowed(scope, self._allowed)

@@ -38,6 +38,15 @@ MOST_SAID = 4096
 """Bytes of what a process says on standard error that are kept."""
 
 
+class Capacity(NamedTuple):
+    """How many processes there may be."""
+
+    workers: int
+    """Those that work at once."""
+    processes: int
+    """All of them: each holds the map."""
+
+
 class Limits(NamedTuple):
     """What options set."""
 

@@ -1,10 +1,10 @@
-"""The processes that answer, so many at once at most, and the requests that wait for one."""
+"""The processes that answer: how many there are, how many of them work at once, and who gets one."""
 
 import asyncio
 import logging
 import time
-from collections import Counter, deque
-from collections.abc import AsyncIterator, Callable, Coroutine
+from collections import Counter
+from collections.abc import AsyncIterator, Callable, Container, Coroutine, Iterator
 from contextlib import asynccontextmanager, suppress
 from itertools import count
 from typing import Any
@@ -13,10 +13,12 @@ from olr.asking.exchange import AnswerTooLarge
 from olr.asking.processes import Kind
 from olr.errors import MapRefused, TimedOut, ToolError
 from olr.progress import Clock
+from olr.serving.crew import Crew
 from olr.serving.edition import Edition
-from olr.serving.limits import ABREAST, Limits
+from olr.serving.limits import ABREAST, Capacity, Limits
 from olr.serving.problems import busy
 from olr.serving.process import Answer, Process, Request
+from olr.serving.waiting import CLIENT, Slot, Waiting
 
 log = logging.getLogger("olr.serving")
 TICK = 0.1
@@ -25,57 +27,41 @@ TICKS_OF_FILES = 10
 """At every so many of them it looks at the files of the map."""
 MOST_TRIES = 2
 """A request that a process ended at is asked once more."""
-SECONDS_OF_LULL = 0.1
-"""A process that has been idle for so long ends for another kind that has none."""
-SECONDS_OF_TURN = 1.0
-"""So does one that has answered for so long, at work or not: three times as long as it takes to read the largest map. So where there are
-more kinds than processes, most of the time is spent on answers."""
+SECONDS_OF_TURN = 0.1
+"""A process that has worked for so long gets nothing more while others wait for a turn."""
 SECONDS_UNUSED = 5.0
 """A process that has been idle for so long ends for another kind that has too few."""
-
-
-class Slot:
-    """What waits for room for a process of its own."""
-
-    __slots__ = ("is_free", "is_given", "since")
-
-    def __init__(self, since: float) -> None:
-        self.is_free: asyncio.Future[None] = asyncio.get_running_loop().create_future()
-        self.is_given = False
-        """Whether there was room for it: then it has to be given back, even if nobody waits for it any more."""
-        self.since = since
-
-    def refuse(self, error: Exception) -> None:
-        """Gives an error in place of room."""
-        if not self.is_free.done():
-            self.is_free.set_exception(error)
+SECONDS_LEFT = 0.5
+"""A process that has worked for so long at a request of a client that left is ended: one that answers at once isn't."""
 
 
 class Pool:
     """Processes of one edition of a map, and for a while those of the one before, which answer what they were asked.
 
-    A request goes to a process of its kind that is idle. If none is, another one is started while there is room, and the request goes to
-    the one with the fewest requests, of which a process has ABREAST at most. Else it waits, behind the others of its kind. A kind without
-    any process has a claim to the next room. Room is made by ending a process: of a kind that has several ones, else the one that has
-    been idle for longest, else the one that has answered for longest.
+    There are more of them than may work at once: those of other kinds have the map at hand and wait. A request goes to a process of its kind
+    that works, while its turn lasts, or that is idle, if a turn is free; a process has ABREAST requests at most. Else it waits. A turn goes to
+    the client that has the fewest requests at work. A kind without a process gets one as soon as there is a turn, and room, which is
+    made by ending one that is idle. `Crew` says when there is.
     """
 
     def __init__(
-        self, edition: Edition, workers: int, limits: Limits, clock: Clock = time.monotonic
+        self,
+        edition: Edition,
+        capacity: Capacity,
+        limits: Limits,
+        clock: Clock = time.monotonic,
+        defaults: Container[Kind] = (),
     ) -> None:
-        self.edition, self.workers, self.limits, self.clock = edition, workers, limits, clock
+        self.edition, self.limits, self.clock = edition, limits, clock
         self.trouble: ToolError | None = None
         """Why the last process that was started didn't read the map, or why none can be: None if all is well."""
         self.restarts: Counter[str] = Counter()
         """How many processes ended that weren't told to, by the reason."""
         self.starts = 0
         """How many processes were started."""
-        self.reserved = 0
-        """How many processes of their own there may be besides."""
-        self._processes: list[Process] = []
-        self._queues: dict[Kind, deque[Request]] = {}
-        self._claims: deque[Kind | Slot] = deque()
-        self._places = asyncio.Semaphore(max(1, workers - 1))
+        self._crew = Crew(capacity, defaults, clock)
+        self._waiting = Waiting()
+        self._slots: list[Slot] = []
         self._tasks: set[asyncio.Task[None]] = set()
         self._is_looking = False
         self._is_closed = False
@@ -83,49 +69,47 @@ class Pool:
 
     def sizes(self) -> dict[str, int]:
         """How many processes there are, by what they do, and how many requests wait."""
-        working = sum(1 for one in self._processes if one.requests)
-        places = sum(1 for one in self._claims if isinstance(one, Slot))
+        working = sum(1 for one in self._crew.there if one.requests)
         return {
             "working": working,
-            "idle": len(self._processes) - working,
-            "apart": self.reserved,
-            "waiting": places + sum(map(len, self._queues.values())),
+            "idle": len(self._crew.there) - working,
+            "apart": self._crew.apart.total(),
+            "waiting": len(self._slots) + len(self._waiting),
         }
 
     def is_able(self) -> bool:
         """Whether a process can be expected to answer."""
-        return self.trouble is None or any(one.is_ready for one in self._processes)
+        return self.trouble is None or any(one.is_ready for one in self._crew.there)
 
     async def answer(self, kind: Kind, text: bytes, is_gone: Callable[[], bool]) -> Answer:
         """What the program answers about the text of a reference. Raises `MapRefused`, `ProgramEnded`, `ProgramNotFound`, `TimedOut`, and
         `Problem` where no process is free for too long."""
         self._require_open()
-        request = Request(kind, text, is_gone, self.clock())
+        request = Request(kind, text, is_gone, self.clock(), CLIENT.get())
         self._hand(request)
         return await request.answer
 
     @asynccontextmanager
     async def place(self) -> AsyncIterator[None]:
-        """Room for a process of its own, while it runs. All such processes together leave one for the others, if there are two or more.
-        Raises `Problem`."""
+        """Capacity for a process of its own, while it runs. All such processes together leave one turn for the others, if there are two or
+        more. Raises `Problem`."""
+        self._require_open()
+        slot = Slot(CLIENT.get(), self.clock())
+        self._slots.append(slot)
+        self._schedule()
         try:
             async with asyncio.timeout(self.limits.time):
-                await self._places.acquire()
-        except TimeoutError as error:
-            raise busy("too many requests have a process of their own") from error
-        try:
-            self._require_open()
-            slot = Slot(self.clock())
-            self._claims.append(slot)
-            self._serve_claims()
-            try:
                 await slot.is_free
-                yield
-            finally:
-                self.reserved -= slot.is_given
+            yield
+        except TimeoutError as error:
+            if slot.is_given:
+                raise
+            raise busy("too many requests have a process of their own") from error
         finally:
-            self._places.release()
-            self._serve_claims()
+            if slot in self._slots:
+                self._slots.remove(slot)
+            self._crew.apart[slot.client] -= slot.is_given
+            self._schedule()
 
     async def watch(self) -> None:
         """Ends what takes too long, and looks whether the files are still those of the edition, until it is cancelled."""
@@ -136,13 +120,17 @@ class Pool:
                 self._task(self.look_at_files())
 
     def look(self) -> None:
-        """Ends what takes too long, refuses what has waited for too long, and gives room to those who have a claim to it."""
-        behind = self.clock() - self.limits.time
-        for process in list(self._processes):
-            if process.is_ready and process.requests and process.working_since < behind:
-                self._end_slow(process)
-        self._refuse_late(behind)
-        self._serve_claims()
+        """Ends what takes too long or is for nobody, refuses what has waited for too long, and gives turns to those who wait."""
+        now = self.clock()
+        for process in list(self._crew.there):
+            if process.is_ready and process.requests:
+                if process.working_since < now - self.limits.time:
+                    text = f"olr answered nothing for {self.limits.time:g} seconds"
+                    self._end_working(process, TimedOut(text, None))
+                elif process.requests[0].is_gone() and process.working_since < now - SECONDS_LEFT:
+                    self._end_working(process, busy("nobody waits for it"))
+        self._refuse_late(now - self.limits.time)
+        self._schedule()
 
     async def open(self, kind: Kind) -> None:
         """Starts the first process, and waits until it has read the map. Raises `ToolError` if it doesn't."""
@@ -156,21 +144,21 @@ class Pool:
         await process.start()
         self.edition = edition
         self.trouble = None
-        for one in list(self._processes):
-            self._retire(one)
-        self._processes.append(process)
-        self._feed(process)
-        self._serve_claims()
+        for one in list(self._crew.there):
+            one.is_retiring = True
+            if one.is_ready and not one.requests:
+                self._end(one)
+        self._crew.there.append(process)
+        self._schedule()
 
     async def close(self) -> None:
         """Ends all processes, and waits until they have ended. What waits is refused."""
         self._is_closed = True
-        processes, self._processes = self._processes, []
-        left: list[Request | Slot] = [one for one in self._claims if isinstance(one, Slot)]
-        for requests in (*self._queues.values(), *(process.requests for process in processes)):
-            left += requests
-        self._claims.clear()
-        self._queues.clear()
+        processes, self._crew.there = self._crew.there, []
+        left: list[Request | Slot] = [*self._slots, *self._waiting.take_those(lambda _: True)]
+        for process in processes:
+            left += process.requests
+        self._slots.clear()
         for one in left:
             one.refuse(busy("the server ends"))
         for process in processes:
@@ -181,120 +169,142 @@ class Pool:
         if self._is_closed:
             raise busy("the server ends")
 
+    # ---- who gets a process
+
     def _hand(self, request: Request) -> None:
         """Hands a request to a process, or lets it wait."""
         kind = request.kind
-        there = self._of_kind(kind)
-        best = min(there, key=lambda one: len(one.requests), default=None)
-        if best is None and isinstance(self.trouble, MapRefused):
+        there = self._crew.of_kind(kind)
+        if not there and isinstance(self.trouble, MapRefused):
             request.refuse(self.trouble)
-        elif best is not None and not best.requests:
-            best.ask(request)
-        elif best is not None and best.is_ready and len(best.requests) < ABREAST:
-            if self._has_room():
-                self._started(kind)
-            best.ask(request)
+            return
+        best = min(there, key=lambda one: len(one.requests), default=None)
+        if best is None or kind in self._waiting or not self._takes(best, request):
+            self._waiting.add(request)
+            self._schedule()
         else:
-            self._queues.setdefault(kind, deque()).append(request)
-            self._find_more(kind)
+            best.ask(request)
+        if best is not None and (len(best.requests) > 1 or kind in self._waiting):
+            self._help(kind, request.client)
 
-    def _find_more(self, kind: Kind) -> None:
-        """Finds a process for what waits of a kind: a new one if there is room, or one that isn't used ends; or else a claim, if the kind
-        has none."""
-        there = self._of_kind(kind)
-        if self._has_room() and not self._claims:
-            self._started(kind)
-        elif not there:
-            if kind not in self._claims:
-                self._claims.append(kind)
-            self._serve_claims()
-        elif all(one.is_ready for one in there) and not isinstance(self.trouble, MapRefused):
-            unused = self._longest_idle(SECONDS_UNUSED)
-            if unused is not None:
-                self._end(unused)
-                self._started(kind)
-        for one in self._of_kind(kind):
-            self._feed(one)
+    def _takes(self, process: Process, request: Request) -> bool:
+        """Whether a process gets a request more."""
+        if process.is_ready and not process.requests:
+            return self._crew.has_turn(process.kind, request.client)
+        return self._goes_on(process)
+
+    def _goes_on(self, process: Process) -> bool:
+        """Whether a process that works, or reads the map, gets more."""
+        if process.is_retiring or len(process.requests) >= ABREAST:
+            return False
+        is_over = process.busy_since < self.clock() - SECONDS_OF_TURN
+        return not (process.is_ready and is_over and self._others_wait(process.kind))
+
+    def _schedule(self) -> None:
+        """Hands what waits to processes that work, and gives turns that are free to those who wait for one."""
+        if self._is_closed or not self._slots and not self._waiting.kinds():
+            return
+        for process in self._crew.there:
+            if process.requests or not process.is_ready:
+                self._feed(process)
+        while (claim := self._next_claim()) is not None:
+            self._give(claim)
 
     def _feed(self, process: Process) -> None:
-        """Gives a process what waits of its kind, as much as it may have."""
-        queue = self._queues.get(process.kind)
-        while queue and len(process.requests) < ABREAST:
-            request = queue.popleft()
+        """Gives a process that works, or reads the map, what waits of its kind, as much as it may have."""
+        while self._goes_on(process):
+            request = self._waiting.take(process.kind)
+            if request is None:
+                return
             if request.is_gone():
                 request.refuse(busy("nobody waits for it"))
             else:
                 process.ask(request)
-        if queue is not None and not queue:
-            del self._queues[process.kind]
 
-    def _serve_claims(self) -> None:
-        """Gives room to those who have a claim to it, in their order, and ends processes for those who are left."""
-        while self._claims and self._has_room():
-            claim = self._claims.popleft()
-            if isinstance(claim, Slot):
-                if not claim.is_free.done():
-                    self.reserved += 1
-                    claim.is_given = True
-                    claim.is_free.set_result(None)
-            elif claim in self._queues and not self._of_kind(claim):
-                self._feed(self._started(claim))
-        ending = sum(1 for one in self._processes if one.is_retiring)
-        if len(self._claims) > ending and not isinstance(self.trouble, MapRefused):
-            victim = self._victim()
-            if victim is not None:
-                self._retire(victim)
-                self._serve_claims()
+    def _others_wait(self, kind: Kind) -> bool:
+        """Whether another kind, or a slot, waits for a turn."""
+        return bool(self._slots) or any(one != kind for one in self._waiting.kinds())
 
-    def _victim(self) -> Process | None:
-        """The process that is to end for another kind, if one is."""
-        kinds = Counter(one.kind for one in self._processes if not one.is_retiring)
-        ready = [one for one in self._processes if one.is_ready and not one.is_retiring]
-        spare = [one for one in ready if kinds[one.kind] > 1]
-        if spare:
-            return min(spare, key=lambda one: (len(one.requests), one.working_since))
-        idle = self._longest_idle(SECONDS_OF_LULL)
-        if idle is not None:
-            return idle
-        begin = self.clock() - SECONDS_OF_TURN
-        longest = min(ready, key=lambda one: one.ready_since, default=None)
-        return longest if longest is not None and longest.ready_since < begin else None
+    def _next_claim(self) -> Request | Slot | None:
+        """Who gets a turn: of those to whom one can be given the client that has the fewest requests at work, and who has waited longest."""
+        claims = list(self._claims())
+        if len(claims) < 2:
+            return claims[0] if claims else None
+        at_work = self._crew.at_work()
+        return min(claims, key=lambda one: (at_work[one.client], one.since))
 
-    def _longest_idle(self, seconds: float) -> Process | None:
-        """The process that has been idle for longest, and for so many seconds."""
-        begin = self.clock() - seconds
-        idle = [
-            one
-            for one in self._processes
-            if one.is_ready and not one.is_retiring and not one.requests
-        ]
-        longest = min(idle, key=lambda one: one.working_since, default=None)
-        return longest if longest is not None and longest.working_since < begin else None
+    def _claims(self) -> Iterator[Request | Slot]:
+        """Those to whom a turn can be given: slots, and of each kind the first request of each client."""
+        for slot in self._slots:
+            if self._crew.has_turn(None, slot.client) and self._can_make_room(None):
+                yield slot
+        for kind in self._waiting.kinds():
+            there = self._crew.of_kind(kind)
+            is_idle = any(one.is_ready and not one.requests for one in there)
+            if is_idle or not there and self._may_start() and self._can_make_room(kind):
+                for request in self._waiting.firsts(kind):
+                    if self._crew.has_turn(kind, request.client):
+                        yield request
 
-    def _retire(self, process: Process) -> None:
-        """Lets a process answer what it was asked, and then end. What waits of its kind has a claim."""
-        process.is_retiring = True
-        if process.is_ready and not process.requests:
-            self._end(process)
-        if process.kind in self._queues and not self._of_kind(process.kind):
-            if process.kind not in self._claims:
-                self._claims.append(process.kind)
+    def _give(self, claim: Request | Slot) -> None:
+        """Gives a turn."""
+        if isinstance(claim, Slot):
+            self._make_room(None)
+            self._slots.remove(claim)
+            if not claim.is_free.done():
+                self._crew.apart[claim.client] += 1
+                claim.is_given = True
+                claim.is_free.set_result(None)
+            return
+        kind = claim.kind
+        self._waiting.take(kind, claim.client)
+        if claim.is_gone():
+            claim.refuse(busy("nobody waits for it"))
+            return
+        process = next((one for one in self._crew.of_kind(kind) if not one.requests), None)
+        if process is None:
+            self._make_room(kind)
+            process = self._started(kind)
+        process.ask(claim)
+        self._feed(process)
 
-    def _of_kind(self, kind: Kind) -> list[Process]:
-        return [one for one in self._processes if one.kind == kind and not one.is_retiring]
+    def _help(self, kind: Kind, client: str) -> None:
+        """Starts one more process for a kind whose processes all work, if there is a turn and room that nobody else waits for."""
+        there = self._crew.of_kind(kind)
+        if self._others_wait(kind) or not all(one.is_ready and one.requests for one in there):
+            return
+        if not self._crew.has_turn(kind, client) or not self._may_start():
+            return
+        if not self._crew.has_room():
+            unused = self._crew.victim(kind)
+            if unused is None or unused.working_since > self.clock() - SECONDS_UNUSED:
+                return
+            self._end(unused)
+        self._feed(self._started(kind))
 
-    def _has_room(self) -> bool:
-        return len(self._processes) + self.reserved < self.workers
+    # ---- turns and room
+
+    def _may_start(self) -> bool:
+        """Whether a process may be started, and would read the map."""
+        return self._crew.may_start() and not isinstance(self.trouble, MapRefused)
+
+    def _can_make_room(self, kind: Kind | None) -> bool:
+        return self._crew.has_room() or self._crew.victim(kind) is not None
+
+    def _make_room(self, kind: Kind | None) -> None:
+        victim = None if self._crew.has_room() else self._crew.victim(kind)
+        if victim is not None:
+            self._end(victim)
 
     def _end(self, process: Process) -> None:
         """Ends a process that isn't needed."""
-        self._processes.remove(process)
+        self._crew.there.remove(process)
         process.end()
 
     def _new(self, kind: Kind) -> Process:
         process = Process(kind, self.edition, self)
         self.starts += 1
-        self._processes.append(process)
+        self._crew.there.append(process)
         return process
 
     def _started(self, kind: Kind) -> Process:
@@ -315,30 +325,34 @@ class Pool:
             await process.start()
             self.trouble = None
 
-    def _end_slow(self, process: Process) -> None:
-        """Ends a process that has worked at a request for too long."""
-        slow = process.requests.popleft()
+    # ---- what goes wrong
+
+    def _end_working(self, process: Process, reason: Exception) -> None:
+        """Ends a process, whose first request gets a reason in place of an answer."""
+        process.requests.popleft().refuse(reason)
         process.working_since = self.clock()
-        waited = TimedOut(f"olr answered nothing for {self.limits.time:g} seconds", None)
-        slow.refuse(waited)
-        log.warning("a process was ended: olr %s, %s", process.kind.what, waited)
-        process.fail(waited)
+        if isinstance(reason, TimedOut):
+            log.warning("a process was ended: olr %s, %s", process.kind.what, reason)
+            process.fail(reason)
+        else:
+            self._put_back(process)
+            process.requests.clear()
+            self._end(process)
+
+    def _put_back(self, process: Process) -> None:
+        """Lets the requests of a process wait in front of the others."""
+        for request in process.requests:
+            request.since = self.clock()
+        self._waiting.put_back(process.requests)
 
     def _refuse_late(self, behind: float) -> None:
         """Refuses what has waited since before a moment."""
         late = busy(f"no process was free for {self.limits.time:g} seconds")
-        for kind, queue in list(self._queues.items()):
-            for request in [one for one in queue if one.since < behind or one.is_gone()]:
-                queue.remove(request)
-                request.refuse(late)
-            if not queue:
-                del self._queues[kind]
-        for claim in list(self._claims):
-            if isinstance(claim, Slot) and claim.since < behind:
-                self._claims.remove(claim)
-                claim.refuse(late)
-            elif not isinstance(claim, Slot) and claim not in self._queues:
-                self._claims.remove(claim)
+        for request in self._waiting.take_those(lambda one: one.since < behind or one.is_gone()):
+            request.refuse(late)
+        for slot in [one for one in self._slots if one.since < behind]:
+            self._slots.remove(slot)
+            slot.refuse(late)
 
     async def look_at_files(self) -> None:
         """Notes whether a process could be started that reads what the others have read. It may take long, where files don't answer."""
@@ -358,30 +372,25 @@ class Pool:
 
     def became_free(self, process: Process) -> None:
         """A process has read the map, or has given an answer."""
-        if process not in self._processes:
+        if process not in self._crew.there:
             return
         if process.is_retiring:
             if not process.requests:
                 self._end(process)
-                self._serve_claims()
-            return
-        if self._queues:
+        elif process.requests:
             self._feed(process)
-        if self._claims and not process.requests:
-            self._serve_claims()
+        self._schedule()
 
     def has_ended(self, process: Process, error: ToolError) -> None:
         """A process has ended: what it left is asked once more."""
-        if process not in self._processes:
+        if process not in self._crew.there:
             return
-        self._processes.remove(process)
+        self._crew.there.remove(process)
         self.restarts[_reason(error)] += 1
         if not isinstance(error, TimedOut):
             log.warning("a process ended: olr %s: %s", process.kind.what, error)
         self._ask_again(process, error)
-        if process.kind in self._queues:
-            self._find_more(process.kind)
-        self._serve_claims()
+        self._schedule()
 
     def _ask_again(self, process: Process, error: ToolError) -> None:
         """Lets the requests that a process left wait in front of the others. The process worked at the first one alone: that one is asked
@@ -390,16 +399,20 @@ class Pool:
         if process.edition is self.edition and not process.is_ready:
             self.trouble = error
             if isinstance(error, (MapRefused, TimedOut)):
-                for request in process.requests:
+                for request in (*process.requests, *self._without_process(process.kind)):
                     request.refuse(error)
                 return
         if process.requests and not isinstance(error, (MapRefused, TimedOut, AnswerTooLarge)):
             process.requests[0].tries += 1
             if process.requests[0].tries >= MOST_TRIES:
                 process.requests.popleft().refuse(error)
-        for request in reversed(process.requests):
-            request.since = self.clock()
-            self._queues.setdefault(process.kind, deque()).appendleft(request)
+        self._put_back(process)
+
+    def _without_process(self, kind: Kind) -> list[Request]:
+        """What waits of a kind that has no process."""
+        if self._crew.of_kind(kind):
+            return []
+        return self._waiting.take_those(lambda one: one.kind == kind)
 
 
 def _reason(error: ToolError) -> str:

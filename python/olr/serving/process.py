@@ -37,11 +37,18 @@ class Answer(NamedTuple):
 class Request:
     """A question that waits for its answer."""
 
-    __slots__ = ("kind", "text", "answer", "is_gone", "tries", "since")
+    __slots__ = ("kind", "text", "answer", "is_gone", "tries", "since", "client")
 
-    def __init__(self, kind: Kind, text: bytes, is_gone: Callable[[], bool], since: float) -> None:
-        """`is_gone` says whether nobody waits for the answer any more."""
-        self.kind, self.text, self.is_gone = kind, text, is_gone
+    def __init__(
+        self,
+        kind: Kind,
+        text: bytes,
+        is_gone: Callable[[], bool],
+        since: float,
+        client: str = "",
+    ) -> None:
+        """`is_gone` says whether nobody waits for the answer any more. `client` is the address of whoever does."""
+        self.kind, self.text, self.is_gone, self.client = kind, text, is_gone, client
         self.answer: asyncio.Future[Answer] = asyncio.get_running_loop().create_future()
         self.tries = 0
         """How many processes ended while they worked at it."""
@@ -87,7 +94,10 @@ class Process(asyncio.SubprocessProtocol):
         """Whether it is asked no more: it ends when it has answered, or is ending."""
         self.working_since = 0.0
         """Since when it works at the first request, or is idle."""
-        self.ready_since = 0.0
+        self.ready_since = self.busy_since = 0.0
+        """Since when it has read the map, and since when it has worked without a break."""
+        self.client = ""
+        """Whose request was handed over last."""
         self._owner = owner
         self._loop = asyncio.get_running_loop()
         self._map_is_read: asyncio.Future[None] = self._loop.create_future()
@@ -139,8 +149,9 @@ class Process(asyncio.SubprocessProtocol):
     def ask(self, request: Request) -> None:
         """Hands over a request. It doesn't wait."""
         if not self.requests:
-            self.working_since = self._owner.clock()
+            self.working_since = self.busy_since = self._owner.clock()
         self.requests.append(request)
+        self.client = request.client
         if self.is_ready:
             self._write([request.text])
 
@@ -158,8 +169,8 @@ class Process(asyncio.SubprocessProtocol):
         self.kill()
 
     def end(self) -> None:
-        """Ends the process, of which nothing is wanted any more."""
-        self.fail(ProgramEnded("the process isn't needed any more"))
+        """Ends the process, which is no longer needed."""
+        self.fail(ProgramEnded("the process is no longer needed"))
 
     def kill(self) -> None:
         """Kills it, if it runs."""

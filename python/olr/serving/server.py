@@ -21,7 +21,14 @@ from olr.serving.allowed import allowed_for, in_url
 from olr.serving.connections import Connection, Connections
 from olr.serving.folder_map import FolderMap
 from olr.serving.front import Front
-from olr.serving.limits import MOST_CONNECTIONS, SECONDS_IDLE, SECONDS_TO_END, SPARE_FILES, Limits
+from olr.serving.limits import (
+    MOST_CONNECTIONS,
+    SECONDS_IDLE,
+    SECONDS_TO_END,
+    SPARE_FILES,
+    Capacity,
+    Limits,
+)
 from olr.serving.meters import Meters
 from olr.serving.pages import policy_of
 from olr.serving.served import Served
@@ -40,7 +47,7 @@ class Settings(NamedTuple):
     host: str
     port: int
     """0 for any that is free."""
-    workers: int
+    capacity: Capacity
     limits: Limits
     names: Sequence[str] = ()
     """Other names that the server has."""
@@ -101,7 +108,7 @@ def _served(settings: Settings) -> Served:
     """The map."""
     if store_of(settings.map) is not None:
         return StoreMap(settings.map, settings.limits)
-    return FolderMap(settings.map, settings.workers, settings.limits)
+    return FolderMap(settings.map, settings.capacity, settings.limits)
 
 
 def _listen(host: str, port: int) -> socket.socket:
