@@ -53,7 +53,8 @@ for number, record in enumerate(sys.stdin.buffer, 1):
 
 def pool_of(folder: Path, program: Path, workers: int, seconds: float = 30) -> Pool:
     """A pool."""
-    return Pool(Edition(folder, program), Capacity(workers, workers), Limits(time=seconds))
+    capacity, defaults = Capacity(workers, workers), {FIRST, OTHER}
+    return Pool(Edition(folder, program), capacity, Limits(time=seconds), defaults=defaults)
 
 
 async def asked(pool: Pool, kind: Kind, text: str) -> "bytes | Exception":
