@@ -17,6 +17,7 @@ from olr.serving.waiting import CLIENT
 
 Made = TypeVar("Made")
 MATCH = kind_of("match", {}, 10_000)
+KINDS = [kind_of("match", {"radius": str(40 + number)}, 10_000) for number in range(5)]
 
 
 class Every:

@@ -7,7 +7,8 @@
 | `problems` | why there is no answer, as a problem document |
 | `edition` | one version of a map's files |
 | `process` | a process `olr batch` that is asked without threads |
-| `pool` | these processes, and the requests that wait for one |
+| `pool` | these processes, and who gets one |
+| `crew`, `waiting` | which of them work, with turns and room for more; what waits, by kind and client |
 | `runs`, `batches` | runs of the program for one request: those that aren't `olr batch`, and those whose input is a body |
 | `served` | what the addresses ask of a map |
 | `folder_map`, `store_map` | the map of a folder, and that of a store |
