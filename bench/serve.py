@@ -7,6 +7,8 @@
    client is a connection, and all of them are in the process of this script.
 2. `POST /batch/match` of the file beside `olr batch` on it, in turns: the best of the runs counts.
 3. The most memory of a process of the server beside that of `olr batch`, and that of the server.
+4. What the page asks for (`GET /scene`) by one, two and four people, each from an address and with a radius of their own.
+5. `GET /match` by one client, while another one varies its options on eight connections.
 
 It needs what ./olr-tools setup installs.
 """
@@ -40,6 +42,44 @@ async def load(port, paths, clients, seconds):
 
     await asyncio.gather(*(ask(seed) for seed in range(clients)))
     return sorted(times), others
+
+
+async def scenes(port, texts, people, seconds):
+    """The times of the pictures of some people, each of whom asks when the last one is there."""
+    times, end = [], time.perf_counter() + seconds
+
+    async def ask(number):
+        client, draws = Client(port, f"127.0.0.{number + 1}"), random.Random(number)
+        while (begin := time.perf_counter()) < end:
+            status, _ = await client.get(f"{path_of('scene', draws.choice(texts))}&radius={70 + number}")
+            assert status == 200
+            times.append(time.perf_counter() - begin)
+        client.close()
+
+    await asyncio.gather(*(ask(number) for number in range(people)))
+    return sorted(times)
+
+
+async def beside_varied(port, texts, seconds):
+    """The times of answers to one client while another one asks with ever other numbers."""
+    times, end = [], time.perf_counter() + seconds
+
+    async def vary(number):
+        client, draws = Client(port, "127.0.0.2"), random.Random(number)
+        while time.perf_counter() < end:
+            await client.get(f"{path_of('match', draws.choice(texts))}&page={draws.randint(1, 1000)}")
+        client.close()
+
+    async def ask():
+        client, draws = Client(port), random.Random(8)
+        while (begin := time.perf_counter()) < end:
+            await client.get(path_of("match", draws.choice(texts)))
+            times.append(time.perf_counter() - begin)
+            await asyncio.sleep(0.005)
+        client.close()
+
+    await asyncio.gather(ask(), *(vary(number) for number in range(8)))
+    return sorted(times)
 
 
 def posted(port, file):
@@ -76,7 +116,8 @@ def main():
     parser.add_argument("--workers", type=int, default=os.cpu_count())
     parser.add_argument("--runs", type=int, default=5)
     chosen = parser.parse_args()
-    paths = [path_of("match", text) for text in records_of(chosen.input)]
+    texts = records_of(chosen.input)
+    paths = [path_of("match", text) for text in texts]
     with serving(chosen.program, chosen.map, chosen.workers) as (server, port):
         asyncio.run(load(port, paths, chosen.clients, 2))
         times, others = asyncio.run(load(port, paths, chosen.clients, chosen.seconds))
@@ -94,6 +135,13 @@ def main():
         print(f"bytes: {least[1]} and {size}")
         print(f"memory of a process: {max(peaks) / 1024:.1f} MiB, of olr batch: {peak / 1024:.1f} MiB, ratio {max(peaks) / peak:.2f}")
         print(f"memory of the server: {kib_of(server.pid, 'VmHWM') / 1024:.1f} MiB")
+        asyncio.run(scenes(port, texts, 1, 2))
+        for people in (1, 2, 4):
+            times = asyncio.run(scenes(port, texts, people, chosen.seconds))
+            print(f"GET /scene, {people} people with a radius each: {1000 * sum(times) / len(times):.0f} ms on average")
+        times = asyncio.run(beside_varied(port, texts, chosen.seconds))
+        middle, late = (1000 * times[int(len(times) * share)] for share in (0.5, 0.99))
+        print(f"GET /match beside options that vary: median {middle:.1f} ms, 99 percent {late:.1f} ms")
 
 
 if __name__ == "__main__":

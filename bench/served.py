@@ -57,15 +57,18 @@ def path_of(what, text):
 class Client:
     """A connection that stays open."""
 
-    def __init__(self, port):
-        self._port = port
+    def __init__(self, port, address="127.0.0.1"):
+        """From an address of this machine."""
+        self._port, self._address = port, address
         self._reader = self._writer = None
 
     async def get(self, path):
         """The status and the body of an answer; 0 where the connection was closed."""
         try:
             if self._writer is None:
-                self._reader, self._writer = await asyncio.open_connection("127.0.0.1", self._port, limit=1 << 20)
+                self._reader, self._writer = await asyncio.open_connection(
+                    "127.0.0.1", self._port, local_addr=(self._address, 0), limit=1 << 20
+                )
             self._writer.write(f"GET {path} HTTP/1.1\r\nHost: 127.0.0.1:{self._port}\r\n\r\n".encode())
             head = await self._reader.readuntil(b"\r\n\r\n")
             length = int(head.lower().partition(b"content-length:")[2].partition(b"\r\n")[0])
