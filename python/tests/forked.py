@@ -7,6 +7,7 @@ import os
 import signal
 import subprocess
 import sys
+import tempfile
 import time
 import traceback
 from collections.abc import Mapping, Sequence
@@ -21,7 +22,7 @@ class Forked:
 
     def __init__(self, words: Sequence[str], environment: Mapping[str, str], errors: Path) -> None:
         read, write = os.pipe()
-        self.words = words
+        self.words, self.errors = words, errors
         self.returncode: int | None = None
         self.pid = os.fork()
         if self.pid == 0:
@@ -62,9 +63,12 @@ class Forked:
 def _run(
     words: Sequence[str], environment: Mapping[str, str], output: int, errors: Path
 ) -> NoReturn:
-    """Runs the command in a process that was forked. It has no files of the other one, and nothing of its tests."""
+    """Runs the command in a process that was forked, with a session of its own. It has no files of the other one, and nothing of its tests."""
     status = 70
     try:
+        os.setsid()
+        # What a shell starts in the background isn't interrupted.
+        signal.signal(signal.SIGINT, signal.default_int_handler)
         # What the other process left isn't deleted here: its descriptors are those of other files now.
         gc.freeze()
         for number, file in enumerate((os.open(os.devnull, os.O_RDONLY), output)):
@@ -76,6 +80,7 @@ def _run(
         logging.getLogger().handlers.clear()
         os.environ.clear()
         os.environ.update(environment)
+        tempfile.tempdir = None
         sys.argv = ["olr-tools", *words]
         main()
     except SystemExit as ended:

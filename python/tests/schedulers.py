@@ -6,6 +6,7 @@ import signal
 import subprocess
 import time
 from pathlib import Path
+from typing import NamedTuple
 
 from runs import Runs
 
@@ -54,3 +55,18 @@ class Scheduler:
             return str(json.loads(self._file.read_text())["address"])
         except (FileNotFoundError, json.JSONDecodeError):
             return None
+
+
+class Shared(NamedTuple):
+    """Workers of Dask that several runs have, each with a program of its own."""
+
+    address: str
+    """Of their scheduler."""
+    program: Path
+    """What they ask: a link."""
+
+    def ask(self, program: Path) -> None:
+        """Has them ask another program."""
+        new = self.program.with_name("new")
+        new.symlink_to(program)
+        new.replace(self.program)

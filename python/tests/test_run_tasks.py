@@ -89,27 +89,3 @@ def test_tasks(records: int, groups: int, workers: int, sizes: list[int]) -> Non
     tasks = tasks_of(Grouped(records, groups, ""), workers)
     assert [len(task) for task in tasks] == sizes
     assert [group for task in tasks for group in task] == list(range(groups))
-
-
-def test_a_run_in_which_a_group_fails(runs: Runs) -> None:
-    """In tasks of three groups. Something is in the way of its part before the first answer: it alone is listed, and the next run makes
-    its part alone."""
-    words = ["--per-group", 5]
-    in_its_way = runs.out / "parts" / "000007.jsonl"
-    script = runs.folder / "script"
-    script.write_text(
-        f"""#!/bin/sh
-if [ -e {runs.out}/parts ] && mkdir {runs.folder}/begun 2>&-; then mkdir {in_its_way}; fi
-exec {runs.program.path} "$@"
-"""
-    )
-    script.chmod(0o755)
-    ended = runs.run(*words, program=script)
-    assert ended.status == 1 and ": 302 lines of 307 in 61 parts\n" in ended.stdout
-    listed = (runs.out / "failed.txt").read_text().splitlines()
-    assert len(listed) == 1 and listed[0].startswith("000007\t")
-    assert "Is a directory" in listed[0] and "1 of 62 groups failed" in ended.stderr
-    there = identities(runs)
-    in_its_way.rmdir()
-    assert_resumes(runs, *words, program=script)
-    assert len(there) == 62 and identities(runs).keys() == there.keys()
