@@ -1,5 +1,5 @@
-"""The command `olr-tools` as a process that starts at once: a fork of this one, which has the modules already. Their imports take a second
-of a new one. How much memory a fork has says nothing."""
+"""The command `olr-tools`, or one of Dask, as a process that starts at once: a fork of this one, which has the modules already. Their imports
+take a second of a new one. How much memory a fork has says nothing."""
 
 import gc
 import logging
@@ -10,7 +10,7 @@ import sys
 import tempfile
 import time
 import traceback
-from collections.abc import Mapping, Sequence
+from collections.abc import Callable, Mapping, Sequence
 from pathlib import Path
 from typing import NoReturn
 
@@ -20,13 +20,19 @@ from olr.__main__ import main
 class Forked:
     """A process, with what is asked of one of `subprocess`."""
 
-    def __init__(self, words: Sequence[str], environment: Mapping[str, str], errors: Path) -> None:
+    def __init__(
+        self,
+        words: Sequence[str],
+        environment: Mapping[str, str],
+        errors: Path,
+        command: Callable[[], object] = main,
+    ) -> None:
         read, write = os.pipe()
         self.words, self.errors = words, errors
         self.returncode: int | None = None
         self.pid = os.fork()
         if self.pid == 0:
-            _run(words, environment, write, errors)
+            _run(command, words, environment, write, errors)
         os.close(write)
         self.stdout = os.fdopen(read)
 
@@ -49,8 +55,12 @@ class Forked:
 
     def kill(self) -> None:
         """Kills it, if it hasn't ended."""
+        self.send_signal(signal.SIGKILL)
+
+    def send_signal(self, number: int) -> None:
+        """Sends it a signal, if it hasn't ended."""
         if self.poll() is None:
-            os.kill(self.pid, signal.SIGKILL)
+            os.kill(self.pid, number)
 
     def __enter__(self) -> "Forked":
         return self
@@ -61,9 +71,13 @@ class Forked:
 
 
 def _run(
-    words: Sequence[str], environment: Mapping[str, str], output: int, errors: Path
+    command: Callable[[], object],
+    words: Sequence[str],
+    environment: Mapping[str, str],
+    output: int,
+    errors: Path,
 ) -> NoReturn:
-    """Runs the command in a process that was forked, with a session of its own. It has no files of the other one, and nothing of its tests."""
+    """Runs a command in a process that was forked, with a session of its own. It has no files of the other one, and nothing of its tests."""
     status = 70
     try:
         os.setsid()
@@ -78,11 +92,15 @@ def _run(
         sys.stdin, sys.stdout = open(0, closefd=False), open(1, "w", closefd=False)
         sys.stderr = open(2, "w", buffering=1, closefd=False)
         logging.getLogger().handlers.clear()
+        for name in list(logging.root.manager.loggerDict):
+            for handler in logging.getLogger(name).handlers:
+                if isinstance(handler, logging.StreamHandler):
+                    handler.stream = sys.stderr
         os.environ.clear()
         os.environ.update(environment)
         tempfile.tempdir = None
-        sys.argv = ["olr-tools", *words]
-        main()
+        sys.argv[1:] = words
+        command()
     except SystemExit as ended:
         status = ended.code if isinstance(ended.code, int) else 1
     except BaseException:

@@ -110,12 +110,13 @@ def test_messages_that_arent_clear(
 def shared(
     town: Town, program: Program, tmp_path_factory: pytest.TempPathFactory
 ) -> Iterator[Shared]:
-    """A scheduler with two workers of two threads each, which was started as its pages say."""
+    """A scheduler with two workers of two threads each."""
     runs = Runs(town, program, tmp_path_factory.mktemp("shared"))
     asked = runs.folder / "program"
     try:
         with Scheduler(runs, asked) as started:
-            started.add_workers("--nworkers", "2", "--nthreads", "2", "--memory-limit", "0")
+            for _ in range(2):
+                started.add_worker(threads=2)
             yield Shared(started.address, asked)
     finally:
         runs.end_all()

@@ -18,7 +18,6 @@ from runs import Runs
 from schedulers import Scheduler
 
 pytestmark = pytest.mark.filterwarnings("ignore:make_current is deprecated")
-ONE = ["--nworkers", "1", "--nthreads", "1"]
 
 
 @contextmanager
@@ -43,13 +42,13 @@ def test_all_workers_and_then_the_scheduler_are_killed(runs: Runs) -> None:
     """A run without workers waits, and goes on when others come. That the memory of the first one has a limit is said at once. A run without
     its scheduler says one message, and goes on without it."""
     with Scheduler(runs, runs.waiting()) as scheduler:
-        scheduler.add_workers(*ONE, "--no-nanny", "--memory-limit", "1GB")
+        scheduler.add_worker(memory="1GB")
         with Client(scheduler.address) as client:
             client.wait_for_workers(1, timeout=60)
         with asked_run(runs, scheduler, "one") as run:
             scheduler.processes[1].kill()
             (runs.folder / "go").touch()
-            scheduler.add_workers(*ONE, "--no-nanny", "--memory-limit", "0")
+            scheduler.add_worker()
             assert run.wait(300) == 0
         stderr = without_progress(run.errors.read_text())
         assert stderr.count("\n") == 1
