@@ -11,7 +11,7 @@ FAILING = {
     "is killed": "os.kill(os.getpid(), 9)",
     "says": "print('oh', file=sys.stderr, flush=True); put(line)",
     "another number": "put(line[:line.rindex(b':')] + b':7777}\\n')",
-    "another key": 'key = b\',"key":\'; put(line[:line.index(key)] + key + b\'"x"\' + line[line.index(b\',"record":\'):])',
+    "another key": "key = b',\"key\":'; put(line[:line.index(key)] + key + b'\"x\"' + line[line.index(b',\"record\":'):])",
     "broken JSON": "put(line.replace(b',', b',,', 1))",
     "no text": 'put(line.replace(b\',"fault"\', b\',"\\xff":1,"fault"\', 1))',
     "no line": "pass",

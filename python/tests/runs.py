@@ -262,7 +262,8 @@ class Runs:
 
     def killing(self, whom: str, sign: str = "KILL") -> Path:
         """A program that sends a signal to a worker (`os.getppid()`), to the run itself (`run`) or to all of its processes (`-run`), once,
-        when two parts are there and a worker asks, and then neither reads nor writes. Else it is the program `olr`."""
+        when two parts are there and a worker asks, and then neither reads nor writes. Else it is the program `olr`.
+        """
         script = self.folder / f"killing-{sign}"
         script.write_text(
             f"""#!/usr/bin/python3 -IS

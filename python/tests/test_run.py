@@ -50,12 +50,11 @@ def test_all_answers(runs: Runs) -> None:
     for name in ("000000", "000003"):
         (runs.out / f"parts/{name}.jsonl").unlink()
     waiting = runs.folder / "waiting"
-    words = ["--per-group", 20, "--resume"]
-    ended = runs.run_here(*words, "--radius", 101, program=waiting)
+    ended = runs.run_here("--per-group", 20, "--radius", 101, "--resume", program=waiting)
     refused = f"olr-tools: {runs.out} holds a run with other options: name another folder\n"
     assert (ended.status, ended.stdout, ended.stderr) == (1, "", refused)
     runs.joined.unlink()
-    assert_resumes(runs, *words[:2], program=waiting)
+    assert_resumes(runs, "--per-group", 20, program=waiting)
 
 
 def test_a_table_at_standard_input(runs: Runs) -> None:

@@ -8,7 +8,7 @@ from conftest import Program
 from olr.running.answering import GroupsFailed, answer_groups
 from olr.running.cluster import tasks_of
 from olr.running.grouping import Grouped
-from runs import Begun, Runs, Town, assert_resumes, identities, lines_of_batch
+from runs import Begun, Town, lines_of_batch
 
 
 @pytest.fixture
