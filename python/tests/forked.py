@@ -2,6 +2,7 @@
 take a second of a new one. How much memory a fork has says nothing."""
 
 import gc
+import importlib
 import logging
 import os
 import signal
@@ -10,7 +11,9 @@ import sys
 import tempfile
 import time
 import traceback
+import warnings
 from collections.abc import Callable, Mapping, Sequence
+from multiprocessing import resource_tracker
 from pathlib import Path
 from typing import NoReturn
 
@@ -96,6 +99,12 @@ def _run(
             for handler in logging.getLogger(name).handlers:
                 if isinstance(handler, logging.StreamHandler):
                     handler.stream = sys.stderr
+        # Warnings are said as by a process without tests, and what other processes of Python share is its own.
+        importlib.reload(warnings)
+        warnings.resetwarnings()
+        for kind in (DeprecationWarning, PendingDeprecationWarning, ImportWarning, ResourceWarning):
+            warnings.simplefilter("ignore", kind)
+        importlib.reload(resource_tracker)
         os.environ.clear()
         os.environ.update(environment)
         tempfile.tempdir = None

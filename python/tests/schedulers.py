@@ -1,6 +1,7 @@
 """Schedulers and workers of Dask that aren't those of a run: its own commands, as forks of this process."""
 
 import dask
+import importlib
 import json
 import os
 import signal
@@ -11,9 +12,11 @@ from pathlib import Path
 from typing import NamedTuple
 
 from forked import Forked
-from olr.running.settings import SETTINGS, without_pandas
+from olr.running.settings import SETTINGS
 from runs import Runs
 
+# They tell its version, and forks have it then.
+importlib.import_module("pandas")
 HIDDEN = ["--no-dashboard", "--dashboard-address", "127.0.0.1:0"]
 
 
@@ -52,7 +55,7 @@ class Scheduler:
 
     def _start(self, command: Callable[[], object], *words: str) -> None:
         """Starts a command of Dask."""
-        with dask.config.set(SETTINGS), without_pandas():
+        with dask.config.set(SETTINGS):
             started = Forked(words, self._environment, Path(os.devnull), command)
         self.processes.append(started)
 
