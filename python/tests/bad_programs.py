@@ -1,6 +1,5 @@
 """Programs that are `olr`, but for some references at which they fail, each in its way."""
 
-import json
 from collections.abc import Mapping
 from pathlib import Path
 
@@ -9,10 +8,10 @@ from conftest import Program
 FAILING = {
     "exits": "os._exit(3)",
     "ends": "os._exit(0)",
-    "is killed": "os.kill(os.getpid(), signal.SIGKILL)",
+    "is killed": "os.kill(os.getpid(), 9)",
     "says": "print('oh', file=sys.stderr, flush=True); put(line)",
     "another number": "put(line[:line.rindex(b':')] + b':7777}\\n')",
-    "another key": 'put(re.sub(rb\',"key":.*,"record":\', b\',"key":"x","record":\', line))',
+    "another key": "key = b',\"key\":'; put(line[:line.index(key)] + key + b'\"x\"' + line[line.index(b',\"record\":'):])",
     "broken JSON": "put(line.replace(b',', b',,', 1))",
     "no text": 'put(line.replace(b\',"fault"\', b\',"\\xff":1,"fault"\', 1))',
     "no line": "pass",
@@ -36,17 +35,22 @@ def bad_program(file: Path, program: Program, ways: Mapping[str, str]) -> Path:
     cases = "\n".join(f"    elif way == {way!r}: {known[way]}" for way in sorted(known))
     file.write_text(
         f"""#!/usr/bin/python3 -IS
-import json, os, re, signal, subprocess, sys, time
+import os, sys, time
 
-WAYS = json.loads({json.dumps(dict(ways))!r})
+PROGRAM, WAYS = {str(program.path)!r}, {dict(ways)!r}
+command = [PROGRAM, *sys.argv[1:]]
 if sys.argv[1] == "batch":
     with open({f"{file}.log"!r}, "a") as log:
         print(*sys.argv[1:], file=log)
 if sys.argv[1] != "batch" or os.path.exists({f"{file}.good"!r}):
-    os.execv({str(program.path)!r}, [{str(program.path)!r}, *sys.argv[1:]])
-real = subprocess.Popen(
-    [{str(program.path)!r}, *sys.argv[1:]], stdin=subprocess.PIPE, stdout=subprocess.PIPE
-)
+    os.execv(PROGRAM, command)
+given, asked = os.pipe()
+answered, said = os.pipe()
+ends = [(os.POSIX_SPAWN_DUP2, given, 0), (os.POSIX_SPAWN_DUP2, said, 1)]
+real = os.posix_spawn(PROGRAM, command, os.environ, file_actions=ends)
+os.close(given)
+os.close(said)
+asked, answered = open(asked, "wb", 0), open(answered, "rb")
 hanging = False
 
 def put(data):
@@ -54,14 +58,13 @@ def put(data):
     sys.stdout.buffer.flush()
 
 for record in sys.stdin.buffer:
-    real.stdin.write(record)
-    real.stdin.flush()
-    line = real.stdout.readline()
+    asked.write(record)
+    line = answered.readline()
     way = WAYS.get(record.rstrip(b"\\r\\n").rpartition(b"\\t")[2].decode("latin-1"))
     if way is None: put(line)
 {cases}
-real.stdin.close()
-status = real.wait()
+asked.close()
+status = os.waitstatus_to_exitcode(os.waitpid(real, 0)[1])
 while hanging:
     time.sleep(1)
 sys.exit(status)

@@ -1,21 +1,23 @@
 """What tests of `olr-tools run` share: a town as a store, its messages and what `olr batch` answers; runs, and programs that kill them."""
 
+import importlib
 import os
 import pytest
 import signal
 import subprocess
 import time
 from collections import Counter
-from collections.abc import Callable, Iterable, Iterator, Mapping, Sequence
-from contextlib import nullcontext, suppress
+from collections.abc import Iterable, Iterator, Mapping, Sequence
+from contextlib import contextmanager, nullcontext, suppress
 from dataclasses import replace
 from io import BytesIO, TextIOWrapper
 from ipaddress import IPv4Address, IPv6Address, ip_address
 from pathlib import Path
-from typing import NamedTuple
+from typing import TYPE_CHECKING, NamedTuple
 
 from asking import draw_map, draw_references
 from conftest import OF_PROGRAM, TOP, Program, Tools
+from forked import Forked
 from olr.content import Content
 from olr.messages.message import Reading
 from olr.regions.making import make_store_of_folder
@@ -28,6 +30,12 @@ from olr.running.joining import join
 from olr.running.question import Question, all_numbers
 from olr.running.records import read_records
 from olr.running.run_folder import RunFolder
+
+if TYPE_CHECKING:
+    from schedulers import Shared
+
+# Forks have it then.
+importlib.import_module("olr.commands.run")
 
 MARK = "OLR_TEST_RUN"
 """The variable by which the processes of a run are found."""
@@ -162,35 +170,30 @@ class Runs:
         given += ["--out", self.out, *OF_PROGRAM, *words]
         return [str(TOP / "olr-tools"), *map(str, given)]
 
-    def run(
-        self,
-        *words: object,
-        messages: Path | None = None,
-        program: Path | None = None,
-        before: Callable[[], None] = lambda: None,
-        given: bytes = b"",
-        workers: int = 2,
-    ) -> Ended:
-        """A run, until it ended and none of its processes is left. `before` is called in its process, and `given` is its standard
-        input."""
+    def run(self, *words: object, program: Path | None = None, workers: int = 2) -> Ended:
+        """A run, until it ended and none of its processes is left."""
+        with self.started(*words, "--workers", workers, program=program) as run:
+            status = run.wait(120)
+            self.await_end()
+            return Ended(status, run.stdout.read(), run.errors.read_text())
 
-        def prepare() -> None:
-            # What a shell starts in the background isn't interrupted.
-            signal.signal(signal.SIGINT, signal.SIG_DFL)
-            before()
+    @contextmanager
+    def started(self, *words: object, program: Path | None = None) -> Iterator[Forked]:
+        """A run as a process of its own, which is the first one of its session. It doesn't outlive this."""
+        errors = self.folder / "stderr"
+        with Forked(self.words(*words)[1:], self.environment(program), errors) as process:
+            try:
+                yield process
+            finally:
+                process.kill()
 
-        ended = subprocess.run(
-            self.words(*words, "--workers", workers, messages=messages),
-            input=given,
-            capture_output=True,
-            check=False,
-            timeout=120,
-            env=self.environment(program),
-            preexec_fn=prepare,
-            start_new_session=True,
-        )
-        self.await_end()
-        return Ended(ended.returncode, ended.stdout.decode(), ended.stderr.decode())
+    def run_with(self, shared: "Shared", *words: object, program: Path) -> Ended:
+        """A run in this process, with workers of Dask that are there."""
+        shared.ask(program)
+        with pytest.MonkeyPatch.context() as patch:
+            patch.setenv("OLR_PROGRAM", os.fspath(shared.program))
+            ended = Tools().run(*self.words(*words, "--scheduler", shared.address)[1:])
+        return Ended(ended.returncode, ended.stdout, ended.stderr)
 
     def run_here(
         self,
@@ -259,18 +262,19 @@ class Runs:
 
     def killing(self, whom: str, sign: str = "KILL") -> Path:
         """A program that sends a signal to a worker (`os.getppid()`), to the run itself (`run`) or to all of its processes (`-run`), once,
-        when two parts are there and a worker asks; and then is the program `olr`."""
+        when two parts are there and a worker asks, and then neither reads nor writes. Else it is the program `olr`.
+        """
         script = self.folder / f"killing-{sign}"
         script.write_text(
             f"""#!/usr/bin/python3 -IS
-import os, sys
+import os, sys, time
 
-parent = f"/proc/{{os.getppid()}}/"
-if "spawn" in open(parent + "cmdline").read() and len(os.listdir({str(self.out / 'parts')!r})) >= 2:
+run = os.getsid(0)
+if os.getppid() != run and len(os.listdir({str(self.out / 'parts')!r})) >= 2:
     try:
         os.mkdir({str(self.flag(sign))!r})
-        run = int(open(parent + "stat").read().rpartition(")")[2].split()[1])
         os.kill({whom}, {signal.Signals[f"SIG{sign}"].value})
+        time.sleep(600)
     except FileExistsError:
         pass
 os.execv({str(self.program.path)!r}, [{str(self.program.path)!r}, *sys.argv[1:]])
@@ -293,6 +297,12 @@ exec {self.program.path} "$@"
         )
         script.chmod(0o755)
         return script
+
+    def await_asked(self, run: "Forked | subprocess.Popen[str]") -> None:
+        """Waits until a worker of a run has asked the program of `waiting`."""
+        while not (self.folder / "asked").exists():
+            assert run.poll() is None
+            time.sleep(0.1)
 
     def flag(self, sign: str = "KILL") -> Path:
         """What is there once that signal was sent."""

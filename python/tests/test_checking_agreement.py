@@ -13,7 +13,7 @@ from olr.checking.files import LIMITS, check_files
 
 DATA = TOP / "crates/olr_conformance/data"
 SUITES = ("node-faults", "line-faults", "headers", "bans", "maps")
-DRAWS = 700
+DRAWS = 400
 
 
 def write(folder: Path, files: dict[str, bytes]) -> None:

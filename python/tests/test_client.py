@@ -17,7 +17,7 @@ from olr.asking.threaded import PIPE_BYTES
 from olr.model.questions import NUMBERS, TOLERANCES, What
 
 DATA = TOP / "crates/olr_conformance/data"
-REFERENCES = 2000
+REFERENCES = 300
 KIOSK = "KwVGnCN20HPDBwFCATFjT5Y="
 ROADWORKS = "CwVGnSN2zhvHCgDX/tIzAw=="
 UNMATCHED = "CwVGnSN2zhtnBgEB/2IjAQ=="
@@ -47,7 +47,7 @@ def plain(answer: Any) -> Any:
 def test_many_references_in_one_go(
     what: What, folder: Path, references: list[str], program: Program, tmp_path: Path
 ) -> None:
-    texts = references[: 300 if what == "match" else 150]
+    texts = references[: REFERENCES if what == "match" else 150]
     records = tmp_path / "records"
     records.write_text("".join(f"x\t{text}\n" for text in texts), encoding="utf-8")
     expected = batch_of(program, what, records, ["--map", folder])
@@ -67,7 +67,7 @@ def test_one_at_a_time_and_in_one_go(folder: Path, references: list[str], progra
             except olr.Fault as fault:
                 alone = fault
             assert alone == answer
-    for text in references[:75]:
+    for text in references[:40]:
         expected = said(
             program, "match", "--map", folder, "--format", "json", "--page", 3, "--", text
         )
@@ -189,10 +189,10 @@ def test_names_of_the_answers(top: Path, program: Program) -> None:
 
 
 def test_more_than_the_pipes_hold(top: Path, program: Program) -> None:
-    texts = [f"{number:0300d}" for number in range(PIPE_BYTES // 300)] + [ROADWORKS] * AHEAD * 8
+    texts = [f"{number:0300d}" for number in range(PIPE_BYTES // 300)] + [ROADWORKS] * AHEAD * 2
     with olr.Map.of_folder(top / "examples", program=program.path) as town:
         answers = town.answers("why", texts, nearest=64)
-        assert sum(isinstance(answer, olr.Fault) for answer in answers) == len(texts) - AHEAD * 8
+        assert sum(isinstance(answer, olr.Fault) for answer in answers) == len(texts) - AHEAD * 2
 
 
 def test_the_names_of_the_package() -> None:

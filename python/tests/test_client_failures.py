@@ -202,7 +202,7 @@ def test_threads(program: Program) -> None:
         expected = {text: asked.match(text) for text in texts}
 
         def ask(start: int) -> None:
-            mine = [texts[(start + number) % 4] for number in range(400)]
+            mine = [texts[(start + number) % 4] for number in range(150)]
             for text, page in zip(mine, asked.matches(mine)):
                 if page != expected[text] or asked.match(text) != expected[text]:
                     wrong.append(text)

@@ -415,7 +415,7 @@ def test_the_lengths_of_the_program(program: Program, tmp_path: Path, seed: int)
         ]
     folder, store = drawing.write(tmp_path / "map"), tmp_path / "map.gpkg"
     make_store_of_folder(folder, store)
-    texts = [hostile_text(draw, drawing) for _ in range(60)]
+    texts = [hostile_text(draw, drawing) for _ in range(40)]
     lowest, radius = draw.choice([0, 1]), draw.choice([100, 500])
     seen = 0
 

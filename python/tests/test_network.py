@@ -46,7 +46,7 @@ def test_what_is_read(folder: Path, network: olr.Network) -> None:
 
 def test_lengths_of_pieces(folder: Path, network: olr.Network) -> None:
     draw = random.Random(1)
-    for line in read_map(folder).lines[:500]:
+    for line in read_map(folder).lines[:150]:
         start = draw.randrange(line.length)
         end = draw.randrange(start, line.length) + 1
         whole = ELLIPSOID.geometry_length(network.geometry([(line.id, 0, line.length)]))

@@ -5,25 +5,36 @@ import os
 import pytest
 import random
 import subprocess
-import time
 from collections.abc import Iterator
 from pathlib import Path
 
-from conftest import ASKED_WITH_PROGRAM, OF_PROGRAM
+from conftest import ASKED_WITH_PROGRAM, OF_PROGRAM, Program
 from olr.running import cluster
 from olr.tools import run
 from region_maps import Drawing, hostile_map, hostile_text
-from runs import Runs, assert_resumes, listened_on
-from schedulers import Scheduler
+from runs import Runs, Town, assert_resumes, identities, listened_on
+from schedulers import Scheduler, Shared
 
 
 def test_all_answers(runs: Runs) -> None:
-    ended = runs.run("--per-group", 20, "--join", runs.joined)
+    """By the command as a new process. While its workers ask, nothing listens but for this machine: the scheduler, two workers and what watches
+    over each, and their pages."""
+    words = runs.words("--workers", 2, "--per-group", 20, "--join", runs.joined)
+    environment, pipe = runs.environment(runs.waiting()), subprocess.PIPE
+    with subprocess.Popen(words, env=environment, stdout=pipe, stderr=pipe, text=True) as run:
+        try:
+            runs.await_asked(run)
+            addresses = listened_on(runs.left())
+        finally:
+            (runs.folder / "go").touch()
+        stdout, stderr = run.communicate()
+    runs.await_end()
+    assert len(addresses) >= 5 and {str(address) for address in addresses} == {"127.0.0.1"}
     expected = runs.expected()
-    assert (ended.status, ended.stderr) == (0, "")
+    assert (run.returncode, stderr) == (0, "")
     assert runs.joined.read_bytes() == expected
     lines = [json.loads(line) for line in expected.splitlines()]
-    head, *counts, tail = ended.stdout.splitlines()
+    head, *counts, tail = stdout.splitlines()
     assert head == f"{runs.out}: {len(lines)} lines of {len(lines)} in {len(runs.parts())} parts"
     assert f"answered: {sum(line['fault'] is None for line in lines)}" in counts
     assert "refused, NotText: 1" in counts and "refused, LongRecord: 1" in counts
@@ -38,11 +49,12 @@ def test_all_answers(runs: Runs) -> None:
     assert os.listdir(runs.folder / "scratch") == []
     for name in ("000000", "000003"):
         (runs.out / f"parts/{name}.jsonl").unlink()
-    ended = runs.run_here("--per-group", 20, "--radius", 101, "--resume")
+    waiting = runs.folder / "waiting"
+    ended = runs.run_here("--per-group", 20, "--radius", 101, "--resume", program=waiting)
     refused = f"olr-tools: {runs.out} holds a run with other options: name another folder\n"
     assert (ended.status, ended.stdout, ended.stderr) == (1, "", refused)
     runs.joined.unlink()
-    assert_resumes(runs, "--per-group", 20)
+    assert_resumes(runs, "--per-group", 20, program=waiting)
 
 
 def test_a_table_at_standard_input(runs: Runs) -> None:
@@ -50,7 +62,7 @@ def test_a_table_at_standard_input(runs: Runs) -> None:
     words = ["--format", "csv", "--ref", "openlr", "--key", "id", "--join", runs.joined]
     rows = runs.town.plain.read_text().replace("\t", ";note;")
     table = ("id;note;openlr\n" + rows).encode("utf-16")
-    ended = runs.run(*words, messages=Path("-"), given=table, workers=1)
+    ended = runs.run_here(*words, messages=Path("-"), given=table)
     assert (ended.status, ended.stderr) == (0, "")
     assert runs.joined.read_bytes() == runs.expected(messages=runs.town.plain)
     assert os.listdir(runs.folder / "scratch") == []
@@ -93,12 +105,20 @@ def test_messages_that_arent_clear(
     assert not runs.out.exists()
 
 
-@pytest.fixture
-def scheduler(runs: Runs) -> Iterator[str]:
-    """The address of a scheduler with two workers of two threads each, which was started as its pages say."""
-    with Scheduler(runs) as started:
-        started.add_workers("--nworkers", "2", "--nthreads", "2", "--memory-limit", "0")
-        yield started.address
+@pytest.fixture(scope="module")
+def shared(
+    town: Town, program: Program, tmp_path_factory: pytest.TempPathFactory
+) -> Iterator[Shared]:
+    """A scheduler with two workers of two threads each."""
+    runs = Runs(town, program, tmp_path_factory.mktemp("shared"))
+    asked = runs.folder / "program"
+    try:
+        with Scheduler(runs, asked) as started:
+            for _ in range(2):
+                started.add_worker(threads=2)
+            yield Shared(started.address, asked)
+    finally:
+        runs.end_all()
 
 
 def records_of(draw: random.Random, drawing: Drawing) -> list[bytes]:
@@ -125,11 +145,12 @@ def records_of(draw: random.Random, drawing: Drawing) -> list[bytes]:
 
 
 def test_all_questions_on_two_maps(
-    runs: Runs, scheduler: str, monkeypatch: pytest.MonkeyPatch, capfd: pytest.CaptureFixture[str]
+    runs: Runs, shared: Shared, monkeypatch: pytest.MonkeyPatch, capfd: pytest.CaptureFixture[str]
 ) -> None:
     """By the command line alone, from the files of a map to the joined lines. All runs have the workers that were there. Places are all that
     there are, up to 100."""
-    monkeypatch.setenv("OLR_PROGRAM", os.fspath(runs.program.path))
+    shared.ask(runs.program.path)
+    monkeypatch.setenv("OLR_PROGRAM", os.fspath(shared.program))
     questions: dict[str, list[str]] = {
         "match": ["--page", "3"],
         "candidates": ["--radius", "60"],
@@ -147,7 +168,7 @@ def test_all_questions_on_two_maps(
         for what, options in questions.items():
             out, joined = folder / what, folder / f"{what}.jsonl"
             words = ["run", messages, "--store", store, "--out", out, "--join", joined, *options]
-            words += ["--scheduler", scheduler, "--per-group", 30, *OF_PROGRAM]
+            words += ["--scheduler", shared.address, "--per-group", 30, *OF_PROGRAM]
             words += [] if what == "match" else [f"--{what}"]
             assert run(list(map(str, words))) == 0, capfd.readouterr().err
             command = [runs.program.path, "batch", what, "--map", folder, *options]
@@ -163,20 +184,43 @@ def test_all_questions_on_two_maps(
     assert faults >= {"None", "NotBase64", "LongRecord", "NotText", "Empty", "BadLength"}
 
 
-def test_nothing_listens_but_for_this_machine(runs: Runs) -> None:
-    """While a run is going: the scheduler, two workers and what watches over each, and their pages."""
-    words = runs.words("--workers", 2, "--per-group", 200)
-    environment = runs.environment(runs.waiting())
-    with subprocess.Popen(words, env=environment, stdout=subprocess.DEVNULL) as run:
-        try:
-            while not (runs.folder / "asked").exists():
-                assert run.poll() is None
-                time.sleep(0.1)
-            addresses = listened_on(runs.left())
-        finally:
-            (runs.folder / "go").touch()
-    assert run.returncode == 0
-    assert len(addresses) >= 5 and {str(address) for address in addresses} == {"127.0.0.1"}
+def test_a_run_whose_program_always_fails(runs: Runs, shared: Shared) -> None:
+    """Each group fails, with the reason, and the program isn't started for each record."""
+    log = runs.folder / "log"
+    script = runs.folder / "failing"
+    script.write_text(
+        f"#!/bin/sh\nif [ $1 = batch ] && [ -e {runs.out}/parts ]; then echo >> {log}; exit 3; fi\n"
+        f'exec {runs.program.path} "$@"\n'
+    )
+    script.chmod(0o755)
+    ended = runs.run_with(shared, "--per-group", 100, program=script)
+    assert ended.status == 1 and ended.stderr.count("\n") == 1
+    assert "4 of 4 groups failed" in ended.stderr and "ended with status 3" in ended.stderr
+    assert runs.parts() == [] and log.read_text().count("\n") == 4 * 3 * 2
+
+
+def test_a_run_in_which_a_group_fails(runs: Runs, shared: Shared) -> None:
+    """In tasks of three groups. Something is in the way of its part before the first answer: it alone is listed, and the next run makes
+    its part alone."""
+    words = ["--per-group", 5]
+    in_its_way = runs.out / "parts" / "000007.jsonl"
+    script = runs.folder / "script"
+    script.write_text(
+        f"""#!/bin/sh
+if [ -e {runs.out}/parts ] && mkdir {runs.folder}/begun 2>&-; then mkdir {in_its_way}; fi
+exec {runs.program.path} "$@"
+"""
+    )
+    script.chmod(0o755)
+    ended = runs.run_with(shared, *words, program=script)
+    assert ended.status == 1 and ": 302 lines of 307 in 61 parts\n" in ended.stdout
+    listed = (runs.out / "failed.txt").read_text().splitlines()
+    assert len(listed) == 1 and listed[0].startswith("000007\t")
+    assert "Is a directory" in listed[0] and "1 of 62 groups failed" in ended.stderr
+    there = identities(runs)
+    in_its_way.rmdir()
+    assert_resumes(runs, *words, program=script)
+    assert len(there) == 62 and identities(runs).keys() == there.keys()
 
 
 def test_an_empty_input(runs: Runs) -> None:

@@ -140,7 +140,7 @@ def test_no_room_for_scratch_files_of_dask(runs: Runs, disk: Disk) -> None:
     said = f"olr-tools: scratch files can't be written: {FULL}: name another folder by TMPDIR\n"
     for size in ("100k", "1m,nr_inodes=9"):
         disk.resize(size)
-        assert runs.run("--per-group", 150) == (1, "", said)
+        assert runs.run_here("--per-group", 150) == (1, "", said)
         assert disk.names() == [] and not runs.out.exists()
     disk.resize("320k,nr_inodes=1000")
     ended = runs.run("--per-group", 150)

@@ -3,6 +3,8 @@
 import os
 import pytest
 import resource
+from collections.abc import Iterator
+from contextlib import contextmanager
 from pathlib import Path
 
 from runs import Runs, assert_resumes
@@ -21,6 +23,7 @@ def test_a_worker_is_killed(runs: Runs) -> None:
 
 
 def test_the_run_is_killed(runs: Runs) -> None:
+    """No program is left either, though it hangs."""
     killing = runs.killing("run")
     ended = runs.run(*GROUPS, program=killing)
     assert runs.flag().exists() and len(runs.parts()) < 31
@@ -30,7 +33,7 @@ def test_the_run_is_killed(runs: Runs) -> None:
 
 @pytest.mark.parametrize(("whom", "sign"), [("run", "TERM"), ("-run", "INT")])
 def test_the_run_is_interrupted(runs: Runs, whom: str, sign: str) -> None:
-    """By somebody, or at a terminal, where all processes get the signal."""
+    """By somebody, or at a terminal, where all processes get the signal. The program hangs meanwhile."""
     ended = runs.run(*GROUPS, program=runs.killing(whom, sign))
     assert runs.flag(sign).exists()
     assert (ended.status, ended.stderr.strip()) == (1, "olr-tools: interrupted")
@@ -38,14 +41,21 @@ def test_the_run_is_interrupted(runs: Runs, whom: str, sign: str) -> None:
     assert os.listdir(runs.folder / "scratch") == []
 
 
+@contextmanager
+def small_files() -> Iterator[None]:
+    """As on a full disk: meanwhile no file of more than 20 kB can be written."""
+    soft, hard = resource.getrlimit(resource.RLIMIT_FSIZE)
+    resource.setrlimit(resource.RLIMIT_FSIZE, (20_000, hard))
+    try:
+        yield
+    finally:
+        resource.setrlimit(resource.RLIMIT_FSIZE, (soft, hard))
+
+
 def test_files_may_not_grow(runs: Runs) -> None:
-    """As on a full disk, no file of more than 20 kB can be written."""
-
-    def limit() -> None:
-        resource.setrlimit(resource.RLIMIT_FSIZE, (20_000, 20_000))
-
     plain = runs.town.plain
-    ended = runs.run("--per-group", 60, messages=plain, before=limit, workers=1)
+    with small_files():
+        ended = runs.run_here("--per-group", 60, messages=plain)
     assert ended.status == 1 and ended.stderr.count("\n") == 1
     assert " of 5 groups failed, listed in " in ended.stderr
     assert "can't be written: File too large" in ended.stderr
@@ -57,12 +67,8 @@ def test_files_may_not_grow(runs: Runs) -> None:
 
 
 def test_standard_input_that_cant_be_copied(runs: Runs) -> None:
-    """As on a full disk for scratch files."""
-
-    def limit() -> None:
-        resource.setrlimit(resource.RLIMIT_FSIZE, (20_000, 20_000))
-
-    ended = runs.run(messages=Path("-"), before=limit, given=b"x" * 100_000)
+    with small_files():
+        ended = runs.run_here(messages=Path("-"), given=b"x" * 100_000)
     said = "olr-tools: standard input can't be copied: File too large\n"
     assert ended == (1, "", said)
     assert os.listdir(runs.folder / "scratch") == [] and not runs.out.exists()

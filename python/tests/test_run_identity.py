@@ -121,7 +121,7 @@ def test_a_store_that_is_replaced_within_a_group(
 
 
 def test_a_store_that_is_replaced_in_a_run(editions: Editions, runs: Runs) -> None:
-    """When some parts are there: its two workers refuse the other edition, and the groups are listed."""
+    """When some parts are there: the other edition is refused, and the groups are listed."""
     runs.town, store = editions.town, editions.town.store
     swap = runs.folder / "swapping"
     swap.write_text(
@@ -133,7 +133,7 @@ exec {runs.program.path} "$@"
 """
     )
     swap.chmod(0o755)
-    ended = runs.run("--per-group", 20, program=swap)
+    ended = runs.run_here("--per-group", 20, program=swap)
     assert (runs.folder / "swapped").exists()
     assert ended.status == 1 and ended.stderr.count("\n") == 1
     listed = (runs.out / "failed.txt").read_text().splitlines()

@@ -4,6 +4,7 @@ They are processes of their own, forked from the test, which end themselves by S
 n-th time: to open, move, make or delete a file, or to start the program. So a seed draws the same moments on each machine.
 """
 
+import gc
 import os
 import pytest
 import random
@@ -34,6 +35,7 @@ class Doomed:
         self.process = os.fork()
         if self.process:
             return
+        gc.disable()  # It would copy what the processes share.
         left = moment
 
         def count(event: str, _: object) -> None:

@@ -3,9 +3,7 @@
 import pytest
 import random
 import re
-import signal
 import subprocess
-import time
 from pathlib import Path
 
 from bad_programs import FAILING, HANGING, bad_program, starts
@@ -197,7 +195,7 @@ def test_a_run(runs: Runs) -> None:
     texts = {records[at].data.partition(b"\t")[2].decode(): way for at, way in sorted(ways.items())}
     bad = bad_program(runs.folder / "bad", runs.program, texts)
     words = ["--per-group", 100, "--patience", PATIENCE, "--join", runs.joined]
-    ended = runs.run(*words, program=bad, workers=1)
+    ended = runs.run_here(*words, program=bad)
     for at, way in ways.items():
         fault = "TimedOut" if way in HANGING else "ProgramFailed"
         expected[at] = records[at].line(b"null", fault)
@@ -218,32 +216,3 @@ def test_a_run(runs: Runs) -> None:
     good = runs.expected().splitlines(keepends=True)
     good[40] = expected[40]
     assert runs.joined.read_bytes() == b"".join(good)
-
-
-def test_a_run_whose_program_always_fails(runs: Runs) -> None:
-    """Each group fails, with the reason, and the program isn't started for each record."""
-    log = runs.folder / "log"
-    script = runs.folder / "failing"
-    script.write_text(
-        f"#!/bin/sh\nif [ $1 = batch ] && [ -e {runs.out}/parts ]; then echo >> {log}; exit 3; fi\n"
-        f'exec {runs.program.path} "$@"\n'
-    )
-    script.chmod(0o755)
-    ended = runs.run("--per-group", 100, program=script, workers=1)
-    assert ended.status == 1 and ended.stderr.count("\n") == 1
-    assert "4 of 4 groups failed" in ended.stderr and "ended with status 3" in ended.stderr
-    assert runs.parts() == [] and log.read_text().count("\n") == 4 * 3 * 2
-
-
-@pytest.mark.parametrize("sign", [signal.SIGTERM, signal.SIGKILL])
-def test_a_run_is_ended_while_the_program_hangs(runs: Runs, sign: signal.Signals) -> None:
-    """No program is left, though it reads and writes nothing."""
-    command = runs.words("--workers", 2)
-    nowhere = subprocess.DEVNULL
-    environment = runs.environment(runs.waiting())
-    with subprocess.Popen(command, env=environment, stdout=nowhere, stderr=nowhere) as run:
-        while not (runs.folder / "asked").exists():
-            assert run.poll() is None
-            time.sleep(0.1)
-        run.send_signal(sign)
-    runs.await_end()

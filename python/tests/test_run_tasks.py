@@ -11,7 +11,7 @@ from conftest import Program
 from olr.running.answering import ANSWERED, GroupsFailed, Job, answer_groups
 from olr.running.cluster import answer_all, tasks_of
 from olr.running.grouping import Grouped
-from runs import Begun, Runs, Town, assert_resumes, identities, lines_of_batch
+from runs import Begun, Town, lines_of_batch
 
 
 @pytest.fixture
@@ -113,27 +113,3 @@ def test_a_task_that_fails_is_tried_again(begun: Begun, monkeypatch: pytest.Monk
         ended = answer_all(client, begun.job, begun.grouped)
     assert not ended.failed and ended.counts == {ANSWERED: len(begun.groups())}
     assert TRIES == dict.fromkeys(begun.groups(), 3)
-
-
-def test_a_run_in_which_a_group_fails(runs: Runs) -> None:
-    """In tasks of three groups. Something is in the way of its part before the first answer: it alone is listed, and the next run makes
-    its part alone."""
-    words = ["--per-group", 5]
-    in_its_way = runs.out / "parts" / "000007.jsonl"
-    script = runs.folder / "script"
-    script.write_text(
-        f"""#!/bin/sh
-if [ -e {runs.out}/parts ] && mkdir {runs.folder}/begun 2>&-; then mkdir {in_its_way}; fi
-exec {runs.program.path} "$@"
-"""
-    )
-    script.chmod(0o755)
-    ended = runs.run(*words, program=script)
-    assert ended.status == 1 and ": 302 lines of 307 in 61 parts\n" in ended.stdout
-    listed = (runs.out / "failed.txt").read_text().splitlines()
-    assert len(listed) == 1 and listed[0].startswith("000007\t")
-    assert "Is a directory" in listed[0] and "1 of 62 groups failed" in ended.stderr
-    there = identities(runs)
-    in_its_way.rmdir()
-    assert_resumes(runs, *words, program=script)
-    assert len(there) == 62 and identities(runs).keys() == there.keys()

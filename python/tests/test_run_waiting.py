@@ -3,34 +3,32 @@
 import os
 import pytest
 import re
-import subprocess
 import sys
 import time
 from collections.abc import Iterator
 from contextlib import contextmanager
-from distributed import Event, Status
+from distributed import Client, Event, Status
 from pathlib import Path
 
+from forked import Forked
 from olr.running import waiting
 from olr.running.cluster import connected
 from olr.running.waiting import limited_workers, what_is_waited_for
 from runs import Runs
 from schedulers import Scheduler
 
-ONE = ["--nworkers", "1", "--nthreads", "1"]
+pytestmark = pytest.mark.filterwarnings("ignore:make_current is deprecated")
 
 
 @contextmanager
-def asked_run(runs: Runs, scheduler: Scheduler) -> Iterator["subprocess.Popen[str]"]:
+def asked_run(runs: Runs, scheduler: Scheduler, name: str) -> Iterator[Forked]:
     """A run with a scheduler, once a worker of it has asked the program, which waits."""
-    words = runs.words("--per-group", 60, "--scheduler", scheduler.address, "--join", runs.joined)
-    environment = runs.environment(runs.folder / "waiting")
-    with subprocess.Popen(
-        words, env=environment, stdout=subprocess.PIPE, stderr=subprocess.PIPE, text=True
-    ) as run:
-        while not (runs.folder / "asked").exists():
-            assert run.poll() is None, run.communicate()
-            time.sleep(0.1)
+    runs.out, runs.joined = runs.folder / name, runs.folder / f"{name}.jsonl"
+    for file in ("asked", "go"):
+        (runs.folder / file).unlink(missing_ok=True)
+    words = ["--per-group", 60, "--scheduler", scheduler.address, "--join", runs.joined]
+    with runs.started(*words, program=runs.waiting()) as run:
+        runs.await_asked(run)
         yield run
 
 
@@ -40,15 +38,30 @@ def without_progress(stderr: str) -> str:
     return "".join(line for line in lines if not re.match("[a-zA-Z ]+: [0-9,]+( of |$)", line))
 
 
-def test_the_scheduler_is_killed(runs: Runs) -> None:
-    """There is one message, and the run goes on without it."""
+def test_all_workers_and_then_the_scheduler_are_killed(runs: Runs) -> None:
+    """A run without workers waits, and goes on when others come. That the memory of the first one has a limit is said at once. A run without
+    its scheduler says one message, and goes on without it."""
     with Scheduler(runs, runs.waiting()) as scheduler:
-        scheduler.add_workers(*ONE, "--memory-limit", "0")
-        with asked_run(runs, scheduler) as run:
+        scheduler.add_worker(memory="1GB")
+        with Client(scheduler.address) as client:
+            client.wait_for_workers(1, timeout=60)
+        with asked_run(runs, scheduler, "one") as run:
+            scheduler.processes[1].kill()
+            (runs.folder / "go").touch()
+            scheduler.add_worker()
+            assert run.wait(300) == 0
+        stderr = without_progress(run.errors.read_text())
+        assert stderr.count("\n") == 1
+        limited = "1 of 1 workers have a limit of memory, near which Dask pauses them: "
+        assert stderr.startswith(limited)
+        assert "start dask-worker with --memory-limit 0: tcp://127.0.0.1:" in stderr
+        assert runs.joined.read_bytes() == runs.expected()
+        with asked_run(runs, scheduler, "other") as run:
             scheduler.kill()
-            stdout, stderr = run.communicate(timeout=300)
-        said = f"olr-tools: {runs.out}: the scheduler ended: go on by --resume\n"
-        assert (run.returncode, stdout, without_progress(stderr)) == (1, "", said)
+            assert run.wait(300) == 1
+            said = f"olr-tools: {runs.out}: the scheduler ended: go on by --resume\n"
+            assert without_progress(run.errors.read_text()) == said
+            assert run.stdout.read() == ""
         (runs.folder / "go").touch()
     runs.await_end()
     words = ["--per-group", 60, "--resume", "--join", runs.joined]
@@ -57,23 +70,6 @@ def test_the_scheduler_is_killed(runs: Runs) -> None:
     assert runs.joined.read_bytes() == runs.expected()
 
 
-def test_all_workers_are_killed(runs: Runs) -> None:
-    """The run waits, and goes on when others come. That the memory of the first one has a limit is said at once."""
-    with Scheduler(runs, runs.waiting()) as scheduler:
-        scheduler.add_workers(*ONE, "--no-nanny", "--memory-limit", "1GB")
-        with asked_run(runs, scheduler) as run:
-            scheduler.processes[1].kill()
-            (runs.folder / "go").touch()
-            scheduler.add_workers(*ONE, "--no-nanny", "--memory-limit", "0")
-            _, stderr = run.communicate(timeout=300)
-    stderr = without_progress(stderr)
-    assert run.returncode == 0 and stderr.count("\n") == 1
-    assert stderr.startswith("1 of 1 workers have a limit of memory, near which Dask pauses them: ")
-    assert "start dask-worker with --memory-limit 0: tcp://127.0.0.1:" in stderr
-    assert runs.joined.read_bytes() == runs.expected()
-
-
-@pytest.mark.filterwarnings("ignore:make_current is deprecated")
 def test_what_is_waited_for(tmp_path: Path, monkeypatch: pytest.MonkeyPatch) -> None:
     """With workers of its own, without a limit of their memory: busy ones with a task of three groups each, one that is paused, and
     none."""

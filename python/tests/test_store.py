@@ -183,7 +183,7 @@ def test_lines_meeting_discs_are_never_too_few(tmp_path: Path, file: Path) -> No
     make_store_of_folder(whole, file)
     draw = random.Random(1)
     with Store.open(file) as store:
-        for _ in range(50):
+        for _ in range(20):
             lon, lat = positions[draw.choice(list(positions))]
             radius, wide = draw.choice([1.0, 100.0, 5000.0]), scale_at(lat) / 10_000
             met = store.lines_meeting([Disc(lon, lat, radius, scale_at(lat))])
