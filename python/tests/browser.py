@@ -17,8 +17,9 @@ from urllib.parse import urlsplit
 PROGRAM = "/usr/bin/chromium"
 WORDS = ["--headless", "--no-sandbox", "--disable-gpu", "--hide-scrollbars", "--no-first-run"]
 WORDS += ["--disable-dev-shm-usage", "--window-size=1280,800", "--remote-debugging-pipe"]
-# No process is held ready for another page, or kept for the one before.
-WORDS += ["--disable-features=BackForwardCache,SpareRendererForSitePerProcess"]
+# No process is held ready for another page, or kept for the one before: all pages are drawn by one, and shown by the browser's own.
+WORDS += ["--disable-features=BackForwardCache,SpareRendererForSitePerProcess", "--in-process-gpu"]
+WORDS += ["--process-per-site", "--disable-site-isolation-trials", "--renderer-process-limit=1"]
 WAIT = "new Promise(done => document.readyState === 'complete' ? done(1) : addEventListener('load', () => done(1)))"
 """An expression that waits until the script of a page has run."""
 

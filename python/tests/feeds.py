@@ -25,8 +25,9 @@ class Feed(NamedTuple):
     messages: Path
 
 
-def make_feed(place: Path) -> Feed:
-    """A feed on a map that lacks a corner and each twelfth of the other lines of the one that it was drawn on. Keys hold markup."""
+def make_feed(place: Path, count: int) -> Feed:
+    """A feed on a map that lacks a corner and each twelfth of the other lines of the one that it was drawn on. Keys hold markup. It has so
+    many references as drawn, and a quarter more of other kinds."""
     whole = read_map(draw_map(place / "whole", 600, 1200))
     lons = sorted(node.position.lon for node in whole.nodes)
     lats = sorted(node.position.lat for node in whole.nodes)
@@ -48,8 +49,10 @@ def make_feed(place: Path) -> Feed:
     folder = place / "lacking"
     folder.mkdir()
     write_csv(replace(whole, nodes=nodes, lines=lines, bans=()), folder)
-    texts = draw_references(place / "whole", 250)
-    texts += [point_along_line(text) for text in texts[1:60] if len(text) == 24] + [CROWDED]
+    texts = draw_references(place / "whole", count)
+    texts += [point_along_line(text) for text in texts[1 : count // 4] if len(text) == 24] + [
+        CROWDED
+    ]
     messages = place / "feed.tsv"
     messages.write_text("".join(f"{at} {MARKUP}\t{text}\n" for at, text in enumerate(texts)))
     return Feed(folder, messages)

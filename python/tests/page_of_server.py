@@ -130,8 +130,13 @@ def server(
 
 
 @pytest.fixture
-def page(browser: Browser, server: Server) -> Page:
-    """Its page, without a reference."""
+def page(browser: Browser, server: Server, request: pytest.FixtureRequest) -> Page:
+    """Its page, without a reference, unless a test is `opened` otherwise."""
     found = Page(browser, server)
-    found.open()
+    found.open(getattr(request, "param", ""))
     return found
+
+
+def opened(query: str) -> pytest.MarkDecorator:
+    """What a test is marked with whose page is opened by an address with a query."""
+    return pytest.mark.parametrize("page", [query], indirect=True)

@@ -8,25 +8,34 @@ import random
 import re
 import subprocess
 import tempfile
-from collections.abc import Sequence
+from collections.abc import Iterator, Sequence
 from itertools import islice
 from pathlib import Path
 from typing import Any, NamedTuple
 
 from conftest import TOP, Program
 from olr.arrays import Floats
+from olr.confidence import calibrating
 from olr.confidence.calibrating import Wanted, calibrated
 from olr.confidence.confidence import Confidence
 from olr.confidence.contents import text_of as text_of_file
 from olr.confidence.messages import read_feed
-from olr.confidence.parts import Asking, Drawing, answered_by, is_right_by_geometry, right_places
+from olr.confidence.parts import (
+    Asking,
+    Drawing,
+    Part,
+    answered_by,
+    is_right_by_geometry,
+    parts_of,
+    right_places,
+)
 from olr.confidence.weights import WEIGHTS
 from olr.counts import Counts
 from olr.errors import ToolError
 from olr.messages.message import Reading
 from olr.model.map_folder import read_map, write_map, write_records
 from olr.model.profiles import FEED, tolerances_of
-from olr.model.road_map import Ban, Node
+from olr.model.road_map import Ban, Node, RoadMap
 from olr.osm.importing import Options, import_osm
 from olr.tools import run
 from olr.trials.changing import Spreads, changed_points
@@ -73,26 +82,61 @@ def town(tmp_path_factory: pytest.TempPathFactory) -> Path:
     return folder / "map"
 
 
+@pytest.fixture(scope="module", autouse=True)
+def trials() -> Iterator[None]:
+    """Trials of the same numbers on the same map are drawn and asked once, since they are the same: `test_the_same_seed_gives_the_same_bytes`
+    sees that."""
+    made: dict[str, list[Part]] = {}
+
+    def kept(road_map: RoadMap, drawing: Drawing, asking: Asking) -> list[Part]:
+        like = None if drawing.likeness is None else vars(drawing.likeness)
+        tolerances = sorted(asking.tolerances.items())
+        words = (drawing._replace(likeness=None), like, asking._replace(tolerances={}), tolerances)
+        key = f"{words} {road_map}"
+        if key not in made:
+            made[key] = list(parts_of(road_map, drawing, asking))
+        return made[key]
+
+    with pytest.MonkeyPatch.context() as patch:
+        patch.setattr(calibrating, "parts_of", kept)
+        yield
+
+
 class Feed(NamedTuple):
     """References of a sender, and whether the likeliest place of each is right."""
 
-    folder: Path
-    """The map that is asked."""
-    texts: Sequence[str]
     told: Sequence[float]
     """Of each answer that has a place."""
     right: Sequence[bool]
     confidence: Confidence
 
 
-def feed_of(sender: Path, difference: Difference, folder: Path) -> Feed:
-    """References on a map, asked of the version that another maker has of it, with a file of that version and for these."""
+def of_vendor(sender: Path, folder: Path) -> Path:
+    """Writes the version that another maker has of a map."""
     road_map = read_map(sender)
-    roads, draws = Roads(road_map), random.Random(f"{difference}")
-    other = differing(road_map, roads, difference, draws)
-    folder.mkdir()
+    other = differing(road_map, Roads(road_map), VENDOR, random.Random(f"{VENDOR}"))
     write_records(other.nodes, other.lines, other.bans, folder)
-    drawn = list(islice(Paths(road_map).drawn(Graph(road_map, roads), draws), COUNT))
+    return folder
+
+
+@pytest.fixture(scope="module")
+def vendors_tempe(tempe: Path, tmp_path_factory: pytest.TempPathFactory) -> Path:
+    """The streets of Tempe, of another maker."""
+    return of_vendor(tempe, tmp_path_factory.mktemp("tempe"))
+
+
+@pytest.fixture(scope="module")
+def vendors_town(town: Path, tmp_path_factory: pytest.TempPathFactory) -> Path:
+    """The town, of another maker."""
+    return of_vendor(town, tmp_path_factory.mktemp("town"))
+
+
+def feed_of(sender: Path, folder: Path) -> Feed:
+    """References on a map, asked of one in a folder, with a file of that one and for these."""
+    road_map, other = read_map(sender), read_map(folder)
+    draws = random.Random(1)
+    graph = Graph(road_map, Roads(road_map))
+    drawn = list(islice(Paths(road_map).drawn(graph, draws), COUNT))
     texts = [
         text_of(changed_points(one.points, KINDS[number % 3], draws))
         for number, one in enumerate(drawn)
@@ -114,20 +158,24 @@ def feed_of(sender: Path, difference: Difference, folder: Path) -> Feed:
     )
     assert sums + told.of_none == pytest.approx(1)
     right = right_places(found, are_right) == first
-    return Feed(folder, texts, told.of_place[first].tolist(), right.tolist(), confidence)
+    return Feed(told.of_place[first].tolist(), right.tolist(), confidence)
 
 
-@pytest.mark.parametrize("name", ["tempe", "town"])
-@pytest.mark.parametrize("is_vendor", [False, True])
-def test_what_is_told_is_seen(
-    name: str, is_vendor: bool, tmp_path: Path, request: pytest.FixtureRequest
-) -> None:
-    """On the map itself and on another vendor's version of it, by a recipe that no trial has. The margins are wide: 150 references, and a
-    tenth of the trials that the command has by default."""
-    sender: Path = request.getfixturevalue(name)
-    feed = feed_of(sender, VENDOR if is_vendor else Difference(), tmp_path / "map")
+@pytest.mark.parametrize(
+    ("sender", "name"),
+    [
+        ("tempe", "tempe"),
+        ("tempe", "vendors_tempe"),
+        ("vendors_town", "vendors_town"),
+        ("town", "vendors_town"),
+    ],
+)
+def test_what_is_told_is_seen(sender: str, name: str, request: pytest.FixtureRequest) -> None:
+    """Of references on the map itself and on that of another vendor, by a recipe that no trial has. The margins are wide: 150 references,
+    and a tenth of the trials that the command has by default."""
+    feed = feed_of(request.getfixturevalue(sender), request.getfixturevalue(name))
     told, seen = float(np.mean(feed.told)), float(np.mean(feed.right))
-    print(f"{name}, vendor {is_vendor}: told {told:.3f}, seen {seen:.3f} of {len(feed.told)}")
+    print(f"{sender} on {name}: told {told:.3f}, seen {seen:.3f} of {len(feed.told)}")
     assert abs(told - seen) < 0.2
     order = np.argsort(feed.told)
     right = np.array(feed.right)[order]
@@ -135,7 +183,7 @@ def test_what_is_told_is_seen(
     assert high.mean() > 0.85
     differs = feed.confidence.map_differs
     assert differs is not None
-    if is_vendor:
+    if sender != name:
         assert seen < 0.9 and differs.value > 0.4 and low.mean() < high.mean() - 0.2
     else:
         assert seen > 0.9 and differs.value < 0.5
@@ -160,10 +208,13 @@ def messages(tempe: Path, tmp_path_factory: pytest.TempPathFactory) -> Path:
     return file
 
 
-FOR = ("--ref", "code", "--key", "id", "--references", 200)
+FOR = ("--ref", "code", "--key", "id", "--references", 100)
 
 
-def test_the_same_seed_gives_the_same_bytes(tempe: Path, messages: Path, tmp_path: Path) -> None:
+def test_the_same_seed_gives_the_same_bytes(
+    tempe: Path, messages: Path, tmp_path: Path, monkeypatch: pytest.MonkeyPatch
+) -> None:
+    monkeypatch.setattr(calibrating, "parts_of", parts_of)
     one, same, other = (tmp_path / name for name in ("one", "same", "other"))
     for file, seed in ((one, 5), (same, 5), (other, 6)):
         assert calibrate(tempe, file, "--for", messages, *FOR, "--seed", seed) == 0
@@ -181,7 +232,7 @@ def test_what_the_command_says(
     assert calibrate(tempe, file, *words) == 0
     made = Confidence.of_file(file)
     shown = capsys.readouterr().out.splitlines()
-    assert shown[0] == f"{file}: 200 trial references"
+    assert shown[0] == f"{file}: 100 trial references"
     differs = made.map_differs
     assert differs is not None and shown[1] == (
         f"map differs: {differs.value:.1f} ({differs.low:.1f} to {differs.high:.1f}), 1 as that of another vendor"
@@ -193,10 +244,10 @@ def test_what_the_command_says(
     assert len(WEIGHTS) == 8 and shown[-1].startswith("asked with: radius 60 m")
     assert made.others({**tolerances_of(FEED), "radius": 60}, 300) == ""
     about = made.about
-    assert (about["references"], about["seed"], about["right"]) == (200, 1, 0.9)
+    assert (about["references"], about["seed"], about["right"]) == (100, 1, 0.9)
     assert about["map"]["lines"] == 586 and about["feed"]["references"] == 100
     assert len(about["feed"]["statistics"]) > 15 and about["differ"] is None is about["checked"]
-    assert sum(part["answers"] for part in about["parts"]) <= 200 and len(about["parts"]) == 10
+    assert sum(part["answers"] for part in about["parts"]) <= 100 and len(about["parts"]) == 5
     assert text_of_file(made) == file.read_text()
 
 
@@ -210,7 +261,7 @@ def test_how_different_maps_are_may_be_stated(tempe: Path, tmp_path: Path) -> No
     }
     for name, words in cases.items():
         file = tmp_path / name
-        assert calibrate(tempe, file, "--references", 800, *words) == 0
+        assert calibrate(tempe, file, "--references", TRIALS, *words) == 0
         made = Confidence.of_file(file)
         assert made.map_differs is not None
         differs.append(made.map_differs.value)

@@ -27,7 +27,7 @@ WITHIN, LOOK = 200, ["--look", "20"]
 NUMBERS = ["--within", str(WITHIN), *LOOK]
 """With which the feed has answers of all kinds."""
 DIFFERS = Range(0.84, 0.55, 1.16)
-MORE_BYTES = 10 << 20
+MORE_BYTES = 6 << 20
 
 
 @pytest.fixture(autouse=True)
@@ -39,7 +39,7 @@ def environment(program: Program, monkeypatch: pytest.MonkeyPatch) -> None:
 @pytest.fixture(scope="module")
 def feed(tmp_path_factory: pytest.TempPathFactory) -> Feed:
     """A feed with references of all kinds."""
-    return make_feed(tmp_path_factory.mktemp("feed"))
+    return make_feed(tmp_path_factory.mktemp("feed"), 180)
 
 
 @pytest.fixture(scope="module")
@@ -172,7 +172,7 @@ def test_how_many_are_right(
     assert list(table) == [*expected, "none"]
     back = sum(plain.turns_back(plain.shown(one["places"], WITHIN)[0]["matching"]) for one in found)
     cut_off = sum(plain.is_cut_off(one, WITHIN) for one in found)
-    assert back > 5 and cut_off > 2
+    assert back > 5 and cut_off > 1
     remarks = [
         f"turn back: {back} likeliest places",
         f"cut off: {cut_off} may have more places: give a greater --look",
@@ -427,10 +427,10 @@ def test_runs_that_fail(
 
 
 def test_memory_doesnt_grow_with_the_messages(feed: Feed, tmp_path: Path) -> None:
-    """The greatest memory of a report on 500 and on 3,000 messages."""
+    """The greatest memory of a report on 300 and on 1,800 messages."""
     lines = feed.messages.read_text(encoding="utf-8").splitlines(keepends=True)
     peaks = []
-    for count in (500, 3_000):
+    for count in (300, 1_800):
         messages = tmp_path / "messages.tsv"
         messages.write_text("".join(lines[at % len(lines)] for at in range(count)))
         words = ["report", messages, "--map", feed.folder, "--out", tmp_path / "page.html"]

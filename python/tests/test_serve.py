@@ -198,14 +198,24 @@ def test_geojson(
         assert refused.problem()[:2] == (422, "BadLength")
 
 
+@pytest.fixture(scope="module")
+def roomy(
+    program: Program, drawn: Path, tmp_path_factory: pytest.TempPathFactory
+) -> Iterator[Server]:
+    """A server on the same map with a process for each question that a scene asks: none reads the map again."""
+    log = tmp_path_factory.mktemp("log") / "log"
+    with serving(program.path, drawn, log, "--workers", 8) as found:
+        yield found
+
+
 @pytest.mark.parametrize("tolerances", [{}, {"radius": 70}])
-def test_scenes(tolerances: dict[str, Any], server: Server, drawn: Path, texts: list[str]) -> None:
+def test_scenes(tolerances: dict[str, Any], roomy: Server, drawn: Path, texts: list[str]) -> None:
     """They are those that `olr-tools view` draws."""
     confidence = None if tolerances else olr.Confidence.default()
     probable = 0
     with olr.Map(drawn, profile="feed", **tolerances) as asked:
         for text in [text for text in texts[:12] if text.isascii()]:
-            reply = server.get(path_of("scene", text, **tolerances, most=3))
+            reply = roomy.get(path_of("scene", text, **tolerances, most=3))
             try:
                 expected = scene_of(text, asked, confidence, most=3)
             except olr.Fault as fault:
@@ -251,16 +261,18 @@ def test_options_that_arent_understood(query: str, said: str, server: Server) ->
     assert (status, title) == (400, "BadRequest") and detail.startswith(said)
 
 
-def test_limits_of_options(server: Server) -> None:
-    """Each has its least and its greatest value, and not one more."""
-    for what, numbers in NUMBERS.items():
-        for name, number in {**TOLERANCES, **numbers}.items():
-            most = 10_000 if name == "look" else number.greatest
-            for value in (number.least, most):
-                assert server.get(path_of(what, "CwVG", **{name: value})).status == 422, name
-            for value in (number.least - 1, most + 1):
-                assert server.get(path_of(what, "CwVG", **{name: value})).status == 400, name
-    assert "10,000 at most on this server" in server.get("/places?ref=x&look=10001").problem()[2]
+def test_limits_of_options(program: Program, tmp_path: Path) -> None:
+    """Each has its least and its greatest value, and not one more. The map is small, since each value has it read."""
+    with serving(program.path, TOP / "examples", tmp_path / "log") as server:
+        for what, numbers in NUMBERS.items():
+            for name, number in {**TOLERANCES, **numbers}.items():
+                most = 10_000 if name == "look" else number.greatest
+                for value in (number.least, most):
+                    assert server.get(path_of(what, "CwVG", **{name: value})).status == 422, name
+                for value in (number.least - 1, most + 1):
+                    assert server.get(path_of(what, "CwVG", **{name: value})).status == 400, name
+        too_many = server.get("/places?ref=x&look=10001").problem()[2]
+        assert "10,000 at most on this server" in too_many
 
 
 def test_a_plus_sign_stands_for_itself(server: Server) -> None:

@@ -9,7 +9,6 @@ import random
 import shutil
 import signal
 import socket
-import subprocess
 import threading
 import time
 from collections.abc import Callable, Iterator, Sequence
@@ -18,13 +17,14 @@ from pathlib import Path
 
 from asking import draw_map, draw_references
 from bad_programs import bad_program
-from conftest import TOP, Program
+from conftest import Program
 from servers import (
     Expected,
     Reply,
     Server,
     ask_all,
     expected_of,
+    forked,
     is_running,
     path_of,
     reply_on,
@@ -184,7 +184,7 @@ def test_processes_are_killed_under_load(
     with load_on(server, list(wanted)) as replies:
         for _ in range(12):
             count = len(replies)
-            wait_until(lambda: len(replies) > count + 30)
+            wait_until(lambda: len(replies) > count + 20)
             for pid in server.programs():
                 with_no_error(lambda: os.kill(pid, signal.SIGKILL))
     answered = [(path, reply) for path, reply in replies if reply.status in (200, 422)]
@@ -412,14 +412,12 @@ def test_files_that_change_without_a_signal(
 def test_a_map_that_is_refused_at_the_start(program: Program, drawn: Path, tmp_path: Path) -> None:
     folder = Path(shutil.copytree(drawn, tmp_path / "map"))
     (folder / "nodes.csv").write_text("id,lon,lat\nx,1,2\n")
-    ended = run_serve(program, folder, "--port", 0)
-    assert ended.returncode == 1 and ended.stdout == ""
-    assert ended.stderr.splitlines()[-1].startswith("olr-tools: olr refuses the map: ")
-    ended = run_serve(program, tmp_path / "none", "--port", 0)
-    assert ended.returncode == 1 and "OpenFailed" in ended.stderr
+    log = tmp_path / "log"
+    assert refusal_of(program, folder, log).startswith("olr-tools: olr refuses the map: ")
+    assert "OpenFailed" in refusal_of(program, tmp_path / "none", log)
     with socket.create_server(("127.0.0.1", 0)) as taken:
-        ended = run_serve(program, drawn, "--port", taken.getsockname()[1])
-    assert ended.returncode == 1 and "can't be listened to" in ended.stderr
+        said = refusal_of(program, drawn, log, taken.getsockname()[1])
+    assert "can't be listened to" in said
 
 
 def test_a_signal_while_the_map_is_read(program: Program, drawn: Path, tmp_path: Path) -> None:
@@ -437,13 +435,13 @@ exec {program.path} "$@"
         assert server.get(path_of("match", GOOD)).status in (200, 422)
 
 
-def run_serve(program: Program, *words: object) -> "subprocess.CompletedProcess[str]":
-    """Runs the command, which fails."""
-    environment = os.environ | {"OLR_PROGRAM": str(program.path), "PYTHONPATH": str(TOP / "python")}
-    command = ["/usr/bin/python3", "-m", "olr", "serve", "--map", *map(str, words)]
-    return subprocess.run(
-        command, capture_output=True, text=True, env=environment, check=False, timeout=30
-    )
+def refusal_of(program: Program, folder: Path, log: Path, port: int = 0) -> str:
+    """The last line that a server says which doesn't start."""
+    words = ["serve", "--map", str(folder), "--port", str(port)]
+    with forked(words, os.environ | {"OLR_PROGRAM": str(program.path)}, log) as process:
+        assert process.stdout is not None and process.stdout.read() == ""
+        assert process.wait() == 1
+    return log.read_text().splitlines()[-1]
 
 
 @pytest.mark.parametrize("number", [signal.SIGTERM, signal.SIGINT])

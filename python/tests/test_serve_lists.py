@@ -31,6 +31,7 @@ from page_of_server import (
     UNMATCHED,
     VERDICT,
     Page,
+    opened,
 )
 from servers import Server, serving, wait_until
 
@@ -47,9 +48,9 @@ def answers(
     return batch_of(program, "places", records, ["--map", folder, *words])
 
 
+@opened(AS_PROGRAM)
 def test_a_list(page: Page, program: Program, tools: Tools, folder: Path, tmp_path: Path) -> None:
     """A list that is pasted, its table, keys, and the picture that follows."""
-    page.open(AS_PROGRAM)
     event = "new ClipboardEvent('paste', {bubbles: true, cancelable: true, clipboardData: data})"
     page.value(
         f"(() => {{ const data = new DataTransfer(); data.setData('text/plain', {json.dumps(MESSAGES)});"
@@ -95,8 +96,8 @@ def test_a_list(page: Page, program: Program, tools: Tools, folder: Path, tmp_pa
     assert page.is_quiet("status of 422")
 
 
+@opened(AS_PROGRAM)
 def test_options_ask_a_list_anew(page: Page) -> None:
-    page.open(AS_PROGRAM)
     page.read(MESSAGES)
     page.browser.click("#options-button")
     page.fill("#option-lowest", "2")
@@ -138,6 +139,7 @@ def test_a_list_is_sorted_and_filtered_by_probability(page: Page) -> None:
     assert page.is_quiet()
 
 
+@opened(f"{AS_PROGRAM}&look=1")
 def test_a_list_that_is_looked_at_in_part(
     page: Page, tools: Tools, folder: Path, tmp_path: Path
 ) -> None:
@@ -146,7 +148,6 @@ def test_a_list_that_is_looked_at_in_part(
     file.write_text(MESSAGES)
     words = ["match", file, "--map", folder, "--places", *OF_PROGRAM, "--look", 1]
     said = tools.run(*words, "--out", tmp_path / "out.csv").stdout
-    page.open(f"{AS_PROGRAM}&look=1")
     page.read(MESSAGES)
     assert "\ncut off: 2 may have more places: give a greater --look\n" in said
     assert "2 may have more places: give a greater look." in page.text("#progress")
@@ -162,9 +163,9 @@ def drop(page: Page, name: str, text: str) -> None:
     )
 
 
+@opened(AS_PROGRAM)
 def test_files_that_are_dropped(page: Page) -> None:
     """Tables and JSON, with keys that look like markup."""
-    page.open(AS_PROGRAM)
     drop(page, "feed.csv", f'id;key;ref\n1;"{MARKUP}";{ROADWORKS}\n2;;{UNMATCHED}\n')
     page.wait("document.querySelector('#list').dataset.state === 'done'")
     page.settle()
@@ -208,11 +209,11 @@ def town(tmp_path_factory: pytest.TempPathFactory) -> Path:
     return draw_map(tmp_path_factory.mktemp("town"))
 
 
-def test_five_hundred_rows(
+def test_two_hundred_rows(
     browser: Browser, program: Program, tools: Tools, town: Path, tmp_path: Path
 ) -> None:
     """Verdicts and faults are those of the program, and probabilities those of `olr-tools match`."""
-    texts = draw_references(town, 2000)[:500]
+    texts = draw_references(town, 200)
     lines = [f"k{number}\t{text}" for number, text in enumerate(texts)]
     expected = answers(program, town, tmp_path, texts, *OF_FEED)
     with serving(program.path, town, tmp_path / "log") as server:
@@ -222,7 +223,7 @@ def test_five_hundred_rows(
         assert page.column(KEY) == [line.partition("\t")[0] for line in lines]
         verdicts = ["refused" if isinstance(one, str) else one["verdict"] for one in expected]
         assert page.column(VERDICT) == verdicts
-        assert "500 of 500 answered" in page.text("#progress")
+        assert "200 of 200 answered" in page.text("#progress")
         file = tmp_path / "messages.tsv"
         file.write_text("\n".join(lines))
         likeliest = likeliest_of(tools, file, town)
@@ -235,7 +236,7 @@ def test_five_hundred_rows(
         ]
         page.value(f"[...document.querySelectorAll('#rows thead button')].at({TOTAL}).click()")
         totals = [int(text.replace(",", "")) for text in page.column(TOTAL) if text]
-        assert totals == sorted(totals) and len(totals) > 250
+        assert totals == sorted(totals) and len(totals) > 100
         options = page.value(
             "[...document.querySelector('#rows select').options].map(e => e.textContent)"
         )

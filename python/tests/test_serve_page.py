@@ -18,7 +18,7 @@ from olr.model.questions import TOLERANCES
 from olr.pages.view.scene import scene_of
 from olr.pages.view.surroundings import Surroundings
 from olr.serving import scenes
-from page_of_server import AS_PROGRAM, MESSAGES, OF_FEED, ROADWORKS, UNMATCHED, Page
+from page_of_server import AS_PROGRAM, MESSAGES, OF_FEED, ROADWORKS, UNMATCHED, Page, opened
 from servers import Server, serving, wait_until
 
 
@@ -57,10 +57,10 @@ def test_texts_that_are_no_references(page: Page) -> None:
     assert page.is_quiet("status of 422")
 
 
+@opened(AS_PROGRAM)
 def test_one_scene_after_the_other(page: Page) -> None:
     """What was drawn is gone: as many elements are there as if it had been the first one."""
     counted = "document.querySelectorAll('#place *').length"
-    page.open(AS_PROGRAM)
     page.ask(ROADWORKS)
     first = page.value(counted)
     for _ in range(3):
@@ -145,9 +145,9 @@ def test_profiles(page: Page, program: Program, folder: Path) -> None:
     assert page.is_quiet("status of 400")
 
 
+@opened(f"?ref={quote(ROADWORKS, safe='/')}&radius=1001")
 def test_an_option_of_an_address_that_is_out_of_its_range(page: Page) -> None:
     """Its field comes into sight when something else is asked for, and is named."""
-    page.open(f"?ref={quote(ROADWORKS, safe='/')}&radius=1001")
     assert page.settle() == "failed" and "from 1 to 1000" in page.text("#problem")
     assert page.value("document.querySelector('#options').hidden")
     page.fill("#ref", UNMATCHED)
@@ -157,9 +157,9 @@ def test_an_option_of_an_address_that_is_out_of_its_range(page: Page) -> None:
     assert page.is_quiet("status of 400")
 
 
+@opened(AS_PROGRAM)
 def test_an_address_has_all(page: Page) -> None:
     """A tab that is opened anew shows the same; and so does going back."""
-    page.open(AS_PROGRAM)
     page.ask(UNMATCHED)
     page.ask(ROADWORKS)
     page.browser.press("Tab")

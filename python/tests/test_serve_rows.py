@@ -136,7 +136,10 @@ def test_a_client_that_stops_reading(program: Program, town: Town, tmp_path: Pat
         head = (
             f"POST /rows HTTP/1.1\r\nHost: localhost:{server.port}\r\nContent-Type: text/plain\r\n"
         )
-        with socket.create_connection(("127.0.0.1", server.port)) as connection:
+        with socket.socket() as connection:
+            # The system holds few rows for it.
+            connection.setsockopt(socket.SOL_SOCKET, socket.SO_RCVBUF, 4096)
+            connection.connect(("127.0.0.1", server.port))
             connection.sendall(f"{head}Content-Length: {len(records)}\r\n\r\n".encode())
             connection.setblocking(False)
             sent, since = 0, time.monotonic()
