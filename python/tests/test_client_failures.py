@@ -175,12 +175,12 @@ def test_an_interrupted_start(program: Program, monkeypatch: pytest.MonkeyPatch)
             super().result(timeout)
             raise KeyboardInterrupt
 
-    before = children()
+    before, threads = children(), threading.active_count()
     with town(program) as asked, monkeypatch.context() as patch:
         patch.setattr("olr.asking.threaded.Future", Interrupted)
         with pytest.raises(KeyboardInterrupt):
             asked.match(REFERENCE)
-        wait_until(lambda: children() <= before and threading.active_count() == 1)
+        wait_until(lambda: children() <= before and threading.active_count() == threads)
         patch.undo()
         assert asked.match(REFERENCE)
 
