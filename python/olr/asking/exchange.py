@@ -58,11 +58,12 @@ class Exchange:
 
     def receive(self, data: bytes) -> Iterator[RawLine]:
         """The lines that end in what was read. Raises `ProgramEnded` at one that isn't that of the next record, and `AnswerTooLarge`."""
-        self._unfinished.append(data)
-        self._size += len(data)
-        if b"\n" in data:
-            *lines, rest = b"".join(self._unfinished).split(b"\n")
-            self._unfinished, self._size = [rest], len(rest)
+        first, *others = data.split(b"\n")
+        self._unfinished.append(first)
+        self._size += len(first)
+        if others:
+            lines = [b"".join(self._unfinished), *others[:-1]]
+            self._unfinished, self._size = others[-1:], len(others[-1])
             for line in lines:
                 yield self._line(line)
         if self._size > self._most:

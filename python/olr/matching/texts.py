@@ -40,10 +40,11 @@ class GeoJson:
 
     def add(self, values: Mapping[str, Sequence[Any]], shapes: Polylines) -> None:
         """Adds rows. Raises `OSError`."""
-        points = np.round(shapes.points, DIGITS).tolist()
+        points = np.round(shapes.points, DIGITS)
         behind = np.cumsum(shapes.sizes).tolist()
         for size, end, row in zip(shapes.sizes.tolist(), behind, zip(*values.values())):
-            geometry = _geometry(points[end - size : end])
+            # As lists they take ten times as much: those of one row at a time.
+            geometry = _geometry(points[end - size : end].tolist())
             properties = dict(zip(values, row))
             feature = {"type": "Feature", "properties": properties, "geometry": geometry}
             text = json.dumps(feature, ensure_ascii=False, separators=(",", ":"))
