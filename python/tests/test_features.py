@@ -1,10 +1,11 @@
 """GeoJSON of `olr-tools serve`, with a made-up map: when it is wanted, and that all of it is of one version of the map."""
 
+import asyncio
 import pytest
 from collections.abc import Mapping
 from typing import Any, cast
 
-from fake_pool import run_within
+from fake_pool import run_within, turns
 from olr.asking.files import Version
 from olr.confidence.confidence import Confidence
 from olr.errors import MapRefused
@@ -81,6 +82,36 @@ class FakeMap:
         return self
 
 
+def features_of(served: FakeMap) -> Features:
+    """What makes GeoJSON of a map."""
+    return Features(cast(Served, served), Confidence.default(), Room(5), Room(5, 1))
+
+
+@pytest.mark.parametrize(("page", "most"), [(100, 3), (101, 1)])
+def test_large_ones_are_made_one_at_a_time(page: int, most: int) -> None:
+    """From the question on."""
+    there = greatest = 0
+
+    class Counting(FakeMap):
+        async def answer(self, question: Question, _: Any) -> Known:
+            nonlocal there, greatest
+            there += 1
+            greatest = max(greatest, there)
+            await turns()
+            there -= 1
+            return await super().answer(question, _)
+
+    async def run() -> None:
+        features = features_of(Counting({"match": "a", "candidates": "a"}, "a"))
+        question = Question(kind_of("match", {"page": str(page)}, 10_000), b"x", None)
+        asked = [features.of(question, lambda: False) for _ in range(3)]
+        # The network is a made-up one, of which nothing can be drawn.
+        await asyncio.gather(*asked, return_exceptions=True)
+        assert greatest == most
+
+    run_within(run())
+
+
 @pytest.mark.parametrize("other", ["match", "candidates", "network"])
 def test_answers_of_another_version(other: str) -> None:
     """They are asked once more, and then refused."""
@@ -91,7 +122,7 @@ def test_answers_of_another_version(other: str) -> None:
     question = Question(kind_of("match", {}, 10_000), b"x", None)
 
     async def run() -> None:
-        features = Features(cast(Served, fake), Confidence.default(), Room(5))
+        features = features_of(fake)
         await features.of(question, lambda: False)
 
     with pytest.raises(MapRefused, match="another version of the map"):

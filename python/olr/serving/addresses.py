@@ -76,7 +76,9 @@ class _Answers:
     def __init__(self, service: Service) -> None:
         self._service, self._served, self._limits = service, service.served, service.limits
         self._room = Room(service.limits.time)
-        self._features = features.Features(self._served, service.confidence, self._room)
+        self._features = features.Features(
+            self._served, service.confidence, self._room, Room(service.limits.time, 1)
+        )
         self._scenes = Scenes(self._served, self._limits, service.confidence, self._room)
 
     async def question(self, what: What, request: Request) -> Response:

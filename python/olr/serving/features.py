@@ -2,7 +2,8 @@
 
 import asyncio
 import re
-from io import StringIO
+from contextlib import nullcontext
+from io import BytesIO, TextIOWrapper
 from typing import NamedTuple
 
 from olr.asking.processes import Kind
@@ -20,6 +21,8 @@ from olr.serving.rooms import Room
 from olr.serving.served import IsGone, Known, Served, Versions, of_one_edition
 
 MEDIA_TYPE = "application/geo+json"
+PAGE_ALONE = 100
+"""Pages of more matchings are asked for and made one at a time: one of 1,000 long ones has 18 MB as JSON and twice as much as GeoJSON."""
 WEIGHT = re.compile(r"q=(0(?:\.[0-9]{0,3})?|1(?:\.0{0,3})?)", re.IGNORECASE)
 """How well a client likes a type, from 0 for not at all to 1: 1 where it doesn't say so."""
 
@@ -46,10 +49,18 @@ class Features(NamedTuple):
     served: Served
     confidence: Confidence
     room: Room
+    alone: Room
+    """Of one at a time, for those that may be large."""
 
     async def of(self, question: Question, is_gone: IsGone) -> bytes:
         """A feature for each matching, or for each place that is shown, the likeliest one first; or one without a geometry. Raises as
         `Served.answer` and `Room.place`."""
+        is_large = question.kind.numbers().get("page", 0) > PAGE_ALONE
+        async with self.alone.place(is_gone) if is_large else nullcontext():
+            return await self._made(question, is_gone)
+
+    async def _made(self, question: Question, is_gone: IsGone) -> bytes:
+        """As `of`."""
         judging: Judging | None = None
         asked = question
         if question.kind.what == "places":
@@ -96,8 +107,11 @@ def _text(
     answer = read_answer(what, known.json, known.digest)
     asked = Answered(None, question.text.decode(), answer, counted)
     rows = Chunk([asked], network, judging or Judging()).rows()
-    stream = StringIO()
+    raw = BytesIO()
+    # A StringIO takes four times as much, and the bytes of it besides.
+    stream = TextIOWrapper(raw, encoding="utf-8", newline="")
     written = GeoJson(stream, what)
     written.add(rows.values, rows.shapes)
     written.end()
-    return stream.getvalue().encode()
+    stream.flush()
+    return raw.getvalue()

@@ -13,12 +13,12 @@ which look at the files of the map: they don't wait for all that are to be made.
 
 
 class Room:
-    """Room for ABREAST at once. The others wait."""
+    """Room for some at once. The others wait."""
 
-    def __init__(self, seconds: float) -> None:
-        """`seconds` is how long one may wait."""
+    def __init__(self, seconds: float, most: int = ABREAST) -> None:
+        """`seconds` is how long one may wait, and `most` how many there are at once."""
         self._seconds = seconds
-        self._places = asyncio.Semaphore(ABREAST)
+        self._places = asyncio.Semaphore(most)
 
     @asynccontextmanager
     async def place(self, is_gone: IsGone) -> AsyncIterator[None]:
