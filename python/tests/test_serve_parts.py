@@ -3,6 +3,8 @@
 import asyncio
 import json
 import pytest
+import subprocess
+import sys
 from collections.abc import Awaitable, Callable, Iterator
 from starlette.requests import Request
 from starlette.types import Scope
@@ -16,7 +18,8 @@ from olr.model.fault import Fault
 from olr.serving.allowed import allowed_for, require_allowed
 from olr.serving.front import Front
 from olr.serving.limits import MIB, MOST_REQUESTS, Limits
-from olr.serving.lists import MOST_ROWS, Lists, lines_of, most_bytes, reading_of
+from olr.serving.listing import MOST_ROWS
+from olr.serving.lists import LISTING, Lists, most_bytes, reading_of
 from olr.serving.meters import Meters
 from olr.serving.problems import Problem, of_error, of_status
 from olr.serving.queries import kind_of, options_of, question_of
@@ -285,7 +288,8 @@ def test_bytes_of_a_list() -> None:
             piece = next(pieces)
             return {"type": "http.request", "body": piece, "more_body": piece.startswith(b"x")}
 
-        scope = {"type": "http", "method": "POST", "headers": [], "query_string": b"format=tab"}
+        scope: dict[str, Any] = {"type": "http", "method": "POST", "headers": []}
+        scope |= {"query_string": b"format=tab", "is_gone": lambda: False}
         try:
             return (await Lists(Limits(body=10)).answer(Request(scope, receive))).status_code
         except Problem as problem:
@@ -295,13 +299,26 @@ def test_bytes_of_a_list() -> None:
     assert run_within(run(10)) == 200
 
 
+def read_list(body: bytes, format: str | None = None) -> tuple[int, bytes, bytes]:
+    """The status of a process that reads a list, its lines, and what it says."""
+    command = [sys.executable, "-P", "-c", LISTING, json.dumps([format, None, None])]
+    ended = subprocess.run(command, input=body, capture_output=True, check=False, timeout=60)
+    return ended.returncode, ended.stdout, ended.stderr
+
+
 def test_messages_of_a_list() -> None:
     """One more than are shown says that there are more."""
     for count, lines in ((MOST_ROWS, MOST_ROWS), (MOST_ROWS + 5, MOST_ROWS + 1)):
-        body = f"k\t{REFERENCE}\n".encode() * count
-        found = lines_of(body, reading_of({})).splitlines()
-        assert len(found) == lines
+        status, text, said = read_list(f"k\t{REFERENCE}\n".encode() * count)
+        found = text.splitlines()
+        assert (status, said, len(found)) == (0, b"", lines)
         assert json.loads(found[-1]) == {"record": lines, "key": "k", "reference": REFERENCE}
+
+
+def test_a_list_of_too_many_values() -> None:
+    """It takes no more memory than it may: four times as much as its bytes."""
+    status, text, said = read_list(b"[" + b"[]," * 5_500_000 + b"[]]", "json")
+    assert (status, text) == (1, b"") and said.startswith(b"the list has more values than are read")
 
 
 def test_options_of_a_list() -> None:

@@ -16,7 +16,7 @@
 | `features`, `scenes`, `rows` | answers as GeoJSON, as what a page draws, and as the rows of its list |
 | `rooms` | how many of these are made at once |
 | `streaming` | `POST /batch/{command}` and `POST /rows` |
-| `lists` | `POST /messages`: lists as the page shows them |
+| `lists`, `listing` | `POST /messages`: lists as the page shows them; the process that reads one |
 | `openapi`, `pages` | the addresses as an OpenAPI document, and the pages with the files that they load |
 | `addresses` | the addresses, and what each answers |
 | `allowed`, `front` | who may ask, and what stands before the addresses |

@@ -2,28 +2,32 @@
 
 import asyncio
 import json
-from io import BytesIO
-from itertools import islice
+import sys
+from collections.abc import AsyncIterator
+from contextlib import asynccontextmanager
+from pathlib import Path
 from starlette.requests import ClientDisconnect, Request
 from starlette.responses import Response
+from tempfile import TemporaryFile
+from typing import IO
 
-from olr.errors import ToolError
-from olr.messages.message import FORMATS, Message, Reading
-from olr.messages.reading import messages_in
-from olr.model.questions import record_text
+from olr.messages.message import FORMATS, Reading
 from olr.serving.limits import MIB, Limits
 from olr.serving.problems import Problem, bad_request, busy
 from olr.serving.queries import Options, options_of
+from olr.serving.rooms import Room
+from olr.serving.runs import ended_with
 
 MEDIA_TYPE = "application/x-ndjson"
-NAME = "the list"
-"""What errors call it."""
-MOST_ROWS = 10_000
-"""Messages that the page shows. The answer has one more where there are more."""
 MOST_BYTES = 16 * MIB
-"""Of a list. Python's reader of JSON takes a third of a second for so much, in which nothing else is answered."""
+"""Of a list."""
 ABREAST = 2
 """Lists that are read at once."""
+LARGE = MIB
+"""Of longer ones one is read at a time."""
+PACKAGE = Path(__file__).resolve().parents[2]
+LISTING = f"import sys; sys.path.insert(0, {str(PACKAGE)!r}); from olr.serving.listing import main; sys.exit(main(sys.argv[1:]))"
+"""What the process runs: the package lies where this server has it, installed or not."""
 
 
 def most_bytes(limits: Limits) -> int:
@@ -32,39 +36,52 @@ def most_bytes(limits: Limits) -> int:
 
 
 class Lists:
-    """Reads lists."""
+    """Reads lists, each in a process of its own, once all of it is there."""
 
     def __init__(self, limits: Limits) -> None:
         self._limits = limits
-        self._room = asyncio.Semaphore(ABREAST)
+        self._room, self._alone = Room(limits.time, ABREAST), Room(limits.time, 1)
 
     async def answer(self, request: Request) -> Response:
         """The messages of the body as lines of JSON. Raises `Problem` for a list that is too long, or isn't understood."""
         reading = reading_of(options_of(request.scope["query_string"]))
+        late = busy(f"the list wasn't there and read within {self._limits.time:g} seconds")
         try:
-            async with asyncio.timeout(self._limits.time):
-                async with self._room:
-                    body = await self._body(request)
-                    text = await asyncio.to_thread(lines_of, body, reading)
+            async with self._received(request) as (file, size):
+                room = self._alone if size > LARGE else self._room
+                async with room.place(request.scope["is_gone"]):
+                    status, text, said = await _read(file, reading, self._limits.time)
         except TimeoutError as error:
-            late = f"the list wasn't there and read within {self._limits.time:g} seconds"
-            raise busy(late) from error
-        except ToolError as error:
-            raise Problem(422, "UnreadableList", str(error)) from error
+            raise late from error
         except ClientDisconnect:
             return Response(status_code=400)
+        if status == 1 and said:
+            raise Problem(422, "UnreadableList", said.decode("utf-8", errors="replace"))
+        if status != 0:
+            raise Problem(503, "ProgramFailed", "the list couldn't be read: ask again")
         return Response(text, media_type=MEDIA_TYPE)
 
-    async def _body(self, request: Request) -> bytes:
-        """The body. Raises `Problem` for one that is too long."""
+    @asynccontextmanager
+    async def _received(self, request: Request) -> AsyncIterator[tuple[IO[bytes], int]]:
+        """A file with the body, and its size. Raises `Problem` for one that is too long, and `TimeoutError`."""
         most = most_bytes(self._limits)
-        body = bytearray()
-        async for piece in request.stream():
-            body += piece
-            if len(body) > most:
-                text = f"a list has {most:,} bytes at most here: olr-tools match reads any file"
-                raise Problem(413, "BodyTooLarge", text, {"Connection": "close"})
-        return bytes(body)
+        size = 0
+        with TemporaryFile() as file:
+            async with asyncio.timeout(self._limits.time):
+                async for piece in request.stream():
+                    size += len(piece)
+                    if size > most:
+                        text = f"a list has {most:,} bytes at most here: olr-tools match reads any file"
+                        raise Problem(413, "BodyTooLarge", text, {"Connection": "close"})
+                    file.write(piece)
+            file.seek(0)
+            yield file, size
+
+
+async def _read(file: IO[bytes], reading: Reading, seconds: float) -> tuple[int, bytes, bytes]:
+    """The status, the lines and the error of a process that reads a list. Raises `TimeoutError`."""
+    words = ["-P", "-c", LISTING, json.dumps(reading)]
+    return await ended_with(Path(sys.executable), words, seconds, file.fileno())
 
 
 def reading_of(options: Options) -> Reading:
@@ -78,19 +95,3 @@ def reading_of(options: Options) -> Reading:
     if format != given:
         raise bad_request(f"format is one of {', '.join(FORMATS)}")
     return Reading(format, options.get("ref"), options.get("key"))
-
-
-def lines_of(body: bytes, reading: Reading) -> bytes:
-    """The first messages of a list, each as a line of JSON. Raises `ToolError` if it isn't understood."""
-    messages = messages_in(BytesIO(body), reading, NAME)
-    return b"".join(_line(message) for message in islice(messages, MOST_ROWS + 1))
-
-
-def _line(message: Message) -> bytes:
-    """A message as JSON. A reference that is too long is so whatever it has."""
-    about = {
-        "record": message.record,
-        "key": message.key,
-        "reference": record_text(message.reference).decode(),
-    }
-    return json.dumps(about, separators=(",", ":")).encode() + b"\n"

@@ -9,7 +9,7 @@ from typing import Any
 from olr.messages.message import FORMATS
 from olr.model.profiles import FEED, PROFILE, PROFILES, PROGRAM, about_text, tolerances_of
 from olr.model.questions import NUMBERS, TOLERANCES, Number, What
-from olr.serving import features, lists, meters, problems, streaming
+from olr.serving import features, listing, lists, meters, problems, streaming
 from olr.serving.limits import Limits
 from olr.serving.queries import AFTER, REF, numbers_of
 from olr.version import VERSION
@@ -124,7 +124,7 @@ def _messages(limits: Limits) -> Json:
     too_large = f"A list of more than {lists.most_bytes(limits):,} bytes"
     refusals = STATUSES | {"413": too_large, "422": "A list that isn't understood"}
     taken = (
-        f"Lines of a key, a tab and a reference, CSV or JSON. The first {lists.MOST_ROWS:,} messages are answered, and one more "
+        f"Lines of a key, a tab and a reference, CSV or JSON. The first {listing.MOST_ROWS:,} messages are answered, and one more "
         "if there are more"
     )
     body = _content(taken, ["application/octet-stream"], schema=TEXT)

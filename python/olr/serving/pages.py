@@ -14,7 +14,8 @@ from olr.model.profiles import FEED, PROFILES, about_text, tolerances_of
 from olr.model.questions import NUMBERS, TOLERANCES, Number
 from olr.pages.html import data_text, filled, leaflet, leaflet_licence, origin_of
 from olr.serving.limits import Limits
-from olr.serving.lists import MOST_ROWS, most_bytes
+from olr.serving.listing import MOST_ROWS
+from olr.serving.lists import most_bytes
 from olr.serving.problems import TITLES
 from olr.serving.queries import numbers_of
 

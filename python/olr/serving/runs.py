@@ -19,21 +19,30 @@ SECONDS_OF_VERSION = 10.0
 async def printed_by(program: Path, words: Sequence[str], seconds: float) -> bytes:
     """What a run of the program prints, without the line end. It is killed after so many seconds, and where this is cancelled. Raises
     `Fault`, `MapRefused`, `ProgramNotFound`, `ProgramEnded`, `TimedOut`, and `AnswerTooLarge`."""
-    process = await started(program, words, DEVNULL)
+    try:
+        status, printed, said = await ended_with(program, words, seconds)
+    except TimeoutError as error:
+        raise TimedOut(f"olr {words[0]} didn't end within {seconds:g} seconds") from error
+    return read_once(
+        program, words[0], status, printed, said, lambda text: text.removesuffix(b"\n")
+    )
+
+
+async def ended_with(
+    program: Path, words: Sequence[str], seconds: float, stdin: int = DEVNULL
+) -> tuple[int, bytes, bytes]:
+    """The status of a run of a program, what it prints, and what it says on standard error. It is killed after so many seconds, and where
+    this is cancelled. Raises `TimeoutError`, `ProgramNotFound` and `AnswerTooLarge`."""
+    process = await started(program, words, stdin)
     try:
         async with asyncio.timeout(seconds):
             printed = await _all_of(process.stdout, MOST_ANSWER)
             said = await _all_of(process.stderr, MOST_SAID)
-            status = await process.wait()
-    except TimeoutError as error:
-        raise TimedOut(f"olr {words[0]} didn't end within {seconds:g} seconds") from error
+            return await process.wait(), printed, said
     finally:
         if process.returncode is None:
             kill_group_of(process.pid)
             await process.wait()
-    return read_once(
-        program, words[0], status, printed, said, lambda text: text.removesuffix(b"\n")
-    )
 
 
 async def version_of(program: Path) -> str:
