@@ -10,10 +10,11 @@
 // References that are asked at once. The server gives others a turn between two lots.
 const AT_ONCE = 500;
 
-function listOf({ place, data, fields, onChoose }) {
+function listOf({ place, data, fields, say, onChoose }) {
   const find = (selector) => place.querySelector(selector);
   const [bar, words, stop, goOn] = ["progress", "[role=status]", "#stop", "#go-on"].map(find);
-  const grouped = (value) => value.toLocaleString("en");
+  const numbers = new Intl.NumberFormat("en");
+  const grouped = (value) => numbers.format(value);
   let rows = [];
   let table = null;
   let note = "";
@@ -75,6 +76,8 @@ function listOf({ place, data, fields, onChoose }) {
         { title: "Verdict", value: (row) => row.verdict },
         { title: "Probability", value: (row) => shareOf(row.probability) },
       ],
+      isLong: true,
+      say,
       onChoose: (index, event) => onChoose(rows[index], event),
     });
   };
@@ -163,6 +166,7 @@ function listOf({ place, data, fields, onChoose }) {
     tell("stopped", "Stopped.");
   });
   goOn.addEventListener("click", goOnAsking);
+  for (const change of ["beforeprint", "afterprint"]) addEventListener(change, () => table && table.print(change === "beforeprint"));
 
   const rowOf = ({ ref, key, record }) => rows.find((row) => row.reference === ref && String(row.record) === String(record) && row.key === key);
   const choose = (row) => table && table.choose(row ? row.index : -1);

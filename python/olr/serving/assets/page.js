@@ -27,6 +27,7 @@
     place: find("list"),
     data,
     fields,
+    say: (text) => { find("status").textContent = text; },
     onChoose: (row, event) => follow(row, event.type === "click" ? "push" : "replace"),
   });
 
