@@ -109,6 +109,7 @@ class Page:
 
     def read(self, text: str) -> None:
         """Writes a list into its field, and has it read and answered."""
+        self.value("delete document.querySelector('#list').dataset.state")
         self.value("document.querySelector('#list-form').hidden = false")
         self.value(f"document.querySelector('#list-text').value = {json.dumps(text)}")
         self.browser.click("#list-form button")
@@ -157,9 +158,10 @@ def server(
 
 @pytest.fixture
 def page(browser: Browser, server: Server, request: pytest.FixtureRequest) -> Page:
-    """Its page, without a reference, unless a test is `opened` otherwise."""
+    """Its page, without a reference, unless a test is `opened` otherwise, and without the list of the test before."""
     found = Page(browser, server)
     found.open(getattr(request, "param", ""))
+    found.value("document.querySelector('#close').click()")
     return found
 
 

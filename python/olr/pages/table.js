@@ -56,6 +56,8 @@ function sortedTable({ place, caption, columns, rows, choices = [], isLong = fal
 
   // ---- the table
   const table = made("table", "", "sorted");
+  // Arrows go from row to row then, and aren't a screen reader's own keys.
+  table.setAttribute("role", "grid");
   table.append(made("caption", caption));
   const head = table.createTHead().insertRow();
   head.setAttribute("aria-rowindex", "1");
