@@ -13,8 +13,6 @@ from page_of_server import KEY, MESSAGES, ROADWORKS, VERDICT, Page
 from servers import Server, serving, wait_until
 
 DONE = "document.querySelector('#list').dataset.state === 'done'"
-CAUGHT = """window.saved = []; URL.createObjectURL = (blob) => { window.saved.push(blob); return 'blob:nothing'; };
-HTMLAnchorElement.prototype.click = function () { window.saved.push(this.download); };"""
 
 
 def reload(page: Page) -> None:
@@ -97,23 +95,28 @@ def test_a_list_of_another_map(
         assert page.column(VERDICT) == ["none"] * 4 + ["refused"]
 
 
-def saved(page: Page, button: str) -> tuple[str, str]:
-    """What a button saves: the name and the text of a file."""
-    page.value(CAUGHT)
+def saved(page: Page, folder: Path, button: str, name: str) -> str:
+    """The text of the file that a button has the browser save."""
+    page.browser.call("Page.setDownloadBehavior", behavior="allow", downloadPath=str(folder))
     page.value(f"document.querySelector('{button}').click()")
-    page.wait("window.saved.length === 2")
-    name, text = page.value("(async () => [window.saved[1], await window.saved[0].text()])()")
-    return name, text
+    wait_until((folder / name).exists)
+    text = (folder / name).read_text(encoding="utf-8")
+    (folder / name).unlink()
+    return text
 
 
-def test_rows_as_csv(page: Page, server: Server) -> None:
+def saved_rows(page: Page, folder: Path) -> list[dict[str, str]]:
+    """The rows of the CSV that the browser saves."""
+    text = saved(page, folder, "#save-csv", "references.csv")
+    return list(csv.DictReader(io.StringIO(text)))
+
+
+def test_rows_as_csv(page: Page, server: Server, tmp_path: Path) -> None:
     """The rows that are shown, in their order, with the columns of `/rows`. What would be a formula is a text."""
     keys = ["=1+1", "+1", "-1", "@a", "\ta", 'a "b", c', "ü", "2"]
     text = json.dumps([{"key": key, "ref": ROADWORKS} for key in keys] + [{"ref": "=CwVG"}])
     page.read(text)
-    name, found = saved(page, "#save-csv")
-    rows = list(csv.DictReader(io.StringIO(found)))
-    assert name == "references.csv"
+    rows = saved_rows(page, tmp_path)
     assert [row["key"] for row in rows[:5]] == [f"'{key}" for key in keys[:5]]
     assert [row["key"] for row in rows[5:]] == [*keys[5:], ""]
     assert [row["record"] for row in rows] == [str(number + 1) for number in range(9)]
@@ -127,11 +130,9 @@ def test_rows_as_csv(page: Page, server: Server) -> None:
     page.value("document.querySelectorAll('#rows thead button')[0].click()")
     page.value("document.querySelectorAll('#rows thead button')[0].click()")
     page.fill("#rows input", "ü")
-    assert [row["key"] for row in csv.DictReader(io.StringIO(saved(page, "#save-csv")[1]))] == ["ü"]
+    assert [row["key"] for row in saved_rows(page, tmp_path)] == ["ü"]
     page.fill("#rows input", "ambiguous")
-    records = [
-        int(row["record"]) for row in csv.DictReader(io.StringIO(saved(page, "#save-csv")[1]))
-    ]
+    records = [int(row["record"]) for row in saved_rows(page, tmp_path)]
     assert records == sorted(records, reverse=True) and len(records) == 8
     assert page.is_quiet("status of 422")
 
@@ -139,8 +140,7 @@ def test_rows_as_csv(page: Page, server: Server) -> None:
 def test_places_as_geojson(page: Page, tools: Tools, folder: Path, tmp_path: Path) -> None:
     """A feature for each row that is shown: that of the likeliest place in the file of `olr-tools match`, or one without a geometry."""
     page.read(MESSAGES)
-    name, found = saved(page, "#save-geojson")
-    assert name == "places.geojson"
+    found = saved(page, tmp_path, "#save-geojson", "places.geojson")
     file, out = tmp_path / "messages.tsv", tmp_path / "out.geojson"
     file.write_text(MESSAGES)
     ended = tools.run("match", file, "--map", folder, "--places", "--out", out)
@@ -160,7 +160,6 @@ def test_places_as_geojson(page: Page, tools: Tools, folder: Path, tmp_path: Pat
 def test_geojson_that_is_stopped(page: Page) -> None:
     """By the same button, and by a server that doesn't answer, which is said."""
     page.read(MESSAGES)
-    page.value(CAUGHT)
     hanging = "((before) => { window.fetch = (address, more) => String(address).startsWith('places') ? %s : before(address, more); })(fetch)"
     never = "new Promise((_, fail) => more.signal.addEventListener('abort', () => fail(more.signal.reason)))"
     page.value(hanging % never)
@@ -171,5 +170,5 @@ def test_geojson_that_is_stopped(page: Page) -> None:
     page.value(hanging % "Promise.reject(new TypeError('gone'))")
     page.browser.click("#save-geojson")
     page.wait("document.querySelector('#answered').textContent.includes('reached')")
-    assert page.text("#save-geojson") == "Save GeoJSON" and page.value("window.saved.length") == 0
+    assert page.text("#save-geojson") == "Save GeoJSON"
     assert page.is_quiet("status of 422")

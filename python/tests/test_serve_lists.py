@@ -238,6 +238,13 @@ def test_two_hundred_rows(
         assert [text == "turns back" for text in columns[TURNS_BACK]] == [
             row["turns_back"] == "1" for row in likeliest
         ]
+        # On paper there are all.
+        drawn = f"{SHOWN}.length"
+        assert page.value(drawn) < 100
+        page.value("dispatchEvent(new Event('beforeprint'))")
+        assert page.value(drawn) == 200
+        page.value("dispatchEvent(new Event('afterprint'))")
+        assert page.value(drawn) < 100
         page.value(f"[...document.querySelectorAll('#rows thead button')].at({TOTAL}).click()")
         totals = [int(text.replace(",", "")) for text in page.column(TOTAL) if text]
         assert totals == sorted(totals) and len(totals) > 100

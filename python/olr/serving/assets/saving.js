@@ -2,7 +2,7 @@
 // What goes out of a list: its rows as CSV, and its likeliest places as GeoJSON. The columns are those of docs/COLUMNS.md, and `reference`.
 const SAVED = ["record", "key", "verdict", "probability", "none_of_these", "turns_back", "total", "margin", "reasons", "fault", "reference"];
 // Places that are asked for at once.
-const PLACES_AT_ONCE = 4;
+const PLACES_AT_ONCE = 2;
 
 // Rows as CSV. A text that a spreadsheet would take for a formula has an apostrophe in front of it.
 function csvOf(rows) {
