@@ -234,6 +234,7 @@ function sortedTable({ place, caption, columns, rows, choices = [], isLong = fal
     // In the frame alone: the page itself stays where it is.
     const { offsetTop: top, offsetHeight: height } = lines.get(index);
     frame.scrollTop = Math.min(Math.max(frame.scrollTop, top + height - frame.clientHeight), top - head.offsetHeight);
+    if (isLong) paint();
   };
   body.addEventListener("click", (event) => {
     const line = event.target.closest("tr");
