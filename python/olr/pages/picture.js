@@ -185,7 +185,7 @@ function pictureOf({ map: place, panel, tiles = null, onChoose = () => {} }) {
     ranked.flat().forEach((marker) => marker.getElement() && marker.getElement().classList.remove("chosen"));
     if (chosen >= 0) {
       const entry = scene.entries[chosen];
-      line(entry.outer, "outer", { weight: 14 });
+      line(entry.outer, "outer", { weight: 16 });
       line(entry.inner, "casing", { weight: 9 });
       line(entry.inner, "inner", { weight: 6 });
       line(entry.route, "route", { weight: 2, dashArray: "7 5" });
@@ -270,7 +270,7 @@ function pictureOf({ map: place, panel, tiles = null, onChoose = () => {} }) {
     ["a candidate, as point: rank; filled if it is the chosen one", '<rect x="18" y="5" width="9" height="9" transform="rotate(45 23 10)" class="of-mark" stroke-width="2"/>'],
     ["a line nearby that is no candidate", '<circle cx="23" cy="10" r="5" class="of-mark" stroke-width="2" stroke-dasharray="2 2"/>', () => near().length],
     ["the location, halfway between the two dots that it lies between", '<text x="23" y="18" text-anchor="middle" font-size="22" class="of-star" stroke-width=".7">\u2605</text>', () => scene.entries.some((entry) => entry.spot)],
-    ["the outer part: the location lies within it", '<path d="M2 10h42" class="of-outer" stroke-width="14"/>', () => scene.entries.some((entry) => entry.outer)],
+    ["the outer part: the location lies within it", '<path d="M2 10h42" class="of-outer" stroke-width="16"/>', () => scene.entries.some((entry) => entry.outer)],
     ["the inner part: the location covers it", '<path d="M2 10h42" class="of-casing" stroke-width="9"/><path d="M2 10h42" class="of-inner" stroke-width="6"/>', () => scene.entries.some((entry) => entry.outer)],
     ["the path between the candidates", '<path d="M2 10h42" class="of-route" stroke-width="2" stroke-dasharray="7 5"/>', () => scene.entries.length],
     ["another path, as short or nearly so", '<path d="M2 10h42" class="of-other" stroke-width="5" stroke-dasharray="8 4"/>', () => others().length],

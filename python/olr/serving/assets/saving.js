@@ -19,8 +19,8 @@ function valueOf(row, name) {
   return name === "verdict" && row.verdict === "refused" ? "fault" : row[name];
 }
 
-// The likeliest place of each row as GeoJSON, in the order of the rows. A row without a place has a feature without a geometry. `asked` has the options, and
-// `onStep(count)` is told how many are there. Throws as `asked` of asking.js.
+// The likeliest place of each row as GeoJSON, in the order of the rows. A row without a place has a feature without a geometry. `options` are those to ask
+// with, and `onStep(count)` is told how many are there. Throws as `asked` of asking.js.
 async function geojsonOf(rows, options, signal, onStep) {
   const found = new Array(rows.length);
   const queue = rows.entries();
