@@ -86,7 +86,8 @@ def wrong(change: Change) -> str | None:
     if change.text == change.into:
         return "it changes nothing"
     try:
-        compile(source.replace(change.text, change.into), change.file, "exec")
+        if change.file.endswith(".py"):
+            compile(source.replace(change.text, change.into), change.file, "exec")
     except SyntaxError as error:
         return f"it isn't Python: {error.msg}"
     return None

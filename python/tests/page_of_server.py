@@ -16,7 +16,28 @@ ROADWORKS = "CwVGnSN2zhvHCgDX/tIzAw=="
 UNMATCHED = "CwVGnSN2zhtnBgEB/2IjAQ=="
 """It fits none."""
 MESSAGES = (TOP / "examples/messages.tsv").read_text()
-SHOWN = "[...document.querySelectorAll('#rows tbody tr')].filter(line => !line.hidden)"
+SHOWN = "[...document.querySelectorAll('#rows tbody tr[data-index]')]"
+"""The rows of its table that are in the document."""
+ALL_CELLS = (
+    """(async () => {
+  const frame = document.querySelector('#rows .frame');
+  const before = frame.scrollTop;
+  const found = new Map();
+  const scroll = (top) => {
+    frame.scrollTop = top;
+    return new Promise((done) => requestAnimationFrame(() => requestAnimationFrame(done)));
+  };
+  for (let top = 0; ; top += 4 * frame.clientHeight) {
+    await scroll(top);
+    for (const line of %s) found.set(Number(line.ariaRowIndex), [...line.cells].map((cell) => cell.textContent));
+    if (frame.scrollTop < top || !frame.clientHeight || top + frame.clientHeight >= frame.scrollHeight) break;
+  }
+  await scroll(before);
+  return [...found].sort(([one], [other]) => one - other).map(([, cells]) => cells);
+})()"""
+    % SHOWN
+)
+"""The texts of all rows, which are scrolled through."""
 OF_FEED = [word for name, value in tolerances_of(FEED).items() for word in (f"--{name}", value)]
 """Words of the program for what the page asks, if nobody changes an option."""
 AS_PROGRAM = "?profile=program"
@@ -88,15 +109,21 @@ class Page:
 
     def read(self, text: str) -> None:
         """Writes a list into its field, and has it read and answered."""
+        self.value("delete document.querySelector('#list').dataset.state")
         self.value("document.querySelector('#list-form').hidden = false")
         self.value(f"document.querySelector('#list-text').value = {json.dumps(text)}")
         self.browser.click("#list-form button")
         self.wait("document.querySelector('#list').dataset.state === 'done'")
         self.settle()
 
-    def column(self, number: int) -> Any:
+    def rows(self) -> list[list[str]]:
+        """The texts of the rows that are shown, in sight or not."""
+        found: list[list[str]] = self.value(ALL_CELLS)
+        return found
+
+    def column(self, number: int) -> list[str]:
         """The texts of a column, of the rows that are shown."""
-        return self.value(f"{SHOWN}.map(line => line.cells[{number}].textContent)")
+        return [row[number] for row in self.rows()]
 
     def chosen(self, number: int) -> Any:
         """The text of a cell of the chosen row."""
@@ -131,9 +158,10 @@ def server(
 
 @pytest.fixture
 def page(browser: Browser, server: Server, request: pytest.FixtureRequest) -> Page:
-    """Its page, without a reference, unless a test is `opened` otherwise."""
+    """Its page, without a reference, unless a test is `opened` otherwise, and without the list of the test before."""
     found = Page(browser, server)
     found.open(getattr(request, "param", ""))
+    found.value("document.querySelector('#close').click()")
     return found
 
 

@@ -85,11 +85,14 @@ def test_a_list(page: Page, program: Program, tools: Tools, folder: Path, tmp_pa
     page.value("document.querySelector('#rows select').value = '=none'")
     page.value("document.querySelector('#rows select').dispatchEvent(new Event('change'))")
     assert page.column(KEY) == ["m4"]
-    page.browser.click("#rows tbody tr:nth-child(4)")
+    page.browser.click("#rows tbody tr")
     page.wait("document.querySelector('#why') && !document.querySelector('#why').hidden")
     assert page.text("#verdict") == "Nothing fits"
     page.value("history.back()")
     page.wait("document.body.dataset.state === 'failed'")
+    assert "key m5" in page.text("#row") and page.count("#rows [aria-current]") == 0
+    page.value("document.querySelector('#rows select').value = ''")
+    page.value("document.querySelector('#rows select').dispatchEvent(new Event('change'))")
     assert page.chosen(KEY) == "m5"
     page.browser.click("#close")
     assert page.count("#list") == 0
@@ -220,20 +223,28 @@ def test_two_hundred_rows(
         page = Page(browser, server)
         page.open()
         page.read("\n".join(lines))
-        assert page.column(KEY) == [line.partition("\t")[0] for line in lines]
+        columns = list(zip(*page.rows(), strict=True))
+        assert list(columns[KEY]) == [line.partition("\t")[0] for line in lines]
         verdicts = ["refused" if isinstance(one, str) else one["verdict"] for one in expected]
-        assert page.column(VERDICT) == verdicts
+        assert list(columns[VERDICT]) == verdicts
         assert "200 of 200 answered" in page.text("#progress")
         file = tmp_path / "messages.tsv"
         file.write_text("\n".join(lines))
         likeliest = likeliest_of(tools, file, town)
         for column, name in ((PROBABILITY, "probability"), (NONE_OF_THESE, "none_of_these")):
             rounded = [f"{float(row[name]):.3f}" if row[name] else "" for row in likeliest]
-            assert page.column(column) == rounded and len(set(rounded)) > 50
-        assert page.column(REASONS) == [row["fault"] or row["reasons"] for row in likeliest]
-        assert [text == "turns back" for text in page.column(TURNS_BACK)] == [
+            assert list(columns[column]) == rounded and len(set(rounded)) > 50
+        assert list(columns[REASONS]) == [row["fault"] or row["reasons"] for row in likeliest]
+        assert [text == "turns back" for text in columns[TURNS_BACK]] == [
             row["turns_back"] == "1" for row in likeliest
         ]
+        # On paper there are all.
+        drawn = f"{SHOWN}.length"
+        assert page.value(drawn) < 100
+        page.value("dispatchEvent(new Event('beforeprint'))")
+        assert page.value(drawn) == 200
+        page.value("dispatchEvent(new Event('afterprint'))")
+        assert page.value(drawn) < 100
         page.value(f"[...document.querySelectorAll('#rows thead button')].at({TOTAL}).click()")
         totals = [int(text.replace(",", "")) for text in page.column(TOTAL) if text]
         assert totals == sorted(totals) and len(totals) > 100
@@ -246,8 +257,9 @@ def test_two_hundred_rows(
         for _ in range(30):
             page.browser.press("ArrowDown")
         page.settle()
-        at = page.value(f"{SHOWN}.indexOf(document.querySelector('#rows [aria-current]'))")
-        assert at == 30
+        current = "document.querySelector('#rows [aria-current]')"
+        assert page.value(f"{current}.ariaRowIndex") == "32"
+        assert page.value(f"document.activeElement === {current}")
         assert page.text("#panel #reference").strip() == page.chosen(REFERENCE).strip()
         assert page.is_quiet("status of 422")
 
@@ -332,3 +344,65 @@ def test_long_lists_are_cut(server: Server) -> None:
     """The page shows 10,000 rows, and is told that there are more."""
     reply = server.get("/messages", "POST", f"{ROADWORKS}\n".encode() * 12_000)
     assert reply.body.count(b"\n") == 10_001
+
+
+def test_ten_thousand_rows(page: Page) -> None:
+    """The document has those in sight and some around. Sorting, searching and keys go over all of them."""
+    count = 10_000
+    keys = [f"k{number * 7919 % count}" for number in range(count)]
+    # Nothing is asked: the table is that of a list that is stopped at once.
+    page.value(
+        "window.fetch = ((before) => (address, more) => address.startsWith('rows') ? new Promise(() => {}) : before(address, more))(fetch)"
+    )
+    text = "".join(f"{key}\t{ROADWORKS}\n" for key in keys)
+    page.value(f"document.querySelector('#list-text').value = {json.dumps(text)}")
+    page.value("document.querySelector('#list-form').requestSubmit()")
+    page.wait("document.body.dataset.list === 'read'")
+    page.settle()
+    table = "document.querySelector('#rows table')"
+    frame = "document.querySelector('#rows .frame')"
+    drawn = f"{SHOWN}.map(line => [Number(line.ariaRowIndex), line.cells[1].textContent])"
+
+    def look(expected: list[str]) -> list[int]:
+        """The numbers of the rows that are in the document, whose keys are those that are expected."""
+        page.value("new Promise(done => requestAnimationFrame(() => requestAnimationFrame(done)))")
+        found = page.value(drawn)
+        assert len(found) <= 100
+        assert [expected[at - 2] for at, _ in found] == [key for _, key in found]
+        assert page.value(f"{table}.ariaRowCount") == str(len(expected) + 1)
+        return [at for at, _ in found]
+
+    assert look(keys)[0] == 2
+    height = page.value(f"{frame}.scrollHeight")
+    page.value(f"{frame}.scrollTop = 5000 * {SHOWN}[0].offsetHeight")
+    middle = look(keys)
+    # The chosen row has the keys, and stays.
+    assert middle[0] == 2 and middle[1] < 5002 < middle[-1] and page.chosen(KEY) == keys[0]
+    assert page.value("document.activeElement.ariaRowIndex") == "2"
+    assert page.value(f"{frame}.scrollHeight") == height
+    in_sight = f"(() => {{ const box = {frame}.getBoundingClientRect(); const line = document.elementFromPoint(box.x + 9, box.bottom - 40).closest('tr'); return Number(line.ariaRowIndex); }})()"
+    assert 5002 < page.value(in_sight) < 5030
+    page.browser.press("ArrowDown")
+    assert page.chosen(KEY) == keys[1] and look(keys)[0] == 2
+    page.browser.press("End")
+    assert page.chosen(KEY) == keys[-1] and look(keys)[-1] == count + 1
+    page.value("document.querySelectorAll('#rows thead button')[1].click()")
+    ordered = [f"k{number}" for number in range(count)]
+    look(ordered)
+    page.value("document.querySelector('#rows [aria-current]').focus()")
+    page.browser.press("Home")
+    assert page.chosen(KEY) == "k0" and look(ordered)[0] == 2
+    page.browser.call(
+        "Input.dispatchKeyEvent", type="rawKeyDown", key="f", code="KeyF", modifiers=2
+    )
+    assert page.value("document.activeElement.type") == "search"
+    page.browser.call("Input.insertText", text="k99")
+    found = [key for key in ordered if "k99" in key]
+    assert look(found)[0] == 2 and look(found)[-1] < 100 < len(found)
+    assert page.text(".tools .status") == f"{len(found)} of {count} rows"
+    page.value(f"{frame}.scrollTop = 1e6")
+    assert look(found)[-1] == len(found) + 1
+    page.fill("#rows input", "k777")
+    assert look(["k777", *(f"k777{digit}" for digit in range(10))]) == list(range(2, 13))
+    page.browser.click("#close")
+    assert page.is_quiet()

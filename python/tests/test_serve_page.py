@@ -273,7 +273,7 @@ def test_files_of_the_page(server: Server) -> None:
         assert reply.headers["content-security-policy"].startswith("default-src 'none';")
         texts[path] = reply.body.decode()
     assert "Vladimir Agafonkin" in server.get("/assets/leaflet-licence.txt").body.decode()
-    assert "style=" not in texts["/"] and texts["/"].count("<script ") == 9
+    assert "style=" not in texts["/"] and texts["/"].count("<script ") == 11
     assert "url(" not in "".join(texts[path] for path in texts if path.endswith(".css"))
 
 

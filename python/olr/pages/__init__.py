@@ -8,6 +8,7 @@
 | `table.js` | `sortedTable`: rows that are sorted, filtered and walked through by keys |
 | `map.js` | `mapOfMany`: lines and points by kind, on a canvas of Leaflet |
 | `bars.js` | `tableOfBars`: counts with bars |
+| `base.css` | of all pages: colours, light and dark, and what has the focus |
 | `shared.css` | styles of them, of tables with bars, and of what is printed |
 | `leaflet_licence.html` | the licence of Leaflet, as a comment |
 
@@ -16,7 +17,7 @@ A page is a package with `page.html`, `page.css` and `page.js`, named in the pac
     html_of(Template("olr.pages.report", ("bars", "map", "table")), "title", data)
 
 Its `page.html` is a template of jinja2, with the values `policy`, `title`, `licence`, `leaflet_css`, `css`, `leaflet_js`, `data` and `js`, as
-that of `olr.pages.view`. `css` is that of `shared.css` and the page, `js` that of the components and the page. The script finds the data by
+that of `olr.pages.view`. `css` is that of `base.css`, `shared.css` and the page, `js` that of the components and the page. The script finds the data by
 `JSON.parse(document.getElementById("data").textContent)`, and calls what it needs:
 
     const map = mapOfMany({ place, legend, kinds, shapes, onChoose: (row) => table.choose(row) });

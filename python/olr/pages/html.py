@@ -22,6 +22,8 @@ SHARED = "olr.pages"
 FROM_PAGE = ("policy", "title", "leaflet_css", "leaflet_js", "data")
 """What a page that makes others puts into their templates."""
 SUFFIXES = (".html", ".htm")
+BASE = "base.css"
+"""Styles of all pages: colours, light and dark, and the focus."""
 STYLES = {"picture": "picture.css"}
 """Of components; the others have those of `shared.css`."""
 
@@ -84,7 +86,10 @@ def _page(template: Template, values: Mapping[str, str]) -> str:
     own = {
         "licence": _file(SHARED, "leaflet_licence.html"),
         "css": "".join(
-            [*(_file(SHARED, name) for name in styles), _file(template.package, "page.css")]
+            [
+                *(_file(SHARED, name) for name in (BASE, *styles)),
+                _file(template.package, "page.css"),
+            ]
         ),
         "js": "".join([*scripts, _file(template.package, "page.js")]),
     }

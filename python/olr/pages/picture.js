@@ -45,6 +45,7 @@ function pictureOf({ map: place, panel, tiles = null, onChoose = () => {} }) {
       <h2>Keys</h2>
       <p><kbd>&uarr;</kbd> <kbd>&darr;</kbd> the next one in the list, <kbd>1</kbd> to <kbd>9</kbd> that one,
       <kbd>0</kbd> none, <kbd>c</kbd> candidates, <kbd>f</kbd> the whole picture, <kbd>+</kbd> <kbd>&minus;</kbd> zoom</p>
+      <label><input type="checkbox" id="toggle-keys" checked><span>letters and digits act</span></label>
     </section>`;
   const find = (id) => panel.querySelector(`#${id}`);
   const toggle = find("toggle-candidates");
@@ -72,9 +73,9 @@ function pictureOf({ map: place, panel, tiles = null, onChoose = () => {} }) {
   let ranked = [];
   let chosen = -1;
 
-  // ---- the map's own lines
+  // ---- the map's own lines, on a canvas: these greys are seen on light and on dark; the colours of all else are in the styles
   const width = (line) => (line.class <= 2 ? 6 : line.class <= 4 ? 4 : 2.5);
-  const colour = (line) => (line.class <= 2 ? "#6f6f6f" : line.class <= 4 ? "#8a8a8a" : "#a3a3a3");
+  const colour = (line) => (line.class <= 2 ? "#6f6f6f" : line.class <= 4 ? "#7d7d7d" : "#8a8a8a");
   const drawGround = () => {
     for (const line of scene.lines.slice().reverse()) {
       L.polyline(line.path, { renderer: roads, color: colour(line), weight: width(line) })
@@ -95,14 +96,14 @@ function pictureOf({ map: place, panel, tiles = null, onChoose = () => {} }) {
   const drawRays = () => {
     rays.clearLayers();
     for (const point of scene.points) {
-      const style = { className: "ray", color: "#1a1a1a", weight: 1.5, dashArray: "4 3", fillColor: "#1a1a1a", fillOpacity: 0.14 };
+      const style = { className: "ray", weight: 1.5, dashArray: "4 3", fillOpacity: 0.14 };
       L.polygon(wedge(point.spot, point.direction), { ...style, interactive: false }).addTo(rays);
     }
   };
   const drawReference = () => {
     scene.points.forEach((point, index) => {
       if (point.leg) {
-        const leg = L.polyline([point.spot, spots[index + 1]], { className: "leg", color: "#1a1a1a", weight: 1.5, dashArray: "2 6", interactive: false })
+        const leg = L.polyline([point.spot, spots[index + 1]], { className: "leg", weight: 1.5, dashArray: "2 6", interactive: false })
           .bindTooltip(tip(`leg ${index + 1}: ${point.leg}`), { permanent: true, direction: "bottom", offset: [0, 14], className: "leg-label" })
           .addTo(said);
         legs.push(leg);
@@ -184,11 +185,12 @@ function pictureOf({ map: place, panel, tiles = null, onChoose = () => {} }) {
     ranked.flat().forEach((marker) => marker.getElement() && marker.getElement().classList.remove("chosen"));
     if (chosen >= 0) {
       const entry = scene.entries[chosen];
-      line(entry.outer, "outer", { color: "#0072b2", weight: 14, opacity: 0.55 });
-      line(entry.inner, "inner", { color: "#e69f00", weight: 6, opacity: 1 });
-      line(entry.route, "route", { color: "#00385a", weight: 2, dashArray: "7 5" });
-      if (chosen === 0) others().forEach((path) => line(path, "other", { color: "#d55e00", weight: 5, dashArray: "8 4" }));
-      for (const end of entry.ends) L.circleMarker(end, { className: "end", radius: 6, color: "#1a1a1a", weight: 2, fillColor: "#e69f00", fillOpacity: 1, interactive: false }).addTo(shown);
+      line(entry.outer, "outer", { weight: 16 });
+      line(entry.inner, "casing", { weight: 9 });
+      line(entry.inner, "inner", { weight: 6 });
+      line(entry.route, "route", { weight: 2, dashArray: "7 5" });
+      if (chosen === 0) others().forEach((path) => line(path, "other", { weight: 5, dashArray: "8 4" }));
+      for (const end of entry.ends) L.circleMarker(end, { className: "end", radius: 6, weight: 2, fillOpacity: 1, interactive: false }).addTo(shown);
       if (entry.spot) L.marker(entry.spot, { icon: L.divIcon({ className: "star", html: "&#9733;", iconSize: [30, 30] }), interactive: false, keyboard: false }).addTo(shown);
       entry.ranks.forEach((rank, index) => {
         const marker = ranked[index] && ranked[index][rank - 1];
@@ -262,17 +264,17 @@ function pictureOf({ map: place, panel, tiles = null, onChoose = () => {} }) {
 
   // ---- the legend
   const SAMPLES = [
-    ["a point of the reference", '<circle cx="23" cy="7" r="7" fill="#1a1a1a"/><path d="M23 14v6" stroke="#1a1a1a" stroke-width="2"/>'],
-    ["its direction; at the last point that back along the road", '<path d="M2 18L40 3L44 12Z" fill="#1a1a1a" fill-opacity=".14" stroke="#1a1a1a" stroke-dasharray="4 3"/>'],
-    ["a leg, with the length that its path should have", '<path d="M2 10h42" stroke="#1a1a1a" stroke-dasharray="2 6" stroke-width="2"/>'],
-    ["a candidate, as point: rank; filled if it is the chosen one", '<rect x="18" y="5" width="9" height="9" transform="rotate(45 23 10)" fill="#fff" stroke="#1a1a1a" stroke-width="2"/>'],
-    ["a line nearby that is no candidate", '<circle cx="23" cy="10" r="5" fill="#fff" stroke="#1a1a1a" stroke-width="2" stroke-dasharray="2 2"/>', () => near().length],
-    ["the location, halfway between the two dots that it lies between", '<text x="23" y="18" text-anchor="middle" font-size="22" fill="#e69f00" stroke="#1a1a1a" stroke-width=".7">\u2605</text>', () => scene.entries.some((entry) => entry.spot)],
-    ["the outer part: the location lies within it", '<path d="M2 10h42" stroke="#0072b2" stroke-width="14" opacity=".55"/>', () => scene.entries.some((entry) => entry.outer)],
-    ["the inner part: the location covers it", '<path d="M2 10h42" stroke="#e69f00" stroke-width="6"/>', () => scene.entries.some((entry) => entry.outer)],
-    ["the path between the candidates", '<path d="M2 10h42" stroke="#00385a" stroke-width="2" stroke-dasharray="7 5"/>', () => scene.entries.length],
-    ["another path, as short or nearly so", '<path d="M2 10h42" stroke="#d55e00" stroke-width="5" stroke-dasharray="8 4"/>', () => others().length],
-    ["lines of the map, the wider the more important", '<path d="M2 6h42" stroke="#6f6f6f" stroke-width="6"/><path d="M2 16h42" stroke="#a3a3a3" stroke-width="2.5"/>'],
+    ["a point of the reference", '<circle cx="23" cy="7" r="7" class="of-ray"/><path d="M23 14v6" class="of-leg" stroke-width="2"/>'],
+    ["its direction; at the last point that back along the road", '<path d="M2 18L40 3L44 12Z" class="of-ray" fill-opacity=".14" stroke-dasharray="4 3"/>'],
+    ["a leg, with the length that its path should have", '<path d="M2 10h42" class="of-leg" stroke-dasharray="2 6" stroke-width="2"/>'],
+    ["a candidate, as point: rank; filled if it is the chosen one", '<rect x="18" y="5" width="9" height="9" transform="rotate(45 23 10)" class="of-mark" stroke-width="2"/>'],
+    ["a line nearby that is no candidate", '<circle cx="23" cy="10" r="5" class="of-mark" stroke-width="2" stroke-dasharray="2 2"/>', () => near().length],
+    ["the location, halfway between the two dots that it lies between", '<text x="23" y="18" text-anchor="middle" font-size="22" class="of-star" stroke-width=".7">\u2605</text>', () => scene.entries.some((entry) => entry.spot)],
+    ["the outer part: the location lies within it", '<path d="M2 10h42" class="of-outer" stroke-width="16"/>', () => scene.entries.some((entry) => entry.outer)],
+    ["the inner part: the location covers it", '<path d="M2 10h42" class="of-casing" stroke-width="9"/><path d="M2 10h42" class="of-inner" stroke-width="6"/>', () => scene.entries.some((entry) => entry.outer)],
+    ["the path between the candidates", '<path d="M2 10h42" class="of-route" stroke-width="2" stroke-dasharray="7 5"/>', () => scene.entries.length],
+    ["another path, as short or nearly so", '<path d="M2 10h42" class="of-other" stroke-width="5" stroke-dasharray="8 4"/>', () => others().length],
+    ["lines of the map, the wider the more important", '<path d="M2 6h42" stroke="#6f6f6f" stroke-width="6"/><path d="M2 16h42" stroke="#8a8a8a" stroke-width="2.5"/>'],
   ];
   const fillSamples = () => {
     const there = SAMPLES.filter(([, , isThere]) => !isThere || isThere());
@@ -283,6 +285,21 @@ function pictureOf({ map: place, panel, tiles = null, onChoose = () => {} }) {
       return row;
     }));
   };
+  // Letters may be typed by what somebody says, so they can be turned off. Where nothing can be kept they act again the next time.
+  const KEYS = "olr keys";
+  const letters = find("toggle-keys");
+  try {
+    letters.checked = localStorage.getItem(KEYS) !== "off";
+  } catch {
+    letters.checked = true;
+  }
+  letters.addEventListener("change", () => {
+    try {
+      localStorage.setItem(KEYS, letters.checked ? "on" : "off");
+    } catch {
+      // It is forbidden.
+    }
+  });
   toggle.addEventListener("change", () => {
     map[toggle.checked ? "addLayer" : "removeLayer"](candidates);
     if (!scene) return;
@@ -314,6 +331,7 @@ function pictureOf({ map: place, panel, tiles = null, onChoose = () => {} }) {
     const many = scene.entries.length;
     const inList = document.activeElement && document.activeElement.name === "entry";
     const inMap = place.contains(document.activeElement);
+    if (!letters.checked && event.key.length === 1) return;
     if (/^[0-9]$/.test(event.key) && Number(event.key) <= many) chooseAndTell(Number(event.key) - 1);
     else if (event.key === "c") toggle.click();
     else if (event.key === "f") whole();

@@ -20,7 +20,7 @@ from olr.serving.problems import TITLES
 from olr.serving.queries import numbers_of
 
 INDEX = "index.html"
-SHARED = ("picture.css", "picture.js", "shared.css", "table.js")
+SHARED = ("base.css", "picture.css", "picture.js", "shared.css", "table.js")
 """What the page has of `olr.pages`."""
 CACHING = "no-cache"
 """A browser keeps a file, and asks each time whether it is still the same."""

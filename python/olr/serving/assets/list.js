@@ -6,19 +6,23 @@
 // `place` is its section, and `fields` are those of options.js. `list.read(body, reading, isWanted)` reads a text or file, of which `reading`
 // says { format, ref, key }, and throws a Trouble if it isn't understood; if it isn't wanted any more then, all stays as it is.
 // `list.ask(options)` asks for the likeliest places of all rows, some at a time, `list.rowOf(state)` finds the row of a state, and
-// `list.choose(row)` marks one.
+// `list.choose(row)` marks one. `list.restore(options)` shows what the tab has kept, and asks for what isn't answered, or was with other
+// options; `list.isOf(map)` says which map is served, so that answers of another one are asked for anew. `say(text)` is told what has
+// begun and ended.
 // References that are asked at once. The server gives others a turn between two lots.
 const AT_ONCE = 500;
 
-function listOf({ place, data, fields, onChoose }) {
+function listOf({ place, data, fields, say, onChoose }) {
   const find = (selector) => place.querySelector(selector);
-  const [bar, words, stop, goOn] = ["progress", "[role=status]", "#stop", "#go-on"].map(find);
-  const grouped = (value) => value.toLocaleString("en");
+  const [bar, words, stop, goOn] = ["progress", "#answered", "#stop", "#go-on"].map(find);
+  const numbers = new Intl.NumberFormat("en");
+  const grouped = (value) => numbers.format(value);
   let rows = [];
   let table = null;
   let note = "";
   let options = {};
   let running = null;
+  let map = null;
 
   // ---- reading
   const read = async (body, reading, isWanted) => {
@@ -54,6 +58,7 @@ function listOf({ place, data, fields, onChoose }) {
   const show = () => {
     find("#rows").replaceChildren();
     place.hidden = false;
+    delete place.dataset.state;
     const probability = { number: true, text: (value) => value.toFixed(3) };
     table = sortedTable({
       place: find("#rows"),
@@ -75,6 +80,8 @@ function listOf({ place, data, fields, onChoose }) {
         { title: "Verdict", value: (row) => row.verdict },
         { title: "Probability", value: (row) => shareOf(row.probability) },
       ],
+      isLong: true,
+      say,
       onChoose: (index, event) => onChoose(rows[index], event),
     });
   };
@@ -85,10 +92,12 @@ function listOf({ place, data, fields, onChoose }) {
   const left = () => rows.filter((row) => row.verdict === "waiting");
   const tell = (state, text = "") => {
     const waiting = left().length;
+    const isNew = place.dataset.state !== state;
     place.dataset.state = state;
     Object.assign(bar, { max: rows.length, value: rows.length - waiting });
     const done = `${grouped(rows.length - waiting)} of ${grouped(rows.length)} answered`;
     words.textContent = [`${done}.`, text, ofAnswers(), note].filter(Boolean).join(" ");
+    if (isNew) say(words.textContent);
     bar.hidden = state === "done";
     stop.hidden = state !== "asking";
     goOn.hidden = state === "asking" || !waiting;
@@ -163,14 +172,70 @@ function listOf({ place, data, fields, onChoose }) {
     tell("stopped", "Stopped.");
   });
   goOn.addEventListener("click", goOnAsking);
+  for (const change of ["beforeprint", "afterprint"]) addEventListener(change, () => table && table.print(change === "beforeprint"));
+
+  // ---- what goes out
+  const saveButton = find("#save-geojson");
+  let saving = null;
+  const shownRows = () => table.shown().map((index) => rows[index]);
+  find("#save-csv").addEventListener("click", () => save("references.csv", "text/csv;charset=utf-8", csvOf(shownRows())));
+  const saveGeojson = async () => {
+    const some = shownRows();
+    const mine = new AbortController();
+    saving = mine;
+    const step = (count) => { saveButton.textContent = `Stop saving: ${grouped(count)} of ${grouped(some.length)}`; };
+    step(0);
+    try {
+      const text = await geojsonOf(some, fields.asked(options), mine.signal, step);
+      save("places.geojson", "application/geo+json", text);
+    } catch (error) {
+      if (!(error instanceof Trouble) && !mine.signal.aborted) throw error;
+      if (!mine.signal.aborted) say(words.textContent = error.message);
+    } finally {
+      endSaving(mine);
+    }
+  };
+  const endSaving = (mine) => {
+    mine.abort();
+    if (saving !== mine) return;
+    saving = null;
+    saveButton.textContent = "Save GeoJSON";
+  };
+  saveButton.addEventListener("click", () => (saving ? endSaving(saving) : saveGeojson()));
+
+  // ---- through a reload
+  const GIVEN = ["record", "key", "reference"];
+  const textWith = (names) => () => {
+    if (!table) return null;
+    const { state } = place.dataset;
+    return JSON.stringify({ map, options, state, note, names, rows: rows.map((row) => names.map((name) => row[name])) });
+  };
+  addEventListener("pagehide", () => keep(textWith([...GIVEN, ...Object.keys(UNASKED)]), textWith(GIVEN)));
+  const restore = (given) => {
+    const found = kept();
+    if (!found) return;
+    ({ map, options, note } = found);
+    const named = (values) => Object.fromEntries(values.map((value, at) => [found.names[at], value]));
+    rows = found.rows.map((values, index) => ({ ...UNASKED, ...named(values), index }));
+    show();
+    if (JSON.stringify(options) !== JSON.stringify(given)) ask(given);
+    else if (left().length && !["stopped", "failed"].includes(found.state)) goOnAsking();
+    else tell(left().length ? "stopped" : "done");
+  };
+  const isOf = (name) => {
+    if (table && map !== null && map !== name) ask(options);
+    map = name;
+  };
 
   const rowOf = ({ ref, key, record }) => rows.find((row) => row.reference === ref && String(row.record) === String(record) && row.key === key);
   const choose = (row) => table && table.choose(row ? row.index : -1);
   const close = () => {
     halt();
+    if (saving) endSaving(saving);
     [rows, table] = [[], null];
     find("#rows").replaceChildren();
     place.hidden = true;
+    delete place.dataset.state;
   };
-  return { read, ask, rowOf, choose, close, first: () => rows[0], focus: () => table.focus(), isThere: () => table !== null };
+  return { read, ask, restore, isOf, rowOf, choose, close, first: () => rows[0], focus: () => table.focus(), isThere: () => table !== null };
 }

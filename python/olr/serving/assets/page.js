@@ -7,6 +7,14 @@
   let state = null;
   let running = null;
 
+  // What changes is told to those who don't see it, one after the other.
+  const say = (text) => {
+    const line = document.createElement("p");
+    line.textContent = text;
+    find("status").append(line);
+    while (find("status").children.length > 3) find("status").firstChild.remove();
+  };
+
   const picture = pictureOf({
     map: find("map"),
     panel: find("panel"),
@@ -27,6 +35,7 @@
     place: find("list"),
     data,
     fields,
+    say,
     onChoose: (row, event) => follow(row, event.type === "click" ? "push" : "replace"),
   });
 
@@ -94,7 +103,7 @@
       find("problem").hidden = false;
       find("problem").querySelector("p").textContent = error.message;
       find("problem").querySelector("button").hidden = !error.isPassing;
-      told("failed", state.ref, "");
+      told("failed", state.ref, error.message);
     }
     return undefined;
   };
@@ -106,7 +115,7 @@
   const told = (word, title, text) => {
     document.body.dataset.state = word;
     document.title = title;
-    find("status").textContent = text;
+    if (text) say(text);
   };
   const links = ["match", "places", "why", "candidates", "show"].map((what) => {
     const link = document.createElement("a");
@@ -171,6 +180,7 @@
       if (source !== body) return;
       document.body.dataset.list = "failed";
       problem.textContent = error.message;
+      say(error.message);
       problem.hidden = false;
       unfold("list-button", "list-form", true);
       if (!(error instanceof Trouble)) throw error;
@@ -218,8 +228,13 @@
   });
 
   // ---- the start
-  askedJson("health").then(({ map }) => { find("served").textContent = `map ${map}`; }).catch(() => {});
+  askedJson("health").then(({ map, digest }) => {
+    find("served").textContent = `map ${map}`;
+    list.isOf(JSON.stringify(digest));
+  }).catch(() => {});
   go(stateOf(location.search, fields.names), "replace");
+  list.restore(state.options);
+  list.choose(list.rowOf(state));
   find("ref").focus();
   document.body.dataset.ready = "yes";
 })();
