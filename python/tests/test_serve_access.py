@@ -1,6 +1,5 @@
 """The page of `olr-tools serve` for all: contrast, light and dark; the focus, which is seen; keys that can be turned off; and what a screen reader is told."""
 
-import json
 import pytest
 from collections.abc import Iterator
 from typing import Any
