@@ -16,13 +16,18 @@ HEAD = b"GET /health HTTP/1.1\r\nHost: localhost\r\n"
 class FakeTransport:
     """A transport whose client takes all of an answer, or nothing."""
 
-    def __init__(self) -> None:
+    def __init__(self, peer: str) -> None:
+        self.peer = peer
         self.written = b""
         self.is_closed = self.is_aborted = False
         self.unread = 0
+        self.state = b"\x01"
+        """That of the socket: here no side has closed it."""
 
     def write(self, data: bytes) -> None:
-        """Takes a part of an answer."""
+        """Takes a part of an answer. Raises `RuntimeError` where the connection is closed."""
+        if self.is_closed:
+            raise RuntimeError("the handler is closed")
         self.written += data
 
     def close(self) -> None:
@@ -41,8 +46,21 @@ class FakeTransport:
         """How many bytes the client hasn't taken."""
         return self.unread
 
-    def get_extra_info(self, _: str) -> None:
-        """Of the socket nothing is known."""
+    def get_extra_info(self, name: str) -> Any:
+        """Of the socket its state and its addresses are known."""
+        return self if name == "socket" else None
+
+    def getpeername(self) -> tuple[str, int]:
+        """The address of the client."""
+        return self.peer, 50_000
+
+    def getsockname(self) -> tuple[str, int]:
+        """That of the server."""
+        return "127.0.0.1", 8000
+
+    def getsockopt(self, *_: int) -> bytes:
+        """Its state."""
+        return self.state
 
     def pause_reading(self) -> None:
         """Nothing is read by itself."""
@@ -57,6 +75,8 @@ class Clients:
         self.clock = FakeClock()
         self.all = Connections(most, self.clock)
         self.answering = asyncio.Event()
+        self.scopes: list[dict[str, Any]] = []
+        """Of the requests that were begun."""
         self._state = ServerState()
         self._config = Config(
             self._app, interface="asgi3", lifespan="off", loop="none", log_config=None
@@ -64,16 +84,18 @@ class Clients:
         self._config.load()
 
     async def _app(
-        self, _: Any, __: Any, send: Callable[[dict[str, Any]], Awaitable[None]]
+        self, scope: Any, _: Any, send: Callable[[dict[str, Any]], Awaitable[None]]
     ) -> None:
+        self.scopes.append(scope)
         await self.answering.wait()
         headers = [(b"content-length", b"2")]
         await send({"type": "http.response.start", "status": 200, "headers": headers})
         await send({"type": "http.response.body", "body": b"ok"})
 
-    def connect(self) -> tuple[Connection, FakeTransport]:
+    def connect(self, peer: str = "127.0.0.1") -> tuple[Connection, FakeTransport]:
         """A new connection."""
-        connection, transport = Connection(self.all, self._config, self._state), FakeTransport()
+        connection = Connection(self.all, self._config, self._state)
+        transport = FakeTransport(peer)
         connection.connection_made(transport)
         return connection, transport
 
@@ -90,6 +112,47 @@ def test_requests_that_are_sent_ahead(ahead: int, answers: int) -> None:
         await turns(100)
         assert transport.written.count(b"HTTP/1.1 200 OK") == answers
         assert transport.is_closed == (answers == 1)
+
+    run_within(run())
+
+
+def test_clients_that_leave(caplog: pytest.LogCaptureFixture) -> None:
+    """Whatever they had asked: the request that is answered hears of it, those behind it aren't answered, and nothing is logged."""
+
+    async def run() -> None:
+        clients = Clients()
+        connection, transport = clients.connect()
+        connection.data_received((HEAD + b"\r\n") * 16)
+        await turns()
+        assert len(clients.scopes) == 1 and not clients.scopes[0]["left"].done()
+        transport.is_closed = True
+        connection.connection_lost(None)
+        assert clients.scopes[0]["left"].done() and connection.is_idle()
+        clients.answering.set()
+        await turns(100)
+        assert len(clients.scopes) == 1 and transport.written == b""
+
+    run_within(run())
+    assert not caplog.records
+
+
+@pytest.mark.parametrize("state, is_left", [(b"\x01", False), (b"\x08", True), (b"\x07", True)])
+def test_clients_that_leave_while_nothing_is_read(state: bytes, is_left: bool) -> None:
+    """Then the socket is asked: it knows that the other side has closed it, or is gone."""
+
+    async def run() -> None:
+        clients = Clients()
+        connection, transport = clients.connect()
+        transport.state = state
+        connection.data_received(HEAD + b"\r\n")
+        await turns()
+        clients.all.look()
+        assert not transport.is_aborted
+        connection.data_received(HEAD + b"\r\n")
+        clients.all.look()
+        assert (transport.is_aborted, clients.scopes[0]["left"].done()) == (is_left, is_left)
+        clients.answering.set()
+        await turns(20)
 
     run_within(run())
 

@@ -267,6 +267,20 @@ def test_requests_in_a_row(server: Server) -> None:
     assert is_well(server)
 
 
+def test_clients_that_leave_what_they_asked_in_a_row(program: Program, tmp_path: Path) -> None:
+    """Of a hundred times sixteen requests that nobody waits for nothing is logged."""
+    with serving(program.path, EXAMPLES, tmp_path / "log") as server:
+        head = (
+            f"GET {path_of('places', REFERENCE)} HTTP/1.1\r\nHost: 127.0.0.1:{server.port}\r\n\r\n"
+        )
+        for _ in range(100):
+            with socket.create_connection(("127.0.0.1", server.port)) as connection:
+                connection.sendall(head.encode() * 16)
+        assert is_well(server)
+        wait_until(lambda: server.figure("olr_waiting_requests") == 0)
+        assert server.log() == ""
+
+
 def test_websockets(server: Server) -> None:
     fields = [
         "Upgrade: websocket",

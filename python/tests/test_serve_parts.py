@@ -189,7 +189,8 @@ async def status_of(front: Front, method: str = "GET", **fields: str) -> Any:
         sent.append(message)
 
     named = [(name.lower().replace("_", "-").encode(), it.encode()) for name, it in fields.items()]
-    scope = {"type": "http", "method": method, "path": "/x", "headers": named}
+    scope: Any = {"type": "http", "method": method, "path": "/x", "headers": named}
+    scope["left"] = asyncio.get_running_loop().create_future()
 
     async def receive() -> Any:
         return {"type": "http.request"}
@@ -225,6 +226,29 @@ def test_how_many_at_once() -> None:
             waiting.set()
             found = await asyncio.gather(*there, return_exceptions=True)
             assert sum(isinstance(one, ToolError) for one in found) == MOST_REQUESTS / 2
+
+    run_within(run())
+
+
+def test_a_client_that_leaves() -> None:
+    """What is done for it ends, wherever that is, and the request is counted."""
+
+    async def run() -> None:
+        ended: list[str] = []
+
+        async def app(scope: Any, _: Any, __: Any) -> None:
+            try:
+                scope["left"].set_result(None)
+                await asyncio.Event().wait()
+            finally:
+                ended.append("app")
+
+        meters = Meters(cast(Served, FakeMap()))
+        front = Front(app, ["/x"], ALLOWED, meters)
+        with pytest.raises(IndexError):
+            await status_of(front, Host="olr.example")
+        assert ended and figures(meters)['olr_requests_total{address="/x",status="499"}'] == 1
+        await asyncio.sleep(0)
 
     run_within(run())
 

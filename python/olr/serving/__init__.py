@@ -14,7 +14,7 @@
 | `folder_map`, `store_map` | the map of a folder, and that of a store |
 | `judging` | how places are asked whose probability is shown |
 | `features`, `scenes`, `rows` | answers as GeoJSON, as what a page draws, and as the rows of its list |
-| `rooms` | how many of these are made at once |
+| `rooms`, `threads` | how many of these are made at once, and calls in threads |
 | `streaming` | `POST /batch/{command}` and `POST /rows` |
 | `lists`, `listing` | `POST /messages`: lists as the page shows them; the process that reads one |
 | `openapi`, `pages` | the addresses as an OpenAPI document, and the pages with the files that they load |

@@ -2,7 +2,9 @@
 
 import asyncio
 import logging
+import socket
 import time
+from collections import deque
 from httptools import HttpRequestParser
 from typing import Any
 from uvicorn.config import Config
@@ -25,6 +27,10 @@ OF_UPGRADES = {b"connection", b"http2-settings", b"upgrade"}
 """Fields of a head that offers another protocol."""
 OF_BODIES = {b"content-length", b"transfer-encoding"}
 """Fields of a head before a body."""
+TICK = 0.5
+"""Seconds between two looks at what has to be closed."""
+ESTABLISHED = b"\x01"
+"""The state of a connection of which no side is closed, as Linux has it."""
 
 
 class Connections:
@@ -62,15 +68,16 @@ class Connections:
             self._abort(one)
 
     async def watch(self) -> None:
-        """Closes what has to be closed, each second, until it is cancelled."""
+        """Closes what has to be closed, until it is cancelled."""
         while True:
-            await asyncio.sleep(1)
+            await asyncio.sleep(TICK)
             self.look()
 
     def look(self) -> None:
-        """Closes those that are silent for too long, and those that don't take their answers where these are too much."""
+        """Closes those that are silent for too long or whose client has left, and those that don't take their answers where these are too
+        much."""
         now = self.clock()
-        for one in [one for one in self._there if one.is_late(now)]:
+        for one in [one for one in self._there if one.is_late(now) or one.is_left()]:
             self._abort(one)
         unread = {one: one.unread() for one in self._there if one.is_idle()}
         too_much = sum(unread.values()) - MOST_UNREAD
@@ -82,7 +89,7 @@ class Connections:
     def _abort(self, connection: "Connection") -> None:
         """Closes one, whatever it has to send."""
         self.discard(connection)
-        connection.transport.abort()
+        connection.abort()
 
 
 class Connection(HttpToolsProtocol):  # type: ignore[misc]
@@ -99,10 +106,12 @@ class Connection(HttpToolsProtocol):  # type: ignore[misc]
         self._is_in_head = True
         self._bytes_of_head = self._unread = 0
         self._problem: Problem | None = None
+        self._left: asyncio.Future[None] = self.loop.create_future()
+        self._cycles: deque[Any] = deque()
 
     def is_idle(self) -> bool:
         """Whether no request is being answered."""
-        return self.cycle is None or bool(self.cycle.response_complete)
+        return not self._cycles
 
     def unread(self) -> int:
         """How many bytes of answers its client hasn't taken."""
@@ -110,7 +119,7 @@ class Connection(HttpToolsProtocol):  # type: ignore[misc]
 
     def is_late(self, now: float) -> bool:
         """Whether its head is waited for too long, or it has been idle for too long: it asks nothing, and doesn't take an answer. This is
-        asked each second."""
+        asked at each look."""
         if self._is_in_head and now - self._head_since > SECONDS_OF_HEAD:
             return True
         unread = self.unread()
@@ -119,15 +128,45 @@ class Connection(HttpToolsProtocol):  # type: ignore[misc]
         self._unread = unread
         return self.is_idle() and now - self._heard > SECONDS_IDLE
 
+    def is_left(self) -> bool:
+        """Whether its client has closed it while nothing is read, where no other event tells."""
+        if not self.flow.read_paused or self.transport.is_closing():
+            return False
+        state = self.transport.get_extra_info("socket").getsockopt(
+            socket.IPPROTO_TCP, socket.TCP_INFO, 1
+        )
+        return bool(state != ESTABLISHED)
+
     def connection_made(self, transport: Any) -> None:
         """A client has connected."""
         super().connection_made(transport)
         self._all.add(self)
 
+    def eof_received(self) -> None:
+        """The client sends no more. Nothing tells whether it still reads, so it has left."""
+        self._leave()
+
     def connection_lost(self, exc: Exception | None) -> None:
         """The connection is closed."""
         self._all.discard(self)
+        self._leave()
         super().connection_lost(exc)
+
+    def abort(self) -> None:
+        """Closes the connection at once, whatever it has to send."""
+        self._leave()
+        self.transport.abort()
+
+    def _leave(self) -> None:
+        """Lets all requests end that aren't answered. uvicorn tells it to the last one alone; the one before would write to a connection that
+        is closed, or wait for ever for its body."""
+        for cycle in self._cycles:
+            cycle.disconnected = True
+            cycle.message_event.set()
+        self._cycles.clear()
+        self.pipeline.clear()
+        if not self._left.done():
+            self._left.set_result(None)
 
     def data_received(self, data: bytes) -> None:
         """The client sent something."""
@@ -164,12 +203,16 @@ class Connection(HttpToolsProtocol):  # type: ignore[misc]
         if len(self.pipeline) >= MOST_AHEAD:
             self._refuse(bad_request("too many requests are sent before they are answered"))
         self._is_in_head = False
-        self.scope["is_gone"] = self.transport.is_closing
-        self.scope["abort"] = self.transport.abort
+        self.scope["is_gone"], self.scope["left"] = self.transport.is_closing, self._left
+        self.scope["abort"] = self.abort
         super().on_headers_complete()
+        if not self.parser.should_upgrade():
+            self._cycles.append(self.cycle)
 
     def on_response_complete(self) -> None:
         """A request was answered."""
+        if self._cycles:
+            self._cycles.popleft()
         self._heard = self._all.clock()
         self._all.heard(self)
         if self._problem is not None:
@@ -204,7 +247,7 @@ class Connection(HttpToolsProtocol):  # type: ignore[misc]
         self._problem = problem
         if not self.is_idle():
             if not self._is_in_head:
-                self.transport.abort()
+                self.abort()
             return
         body = problem.document()
         fields = [*self.server_state.default_headers, (b"content-type", MEDIA_TYPE.encode())]

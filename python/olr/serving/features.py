@@ -1,6 +1,5 @@
 """Answers as GeoJSON, with the columns of docs/COLUMNS.md: those that `olr-tools match` writes."""
 
-import asyncio
 import re
 from contextlib import nullcontext
 from io import BytesIO, TextIOWrapper
@@ -19,6 +18,7 @@ from olr.serving.judging import long_list_of
 from olr.serving.queries import Question
 from olr.serving.rooms import Room
 from olr.serving.served import IsGone, Known, Served, Versions, of_one_edition
+from olr.serving.threads import in_thread
 
 MEDIA_TYPE = "application/geo+json"
 PAGE_ALONE = 100
@@ -78,7 +78,7 @@ class Features(NamedTuple):
                 versions.note(counts)
                 counted = _counted(counts)
             async with self.room.place(is_gone):
-                return await asyncio.to_thread(_text, asked, known, counted, versions, judging)
+                return await in_thread(_text, asked, known, counted, versions, judging)
 
         return await of_one_edition(self.served, ask)
 

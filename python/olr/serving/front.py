@@ -1,10 +1,13 @@
 """What stands before the addresses: who may ask, how many at once, and what is counted and logged."""
 
+import asyncio
 import logging
 import time
-from collections.abc import Sequence
+from collections.abc import AsyncIterator, Sequence
+from contextlib import asynccontextmanager
 from starlette.responses import Response
 from starlette.types import ASGIApp, Message, Receive, Scope, Send
+from typing import cast
 
 from olr.serving.allowed import Allowed, fields_of, require_allowed
 from olr.serving.limits import MOST_REQUESTS
@@ -19,6 +22,8 @@ PREFLIGHT = {
     "Access-Control-Max-Age": "600",
 }
 """What a browser may send that asks for a page of an allowed site, and how many seconds it may keep that."""
+LEFT = 499
+"""The status of a request whose client left before its answer began, as nginx counts it."""
 
 
 class Front:
@@ -52,18 +57,20 @@ class Front:
         CLIENT.set(scope["client"][0] if scope.get("client") else "")
         self._running += 1
         try:
-            require_allowed(scope, self._allowed)
-            if self._running > MOST_REQUESTS:
-                raise busy(f"there are {MOST_REQUESTS:,} requests at once")
-            app, asked = self._app, b"access-control-request-method" in fields
-            if is_of_other and asked and scope["method"] == "OPTIONS":
-                app = Response(None, 204, PREFLIGHT)
-            await app(scope, receive, sending)
-        except Problem as problem:
-            await problem.response()(scope, receive, sending)
+            async with _while_there(scope["left"]):
+                try:
+                    require_allowed(scope, self._allowed)
+                    if self._running > MOST_REQUESTS:
+                        raise busy(f"there are {MOST_REQUESTS:,} requests at once")
+                    app, asked = self._app, b"access-control-request-method" in fields
+                    if is_of_other and asked and scope["method"] == "OPTIONS":
+                        app = Response(None, 204, PREFLIGHT)
+                    await app(scope, receive, sending)
+                except Problem as problem:
+                    await problem.response()(scope, receive, sending)
         finally:
             self._running -= 1
-            self._note(scope, status, time.perf_counter() - begin)
+            self._note(scope, status or LEFT, time.perf_counter() - begin)
 
     def _note(self, scope: Scope, status: int, seconds: float) -> None:
         """Counts a request, and logs it if that is asked for. What it asked for isn't logged."""
@@ -71,3 +78,21 @@ class Front:
         self._meters.count(address, status, seconds)
         if log.isEnabledFor(logging.INFO):
             log.info("%s %s %d, %.1f ms", scope["method"], address, status, seconds * 1000)
+
+
+@asynccontextmanager
+async def _while_there(left: "asyncio.Future[None]") -> AsyncIterator[None]:
+    """Cancels what is done within when the client leaves, and goes on behind it."""
+    task = cast("asyncio.Task[None]", asyncio.current_task())
+
+    def cancel(_: "asyncio.Future[None]") -> None:
+        task.cancel()
+
+    left.add_done_callback(cancel)
+    try:
+        yield
+    except asyncio.CancelledError:
+        if not left.done() or task.uncancel() > 0:
+            raise
+    finally:
+        left.remove_done_callback(cancel)

@@ -4,7 +4,6 @@ What the program wrote while the lines before were judged is judged next: so not
 that, a line, and the records that the program has at hand.
 """
 
-import asyncio
 import json
 from collections.abc import AsyncGenerator, AsyncIterator, Sequence
 from contextlib import aclosing
@@ -24,6 +23,7 @@ from olr.serving.batches import Answered
 from olr.serving.judging import LongList, long_list_of
 from olr.serving.rooms import Room
 from olr.serving.served import IsGone, Served
+from olr.serving.threads import in_thread
 
 MOST_LINES = 64
 """Lines that are judged at once. Others get a turn between two lots."""
@@ -42,7 +42,7 @@ class Rows(NamedTuple):
         """The rows of the records of a body, each as a line of JSON, in pieces, within a `place` of the map. Raises as `Served.batch` and
         `Room.place`."""
         async with self.room.place(is_gone):
-            network = await asyncio.to_thread(self.served.network)
+            network = await in_thread(self.served.network)
         asked = long_list_of(kind, self.confidence)
         async with aclosing(self.served.batch(asked.kind, body)) as answered:
             if self.served.digest() != network.digest:
@@ -51,7 +51,7 @@ class Rows(NamedTuple):
                 for at in range(0, len(some), MOST_LINES):
                     async with self.room.place(is_gone):
                         lot = some[at : at + MOST_LINES]
-                        text = await asyncio.to_thread(_text, lot, network, asked)
+                        text = await in_thread(_text, lot, network, asked)
                     yield text
 
 

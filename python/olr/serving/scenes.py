@@ -1,6 +1,5 @@
 """All that a page draws of a reference, as JSON: `olr.pages.view.scene` says what."""
 
-import asyncio
 import json
 import threading
 from collections.abc import Mapping
@@ -25,6 +24,7 @@ from olr.serving.limits import Limits
 from olr.serving.queries import Options, Question, kind_of, reference_of
 from olr.serving.rooms import Room
 from olr.serving.served import IsGone, Served, Versions, of_one_edition
+from olr.serving.threads import in_thread
 
 Wanted = TypeVar("Wanted", Candidates, Page, Places, Why)
 
@@ -63,9 +63,7 @@ class Scenes:
                 if isinstance(answered.why, Fault):
                     raise answered.why
             async with self._room.place(is_gone):
-                scene = await asyncio.to_thread(
-                    self._draw, answered, versions, asked.judging, numbers
-                )
+                scene = await in_thread(self._draw, answered, versions, asked.judging, numbers)
             add_command(scene, self._served.map_name(), numbers)
             if asked.note and scene["entries"]:
                 scene["probability"] = [f"{asked.note[0].upper()}{asked.note[1:]}."]
