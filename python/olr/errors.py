@@ -93,6 +93,15 @@ def readable(path: object) -> Iterator[None]:
         raise ToolError(f"{path} can't be read: {error.strerror or error}") from error
 
 
+ANOTHER_MAP = ": make another Map"
+"""What a caller in Python does about a map that has changed. Who has no Python leaves it out."""
+
+
+def map_changed(what: str) -> MapRefused:
+    """The error of a map that has changed since it was read."""
+    return MapRefused(what + ANOTHER_MAP)
+
+
 def closed_error() -> ToolError:
     """The error of a map that was closed."""
     return ToolError("this map is closed: make another one")

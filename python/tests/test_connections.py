@@ -9,8 +9,12 @@ from uvicorn.server import ServerState
 
 from fake_pool import FakeClock, run_within, turns
 from olr.serving.connections import Connection, Connections
+from olr.serving.peers import Peers
+from olr.serving.problems import Problem
 
 HEAD = b"GET /health HTTP/1.1\r\nHost: localhost\r\n"
+POST = b"POST /x HTTP/1.1\r\nHost: localhost\r\nContent-Length: 100000\r\n\r\n"
+PATIENCE = 20.0
 
 
 class FakeTransport:
@@ -71,17 +75,33 @@ class FakeTransport:
 class Clients:
     """Clients of a server that answers when a test lets it."""
 
-    def __init__(self, most: int = 100) -> None:
+    def __init__(self, most: int = 100, *proxies: str) -> None:
         self.clock = FakeClock()
-        self.all = Connections(most, self.clock)
+        self.refused: list[tuple[str, int]] = []
+        """Clients whose requests were refused here, with the statuses."""
+        self.all = Connections(
+            most,
+            self.clock,
+            Peers(proxies),
+            PATIENCE,
+            self._note,
+        )
         self.answering = asyncio.Event()
         self.scopes: list[dict[str, Any]] = []
         """Of the requests that were begun."""
         self._state = ServerState()
         self._config = Config(
-            self._app, interface="asgi3", lifespan="off", loop="none", log_config=None
+            self._app,
+            interface="asgi3",
+            lifespan="off",
+            loop="none",
+            log_config=None,
+            proxy_headers=False,
         )
         self._config.load()
+
+    def _note(self, client: str, problem: Problem, _: float) -> None:
+        self.refused.append((client, problem.status))
 
     async def _app(
         self, scope: Any, _: Any, send: Callable[[dict[str, Any]], Awaitable[None]]
@@ -219,6 +239,173 @@ def test_too_many_connections() -> None:
         assert (one.is_aborted, four.is_aborted, five.is_aborted) == (False, False, True)
         clients.answering.set()
         await turns(20)
+
+    run_within(run())
+
+
+def test_connections_of_one_client() -> None:
+    """It has a quarter of them. Where it has more, one of its own is closed: one that is idle, or whose body is waited for. Others keep theirs,
+    and a proxy, which speaks for many, has as many as there are."""
+
+    async def run() -> None:
+        clients = Clients(40, "10.0.0.9")
+        _, other = clients.connect("10.0.0.1")
+        there = [clients.connect("10.0.0.2") for _ in range(10)]
+        there[0][0].data_received(POST)
+        for connection, _ in there[1:]:
+            connection.data_received(HEAD + b"\r\n")
+        _, eleventh = clients.connect("10.0.0.2")
+        assert [one.is_aborted for _, one in there] == [True] + 9 * [False]
+        assert not eleventh.is_aborted and len(clients.all) == 11
+        eleventh.is_closed = True
+        clients.all.look()
+        proxied = [clients.connect("10.0.0.9") for _ in range(29)]
+        assert not other.is_aborted and not any(one.is_aborted for _, one in proxied)
+        clients.answering.set()
+        await turns(20)
+
+    run_within(run())
+
+
+@pytest.mark.parametrize(
+    "peer, forwarded, client",
+    [
+        ("10.0.0.1", b"1.2.3.4", "10.0.0.1"),
+        ("10.0.0.9", b"1.2.3.4", "1.2.3.4"),
+        ("::ffff:10.0.0.9", b"6.6.6.6, 1.2.3.4", "1.2.3.4"),
+        ("10.0.0.9", b"2001:db8:1:2:3::4", "2001:db8:1:2::/64"),
+        ("10.0.0.9", b"unknown", "10.0.0.9"),
+        ("10.0.0.9", b"1.2.3.4,", "10.0.0.9"),
+        ("::ffff:10.0.0.1", b"", "10.0.0.1"),
+        ("2001:db8:1:2:3::4", b"", "2001:db8:1:2::/64"),
+        ("fe80::1%eth0", b"", "fe80::/64"),
+        ("::1", b"", "::1"),
+    ],
+)
+def test_who_asks(peer: str, forwarded: bytes, client: str) -> None:
+    """The address of the socket; behind a proxy that is named the last one that it says. Of IPv6 it is the network."""
+
+    async def run() -> None:
+        clients = Clients(100, "10.0.0.9")
+        connection, _ = clients.connect(peer)
+        connection.data_received(HEAD + b"X-Forwarded-For: %b\r\n\r\n" % forwarded)
+        await turns()
+        assert clients.scopes[0]["client"][0] == client
+        clients.answering.set()
+        await turns(20)
+
+    run_within(run())
+
+
+@pytest.mark.parametrize("rate, is_late", [(0, True), (40, True), (90, True), (110, False)])
+def test_bodies_that_come_slowly(rate: int, is_late: bool) -> None:
+    """With less than a hundred bytes a second, whatever came before, they are refused when patience is over."""
+
+    async def run() -> None:
+        clients = Clients()
+        connection, transport = clients.connect()
+        connection.data_received(POST + b"x" * 5000)
+        await turns()
+        for _ in range(int(PATIENCE)):
+            clients.clock.now += 1
+            clients.all.look()
+            if rate:
+                connection.data_received(b"x" * rate)
+        assert not transport.is_closed
+        for _ in range(200):
+            clients.clock.now += 1
+            clients.all.look()
+            if rate:
+                connection.data_received(b"x" * rate)
+        assert transport.is_closed == is_late
+        assert transport.written.startswith(b"HTTP/1.1 408 ") == is_late
+        if is_late:
+            assert clients.scopes[0]["left"].done() and clients.scopes[0]["status"] == 408
+        clients.answering.set()
+        await turns(20)
+
+    run_within(run())
+
+
+def test_bodies_that_arent_waited_for() -> None:
+    """It isn't the client's turn where its body isn't read, nor where it was told so, nor before it may begin to send."""
+
+    async def run() -> None:
+        clients = Clients()
+        full, one = clients.connect()
+        full.data_received(POST + b"x" * 70_000)
+        paused, two = clients.connect()
+        paused.data_received(POST)
+        await turns()
+        clients.scopes[1]["pace"].is_paused = lambda: True
+        asking, three = clients.connect()
+        asking.data_received(POST.replace(b"Host", b"Expect: 100-continue\r\nHost"))
+        for _ in range(5):
+            clients.clock.now += PATIENCE
+            clients.all.look()
+        assert not (one.is_closed or two.is_closed or three.is_closed)
+        clients.scopes[1]["pace"].is_paused = lambda: False
+        clients.clock.now += PATIENCE + 1
+        clients.all.look()
+        assert two.is_closed
+        clients.answering.set()
+        await turns(20)
+
+    run_within(run())
+
+
+@pytest.mark.parametrize("rate, is_late", [(0, True), (90, True), (110, False)])
+def test_answers_that_are_taken_slowly(rate: int, is_late: bool) -> None:
+    """Their connections are closed; those of which more is taken aren't."""
+
+    async def run() -> None:
+        clients = Clients()
+        connection, transport = clients.connect()
+        connection.data_received(HEAD + b"\r\n")
+        clients.answering.set()
+        await turns(20)
+        transport.unread = 100_000
+        for _ in range(500):
+            clients.clock.now += 1
+            transport.unread -= rate
+            clients.all.look()
+        assert transport.is_aborted == is_late
+
+    run_within(run())
+
+
+def test_answers_that_are_taken_in_the_end() -> None:
+    """What was taken at once, between two looks, counts as well."""
+
+    async def run() -> None:
+        clients = Clients()
+        connection, transport = clients.connect()
+        connection.data_received(HEAD + b"\r\n")
+        await turns()
+        transport.unread = 100_000
+        for _ in range(5):
+            clients.clock.now += PATIENCE - 1
+            clients.all.look()
+            connection.pause_writing()
+            connection.resume_writing()
+        assert not transport.is_closed
+        clients.answering.set()
+        await turns(20)
+
+    run_within(run())
+
+
+@pytest.mark.parametrize(
+    "sent, status", [(b"nonsense\r\n\r\n", 400), (HEAD + b"X: %b\r\n\r\n" % (b"x" * 20_000), 431)]
+)
+def test_what_is_refused_is_known(sent: bytes, status: int) -> None:
+    """Also where no request could be read."""
+
+    async def run() -> None:
+        clients = Clients()
+        connection, transport = clients.connect("10.0.0.7")
+        connection.data_received(sent)
+        assert clients.refused == [("10.0.0.7", status)] and transport.is_closed
 
     run_within(run())
 

@@ -1,9 +1,11 @@
 """What `olr-tools serve` makes of requests that aren't meant well."""
 
 import asyncio
+import http.client
 import json
 import os
 import pytest
+import re
 import resource
 import socket
 import time
@@ -12,7 +14,7 @@ from pathlib import Path
 from typing import NamedTuple
 
 from conftest import REFERENCE, TOP, Program
-from servers import Server, path_of, serving, wait_until
+from servers import Server, path_of, reply_on, serving, wait_until
 
 EXAMPLES = TOP / "examples"
 SILENT = 5_000
@@ -340,8 +342,41 @@ def test_thousands_of_silent_connections(server: Server) -> None:
     assert is_well(server)
 
 
+SLOW = {
+    "heads": b"GET /match?ref=",
+    "bodies": b"POST /messages HTTP/1.1\r\nHost: localhost:%d\r\nContent-Length: 9000\r\n\r\nx",
+    "answers": b"GET /assets/leaflet.js HTTP/1.1\r\nHost: localhost:%d\r\n\r\n" * 2,
+}
+
+
+@pytest.mark.parametrize("kind", SLOW)
+def test_a_thousand_slow_sockets(kind: str, server: Server) -> None:
+    """Of one client. Another one is answered as ever, and so are both by the addresses that tell how the server is."""
+    data = SLOW[kind].replace(b"%d", b"%d" % server.port)
+    there = list[socket.socket]()
+    try:
+        for _ in range(1000):
+            slow = socket.create_connection(
+                ("127.0.0.1", server.port), source_address=("127.0.0.2", 0)
+            )
+            slow.sendall(data)
+            there.append(slow)
+        assert is_well(server)
+        for path in ("/health", "/metrics"):
+            assert server.get(path).status == 200
+            own = http.client.HTTPConnection(
+                "127.0.0.1", server.port, timeout=10, source_address=("127.0.0.2", 0)
+            )
+            assert reply_on(own, path).status == 200
+            own.close()
+        assert server.get("/messages?format=tab", "POST", b"k\tCwVG\n").status == 200
+    finally:
+        for slow in there:
+            slow.close()
+
+
 def test_too_many_at_once(program: Program, tmp_path: Path) -> None:
-    """Above a thousand requests the others are turned away, and may come again."""
+    """Of one client, which has a quarter of a thousand. The others are turned away, and may come again."""
     with serving(
         program.path, EXAMPLES, tmp_path / "log", "--workers", 1, "--time-limit", 4
     ) as server:
@@ -354,8 +389,8 @@ def test_too_many_at_once(program: Program, tmp_path: Path) -> None:
             )
             stream.sendall(head + b"CwVG\n")
             assert b"200" in stream.recv(1000)
-            statuses = asyncio.run(_statuses(server, 1100))
-        assert statuses.count(503) >= 100 and set(statuses) <= {200, 503}
+            statuses = asyncio.run(_statuses(server, 600))
+        assert statuses.count(503) >= 300 and set(statuses) <= {200, 503}
         assert is_well(server)
 
 
@@ -372,19 +407,91 @@ async def _statuses(server: Server, count: int) -> list[int]:
     return await asyncio.gather(*(ask() for _ in range(count)))
 
 
-def test_a_warning_where_others_may_come(program: Program, tmp_path: Path) -> None:
-    with serving(program.path, EXAMPLES, tmp_path / "log", "--host", "0.0.0.0") as server:
+@pytest.mark.parametrize(
+    "host, shown, reached",
+    [
+        ("0.0.0.0", "127.0.0.1", ["127.0.0.1", "127.0.0.2"]),
+        ("::", "[::1]", ["127.0.0.1", "127.0.0.2", "::1"]),
+    ],
+)
+def test_all_addresses(
+    host: str, shown: str, reached: list[str], program: Program, tmp_path: Path
+) -> None:
+    """It warns, prints one that can be opened, and is called by each at which it is reached, but by no other one."""
+    with serving(program.path, EXAMPLES, tmp_path / "log", "--host", host) as server:
         assert "no login and no encryption" in server.log() and server.log().count("\n") == 1
+        assert server.url == f"http://{shown}:{server.port}/"
+        for address in reached:
+            name = f"[{address}]" if ":" in address else address
+            for own, statuses in ((name, {200}), ("10.9.8.7", {421}), ("evil.example", {421})):
+                connection = http.client.HTTPConnection(address, server.port, timeout=10)
+                origin = f"http://{own}:{server.port}"
+                reply = reply_on(connection, "/health", Host=f"{own}:{server.port}", Origin=origin)
+                assert reply.status in statuses
+                connection.close()
+
+
+def test_own_addresses_alone(program: Program, tmp_path: Path) -> None:
+    """Nobody is warned of them."""
     with serving(program.path, EXAMPLES, tmp_path / "log") as server:
         assert server.log() == "" and server.url.startswith("http://127.0.0.1:")
 
 
+LINE = re.compile(
+    r"\d{4}-\d\d-\d\dT\d\d:\d\d:\d\d\.\d{3}[+-]\d\d:\d\d olr-tools: 127\.0\.0\.1 (\S+ \S+ \d+), \d+\.\d ms"
+)
+"""A line for a request: the time, the client, the method, the address, the status and how long it took."""
+
+
 def test_what_is_logged(program: Program, tmp_path: Path) -> None:
-    """A line for each request if that is asked for, in which nothing is from the request but the address."""
+    """A line for each request if that is asked for, in which nothing is from the request but the address. What isn't HTTP has one too."""
     with serving(program.path, EXAMPLES, tmp_path / "log", "--log", "requests") as server:
         server.get("/match?ref=%0aolr-tools:%20secret")
         server.get("/secret%0asecret")
-        wait_until(lambda: server.log().count("\n") == 2)
-        first, second = server.log().splitlines()
-        assert first.startswith("olr-tools: GET /match 422, ") and first.endswith(" ms")
-        assert second.startswith("olr-tools: GET other 404, ")
+        said_to(server, b"nonsense\r\n\r\n")
+        server.get("/match?ref=" + "A" * 9000)
+        wait_until(lambda: server.log().count("\n") == 4)
+        found = [LINE.fullmatch(line) for line in server.log().splitlines()]
+        said = [line[1] for line in found if line]
+        assert said == ["GET /match 422", "GET other 404", "- other 400", "- other 414"]
+        assert server.figure('olr_requests_total{address="other",status="414"}') == 1
+
+
+def test_how_much_is_logged(program: Program, tmp_path: Path) -> None:
+    """Thirty lines a minute of one client and cause, and how many there were besides, at the end if it ends before."""
+    errors = tmp_path / "log"
+    with serving(program.path, EXAMPLES, errors, "--log", "requests") as server:
+        connection = server.connection()
+        for _ in range(50):
+            reply_on(connection, "/match?ref=x")
+        connection.close()
+        server.get("/show?ref=x")
+        wait_until(lambda: "/show" in server.log())
+        assert server.log().count("GET /match 422") == 30
+    assert "20 more lines like this one: 127.0.0.1 GET /match 422, " in errors.read_text()
+
+
+@pytest.mark.parametrize("files, said", [(120, "needs 124"), (144, "there are 24 connections")])
+def test_few_files(
+    files: int, said: str, program: Program, tmp_path: Path, monkeypatch: pytest.MonkeyPatch
+) -> None:
+    """It says how many connections that leaves, and answers on them; with too few it doesn't start."""
+    monkeypatch.setattr(resource, "getrlimit", lambda _: (files, files))
+    if files < 124:
+        with pytest.raises(AssertionError, match=said):
+            with serving(program.path, EXAMPLES, tmp_path / "log"):
+                pass
+        assert (tmp_path / "log").read_text().count("\n") == 1
+        return
+    with serving(program.path, EXAMPLES, tmp_path / "log") as server:
+        assert said in server.log() and server.log().count("\n") == 1
+        silent = list[socket.socket]()
+        stream = b"CwVG\n" * 100
+        for _ in range(10):
+            silent += (socket.create_connection(("127.0.0.1", server.port)) for _ in range(8))
+            assert is_well(server)
+            reply = server.get("/batch/match", "POST", stream, Content_Type="text/plain")
+            assert reply.status == 200 and reply.body.count(b"\n") == 100
+            assert server.get(path_of("show", REFERENCE)).status == 200
+        for connection in silent:
+            connection.close()

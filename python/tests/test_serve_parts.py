@@ -17,9 +17,9 @@ from olr.errors import MapRefused, ProgramEnded, ProgramNotFound, TimedOut, Tool
 from olr.model.fault import Fault
 from olr.serving.allowed import allowed_for, require_allowed
 from olr.serving.front import Front
-from olr.serving.limits import MIB, MOST_REQUESTS, Limits
+from olr.serving.limits import MIB, MOST_BODIES, MOST_REQUESTS, Limits
 from olr.serving.listing import MOST_ROWS
-from olr.serving.lists import LISTING, Lists, most_bytes, reading_of
+from olr.serving.lists import LISTING, MOST_COMING, Lists, most_bytes, reading_of
 from olr.serving.meters import Meters
 from olr.serving.problems import Problem, of_error, of_status
 from olr.serving.queries import kind_of, options_of, question_of
@@ -181,19 +181,22 @@ def test_figures() -> None:
 Send = Callable[[Any], Awaitable[None]]
 
 
-async def status_of(front: Front, method: str = "GET", **fields: str) -> Any:
-    """The first message of what is answered to a request."""
+async def status_of(
+    front: Front, method: str = "GET", client: str = "", path: str = "/x", **fields: str
+) -> Any:
+    """The first message of what is answered to a request, whose body never ends."""
     sent: list[Any] = []
 
     async def send(message: Any) -> None:
         sent.append(message)
 
     named = [(name.lower().replace("_", "-").encode(), it.encode()) for name, it in fields.items()]
-    scope: Any = {"type": "http", "method": method, "path": "/x", "headers": named}
+    scope: Any = {"type": "http", "method": method, "path": path, "headers": named}
+    scope["client"] = client, 0
     scope["left"] = asyncio.get_running_loop().create_future()
 
     async def receive() -> Any:
-        return {"type": "http.request"}
+        return {"type": "http.request", "more_body": "Transfer_Encoding" in fields}
 
     await front(scope, receive, send)
     return sent[0]
@@ -218,14 +221,94 @@ def test_how_many_at_once() -> None:
         for _ in range(2):
             waiting.clear()
             there = [
-                asyncio.create_task(status_of(front, Host="olr.example"))
-                for _ in range(MOST_REQUESTS)
+                asyncio.create_task(status_of(front, client=f"{number % 7}", Host="olr.example"))
+                for number in range(MOST_REQUESTS)
             ]
             await asyncio.sleep(0)
             assert (await status_of(front, Host="olr.example"))["status"] == 503
             waiting.set()
             found = await asyncio.gather(*there, return_exceptions=True)
             assert sum(isinstance(one, ToolError) for one in found) == MOST_REQUESTS / 2
+
+    run_within(run())
+
+
+async def read_whole(_: Any, receive: Any, send: Send) -> None:
+    """An application that waits for a whole body, which may never come, and then for ever."""
+    while (await receive()).get("more_body"):
+        await asyncio.sleep(0)
+    await asyncio.Event().wait()
+
+
+@pytest.mark.parametrize(
+    "method, fields",
+    [("GET", {}), ("POST", {"Transfer_Encoding": "chunked"}), ("POST", {"Content_Length": "5"})],
+)
+def test_how_many_of_one_client(method: str, fields: dict[str, str]) -> None:
+    """A quarter. Another client is answered, and so is each by the addresses that tell how the server is."""
+
+    async def run() -> None:
+        async def app(scope: Any, receive: Any, send: Send) -> None:
+            if (scope["client"][0], scope["path"]) == ("slow", "/x"):
+                await read_whole(scope, receive, send)
+            await send({"type": "http.response.start", "status": 200, "headers": []})
+
+        front = Front(app, ["/x"], ALLOWED, Meters(cast(Served, FakeMap())))
+        there = [
+            asyncio.create_task(status_of(front, method, "slow", Host="olr.example", **fields))
+            for _ in range(MOST_REQUESTS // 4)
+        ]
+        await asyncio.sleep(0)
+        for client, path, status in (
+            ("slow", "/x", 503),
+            ("other", "/x", 200),
+            ("slow", "/health", 200),
+            ("slow", "/metrics", 200),
+            ("slow", "/ready", 200),
+        ):
+            asked = status_of(front, method, client, path, Host="olr.example", **fields)
+            assert (await asked)["status"] == status
+        for one in there:
+            one.cancel()
+
+    run_within(run())
+
+
+def test_bodies_that_are_waited_for() -> None:
+    """They are counted apart until they are there: who has as many as there may be keeps nobody from asking."""
+
+    async def run() -> None:
+        is_there = asyncio.Event()
+
+        async def app(scope: Any, receive: Any, send: Send) -> None:
+            if scope["method"] == "POST":
+                await receive()
+                await is_there.wait()
+            await send({"type": "http.response.start", "status": 200, "headers": []})
+
+        front = Front(app, ["/x"], ALLOWED, Meters(cast(Served, FakeMap())))
+        body = {"Host": "olr.example", "Transfer_Encoding": "chunked"}
+        there = [
+            asyncio.create_task(status_of(front, "POST", str(number % 7), **body))
+            for number in range(MOST_BODIES)
+        ]
+        await asyncio.sleep(0)
+        assert (await status_of(front, "POST", **body))["status"] == 503
+        assert (await status_of(front, Host="olr.example"))["status"] == 200
+        is_there.set()
+        await asyncio.gather(*there)
+        assert (await status_of(front, "POST", **body))["status"] == 200
+        is_there.clear()
+        body = {"Host": "olr.example", "Content_Length": "5"}
+        there = [
+            asyncio.create_task(status_of(front, "POST", str(number % 7), **body))
+            for number in range(MOST_REQUESTS)
+        ]
+        await asyncio.sleep(0)
+        assert (await status_of(front, Host="olr.example"))["status"] == 503
+        is_there.set()
+        await asyncio.gather(*there)
+        assert (await status_of(front, "POST", **body))["status"] == 200
 
     run_within(run())
 
@@ -321,6 +404,37 @@ def test_bytes_of_a_list() -> None:
 
     assert run_within(run(11)) == 413
     assert run_within(run(10)) == 200
+
+
+def test_lists_that_come_slowly() -> None:
+    """One client has some of them at once, and none of them keeps others waiting."""
+
+    async def run() -> None:
+        lists = Lists(Limits())
+
+        async def ask(client: str, never: bool) -> int:
+            async def receive() -> Any:
+                if never:
+                    await asyncio.Event().wait()
+                return {"type": "http.request", "body": b"", "more_body": False}
+
+            scope: Scope = {"type": "http", "method": "POST", "headers": []}
+            scope |= {"query_string": b"format=tab", "client": (client, 0), "is_gone": bool}
+            try:
+                return (await lists.answer(Request(scope, receive))).status_code
+            except Problem as problem:
+                return problem.status
+
+        slow = [asyncio.create_task(ask("slow", True)) for _ in range(MOST_COMING // 4)]
+        await asyncio.sleep(0)
+        assert await ask("slow", False) == 503
+        assert await ask("other", False) == 200
+        for one in slow:
+            one.cancel()
+        await asyncio.wait(slow)
+        assert await ask("slow", False) == 200
+
+    run_within(run())
 
 
 def read_list(body: bytes, format: str | None = None) -> tuple[int, bytes, bytes]:

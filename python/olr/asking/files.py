@@ -8,7 +8,7 @@ from typing import NamedTuple
 
 from olr.asking.program import PathLike
 from olr.content import digest_of
-from olr.errors import MapRefused
+from olr.errors import MapRefused, map_changed
 from olr.model.map_folder import BANS, LINES, NODES, files_read
 
 
@@ -70,8 +70,8 @@ class MapFiles:
         self.keep(version)
 
     def _changed(self) -> MapRefused:
-        return MapRefused(
-            f"the files of the map {self.lines.parent} have changed since they were read: make another Map"
+        return map_changed(
+            f"the files of the map {self.lines.parent} have changed since they were read"
         )
 
 

@@ -1,15 +1,15 @@
 """The command `olr-tools serve`."""
 
 import click
-import logging
 import os
 import re
-import sys
+from ipaddress import ip_address
 from pathlib import Path
 from typing import Any
 
 from olr.commands import options
 from olr.model.questions import NUMBERS
+from olr.serving import logs
 from olr.serving.allowed import LOOPBACK
 from olr.serving.limits import MIB, Capacity, Limits
 from olr.serving.server import Settings, serve
@@ -35,6 +35,19 @@ class Text(click.ParamType):
         if not self._pattern.fullmatch(value):
             self.fail(f"{value!r} isn't {self._about}", param, ctx)
         return value
+
+
+class Address(click.ParamType):
+    """An address of IPv4 or IPv6."""
+
+    name = "address"
+
+    def convert(self, value: str, param: click.Parameter | None, ctx: click.Context | None) -> str:
+        """The address. Ends with a usage error if it isn't one."""
+        try:
+            return str(ip_address(value))
+        except ValueError:
+            self.fail(f"{value!r} is no address of IPv4 or IPv6", param, ctx)
 
 
 @click.command()
@@ -106,6 +119,15 @@ class Text(click.ParamType):
     metavar="ORIGIN",
     help="A site whose pages may ask, such as https://maps.example. May be given several times. By default those of the server alone.",
 )
+@click.option(
+    "--proxy",
+    "proxies",
+    multiple=True,
+    type=Address(),
+    metavar="ADDRESS",
+    help="The address of a server in front of it, whose field X-Forwarded-For says who asks. May be given several times. A client that isn't "
+    "one has a part of what the server does at once.",
+)
 @options.tiles_option(" on the page")
 @options.confidence_option
 @click.option(
@@ -132,7 +154,7 @@ def command(
     A line with the URL is printed once it listens. SIGHUP reads the map anew, SIGTERM and SIGINT end the server when what runs is
     answered. docs/SERVE.md has the addresses.
     """
-    _log(logged == "requests")
+    logs.start(logged == "requests")
     if host not in LOOPBACK:
         click.echo(
             f"olr-tools: {host} can be reached by others, and there is no login and no encryption: put a server that has them in front, and "
@@ -150,12 +172,3 @@ def _capacity(workers: int | None, processes: int | None) -> Capacity:
     if most < many:
         raise click.UsageError(f"--processes is {most}, fewer than the {many} of --workers")
     return Capacity(many, most)
-
-
-def _log(requests: bool) -> None:
-    """Writes what happens to standard error."""
-    logging.basicConfig(stream=sys.stderr, level=logging.WARNING, format="olr-tools: %(message)s")
-    # What isn't HTTP is a client's fault, and there may be much of it.
-    logging.getLogger("uvicorn.error").setLevel(logging.ERROR)
-    if requests:
-        logging.getLogger("olr.serving.requests").setLevel(logging.INFO)

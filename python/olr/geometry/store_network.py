@@ -8,7 +8,7 @@ from pathlib import Path
 from typing import TYPE_CHECKING
 
 from olr.arrays import Floats, Integers
-from olr.errors import MapRefused, ToolError
+from olr.errors import ToolError, map_changed
 from olr.geometry.network import Network, Polylines
 from olr.model.display import note_network
 from olr.model.map_folder import LINES, NODES, store_of
@@ -57,9 +57,7 @@ class StoreNetwork(Network):
     def require_digest(self, digest: str) -> None:
         """Raises `MapRefused` if the store isn't the one of this digest."""
         if self.digest != digest:
-            raise MapRefused(
-                f"the store {self.folder} has changed since it was opened: make another Map"
-            )
+            raise map_changed(f"the store {self.folder} has changed since it was opened")
 
     @contextmanager
     def reading(self) -> Iterator[Store]:

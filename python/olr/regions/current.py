@@ -5,7 +5,7 @@ from contextlib import contextmanager
 from pathlib import Path
 
 from olr.content import Stamp
-from olr.errors import MapRefused, ToolError
+from olr.errors import MapRefused, ToolError, map_changed
 from olr.regions.store import Store
 
 
@@ -63,6 +63,4 @@ class CurrentStore:
             return None
 
     def _changed(self) -> MapRefused:
-        return MapRefused(
-            f"the store {self.file} has changed since it was opened: make another Map"
-        )
+        return map_changed(f"the store {self.file} has changed since it was opened")

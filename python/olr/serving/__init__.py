@@ -15,14 +15,15 @@
 | `judging` | how places are asked whose probability is shown |
 | `features`, `scenes`, `rows` | answers as GeoJSON, as what a page draws, and as the rows of its list |
 | `rooms`, `threads` | how many of these are made at once, and calls in threads |
-| `streaming` | `POST /batch/{command}` and `POST /rows` |
+| `streaming`, `bodies` | `POST /batch/{command}` and `POST /rows`, and their bodies |
 | `lists`, `listing` | `POST /messages`: lists as the page shows them; the process that reads one |
 | `openapi`, `pages` | the addresses as an OpenAPI document, and the pages with the files that they load |
 | `addresses` | the addresses, and what each answers |
 | `allowed`, `front` | who may ask, and what stands before the addresses |
-| `meters` | what is counted |
+| `peers`, `loads` | clients by their addresses, and how much of what is done at once one of them has |
+| `meters`, `logs` | what is counted, and what is logged |
 | `connections` | connections and their limits |
-| `server` | the server |
+| `listening`, `server` | what it listens to, and the server |
 
 `docs.html` is the template of the page that lists the addresses. The page for people is `assets/index.html`, with components of `olr.pages`:
 

@@ -52,13 +52,25 @@ def require_allowed(scope: Scope, allowed: Allowed) -> None:
     fields = fields_of(scope)
     if [name for name, _ in scope["headers"]].count(b"host") != 1:
         raise bad_request("a request has one field Host")
-    if fields[b"host"] not in allowed.hosts:
+    host = fields[b"host"]
+    if host not in allowed.hosts and host not in _names_at(scope):
         text = "the field Host has no name of this server: --allow-host adds one"
         raise Problem(421, "MisdirectedRequest", text)
     origin = fields.get(b"origin")
-    is_foreign = origin is not None and origin not in allowed.origins
-    if origin is None and fields.get(b"sec-fetch-site") not in OWN_SITE:
+    if origin is not None:
+        own = b"http://" + host, b"https://" + host
+        is_foreign = origin not in allowed.origins and origin not in own
+    elif fields.get(b"sec-fetch-site") not in OWN_SITE:
         is_foreign = fields.get(b"sec-fetch-mode") != b"navigate"
+    else:
+        is_foreign = False
     if is_foreign:
         text = "the page of another site asks: --allow-origin admits one"
         raise Problem(403, "OtherOrigin", text)
+
+
+def _names_at(scope: Scope) -> frozenset[bytes]:
+    """What a client calls the server that has reached it by an address of the machine."""
+    address, port = scope.get("server") or ("", 0)
+    own = in_url(address)
+    return _bytes({f"{own}:{port}", *([own] if port == 80 else [])}) if own else frozenset()

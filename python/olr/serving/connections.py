@@ -5,6 +5,7 @@ import logging
 import socket
 import time
 from collections import deque
+from collections.abc import Callable
 from httptools import HttpRequestParser
 from typing import Any
 from uvicorn.config import Config
@@ -13,13 +14,16 @@ from uvicorn.server import ServerState
 
 from olr.progress import Clock
 from olr.serving.limits import (
+    LEAST_RATE,
     MOST_AHEAD,
     MOST_HEAD,
     MOST_UNREAD,
     MOST_URL,
     SECONDS_IDLE,
     SECONDS_OF_HEAD,
+    Limits,
 )
+from olr.serving.peers import Peers, Shares, client_at, plain_address
 from olr.serving.problems import MEDIA_TYPE, Problem, bad_request
 
 log = logging.getLogger("olr.serving")
@@ -29,28 +33,73 @@ OF_BODIES = {b"content-length", b"transfer-encoding"}
 """Fields of a head before a body."""
 TICK = 0.5
 """Seconds between two looks at what has to be closed."""
+SLOW = Problem(408, "RequestTimeout", f"a body comes with {LEAST_RATE} bytes a second at least")
+Refused = Callable[[str, Problem, float], None]
+"""Hears of a client whose request was refused, and how many seconds behind its beginning."""
 ESTABLISHED = b"\x01"
 """The state of a connection of which no side is closed, as Linux has it."""
 
 
-class Connections:
-    """All connections, the one that has been silent for longest first."""
+class Pace:
+    """How a client sends a body, or takes an answer: one that falls behind LEAST_RATE by some seconds is too slow."""
 
-    def __init__(self, most: int, clock: Clock = time.monotonic) -> None:
-        self._most, self.clock = most, clock
+    __slots__ = ("_seconds", "_left", "is_paused")
+
+    def __init__(self, seconds: float) -> None:
+        self._seconds = self._left = seconds
+        self.is_paused: Callable[[], bool] = bool
+        """Whether nothing is to come now."""
+
+    def moved(self, size: int) -> None:
+        """So many bytes have come."""
+        self._left = min(self._seconds, self._left + size / LEAST_RATE)
+
+    def is_too_slow(self, seconds: float) -> bool:
+        """Whether it is, once so many seconds more have passed."""
+        if not self.is_paused():
+            self._left -= seconds
+        return self._left < 0
+
+
+class Connections:
+    """All connections, the one that has been silent for longest first. One client has a part of them."""
+
+    def __init__(
+        self,
+        most: int,
+        clock: Clock = time.monotonic,
+        peers: Peers = Peers(),
+        patience: float = Limits().time,
+        refused: Refused = lambda *_: None,
+    ) -> None:
+        """`patience` is for how many seconds a client may be slower than LEAST_RATE. `refused` hears of each request that is refused here."""
+        self.clock, self.peers, self.patience, self.refused = clock, peers, patience, refused
+        self._shares = Shares(most, "connections")
         self._there: "dict[Connection, None]" = {}
 
     def __len__(self) -> int:
         return len(self._there)
 
     def add(self, connection: "Connection") -> None:
-        """A new one. Where there are too many, the one that has been idle for longest is closed; if none is idle, the new one."""
-        if len(self._there) >= self._most:
-            idle = next((one for one in self._there if one.is_idle()), connection)
-            self._abort(idle)
-            if idle is connection:
-                return
-        self._there[connection] = None
+        """A new one. Where there are too many, the one that has been idle for longest is closed; if none is idle, the new one. Where its client
+        has too many, one of that client's: also one whose body is waited for."""
+        own, closed = connection.peer, None
+        if own is not None and self._shares.has_part(own):
+            log.warning(
+                "%s has its part of the connections, %d: if it is a proxy, --proxy names it",
+                own,
+                self._shares.part,
+                extra={"cause": ("connections", own), "most": 1},
+            )
+            there = (one for one in self._there if one.peer == own)
+            closed = next((one for one in there if one.is_idle() or one.is_in_body), connection)
+        elif len(self._there) >= self._shares.most:
+            closed = next((one for one in self._there if one.is_idle()), connection)
+        if closed is not None:
+            self._abort(closed)
+        if closed is not connection:
+            self._there[connection] = None
+            self._shares.add(own or "")
 
     def heard(self, connection: "Connection") -> None:
         """One that sent something, or was answered."""
@@ -60,7 +109,9 @@ class Connections:
 
     def discard(self, connection: "Connection") -> None:
         """One that is closed."""
-        self._there.pop(connection, None)
+        if connection in self._there:
+            del self._there[connection]
+            self._shares.give_back(connection.peer or "")
 
     def close(self) -> None:
         """Closes all of them."""
@@ -74,11 +125,16 @@ class Connections:
             self.look()
 
     def look(self) -> None:
-        """Closes those that are silent for too long or whose client has left, and those that don't take their answers where these are too
-        much."""
+        """Closes those that are silent or slow for too long or whose client has left, and those that don't take their answers where these are
+        too much."""
         now = self.clock()
-        for one in [one for one in self._there if one.is_late(now) or one.is_left()]:
-            self._abort(one)
+        for one in list(self._there):
+            is_slow = one.is_slow(now)
+            if one.is_late(now) or one.is_left():
+                self._abort(one)
+            elif is_slow:
+                self.discard(one)
+                one.give_up()
         unread = {one: one.unread() for one in self._there if one.is_idle()}
         too_much = sum(unread.values()) - MOST_UNREAD
         for one, size in unread.items():
@@ -93,18 +149,30 @@ class Connections:
 
 
 class Connection(HttpToolsProtocol):  # type: ignore[misc]
-    """A connection. A head that is too long, or isn't HTTP, is answered by a problem document."""
+    """A connection. A head that is too long, or isn't HTTP, is answered by a problem document.
+
+    What a request's scope has besides: `client` is the name of the client, with a port; `left` a future that is done when the client has gone;
+    `is_gone` says whether it has; `abort` closes the connection; `pace` is told when no body is to come; and `status` is there where the
+    connection was closed with that one in place of an answer.
+    """
 
     transport: Any
     scope: Any
     url: bytes
+    client: tuple[str, int]
+    server: tuple[str, int] | None
 
     def __init__(self, connections: Connections, config: Config, server_state: ServerState) -> None:
         super().__init__(config=config, server_state=server_state)
         self._all = connections
-        self._heard = self._head_since = connections.clock()
+        self.peer: str | None = None
+        """The client; None for a proxy, which speaks for many."""
+        self.is_in_body = False
+        """Whether a part of a body is still to come."""
+        self._heard = self._looked = self._head_since = connections.clock()
         self._is_in_head = True
         self._bytes_of_head = self._unread = 0
+        self._sending = self._taking = Pace(connections.patience)
         self._problem: Problem | None = None
         self._left: asyncio.Future[None] = self.loop.create_future()
         self._cycles: deque[Any] = deque()
@@ -118,15 +186,30 @@ class Connection(HttpToolsProtocol):  # type: ignore[misc]
         return int(self.transport.get_write_buffer_size())
 
     def is_late(self, now: float) -> bool:
-        """Whether its head is waited for too long, or it has been idle for too long: it asks nothing, and doesn't take an answer. This is
-        asked at each look."""
+        """Whether its head is waited for too long, or it has been idle for too long: it asks nothing."""
         if self._is_in_head and now - self._head_since > SECONDS_OF_HEAD:
             return True
-        unread = self.unread()
-        if unread < self._unread:
-            self._heard = now
-        self._unread = unread
         return self.is_idle() and now - self._heard > SECONDS_IDLE
+
+    def is_slow(self, now: float) -> bool:
+        """Whether its body comes too slowly, or its answer is taken so. This is asked at each look."""
+        seconds, self._looked = now - self._looked, now
+        unread, before = self.unread(), self._unread
+        self._unread = unread
+        if unread < before:
+            self._taking.moved(before - unread)
+            self._heard = now
+        if self._is_waiting_for_body() and self._sending.is_too_slow(seconds):
+            return True
+        return unread > 0 and self._taking.is_too_slow(seconds)
+
+    def _is_waiting_for_body(self) -> bool:
+        """Whether it is the client's turn to send of a body. It isn't where reading is paused, or it was to be told that it may begin."""
+        return (
+            self.is_in_body
+            and not self.flow.read_paused
+            and not self.cycle.waiting_for_100_continue
+        )
 
     def is_left(self) -> bool:
         """Whether its client has closed it while nothing is read, where no other event tells."""
@@ -140,7 +223,17 @@ class Connection(HttpToolsProtocol):  # type: ignore[misc]
     def connection_made(self, transport: Any) -> None:
         """A client has connected."""
         super().connection_made(transport)
+        host, port = self.client or ("", 0)
+        self.client = client_at(host) or "", port
+        self.peer = None if self._all.peers.is_proxy(host) else self.client[0]
+        if self.server is not None:
+            self.server = plain_address(self.server[0]), self.server[1]
         self._all.add(self)
+
+    def resume_writing(self) -> None:
+        """The client has taken most of what was to be sent."""
+        super().resume_writing()
+        self._taking = Pace(self._all.patience)
 
     def eof_received(self) -> None:
         """The client sends no more. Nothing tells whether it still reads, so it has left."""
@@ -157,6 +250,15 @@ class Connection(HttpToolsProtocol):  # type: ignore[misc]
         self._leave()
         self.transport.abort()
 
+    def give_up(self) -> None:
+        """Closes a connection that is too slow. It says so if nothing was answered yet."""
+        self.scope["status"] = SLOW.status
+        if self.is_in_body and len(self._cycles) == 1 and not self.cycle.response_started:
+            self._leave()
+            self._say(SLOW)
+        else:
+            self.abort()
+
     def _leave(self) -> None:
         """Lets all requests end that aren't answered. uvicorn tells it to the last one alone; the one before would write to a connection that
         is closed, or wait for ever for its body."""
@@ -170,7 +272,7 @@ class Connection(HttpToolsProtocol):  # type: ignore[misc]
 
     def data_received(self, data: bytes) -> None:
         """The client sent something."""
-        if self._problem is not None:
+        if self._problem is not None or self._left.done():
             return
         self._heard = self._all.clock()
         self._all.heard(self)
@@ -198,6 +300,8 @@ class Connection(HttpToolsProtocol):  # type: ignore[misc]
 
     def on_headers_complete(self) -> None:
         """The whole head is there."""
+        if self.peer is None:
+            self.scope["client"] = self._all.peers.client_behind(self.headers) or self.client[0], 0
         if not self.url.startswith(b"/"):
             self._refuse(bad_request("a request names a path"))
         if len(self.pipeline) >= MOST_AHEAD:
@@ -205,9 +309,21 @@ class Connection(HttpToolsProtocol):  # type: ignore[misc]
         self._is_in_head = False
         self.scope["is_gone"], self.scope["left"] = self.transport.is_closing, self._left
         self.scope["abort"] = self.abort
+        self._sending = self.scope["pace"] = Pace(self._all.patience)
         super().on_headers_complete()
         if not self.parser.should_upgrade():
             self._cycles.append(self.cycle)
+            self.is_in_body = True
+
+    def on_body(self, body: bytes) -> None:
+        """A part of a body."""
+        self._sending.moved(len(body))
+        super().on_body(body)
+
+    def on_message_complete(self) -> None:
+        """The whole body is there."""
+        self.is_in_body = False
+        super().on_message_complete()
 
     def on_response_complete(self) -> None:
         """A request was answered."""
@@ -245,10 +361,17 @@ class Connection(HttpToolsProtocol):  # type: ignore[misc]
         answered it is closed behind that; at once, if it is the body of that one."""
         problem = self._problem or bad_request("that isn't HTTP")
         self._problem = problem
-        if not self.is_idle():
-            if not self._is_in_head:
-                self.abort()
+        if not self._is_in_head and not self.is_idle():
+            self.scope["status"] = problem.status
+            self.abort()
             return
+        client = self.scope["client"] if self.scope else self.client
+        self._all.refused(client[0], problem, self._all.clock() - self._head_since)
+        if self.is_idle():
+            self._say(problem)
+
+    def _say(self, problem: Problem) -> None:
+        """Answers by a problem document, and closes the connection."""
         body = problem.document()
         fields = [*self.server_state.default_headers, (b"content-type", MEDIA_TYPE.encode())]
         fields += [(b"content-length", b"%d" % len(body)), (b"connection", b"close")]

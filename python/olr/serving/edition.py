@@ -2,6 +2,8 @@
 
 import asyncio
 import threading
+from collections.abc import Iterator
+from contextlib import contextmanager
 from pathlib import Path
 from typing import TYPE_CHECKING
 
@@ -9,7 +11,7 @@ from olr.asking.exchange import Asked
 from olr.asking.files import MapFiles, Version
 from olr.asking.processes import Kind
 from olr.asking.program import PathLike, find_program
-from olr.errors import MapRefused
+from olr.errors import ANOTHER_MAP, MapRefused
 
 if TYPE_CHECKING:
     from olr.geometry.network import Network
@@ -35,11 +37,13 @@ class Edition:
 
     async def found(self) -> Version:
         """The version that is there. Raises `MapRefused` if it isn't that of this edition."""
-        return await asyncio.to_thread(self.files.found)
+        with _for_operators():
+            return await asyncio.to_thread(self.files.found)
 
     async def keep(self, version: Version) -> None:
         """Notes that a process has read the version that was found. Raises `MapRefused` if the files were changed meanwhile."""
-        await asyncio.to_thread(self.files.keep, version)
+        with _for_operators():
+            await asyncio.to_thread(self.files.keep, version)
         self.version = version
 
     async def is_there(self) -> bool:
@@ -71,3 +75,12 @@ class Edition:
             if self._streets is None:
                 self._streets = streets_of_files(network, self.files)
             return self._streets
+
+
+@contextmanager
+def _for_operators() -> Iterator[None]:
+    """Leaves out what callers in Python do about a map that has changed: it goes to the log of a server."""
+    try:
+        yield
+    except MapRefused as error:
+        raise MapRefused(str(error).removesuffix(ANOTHER_MAP)) from error

@@ -1,27 +1,31 @@
 """What stands before the addresses: who may ask, how many at once, and what is counted and logged."""
 
-import asyncio
-import logging
 import time
-from collections.abc import AsyncIterator, Sequence
-from contextlib import asynccontextmanager
+from asyncio import CancelledError, Future, Task, current_task
+from collections.abc import Mapping, Sequence
 from starlette.responses import Response
 from starlette.types import ASGIApp, Message, Receive, Scope, Send
 from typing import cast
 
 from olr.serving.allowed import Allowed, fields_of, require_allowed
-from olr.serving.limits import MOST_REQUESTS
+from olr.serving.loads import Loads
+from olr.serving.logs import note_request
 from olr.serving.meters import OTHER, Meters
-from olr.serving.problems import Problem, busy
+from olr.serving.peers import client_of
+from olr.serving.problems import Problem
 from olr.serving.waiting import CLIENT
 
-log = logging.getLogger("olr.serving.requests")
 PREFLIGHT = {
     "Access-Control-Allow-Methods": "GET, POST",
     "Access-Control-Allow-Headers": "Content-Type",
     "Access-Control-Max-Age": "600",
 }
 """What a browser may send that asks for a page of an allowed site, and how many seconds it may keep that."""
+OF_BODIES = {b"content-length", b"transfer-encoding"}
+"""Fields of a head before a body."""
+ALWAYS = frozenset({"/health", "/metrics", "/ready"})
+"""Addresses that answer however much is asked: by them it is seen how the server is."""
+Fields = Mapping[bytes, bytes]
 LEFT = 499
 """The status of a request whose client left before its answer began, as nginx counts it."""
 
@@ -35,7 +39,7 @@ class Front:
         """`addresses` are those of the other one: requests to them are counted by their names."""
         self._app, self._allowed, self._meters = app, allowed, meters
         self._addresses = frozenset(addresses)
-        self._running = 0
+        self._loads = Loads()
 
     async def __call__(self, scope: Scope, receive: Receive, send: Send) -> None:
         """Answers a request."""
@@ -54,45 +58,51 @@ class Front:
                     message["headers"] = [*message.get("headers", ()), *allowing]
             await send(message)
 
-        CLIENT.set(scope["client"][0] if scope.get("client") else "")
-        self._running += 1
+        CLIENT.set(client_of(scope))
+        left, task, is_cancelled = scope["left"], cast(Task[None], current_task()), False
+
+        def cancel(_: Future[None]) -> None:
+            nonlocal is_cancelled
+            is_cancelled = task.cancel()
+
+        left.add_done_callback(cancel)
         try:
-            async with _while_there(scope["left"]):
-                try:
-                    require_allowed(scope, self._allowed)
-                    if self._running > MOST_REQUESTS:
-                        raise busy(f"there are {MOST_REQUESTS:,} requests at once")
-                    app, asked = self._app, b"access-control-request-method" in fields
-                    if is_of_other and asked and scope["method"] == "OPTIONS":
-                        app = Response(None, 204, PREFLIGHT)
-                    await app(scope, receive, sending)
-                except Problem as problem:
-                    await problem.response()(scope, receive, sending)
+            await self._answer(scope, fields, receive, sending)
+        except CancelledError:
+            if not is_cancelled or task.uncancel() > 0:
+                raise
         finally:
-            self._running -= 1
-            self._note(scope, status or LEFT, time.perf_counter() - begin)
+            left.remove_done_callback(cancel)
+            status = status or scope.get("status", LEFT)
+            self._note(scope, status, time.perf_counter() - begin)
+
+    async def _answer(self, scope: Scope, fields: Fields, receive: Receive, send: Send) -> None:
+        """Answers a request, if its client may ask, and hasn't asked for too much."""
+        try:
+            require_allowed(scope, self._allowed)
+            app, asked = self._app, b"access-control-request-method" in fields
+            is_of_other = fields.get(b"origin") in self._allowed.others
+            if is_of_other and asked and scope["method"] == "OPTIONS":
+                app = Response(None, 204, PREFLIGHT)
+            if scope["path"] in ALWAYS:
+                await app(scope, receive, send)
+                return
+            has_body = scope["method"] == "POST" and not fields.keys().isdisjoint(OF_BODIES)
+            load = self._loads.taken(client_of(scope), has_body)
+            try:
+                await app(scope, load.receiving(receive) if has_body else receive, send)
+            finally:
+                load.give_back()
+        except Problem as problem:
+            await problem.response()(scope, receive, send)
 
     def _note(self, scope: Scope, status: int, seconds: float) -> None:
         """Counts a request, and logs it if that is asked for. What it asked for isn't logged."""
         address = scope["path"] if scope["path"] in self._addresses else OTHER
         self._meters.count(address, status, seconds)
-        if log.isEnabledFor(logging.INFO):
-            log.info("%s %s %d, %.1f ms", scope["method"], address, status, seconds * 1000)
+        note_request(client_of(scope), scope["method"], address, status, seconds)
 
-
-@asynccontextmanager
-async def _while_there(left: "asyncio.Future[None]") -> AsyncIterator[None]:
-    """Cancels what is done within when the client leaves, and goes on behind it."""
-    task = cast("asyncio.Task[None]", asyncio.current_task())
-
-    def cancel(_: "asyncio.Future[None]") -> None:
-        task.cancel()
-
-    left.add_done_callback(cancel)
-    try:
-        yield
-    except asyncio.CancelledError:
-        if not left.done() or task.uncancel() > 0:
-            raise
-    finally:
-        left.remove_done_callback(cancel)
+    def refused(self, client: str, problem: Problem, seconds: float) -> None:
+        """Counts and logs a request that was refused before its head was read."""
+        self._meters.count(OTHER, problem.status, seconds)
+        note_request(client, "-", OTHER, problem.status, seconds)

@@ -14,12 +14,26 @@ SECONDS_IDLE = 60.0
 """How long a connection may be idle between requests, or within a body that nobody waits for."""
 MOST_CONNECTIONS = 4096
 """Connections at once. Above it the one that has been idle for longest is closed; each takes some 10 KiB."""
-SPARE_FILES = 256
-"""Of the files that the system lets the server open so many are kept for other things than connections."""
+MOST_BACKLOG = 2048
+"""Connections that the system keeps until they are taken."""
+LEAST_CONNECTIONS = 16
+"""With fewer, those that are to be taken included, the server doesn't start: a browser has six."""
+FILES = 64
+"""Files that the server has open besides, or reads for a while: its own, those of the map and of the modules, and lists that come."""
+FILES_OF_PROCESS = 4
+"""And so many for each process, which has three pipes."""
+FILES_OF_WORKER = 6
+"""And so many for each worker: for a process that shows a reference, and the other ends of the pipes of one that starts."""
 MOST_AHEAD = 16
 """Requests on one connection that are sent before those in front of them are answered. Browsers and curl send none."""
 MOST_REQUESTS = 1000
-"""Requests at once, waiting ones included. At a thousand answers a second the last one has waited for a second."""
+"""Requests at once, waiting ones included, but for those whose body is waited for. At a thousand answers a second the last one has waited for
+a second."""
+MOST_BODIES = 1000
+"""Bodies that are waited for at once. Each takes up to 64 KiB."""
+LEAST_RATE = 100
+"""Bytes a second that a client sends of a body, and takes of an answer. A modem of 9,600 bits a second has ten times as many, and a client
+that would hold a thousand bodies has to send 100 KB a second."""
 RETRY_AFTER = 2
 """Seconds after which a client that was turned away may ask again."""
 ABREAST = 4

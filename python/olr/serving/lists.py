@@ -1,18 +1,19 @@
 """`POST /messages`: what a list of messages has in it, read as `olr-tools match` reads a file."""
 
-import asyncio
 import json
+import logging
 import sys
 from collections.abc import AsyncIterator
 from contextlib import asynccontextmanager
 from pathlib import Path
 from starlette.requests import ClientDisconnect, Request
 from starlette.responses import Response
-from tempfile import TemporaryFile
+from tempfile import SpooledTemporaryFile
 from typing import IO
 
 from olr.messages.message import FORMATS, Reading
 from olr.serving.limits import MIB, Limits
+from olr.serving.peers import Shares, client_of
 from olr.serving.problems import Problem, bad_request, busy
 from olr.serving.queries import Options, options_of
 from olr.serving.rooms import Room
@@ -21,10 +22,15 @@ from olr.serving.runs import ended_with
 MEDIA_TYPE = "application/x-ndjson"
 MOST_BYTES = 16 * MIB
 """Of a list."""
+MOST_COMING = 32
+"""Lists that are there or come, half a GiB in files."""
+IN_MEMORY = 65_536
+"""Bytes of a list that needs no file while it comes."""
 ABREAST = 2
 """Lists that are read at once."""
 LARGE = MIB
 """Of longer ones one is read at a time."""
+log = logging.getLogger("olr.serving")
 PACKAGE = Path(__file__).resolve().parents[2]
 LISTING = f"import sys; sys.path.insert(0, {str(PACKAGE)!r}); from olr.serving.listing import main; sys.exit(main(sys.argv[1:]))"
 """What the process runs: the package lies where this server has it, installed or not."""
@@ -36,16 +42,19 @@ def most_bytes(limits: Limits) -> int:
 
 
 class Lists:
-    """Reads lists, each in a process of its own, once all of it is there."""
+    """Reads lists, each in a process of its own, once all of it is there: one that comes slowly keeps nobody waiting."""
 
     def __init__(self, limits: Limits) -> None:
         self._limits = limits
+        self._coming = Shares(MOST_COMING, "lists that come")
         self._room, self._alone = Room(limits.time, ABREAST), Room(limits.time, 1)
 
     async def answer(self, request: Request) -> Response:
         """The messages of the body as lines of JSON. Raises `Problem` for a list that is too long, or isn't understood."""
         reading = reading_of(options_of(request.scope["query_string"]))
-        late = busy(f"the list wasn't there and read within {self._limits.time:g} seconds")
+        late = busy(f"the list wasn't read within {self._limits.time:g} seconds")
+        client = client_of(request.scope)
+        self._coming.take(client)
         try:
             async with self._received(request) as (file, size):
                 room = self._alone if size > LARGE else self._room
@@ -53,8 +62,13 @@ class Lists:
                     status, text, said = await _read(file, reading, self._limits.time)
         except TimeoutError as error:
             raise late from error
+        except OSError as error:
+            log.warning("a list can't be kept: %s", error)
+            raise busy("the list can't be kept") from error
         except ClientDisconnect:
             return Response(status_code=400)
+        finally:
+            self._coming.give_back(client)
         if status == 1 and said:
             raise Problem(422, "UnreadableList", said.decode("utf-8", errors="replace"))
         if status != 0:
@@ -63,17 +77,17 @@ class Lists:
 
     @asynccontextmanager
     async def _received(self, request: Request) -> AsyncIterator[tuple[IO[bytes], int]]:
-        """A file with the body, and its size. Raises `Problem` for one that is too long, and `TimeoutError`."""
+        """A file with the body, and its size. Raises `Problem` for one that is too long. How slowly it may come is a matter of its connection."""
         most = most_bytes(self._limits)
         size = 0
-        with TemporaryFile() as file:
-            async with asyncio.timeout(self._limits.time):
-                async for piece in request.stream():
-                    size += len(piece)
-                    if size > most:
-                        text = f"a list has {most:,} bytes at most here: olr-tools match reads any file"
-                        raise Problem(413, "BodyTooLarge", text, {"Connection": "close"})
-                    file.write(piece)
+        with SpooledTemporaryFile(IN_MEMORY) as file:
+            async for piece in request.stream():
+                size += len(piece)
+                if size > most:
+                    text = f"a list has {most:,} bytes at most here: olr-tools match reads any file"
+                    raise Problem(413, "BodyTooLarge", text, {"Connection": "close"})
+                file.write(piece)
+            file.rollover()
             file.seek(0)
             yield file, size
 

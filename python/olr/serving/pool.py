@@ -64,7 +64,7 @@ class Pool:
         self._slots: list[Slot] = []
         self._tasks: set[asyncio.Task[None]] = set()
         self._is_looking = False
-        self._is_closed = False
+        self._is_open = self._is_closed = False
         self._loop = asyncio.get_running_loop()
 
     def sizes(self) -> dict[str, int]:
@@ -135,6 +135,7 @@ class Pool:
     async def open(self, kind: Kind) -> None:
         """Starts the first process, and waits until it has read the map. Raises `ToolError` if it doesn't."""
         await self._new(kind).start()
+        self._is_open = True
 
     async def renew(self, edition: Edition, kind: Kind) -> None:
         """Goes over to another edition, once a process has read it. Then those of the one before answer what they were asked, and end.
@@ -361,14 +362,21 @@ class Pool:
         try:
             await edition.found()
         except MapRefused as error:
-            if not isinstance(self.trouble, MapRefused) and edition is self.edition:
-                log.warning("%s: SIGHUP reads them anew", error)
-                self.trouble = error
+            if edition is self.edition:
+                self._note_trouble(error)
             return
         finally:
             self._is_looking = False
         if isinstance(self.trouble, MapRefused) and edition is self.edition:
             self.trouble = None
+
+    def _note_trouble(self, error: ToolError) -> None:
+        """Notes why a process didn't read the map. That the files aren't the right ones is told once; before any process has read them it is the
+        error of whoever opens the pool."""
+        if isinstance(error, MapRefused) and self._is_open:
+            if not isinstance(self.trouble, MapRefused):
+                log.warning("%s: SIGHUP reads them anew", error)
+        self.trouble = error
 
     def became_free(self, process: Process) -> None:
         """A process has read the map, or has given an answer."""
@@ -387,7 +395,7 @@ class Pool:
             return
         self._crew.there.remove(process)
         self.restarts[_reason(error)] += 1
-        if not isinstance(error, TimedOut):
+        if not isinstance(error, (MapRefused, TimedOut)):
             log.warning("a process ended: olr %s: %s", process.kind.what, error)
         self._ask_again(process, error)
         self._schedule()
@@ -397,7 +405,7 @@ class Pool:
         twice at most. Where the files are others than those of the edition, or weren't read in time, none is asked again, unless another
         edition has taken its place."""
         if process.edition is self.edition and not process.is_ready:
-            self.trouble = error
+            self._note_trouble(error)
             if isinstance(error, (MapRefused, TimedOut)):
                 for request in (*process.requests, *self._without_process(process.kind)):
                     request.refuse(error)

@@ -18,6 +18,7 @@ TITLES = {
     "OtherOrigin": "403: the page of another site asks",
     "NotFound": "404: there is no such address",
     "MethodNotAllowed": "405: the address has another method",
+    "RequestTimeout": "408: the body came too slowly",
     "BodyTooLarge": "413: the body is too long",
     "URITooLong": "414: the URL is too long",
     "UnsupportedMediaType": "415: the body has another type",

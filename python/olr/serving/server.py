@@ -2,10 +2,9 @@
 
 import asyncio
 import click
-import logging
-import resource
 import signal
 import socket
+import time
 import uvicorn
 import uvloop
 from collections.abc import Sequence
@@ -14,29 +13,20 @@ from pathlib import Path
 from typing import Any, NamedTuple
 
 from olr.confidence.choosing import confidence_of
-from olr.errors import ToolError
 from olr.model.map_folder import store_of
+from olr.serving import logs
 from olr.serving.addresses import Service, application
-from olr.serving.allowed import allowed_for, in_url
+from olr.serving.allowed import allowed_for
 from olr.serving.connections import Connection, Connections
 from olr.serving.folder_map import FolderMap
 from olr.serving.front import Front
-from olr.serving.limits import (
-    MOST_CONNECTIONS,
-    SECONDS_IDLE,
-    SECONDS_TO_END,
-    SPARE_FILES,
-    Capacity,
-    Limits,
-)
+from olr.serving.limits import SECONDS_IDLE, SECONDS_TO_END, Capacity, Limits
+from olr.serving.listening import Sockets, listen, sockets_for, url_of
 from olr.serving.meters import Meters
 from olr.serving.pages import policy_of
+from olr.serving.peers import Peers
 from olr.serving.served import Served
 from olr.serving.store_map import StoreMap
-
-log = logging.getLogger("olr.serving")
-BACKLOG = 2048
-"""Connections that the system keeps until they are taken."""
 
 
 class Settings(NamedTuple):
@@ -57,6 +47,8 @@ class Settings(NamedTuple):
     """The URL of tiles for the page."""
     confidence: Path | None = None
     """The file of a confidence: by default the one that comes with the package."""
+    proxies: Sequence[str] = ()
+    """Addresses of proxies that say who asks."""
 
 
 class _Server(uvicorn.Server):  # type: ignore[misc]
@@ -94,11 +86,12 @@ def serve(settings: Settings) -> None:
 async def _serve(settings: Settings) -> None:
     # Else it would end the server until the map is read, which is what it asks for.
     asyncio.get_running_loop().add_signal_handler(signal.SIGHUP, lambda: None)
-    listening = _listen(settings.host, settings.port)
+    sockets = sockets_for(settings.capacity)
+    listening = listen(settings.host, settings.port, sockets.backlog)
     served = _served(settings)
     try:
         await served.open()
-        await _answer(settings, served, listening)
+        await _answer(settings, served, listening, sockets)
     finally:
         listening.close()
         await served.close()
@@ -111,16 +104,9 @@ def _served(settings: Settings) -> Served:
     return FolderMap(settings.map, settings.capacity, settings.limits)
 
 
-def _listen(host: str, port: int) -> socket.socket:
-    """A socket that has the address, at which nobody listens yet. Raises `ToolError`."""
-    try:
-        family = socket.getaddrinfo(host, port, type=socket.SOCK_STREAM)[0][0]
-        return socket.create_server((host, port), family=family, backlog=BACKLOG)
-    except OSError as error:
-        raise ToolError(f"{host} port {port} can't be listened to: {error.strerror}") from error
-
-
-async def _answer(settings: Settings, served: Served, listening: socket.socket) -> None:
+async def _answer(
+    settings: Settings, served: Served, listening: socket.socket, sockets: Sockets
+) -> None:
     """Answers what comes, until a signal ends it."""
     port = listening.getsockname()[1]
     meters = Meters(served)
@@ -128,15 +114,22 @@ async def _answer(settings: Settings, served: Served, listening: socket.socket) 
     app = application(Service(served, settings.limits, meters, confidence, settings.tiles))
     allowed = allowed_for(settings.host, port, settings.names, settings.origins)
     front = Front(app, [getattr(route, "path") for route in app.routes], allowed, meters)
-    connections = Connections(_most_connections())
-    url = f"http://{in_url(settings.host)}:{port}/"
-    server = _Server(_config(settings, front, connections), url)
+    connections = Connections(
+        sockets.connections,
+        time.monotonic,
+        Peers(settings.proxies),
+        settings.limits.time,
+        front.refused,
+    )
+    server = _Server(
+        _config(settings, front, connections, sockets.backlog), url_of(settings.host, port)
+    )
     renewing = _handle_signals(server, served)
-    watching = asyncio.get_running_loop().create_task(connections.watch())
+    watching = [asyncio.create_task(work) for work in (connections.watch(), logs.watch())]
     try:
         await server.serve(sockets=[listening])
     finally:
-        for task in (watching, *renewing):
+        for task in (*watching, *renewing):
             task.cancel()
         # What isn't answered by now is left: its connection is closed, and its process ends.
         connections.close()
@@ -161,9 +154,10 @@ def _handle_signals(server: _Server, served: Served) -> "set[asyncio.Task[None]]
     return renewing
 
 
-def _config(settings: Settings, front: Front, connections: Connections) -> Any:
+def _config(settings: Settings, front: Front, connections: Connections, backlog: int) -> Any:
     return uvicorn.Config(
         front,
+        backlog=backlog,
         http=partial(Connection, connections),
         ws="none",
         lifespan="off",
@@ -185,10 +179,3 @@ def _headers(settings: Settings) -> dict[str, str]:
         "Referrer-Policy": "no-referrer",
         "Cross-Origin-Resource-Policy": "cross-origin" if settings.origins else "same-origin",
     }
-
-
-def _most_connections() -> int:
-    """Lets this process open as many files as the system admits, and says how many connections that is."""
-    _, hard = resource.getrlimit(resource.RLIMIT_NOFILE)
-    resource.setrlimit(resource.RLIMIT_NOFILE, (hard, hard))
-    return max(1, min(MOST_CONNECTIONS, hard - SPARE_FILES))

@@ -19,6 +19,4 @@ async def in_thread(
         return await asyncio.shield(working)
     except asyncio.CancelledError:
         await asyncio.wait([working])
-        # Else asyncio would log that nobody asked for it.
-        working.exception()
         raise
