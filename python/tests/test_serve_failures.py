@@ -105,14 +105,38 @@ def test_a_client_that_stops_reading(
 
 @pytest.mark.parametrize("part", ["nothing", "half", "all"])
 def test_a_client_that_goes(part: str, server: Server, texts: list[str]) -> None:
-    """Its process ends."""
+    """Its process ends, if it had sent a record."""
     records = "".join(f"{text}\n" for text in whole(texts)).encode()
     with stream_of(server, len(records)) as connection:
         size = {"nothing": 0, "half": len(records) // 2, "all": len(records)}[part]
         connection.sendall(records[:size])
-        wait_until(lambda: server.figure('olr_processes{state="apart"}') == 1 or part == "all")
+        wait_until(lambda: server.figure('olr_processes{state="apart"}') == 1 or part != "half")
     wait_until(lambda: server.figure('olr_processes{state="apart"}') == 0)
     wait_until(lambda: len(server.programs()) == 1)
+
+
+@pytest.mark.parametrize("what", ["a page", "two pages", "a stream", "a stream and a page"])
+def test_a_client_that_goes_while_its_process_works(
+    what: str, program: Program, drawn: Path, tmp_path: Path, texts: list[str]
+) -> None:
+    """Nothing waits for the process, which would work for long: also where nothing of the client is read meanwhile."""
+    bad = bad_program(tmp_path / "bad", program, {texts[1]: "hangs"})
+    sleeping = tmp_path / "sleeping"
+    sleeping.write_text(
+        f'#!/bin/sh\nif [ "$1" = match ]; then exec sleep 600; fi\nexec {bad} "$@"\n'
+    )
+    sleeping.chmod(0o755)
+    with serving(sleeping, drawn, tmp_path / "log", "--time-limit", 600) as server:
+        path = path_of("match", texts[1], after="0:1")
+        page = f"GET {path} HTTP/1.1\r\nHost: 127.0.0.1:{server.port}\r\n\r\n"
+        head = STREAM.format(port=server.port)
+        stream = f"{head}Content-Length: {len(texts[1]) + 1}\r\n\r\n{texts[1]}\n"
+        sent = {"a page": page, "two pages": page * 2, "a stream": stream}.get(what, stream + page)
+        with socket.create_connection(("127.0.0.1", server.port)) as connection:
+            connection.sendall(sent.encode())
+            wait_until(lambda: server.figure('olr_processes{state="apart"}') == 1)
+        wait_until(lambda: server.figure('olr_processes{state="apart"}') == 0)
+        wait_until(lambda: len(server.programs()) == 1)
 
 
 def test_a_client_that_sends_half_a_body(
@@ -129,6 +153,32 @@ def test_a_client_that_sends_half_a_body(
             said = b"".join(iter(lambda: connection.recv(65_536), b""))
         assert said.startswith(b"HTTP/1.1 504 ") and b'"title": "TimedOut"' in said
         assert server.get(path_of("match", GOOD)).status in (200, 422)
+
+
+@pytest.mark.parametrize("sent", [b"k\tCwV", b"k\tCwVG\n"])
+def test_streams_that_come_slowly(
+    sent: bytes, program: Program, drawn: Path, tmp_path: Path, texts: list[str]
+) -> None:
+    """As many as may have a process: they have none while their clients send a part of a record, or have been given all lines. So others that
+    need one don't wait for them, and they go on."""
+    options = ("--workers", 4, "--time-limit", 4)
+    with serving(program.path, drawn, tmp_path / "log", *options) as server:
+        streams = [stream_of(server, 20) for _ in range(3)]
+        for stream in streams:
+            stream.sendall(sent)
+        after = server.get(path_of("match", texts[1], after="0:1"))
+        assert after.status in (200, 422), after
+        lines = server.get("/batch/match", "POST", b"CwVG\n", content_type="text/plain")
+        assert lines.body.count(b'"fault":"BadLength 3"') == 1
+        wait_until(lambda: server.figure('olr_processes{state="apart"}') == 0)
+        for stream in streams:
+            stream.sendall((sent + b"G\nCwVG\nCwVG\nCwVG\n")[len(sent) : 20])
+            said = b""
+            while not said.endswith(b"0\r\n\r\n"):
+                assert (piece := stream.recv(65_536)), said
+                said += piece
+            assert b'"fault":"BadLength 3","key":"k","record":1}\n' in said
+            stream.close()
 
 
 def health_of(server: Server) -> dict[str, object]:
@@ -317,6 +367,7 @@ def test_requests_wait_no_longer_than_they_may(
     options = ("--workers", 1, "--time-limit", 2)
     with serving(program.path, drawn, tmp_path / "log", *options) as server:
         with stream_of(server, 10_000) as connection:
+            connection.sendall(b"k\tCwVG\n")
             wait_until(lambda: server.figure('olr_processes{state="apart"}') == 1)
             is_over = threading.Event()
 
@@ -400,6 +451,8 @@ def test_files_that_change_without_a_signal(
     assert stream.problem()[:2] == (503, "MapRefused")
     about = health_of(server)
     assert about["changed"] and about["able"]
+    assert server.log().count("have changed") == server.log().count("\n") == 1
+    assert "Map" not in server.log()
     for pid in server.programs():
         os.kill(pid, signal.SIGKILL)
     wait_until(lambda: server.get("/health").status == 503)
@@ -436,12 +489,13 @@ exec {program.path} "$@"
 
 
 def refusal_of(program: Program, folder: Path, log: Path, port: int = 0) -> str:
-    """The last line that a server says which doesn't start."""
+    """The line that a server says which doesn't start."""
     words = ["serve", "--map", str(folder), "--port", str(port)]
     with forked(words, os.environ | {"OLR_PROGRAM": str(program.path)}, log) as process:
         assert process.stdout is not None and process.stdout.read() == ""
         assert process.wait() == 1
-    return log.read_text().splitlines()[-1]
+    (line,) = log.read_text().splitlines()
+    return line
 
 
 @pytest.mark.parametrize("number", [signal.SIGTERM, signal.SIGINT])
@@ -464,8 +518,9 @@ def test_it_ends_under_load(
 
 
 def test_it_ends_although_a_stream_runs(server: Server) -> None:
-    """Whose client sends nothing: within the seconds that are stated."""
-    with stream_of(server, 10_000):
+    """Whose client sends nothing more: within the seconds that are stated."""
+    with stream_of(server, 10_000) as connection:
+        connection.sendall(b"k\tCwVG\n")
         wait_until(lambda: server.figure('olr_processes{state="apart"}') == 1)
         programs = server.programs()
         server.signal(signal.SIGTERM)
@@ -478,7 +533,8 @@ def test_it_is_killed(program: Program, drawn: Path, tmp_path: Path, texts: list
     """No process is left: neither one whose input ends, nor one of a stream, nor one that works and doesn't look at its input."""
     bad = bad_program(tmp_path / "bad", program, {texts[2]: "hangs"})
     with serving(bad, drawn, tmp_path / "log", "--workers", 3) as server:
-        with stream_of(server, 10_000):
+        with stream_of(server, 10_000) as connection:
+            connection.sendall(f"{texts[2]}\n".encode())
             for what in ("match", "places"):
                 server.get(path_of(what, texts[1]))
             wait_until(lambda: server.figure('olr_processes{state="apart"}') == 1)

@@ -345,6 +345,8 @@ def test_thousands_of_silent_connections(server: Server) -> None:
 SLOW = {
     "heads": b"GET /match?ref=",
     "bodies": b"POST /messages HTTP/1.1\r\nHost: localhost:%d\r\nContent-Length: 9000\r\n\r\nx",
+    "streams": b"POST /batch/match HTTP/1.1\r\nHost: localhost:%d\r\nContent-Length: 9000\r\n"
+    b"Content-Type: text/plain\r\n\r\nx",
     "answers": b"GET /assets/leaflet.js HTTP/1.1\r\nHost: localhost:%d\r\n\r\n" * 2,
 }
 
@@ -370,6 +372,8 @@ def test_a_thousand_slow_sockets(kind: str, server: Server) -> None:
             assert reply_on(own, path).status == 200
             own.close()
         assert server.get("/messages?format=tab", "POST", b"k\tCwVG\n").status == 200
+        lines = server.get("/batch/match", "POST", b"k\tCwVG\n", Content_Type="text/plain")
+        assert lines.status == 200
     finally:
         for slow in there:
             slow.close()

@@ -55,6 +55,10 @@ class Splitter:
         self._number = 0
         self._unfinished = b""
 
+    def is_within_record(self) -> bool:
+        """Whether the end of a record is still to come."""
+        return bool(self._unfinished)
+
     def receive(self, piece: bytes) -> list[Record]:
         """The records that end in a piece."""
         *lines, rest = (self._unfinished + piece).split(b"\n")

@@ -12,6 +12,7 @@ from starlette.routing import Route
 from typing import NamedTuple
 
 from olr.asking.processes import Kind
+from olr.asking.records import Record
 from olr.confidence.confidence import Confidence
 from olr.errors import ToolError
 from olr.model.fault import Fault
@@ -109,7 +110,7 @@ class _Answers:
         """Answers to the lines of a body."""
 
         async def lines(
-            kind: Kind, body: AsyncIterator[bytes], _: IsGone
+            kind: Kind, body: AsyncIterator[list[Record]], _: IsGone
         ) -> AsyncGenerator[bytes, None]:
             async with aclosing(self._served.batch(kind, body)) as answered:
                 async for some in answered:

@@ -10,7 +10,7 @@ from typing import NamedTuple
 
 from olr.asking.exchange import Exchange
 from olr.asking.processes import Kind
-from olr.asking.records import Record, Splitter
+from olr.asking.records import Record
 from olr.asking.starting import command_of, kill_group_of, not_started
 from olr.serving.edition import Edition
 from olr.serving.limits import MOST_ANSWER, MOST_SAID
@@ -46,7 +46,7 @@ async def started(program: Path, words: Sequence[str], stdin: int = PIPE) -> Pro
 
 
 async def answered_by(
-    edition: Edition, kind: Kind, body: AsyncIterator[bytes]
+    edition: Edition, kind: Kind, body: AsyncIterator[list[Record]]
 ) -> AsyncGenerator[list[Answered], None]:
     """What a process answers to the records of a body, some at a time. It is asked for the next ones when the last ones were taken, and reads
     the body as it goes. It is killed where this is closed. Raises `MapRefused`, `ProgramNotFound`, `ProgramEnded`, `AnswerTooLarge`, and as
@@ -83,12 +83,15 @@ async def answered_by(
 
 
 async def _feed(
-    process: Process, exchange: Exchange, body: AsyncIterator[bytes], waiting: deque[Record]
+    process: Process,
+    exchange: Exchange,
+    body: AsyncIterator[list[Record]],
+    waiting: deque[Record],
 ) -> None:
     """Asks about the records of a body, no faster than they are read. Where the body fails the process is killed."""
     assert process.stdin is not None
     try:
-        async for records in records_of(body):
+        async for records in body:
             waiting.extend(records)
             process.stdin.write(exchange.ask(record.text() for record in records))
             await process.stdin.drain()
@@ -98,14 +101,6 @@ async def _feed(
         _kill(process)
         raise
     process.stdin.close()
-
-
-async def records_of(body: AsyncIterator[bytes]) -> AsyncIterator[list[Record]]:
-    """The records of a body, as its pieces come."""
-    splitter = Splitter()
-    async for piece in body:
-        yield splitter.receive(piece)
-    yield splitter.end()
 
 
 def _kill(process: Process) -> None:

@@ -9,6 +9,7 @@ from typing import TYPE_CHECKING, Any
 
 from olr.asking.files import Version
 from olr.asking.processes import Kind
+from olr.asking.records import Record
 from olr.errors import MapRefused, ToolError
 from olr.model.answers import Matching, Reference
 from olr.model.fault import Fault
@@ -112,9 +113,15 @@ class FolderMap:
         """Capacity for a process of its own, while it runs. Raises `Problem`."""
         return self.pool.place()
 
-    def batch(self, kind: Kind, body: AsyncIterator[bytes]) -> AsyncGenerator[list[Answered], None]:
+    def batch(
+        self, kind: Kind, body: AsyncIterator[list[Record]]
+    ) -> AsyncGenerator[list[Answered], None]:
         """The answers of a process of its own. Raises as `answered_by`."""
         return answered_by(self.pool.edition, kind, body)
+
+    def version(self) -> Version | None:
+        """The one that is asked now."""
+        return self.pool.edition.version
 
     def digest(self) -> str | None:
         """Of the nodes and lines that are asked now."""

@@ -10,6 +10,7 @@ from contextlib import aclosing
 from typing import Any, NamedTuple
 
 from olr.asking.processes import Kind
+from olr.asking.records import Record
 from olr.confidence.confidence import Confidence
 from olr.confidence.judged import Judged, judged
 from olr.errors import MapRefused, ProgramEnded
@@ -37,7 +38,7 @@ class Rows(NamedTuple):
     room: Room
 
     async def lines(
-        self, kind: Kind, body: AsyncIterator[bytes], is_gone: IsGone
+        self, kind: Kind, body: AsyncIterator[list[Record]], is_gone: IsGone
     ) -> AsyncGenerator[bytes, None]:
         """The rows of the records of a body, each as a line of JSON, in pieces, within a `place` of the map. Raises as `Served.batch` and
         `Room.place`."""

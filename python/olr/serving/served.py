@@ -6,6 +6,7 @@ from typing import TYPE_CHECKING, Any, NamedTuple, Protocol, TypeVar
 
 from olr.asking.files import Version
 from olr.asking.processes import Kind
+from olr.asking.records import Record
 from olr.errors import MapRefused
 from olr.model.answers import Matching, Reference
 from olr.serving.batches import Answered
@@ -57,8 +58,13 @@ class Served(Protocol):
     def place(self, is_gone: IsGone) -> AbstractAsyncContextManager[None]:
         """Room for a process of its own, while it runs. Raises `Problem`."""
 
-    def batch(self, kind: Kind, body: AsyncIterator[bytes]) -> AsyncGenerator[list[Answered], None]:
+    def batch(
+        self, kind: Kind, body: AsyncIterator[list[Record]]
+    ) -> AsyncGenerator[list[Answered], None]:
         """The answers to the records of a body, some at a time, within a `place`. Raises as `answer`, and as the body does."""
+
+    def version(self) -> Version | None:
+        """The one that is asked now: None until it was read."""
 
     def digest(self) -> str | None:
         """Of the nodes and lines that are asked now."""

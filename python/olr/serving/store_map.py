@@ -12,6 +12,7 @@ from typing import TYPE_CHECKING, Any, TypeVar
 from olr.asking.files import Version
 from olr.asking.processes import Kind
 from olr.asking.program import find_program
+from olr.asking.records import Record
 from olr.client.map_client import Map
 from olr.errors import MapRefused, ToolError
 from olr.geometry.store_network import StoreNetwork
@@ -20,7 +21,7 @@ from olr.model.fault import Fault
 from olr.model.map_folder import store_of
 from olr.model.questions import TOLERANCES, argument
 from olr.regions.current import CurrentStore
-from olr.serving.batches import Answered, records_of
+from olr.serving.batches import Answered
 from olr.serving.limits import Limits
 from olr.serving.problems import busy
 from olr.serving.queries import Question
@@ -155,10 +156,10 @@ class StoreMap:
             self._turn.release()
 
     async def batch(
-        self, kind: Kind, body: AsyncIterator[bytes]
+        self, kind: Kind, body: AsyncIterator[list[Record]]
     ) -> AsyncGenerator[list[Answered], None]:
         """The answers to the records of a body, one after the other."""
-        async for records in records_of(body):
+        async for records in body:
             for record in records:
                 question = Question(kind, record.text(), None)
                 try:
@@ -169,6 +170,10 @@ class StoreMap:
 
     async def _in_thread(self, call: Callable[[], Made]) -> Made:
         return await asyncio.get_running_loop().run_in_executor(self._thread, call)
+
+    def version(self) -> Version | None:
+        """The one that is asked now."""
+        return Version(self._digest, None)
 
     def digest(self) -> str | None:
         """Of the nodes and lines that are asked now."""

@@ -7,15 +7,18 @@ answer that comes if that is longer.
 import asyncio
 import logging
 from collections.abc import AsyncGenerator, AsyncIterator, Callable
-from contextlib import aclosing, asynccontextmanager
+from contextlib import aclosing
 from starlette.requests import Request
 from starlette.types import Receive, Scope, Send
 
 from olr.asking.processes import Kind
-from olr.errors import ToolError
+from olr.asking.records import Record
+from olr.errors import MapRefused, ToolError
 from olr.model.profiles import PROFILE, PROGRAM
 from olr.model.questions import What
+from olr.serving.bodies import Body, Gone, too_large
 from olr.serving.limits import Limits
+from olr.serving.peers import client_of
 from olr.serving.problems import Problem, of_error
 from olr.serving.queries import kind_of, options_of
 from olr.serving.served import IsGone, Served
@@ -29,16 +32,8 @@ TAKEN = (
 )
 """Types of bodies. A form of a page can send the first of them too: `front.py` refuses what other sites' pages send."""
 MEDIA_TYPE = "application/x-ndjson"
-TICK = 0.25
-"""Seconds between two looks whether the client is there."""
-
-
-Lines = Callable[[Kind, AsyncIterator[bytes], IsGone], AsyncGenerator[bytes, None]]
+Lines = Callable[[Kind, AsyncIterator[list[Record]], IsGone], AsyncGenerator[bytes, None]]
 """Makes lines about the records of a body, in pieces."""
-
-
-class _Gone(Exception):
-    """The client is gone."""
 
 
 class Streaming:
@@ -59,61 +54,52 @@ class Streaming:
         _require_type(request)
         self._require_length(request)
         sent = _Sent(send)
-        limit = self._limits.time
-        loop = asyncio.get_running_loop()
         try:
-            async with self._served.place(scope["is_gone"]):
-                if scope["is_gone"]():
-                    return
-                async with asyncio.timeout(limit) as deadline, _watched(scope, deadline):
-                    body = self._body(receive, deadline)
-                    async with aclosing(self._lines(kind, body, scope["is_gone"])) as lines:
-                        async for piece in lines:
-                            if piece:
-                                await sent.put(piece)
-                            deadline.reschedule(loop.time() + limit)
-                            if scope["is_gone"]():
-                                raise _Gone
-                    await sent.end()
-        except _Gone:
+            await self._answer(kind, scope, receive, sent)
+        except Gone:
             return
         except TimeoutError:
-            if scope["is_gone"]():
-                return
-            text = f"nothing moved for {limit:g} seconds"
+            text = f"nothing moved for {self._limits.time:g} seconds"
             await sent.stop(Problem(504, "TimedOut", text), scope, receive)
         except ToolError as error:
             await sent.stop(of_error(error), scope, receive)
         except Problem as problem:
             await sent.stop(problem, scope, receive)
 
-    async def _body(self, receive: Receive, deadline: asyncio.Timeout) -> AsyncIterator[bytes]:
-        """The pieces of the body. Raises `Problem` for one that is too long."""
+    async def _answer(self, kind: Kind, scope: Scope, receive: Receive, sent: "_Sent") -> None:
+        """Answers a request. While its client rests it has no process; all of them are asked about one version of the map. Raises `TimeoutError`
+        where nothing moves, `Gone`, `ToolError` and `Problem`."""
+        limit, is_gone = self._limits.time, scope["is_gone"]
         loop = asyncio.get_running_loop()
-        left = self._limits.body
-        while True:
-            message = await receive()
-            if message["type"] != "http.request":
-                raise _Gone
-            piece = message.get("body", b"")
-            left -= len(piece)
-            if left < 0:
-                raise self._too_large()
-            if piece:
-                deadline.reschedule(loop.time() + self._limits.time)
-                yield piece
-            if not message.get("more_body", False):
-                return
+        version = self._served.version()
+        async with asyncio.timeout(limit) as deadline:
+
+            def moved() -> None:
+                deadline.reschedule(loop.time() + limit)
+
+            body = Body(receive, self._limits.body, moved)
+            scope["pace"].is_paused = body.is_between_records
+            while await body.has_work():
+                # Whoever waits for a process isn't slow: the place has a limit of its own.
+                deadline.reschedule(None)
+                async with self._served.place(is_gone):
+                    moved()
+                    if self._served.version() != version:
+                        raise MapRefused(
+                            "another version of the map took the place of the one to ask"
+                        )
+                    async with aclosing(self._lines(kind, body.records(), is_gone)) as lines:
+                        async for piece in lines:
+                            await sent.put(piece)
+                            body.given(piece.count(b"\n"))
+                            moved()
+            await sent.end()
 
     def _require_length(self, request: Request) -> None:
         """Raises `Problem` for a body that says that it is too long."""
         length = request.headers.get("content-length", "0")
         if length.isdecimal() and int(length) > self._limits.body:
-            raise self._too_large()
-
-    def _too_large(self) -> Problem:
-        text = f"a body has {self._limits.body:,} bytes at most: --body-limit"
-        return Problem(413, "BodyTooLarge", text)
+            raise too_large(self._limits.body)
 
 
 class _Sent:
@@ -125,6 +111,8 @@ class _Sent:
 
     async def put(self, piece: bytes) -> None:
         """Sends a piece, and waits while the client doesn't take it."""
+        if not piece:
+            return
         await self._begin()
         await self._send({"type": "http.response.body", "body": piece, "more_body": True})
 
@@ -142,31 +130,16 @@ class _Sent:
     async def stop(self, problem: Problem, scope: Scope, receive: Receive) -> None:
         """Says why there is no answer; or, where it has begun, closes the connection without an end, by which the client sees it."""
         if self._has_begun:
-            log.warning("a stream was cut off: %s: %s", problem.title, problem.detail)
+            client = client_of(scope)
+            cause = "stream", client, problem.title
+            text = "%s: a stream was cut off: %s: %s"
+            log.warning(text, client, problem.title, problem.detail, extra={"cause": cause})
             scope["abort"]()
             await receive()
             return
         self._has_begun = True
         problem.headers["Connection"] = "close"
         await problem.response()(scope, receive, self._send)
-
-
-@asynccontextmanager
-async def _watched(scope: Scope, deadline: asyncio.Timeout) -> AsyncIterator[None]:
-    """Lets time be over when the client is gone: a process that works at one answer for long isn't waited for then."""
-    loop = asyncio.get_running_loop()
-
-    async def watch() -> None:
-        while not scope["is_gone"]():
-            await asyncio.sleep(TICK)
-        if not deadline.expired():
-            deadline.reschedule(loop.time())
-
-    watching = loop.create_task(watch())
-    try:
-        yield
-    finally:
-        watching.cancel()
 
 
 def _require_type(request: Request) -> None:
