@@ -303,6 +303,9 @@ def test_health(server: Server, drawn: Path) -> None:
     with olr.Map(drawn) as asked:
         assert about["digest"]["network"] == asked.network().digest
     assert about["versions"] == {"olr": olr.__version__, "olr-tools": olr.__version__}
+    ready = server.get("/ready")
+    assert (ready.status, ready.body) == (200, reply.body)
+    assert server.figure('olr_requests_total{address="/ready",status="200"}') > 0
 
 
 def test_metrics(server: Server) -> None:

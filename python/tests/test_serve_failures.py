@@ -400,12 +400,15 @@ def test_files_that_change_without_a_signal(
     assert stream.problem()[:2] == (503, "MapRefused")
     about = health_of(server)
     assert about["changed"] and about["able"]
+    ready = server.get("/ready")
+    assert ready.status == 503 and json.loads(ready.body) == about
     for pid in server.programs():
         os.kill(pid, signal.SIGKILL)
-    wait_until(lambda: server.get("/health").status == 503)
+    wait_until(lambda: not health_of(server)["able"])
+    assert (server.get("/health").status, server.get("/ready").status) == (200, 503)
     assert server.get(path_of("match", text)).problem()[0] == 503
     server.signal(signal.SIGHUP)
-    wait_until(lambda: server.get("/health").status == 200)
+    wait_until(lambda: server.get("/ready").status == 200)
     assert server.get(path_of("why", text)).status == 200
 
 

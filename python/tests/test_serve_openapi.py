@@ -157,7 +157,7 @@ def test_what_a_page_asks(text: str, server: Server, described: Document) -> Non
 
 
 def test_what_is_said_of_the_server(server: Server, described: Document) -> None:
-    for path in ("/health", "/metrics"):
+    for path in ("/health", "/ready", "/metrics"):
         described.read(path, "GET", server.get(path))
 
 

@@ -13,8 +13,10 @@ from typing import Any, cast
 from conftest import REFERENCE
 from fake_pool import run_within
 from olr.asking.exchange import AnswerTooLarge
+from olr.confidence.confidence import Confidence
 from olr.errors import MapRefused, ProgramEnded, ProgramNotFound, TimedOut, ToolError
 from olr.model.fault import Fault
+from olr.serving.addresses import Service, application
 from olr.serving.allowed import allowed_for, require_allowed
 from olr.serving.front import Front
 from olr.serving.limits import MIB, MOST_REQUESTS, Limits
@@ -181,7 +183,7 @@ def test_figures() -> None:
 Send = Callable[[Any], Awaitable[None]]
 
 
-async def status_of(front: Front, method: str = "GET", **fields: str) -> Any:
+async def status_of(front: Front, method: str = "GET", path: str = "/x", **fields: str) -> Any:
     """The first message of what is answered to a request."""
     sent: list[Any] = []
 
@@ -189,7 +191,7 @@ async def status_of(front: Front, method: str = "GET", **fields: str) -> Any:
         sent.append(message)
 
     named = [(name.lower().replace("_", "-").encode(), it.encode()) for name, it in fields.items()]
-    scope = {"type": "http", "method": method, "path": "/x", "headers": named}
+    scope = {"type": "http", "method": method, "path": path, "headers": named}
 
     async def receive() -> Any:
         return {"type": "http.request"}
@@ -325,3 +327,31 @@ def test_options_of_a_list() -> None:
     assert reading_of({"format": "csv", "ref": "a"})[:2] == ("csv", "a")
     for options in ({"format": "xml"}, {"column": "a"}):
         assert refused(lambda: reading_of(options))[0] == 400
+
+
+def test_a_server_that_ends_is_not_ready() -> None:
+    """But it lives, also with a map that can't be asked."""
+
+    class Map(FakeMap):
+        """A map that says of itself what it is given."""
+
+        def __init__(self, is_able: bool, changed: bool) -> None:
+            self._about = is_able, changed
+
+        async def health(self) -> tuple[bool, dict[str, Any]]:
+            """Of which nothing else is known."""
+            return self._about[0], {"changed": self._about[1], "program": "1"}
+
+    async def run(is_able: bool, changed: bool, is_ending: bool) -> tuple[int, int]:
+        served = cast(Served, Map(is_able, changed))
+        service = Service(served, Limits(), Meters(served), Confidence.default())
+        app = application(service._replace(is_ending=lambda: is_ending))
+        front = Front(app, [], ALLOWED, Meters(served))
+        health, ready = [
+            await status_of(front, path=path, Host="olr.example") for path in ("/health", "/ready")
+        ]
+        return health["status"], ready["status"]
+
+    assert run_within(run(True, False, False)) == (200, 200)
+    for about in ((True, False, True), (True, True, False), (False, False, False)):
+        assert run_within(run(*about)) == (200, 503)

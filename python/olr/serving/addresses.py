@@ -1,7 +1,7 @@
 """The addresses, and what each answers."""
 
 import json
-from collections.abc import AsyncGenerator, AsyncIterator, Iterator
+from collections.abc import AsyncGenerator, AsyncIterator, Callable, Iterator
 from contextlib import aclosing
 from functools import partial
 from starlette.applications import Starlette
@@ -45,6 +45,8 @@ class Service(NamedTuple):
     """How probable places are, where it is of what is asked."""
     tiles: str | None = None
     """The URL of tiles for the page."""
+    is_ending: Callable[[], bool] = lambda: False
+    """Whether the server was told to end."""
 
 
 def application(service: Service) -> Starlette:
@@ -59,6 +61,7 @@ def application(service: Service) -> Starlette:
             *(Route(f"/batch/{what}", answers.batch(what), methods=["POST"]) for what in NUMBERS),
             Route("/rows", answers.rows(), methods=["POST"]),
             Route("/health", answers.health),
+            Route("/ready", answers.ready),
             Route("/metrics", answers.metrics),
             *_pages(service),
         ],
@@ -123,11 +126,22 @@ class _Answers:
         return Streaming(self._served, self._limits, "places", rows.lines, FEED)
 
     async def health(self, _: Request) -> Response:
-        """Whether the server can answer."""
+        """That the server lives, with what it knows of its map."""
+        return (await self._known())[1]
+
+    async def ready(self, _: Request) -> Response:
+        """Whether it can answer whatever is asked: also what needs another process, which reads the map's files anew."""
+        is_ready, response = await self._known()
+        if not is_ready or self._service.is_ending():
+            response.status_code = 503
+        return response
+
+    async def _known(self) -> tuple[bool, Response]:
+        """Whether the map can be asked and read, and what is known of it."""
         is_able, about = await self._served.health()
         versions = {"olr": about.pop("program"), "olr-tools": VERSION}
         text = json.dumps({"able": is_able, **about, "versions": versions}, ensure_ascii=False)
-        return Response(text, 200 if is_able else 503, media_type=JSON)
+        return is_able and not about["changed"], Response(text, media_type=JSON)
 
     async def metrics(self, _: Request) -> Response:
         """What was counted."""

@@ -60,7 +60,13 @@ def document(limits: Limits, at: str = "") -> Json:
         "messages": _messages(limits),
     }
     own = {
-        "health": _health(),
+        "health": _health(
+            "That the server lives, with the name, digests and versions of what it serves", {}
+        ),
+        "ready": _health(
+            "Whether the server can answer whatever is asked, and the same about it",
+            {"503": "It can't: the files of the map have changed or can't be read, or it ends"},
+        ),
         "metrics": _address(
             "Figures for Prometheus", [], {meters.MEDIA_TYPE: {"schema": TEXT}}, {}
         ),
@@ -125,14 +131,11 @@ def _address(
     return {"summary": summary, "parameters": parameters, "responses": responses}
 
 
-def _health() -> Json:
-    summary = "Whether the server can answer, and the name, digest and versions of what it serves"
-    health = {"content": {JSON: _about("Health")}}
-    found = _address(summary, [], {}, {})
-    found["responses"] |= {
-        "200": {"description": "It can answer"} | health,
-        "503": {"description": "It can't"} | health,
-    }
+def _health(summary: str, refusals: Mapping[str, str]) -> Json:
+    """An address that says what the server knows of its map, with each status."""
+    found = _address(summary, [], {JSON: _about("Health")}, {})
+    for status, text in refusals.items():
+        found["responses"][status] = {"description": text, "content": {JSON: _about("Health")}}
     return found
 
 

@@ -218,14 +218,14 @@ def _health() -> Json:
     """What is known of the map."""
     digests = {"network": or_null(TEXT), "bans": or_null(TEXT)}
     members = {
-        "able": BOOLEAN | {"description": "whether the server can answer"},
+        "able": BOOLEAN | {"description": "whether a process that runs can answer"},
         "map": TEXT | {"description": "the name of the folder or store"},
         "digest": object_of(digests, "Digests of the files that are served", digests),
         "changed": BOOLEAN | {"description": "whether the files are others now"},
         "refused": or_null(TEXT | {"description": "why files that were to be read anew weren't"}),
         "versions": object_of({"olr": TEXT, "olr-tools": TEXT}, "Of the program, and of the tools"),
     }
-    return object_of(members, "Whether the server can answer, and what it serves")
+    return object_of(members, "What the server knows of its map")
 
 
 def _problem() -> Json:

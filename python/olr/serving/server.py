@@ -125,7 +125,15 @@ async def _answer(settings: Settings, served: Served, listening: socket.socket) 
     port = listening.getsockname()[1]
     meters = Meters(served)
     confidence = confidence_of(settings.confidence)
-    app = application(Service(served, settings.limits, meters, confidence, settings.tiles))
+    service = Service(
+        served,
+        settings.limits,
+        meters,
+        confidence,
+        settings.tiles,
+        lambda: bool(server.should_exit),
+    )
+    app = application(service)
     allowed = allowed_for(settings.host, port, settings.names, settings.origins)
     front = Front(app, [getattr(route, "path") for route in app.routes], allowed, meters)
     connections = Connections(_most_connections())
