@@ -55,6 +55,7 @@ TEST_FILES = {
     "/usr/bin/ogrinfo": "gdal-bin",
     "/usr/bin/pyflakes3": "pyflakes3",
     "/usr/bin/jq": "jq",
+    "/usr/sbin/nginx": "nginx-light",
     "/usr/share/doc/python-osmnx-doc": "python-osmnx-doc",
     "/usr/lib/python3/dist-packages/libpysal": "python3-libpysal",
     "/usr/share/openapi-specification": "openapi-specification",

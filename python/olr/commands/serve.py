@@ -16,6 +16,7 @@ from olr.serving.server import Settings, serve
 
 NAME = re.compile(r"([A-Za-z0-9._-]+|\[[0-9A-Fa-f:.]+\])(:[0-9]{1,5})?")
 ORIGIN = re.compile(r"https?://" + NAME.pattern)
+PREFIX = re.compile(r"(/[A-Za-z0-9_~-][A-Za-z0-9._~-]*)*")
 LIMITS = Limits()
 PROCESSES_OF_WORKER, MOST_PROCESSES = 4, 16
 """So many processes there are by default for each that works, and in all."""
@@ -105,6 +106,14 @@ class Text(click.ParamType):
     type=Text(ORIGIN, "an origin, such as https://maps.example"),
     metavar="ORIGIN",
     help="A site whose pages may ask, such as https://maps.example. May be given several times. By default those of the server alone.",
+)
+@click.option(
+    "--root-path",
+    "root_path",
+    default="",
+    type=Text(PREFIX, "a path, such as /olr"),
+    metavar="PATH",
+    help="The path below which a server in front has this one, such as /olr: links begin with it. By default there is none.",
 )
 @options.tiles_option(" on the page")
 @options.confidence_option

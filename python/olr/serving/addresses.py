@@ -3,7 +3,7 @@
 import json
 from collections.abc import AsyncGenerator, AsyncIterator, Callable, Iterator
 from contextlib import aclosing
-from functools import partial
+from functools import lru_cache, partial
 from starlette.applications import Starlette
 from starlette.exceptions import HTTPException
 from starlette.requests import Request
@@ -33,6 +33,8 @@ from olr.version import VERSION
 
 JSON = "application/json"
 VARIES = {"Vary": "Accept"}
+MOST_PREFIXES = 16
+"""OpenAPI documents that are kept, each for another path with which addresses begin."""
 
 
 class Service(NamedTuple):
@@ -147,26 +149,34 @@ class _Answers:
         """What was counted."""
         return Response(self._service.meters.text(), headers={"Content-Type": MEDIA_TYPE})
 
-    async def refuse(self, _: Request, error: Exception) -> Response:
+    async def refuse(self, request: Request, error: Exception) -> Response:
         """Why there is no answer. Faults of references are counted."""
         if isinstance(error, Fault):
             self._service.meters.count_fault(error.name)
         if isinstance(error, HTTPException):
-            return of_status(error.status_code, error.headers).response()
+            return of_status(error.status_code, error.headers).response(request.scope)
         if isinstance(error, ToolError):
             error = of_error(error)
-        return (error if isinstance(error, Problem) else of_status(500)).response()
+        problem = error if isinstance(error, Problem) else of_status(500)
+        return problem.response(request.scope)
 
 
 def _pages(service: Service) -> Iterator[Route]:
     """The pages, and what they load."""
-    document = openapi.document(service.limits)
-    text = json.dumps(document, ensure_ascii=False, indent=1)
     there = assets()
     fixed = {
         "/": with_data(there.pop(INDEX), service.limits, service.tiles),
-        "/docs": Asset(described(document).encode(), "text/html"),
-        "/openapi.json": Asset(text.encode(), JSON),
+        "/docs": Asset(described(openapi.document(service.limits)).encode(), "text/html"),
         **{f"/assets/{name}": asset for name, asset in there.items()},
     }
-    return (Route(path, asset.answer) for path, asset in fixed.items())
+
+    @lru_cache(maxsize=MOST_PREFIXES)
+    def document(root_path: str) -> Asset:
+        text = json.dumps(openapi.document(service.limits, root_path), ensure_ascii=False, indent=1)
+        return Asset(text.encode(), JSON)
+
+    async def answer(request: Request) -> Response:
+        return await document(request.scope.get("root_path", "")).answer(request)
+
+    yield Route("/openapi.json", answer)
+    yield from (Route(path, asset.answer) for path, asset in fixed.items())

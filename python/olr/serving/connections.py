@@ -206,7 +206,7 @@ class Connection(HttpToolsProtocol):  # type: ignore[misc]
             if not self._is_in_head:
                 self.transport.abort()
             return
-        body = problem.document()
+        body = problem.document(self.root_path)
         fields = [*self.server_state.default_headers, (b"content-type", MEDIA_TYPE.encode())]
         fields += [(b"content-length", b"%d" % len(body)), (b"connection", b"close")]
         head = b"".join(b"%b: %b\r\n" % field for field in fields)

@@ -35,6 +35,7 @@ class Front:
     async def __call__(self, scope: Scope, receive: Receive, send: Send) -> None:
         """Answers a request."""
         begin = time.perf_counter()
+        scope["path"] = path_below(scope.get("root_path", ""), scope["path"])
         fields = fields_of(scope)
         origin = fields.get(b"origin")
         is_of_other = origin in self._allowed.others
@@ -60,7 +61,7 @@ class Front:
                 app = Response(None, 204, PREFLIGHT)
             await app(scope, receive, sending)
         except Problem as problem:
-            await problem.response()(scope, receive, sending)
+            await problem.response(scope)(scope, receive, sending)
         finally:
             self._running -= 1
             self._note(scope, status, time.perf_counter() - begin)
@@ -71,3 +72,8 @@ class Front:
         self._meters.count(address, status, seconds)
         if log.isEnabledFor(logging.INFO):
             log.info("%s %s %d, %.1f ms", scope["method"], address, status, seconds * 1000)
+
+
+def path_below(root_path: str, path: str) -> str:
+    """The path of an address, below the one with which all of them begin, as a server in front may pass it on, or may not."""
+    return path.removeprefix(root_path) if path.startswith(f"{root_path}/") else path

@@ -57,6 +57,8 @@ class Settings(NamedTuple):
     """The URL of tiles for the page."""
     confidence: Path | None = None
     """The file of a confidence: by default the one that comes with the package."""
+    root_path: str = ""
+    """With which addresses begin at the server in front."""
 
 
 class _Server(uvicorn.Server):  # type: ignore[misc]
@@ -179,6 +181,7 @@ def _config(settings: Settings, front: Front, connections: Connections) -> Any:
         log_config=None,
         access_log=False,
         proxy_headers=False,
+        root_path=settings.root_path,
         server_header=False,
         headers=list(_headers(settings).items()),
         timeout_keep_alive=int(SECONDS_IDLE),

@@ -148,7 +148,7 @@ class _Sent:
             return
         self._has_begun = True
         problem.headers["Connection"] = "close"
-        await problem.response()(scope, receive, self._send)
+        await problem.response(scope)(scope, receive, self._send)
 
 
 @asynccontextmanager
