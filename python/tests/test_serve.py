@@ -286,7 +286,7 @@ def test_what_isnt_there(server: Server) -> None:
     assert server.get("/nothing").problem()[:2] == (404, "NotFound")
     assert server.get("/match/").problem()[0] == 404
     assert server.get("/batch/show", "POST", b"", **LINES).problem()[0] == 404
-    for path in ("/match?ref=x", "/health", "/"):
+    for path in ("/show?ref=x", "/health", "/"):
         refused = server.get(path, "POST", b"", **LINES)
         assert refused.problem()[:2] == (405, "MethodNotAllowed")
         assert "GET" in refused.headers["allow"]
@@ -332,15 +332,15 @@ def test_the_description(server: Server) -> None:
     page = server.get("/docs").body.decode()
     for path, methods in document["paths"].items():
         assert f'id="{path}"' in page
-        ((method, about),) = methods.items()
-        status = server.get(path, method.upper()).status
-        assert status not in (404, 405), path
-        for parameter in about["parameters"]:
+        for method, about in methods.items():
+            assert f"{method.upper()} {path}<" in page
+            assert server.get(path, method.upper()).status not in (404, 405), path
+        for parameter in methods.get("get", about)["parameters"]:
             schema = parameter["schema"]
             if "minimum" in schema:
                 assert f"{schema['minimum']:,} to {schema['maximum']:,}" in page
                 least = {parameter["name"]: schema["minimum"] - 1}
-                if method == "get":
+                if "get" in methods:
                     assert server.get(path_of(path[1:], "x", **least)).status == 400
     named = {it["name"] for it in document["paths"]["/match"]["get"]["parameters"]}
     assert named == {"ref", "after", "profile", *TOLERANCES, *NUMBERS["match"]}

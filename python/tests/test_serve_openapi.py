@@ -49,6 +49,10 @@ class Document:
         """Fails if a value isn't what a schema says."""
         Validator(schema, resolver=self._resolver).validate(value)
 
+    def is_right(self, value: object, schema: Json) -> bool:
+        """Whether a value is what a schema says."""
+        return bool(Validator(schema, resolver=self._resolver).is_valid(value))
+
     def read(self, path: str, method: str, reply: Reply) -> None:
         """Reads an answer."""
         address = path.partition("?")[0]
@@ -59,10 +63,10 @@ class Document:
         if "json" not in reply.headers["content-type"]:
             self.require(text, content["schema"])
         elif "x-item-schema" in content:
-            lines = text.splitlines()
-            assert lines
+            *lines, end = text.split("\n")
+            assert lines and not end
             for line in lines:
-                self.require(json.loads(line), content["x-item-schema"])
+                self.require(json.loads(line.lstrip("\x1e")), content["x-item-schema"])
         else:
             self.require(json.loads(text), content["schema"])
         self.seen.add((address, method.lower(), status))
@@ -133,6 +137,27 @@ def test_answers(what: str, server: Server, described: Document) -> None:
     assert seen == {"200", "400", "422", "default"}
 
 
+@pytest.mark.parametrize("what", NUMBERS)
+def test_questions_as_json(what: str, server: Server, described: Document) -> None:
+    """What is posted is what the document says, and so is what is answered."""
+    content = described.about["paths"][f"/{what}"]["post"]["requestBody"]["content"]
+    for body in (
+        {"ref": REFERENCE, "radius": 50},
+        {"ref": DAMAGED},
+        {"refs": [REFERENCE, DAMAGED], "profile": "feed"},
+        [KIOSK, FAR],
+        {"ref": REFERENCE, "radius": 0},
+        {"ref": REFERENCE, "x": 1},
+        ["x"] * 101,
+    ):
+        for accept in ("*/*", "application/geo+json", "application/geo+json-seq"):
+            headers = {"Content_Type": "application/json", "Accept": accept}
+            reply = server.get(f"/{what}", "POST", json.dumps(body), **headers)
+            described.read(f"/{what}", "POST", reply)
+            schema = content["application/json"]["schema"]
+            assert described.is_right(body, schema) == (reply.status != 400), body
+
+
 @pytest.mark.parametrize("address", [*(f"/batch/{what}" for what in NUMBERS), "/rows", "/messages"])
 def test_lines(address: str, server: Server, described: Document) -> None:
     kind = "application/octet-stream"
@@ -166,7 +191,7 @@ def test_members_that_arent_there_are_seen(described: Document) -> None:
     page = examples()["Page"]
     schema = described.about["components"]["schemas"]["Page"]
     for other in ({**page, "new": 1}, {"next": None}, {**page, "matchings": None}):
-        assert not Validator(schema, resolver=RefResolver("", described.about)).is_valid(other)
+        assert not described.is_right(other, schema)
 
 
 def test_where_its_addresses_begin() -> None:

@@ -14,10 +14,12 @@
 | `folder_map`, `store_map` | the map of a folder, and that of a store |
 | `judging` | how places are asked whose probability is shown |
 | `features`, `scenes`, `rows` | answers as GeoJSON, as what a page draws, and as the rows of its list |
+| `feature_lines` | answers to many references as lines of GeoJSON |
 | `rooms` | how many of these are made at once |
 | `streaming` | `POST /batch/{command}` and `POST /rows` |
+| `posted` | `POST /match` and so on: questions as JSON |
 | `lists`, `listing` | `POST /messages`: lists as the page shows them; the process that reads one |
-| `openapi`, `pages` | the addresses as an OpenAPI document, and the pages with the files that they load |
+| `schemas`, `openapi`, `pages` | what answers have in them, the addresses as an OpenAPI document, and the pages with the files that they load |
 | `addresses` | the addresses, and what each answers |
 | `allowed`, `front` | who may ask, and what stands before the addresses |
 | `meters` | what is counted |

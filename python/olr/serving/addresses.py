@@ -1,7 +1,7 @@
 """The addresses, and what each answers."""
 
 import json
-from collections.abc import AsyncGenerator, AsyncIterator, Callable, Iterator
+from collections.abc import AsyncGenerator, AsyncIterator, Callable, Iterator, Sequence
 from contextlib import aclosing
 from functools import lru_cache, partial
 from starlette.applications import Starlette
@@ -9,6 +9,7 @@ from starlette.exceptions import HTTPException
 from starlette.requests import Request
 from starlette.responses import Response
 from starlette.routing import Route
+from starlette.types import ASGIApp
 from typing import NamedTuple
 
 from olr.asking.processes import Kind
@@ -17,15 +18,24 @@ from olr.errors import ToolError
 from olr.model.fault import Fault
 from olr.model.profiles import FEED
 from olr.model.questions import NUMBERS, What, record_text
-from olr.serving import features, openapi
+from olr.serving import feature_lines, features, openapi, streaming
+from olr.serving.batches import Answered
 from olr.serving.limits import Limits
 from olr.serving.lists import Lists
 from olr.serving.meters import MEDIA_TYPE, Meters
 from olr.serving.pages import INDEX, Asset, assets, described, with_data
+from olr.serving.posted import answered_one_by_one, posted_in, records_of
 from olr.serving.problems import Problem, of_error, of_status
-from olr.serving.queries import options_of, question_of, reference_of, require_no_options
+from olr.serving.queries import (
+    Options,
+    kind_of,
+    options_of,
+    question_of,
+    reference_of,
+    require_no_options,
+)
 from olr.serving.rooms import Room
-from olr.serving.rows import Rows
+from olr.serving.rows import Batch, Rows, row_text
 from olr.serving.scenes import Scenes, json_of
 from olr.serving.served import IsGone, Served
 from olr.serving.streaming import Streaming
@@ -33,6 +43,8 @@ from olr.version import VERSION
 
 JSON = "application/json"
 VARIES = {"Vary": "Accept"}
+WITH_FEATURES = ("match", "places")
+"""Questions whose answers are there as GeoJSON too."""
 MOST_PREFIXES = 16
 """OpenAPI documents that are kept, each for another path with which addresses begin."""
 
@@ -56,11 +68,17 @@ def application(service: Service) -> Starlette:
     answers = _Answers(service)
     app = Starlette(
         routes=[
-            *(Route(f"/{what}", partial(answers.question, what)) for what in NUMBERS),
+            *(
+                Route(f"/{what}", partial(answers.question, what), methods=["GET", "POST"])
+                for what in NUMBERS
+            ),
             Route("/show", answers.show),
             Route("/scene", answers.scene),
             Route("/messages", Lists(service.limits).answer, methods=["POST"]),
-            *(Route(f"/batch/{what}", answers.batch(what), methods=["POST"]) for what in NUMBERS),
+            *(
+                Route(f"/batch/{what}", partial(answers.batch, what), methods=["POST"])
+                for what in NUMBERS
+            ),
             Route("/rows", answers.rows(), methods=["POST"]),
             Route("/health", answers.health),
             Route("/ready", answers.ready),
@@ -84,18 +102,70 @@ class _Answers:
         self._features = features.Features(
             self._served, service.confidence, self._room, Room(service.limits.time, 1)
         )
+        self._rows = Rows(self._served, service.confidence, self._room)
         self._scenes = Scenes(self._served, self._limits, service.confidence, self._room)
 
-    async def question(self, what: What, request: Request) -> Response:
-        """The answer to a question, as the program gives it or as GeoJSON."""
-        options = options_of(request.scope["query_string"])
+    async def question(self, what: What, request: Request) -> ASGIApp:
+        """The answer to a question, as the program gives it or as GeoJSON; or the lines about a few references."""
+        if request.method == "POST":
+            posted = await posted_in(request, self._limits)
+            if posted.refs is not None:
+                return self._few(what, posted.options, posted.refs, request)
+            options = posted.options
+        else:
+            options = options_of(request.scope["query_string"])
         question = question_of(what, options, self._limits.look)
-        has_features = what in ("match", "places")
-        if has_features and features.is_wanted(",".join(request.headers.getlist("accept"))):
+        has_features = what in WITH_FEATURES
+        if has_features and features.is_wanted(accept_of(request)):
             text = await self._features.of(question, request.scope["is_gone"])
             return Response(text, headers=VARIES, media_type=features.MEDIA_TYPE)
         known = await self._served.answer(question, request.scope["is_gone"])
         return Response(known.json, headers=VARIES if has_features else None, media_type=JSON)
+
+    def _few(self, what: What, options: Options, refs: Sequence[str], request: Request) -> ASGIApp:
+        """Lines about a few references, which processes answer that answer others too."""
+        kind = kind_of(what, options, self._limits.look)
+        records = records_of(refs)
+
+        def batch(
+            kind: Kind, _: AsyncIterator[bytes], is_gone: IsGone
+        ) -> AsyncGenerator[list[Answered], None]:
+            return answered_one_by_one(self._served, kind, records, is_gone)
+
+        return partial(self._lines(what, batch, request, has_place=False).answer, kind)
+
+    async def batch(self, what: What, request: Request) -> ASGIApp:
+        """Lines about those of a body."""
+        return self._lines(what, self._apart, request)
+
+    def _apart(
+        self, kind: Kind, body: AsyncIterator[bytes], _: IsGone
+    ) -> AsyncGenerator[list[Answered], None]:
+        """The answers of a process for one body."""
+        return self._served.batch(kind, body)
+
+    def _lines(
+        self, what: What, batch: Batch, request: Request, has_place: bool = True
+    ) -> Streaming:
+        """Lines of JSON, or of GeoJSON where that is asked for."""
+        lines, media_type = partial(_json_lines, batch), streaming.MEDIA_TYPE
+        seq = feature_lines.MEDIA_TYPE
+        if what in WITH_FEATURES and features.is_wanted(accept_of(request), seq, media_type):
+            lines = partial(self._rows.lines, feature_lines.feature_text, batch)
+            media_type = seq
+        return Streaming(
+            self._served,
+            self._limits,
+            what,
+            lines,
+            media_type=media_type,
+            has_place=has_place,
+        )
+
+    def rows(self) -> Streaming:
+        """The rows of the page's list."""
+        lines = partial(self._rows.lines, row_text, self._apart)
+        return Streaming(self._served, self._limits, "places", lines, FEED)
 
     async def show(self, request: Request) -> Response:
         """What a reference says."""
@@ -109,23 +179,6 @@ class _Answers:
         options = options_of(request.scope["query_string"])
         found = await self._scenes.scene(options, request.scope["is_gone"])
         return Response(json_of(found | {"tiles": self._service.tiles}), media_type=JSON)
-
-    def batch(self, what: What) -> Streaming:
-        """Answers to the lines of a body."""
-
-        async def lines(
-            kind: Kind, body: AsyncIterator[bytes], _: IsGone
-        ) -> AsyncGenerator[bytes, None]:
-            async with aclosing(self._served.batch(kind, body)) as answered:
-                async for some in answered:
-                    yield b"".join(one.line() for one in some)
-
-        return Streaming(self._served, self._limits, what, lines)
-
-    def rows(self) -> Streaming:
-        """The rows of the page's list."""
-        rows = Rows(self._served, self._service.confidence, self._room)
-        return Streaming(self._served, self._limits, "places", rows.lines, FEED)
 
     async def health(self, _: Request) -> Response:
         """That the server lives, with what it knows of its map."""
@@ -159,6 +212,20 @@ class _Answers:
             error = of_error(error)
         problem = error if isinstance(error, Problem) else of_status(500)
         return problem.response(request.scope)
+
+
+async def _json_lines(
+    batch: Batch, kind: Kind, body: AsyncIterator[bytes], is_gone: IsGone
+) -> AsyncGenerator[bytes, None]:
+    """The lines of `olr batch`."""
+    async with aclosing(batch(kind, body, is_gone)) as answered:
+        async for some in answered:
+            yield b"".join(one.line() for one in some)
+
+
+def accept_of(request: Request) -> str:
+    """The types that a client likes."""
+    return ",".join(request.headers.getlist("accept"))
 
 
 def _pages(service: Service) -> Iterator[Route]:

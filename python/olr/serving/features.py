@@ -27,9 +27,9 @@ WEIGHT = re.compile(r"q=(0(?:\.[0-9]{0,3})?|1(?:\.0{0,3})?)", re.IGNORECASE)
 """How well a client likes a type, from 0 for not at all to 1: 1 where it doesn't say so."""
 
 
-def is_wanted(accept: str) -> bool:
+def is_wanted(accept: str, wanted: str = MEDIA_TYPE, usual: str = "application/json") -> bool:
     """Whether the field Accept of a request asks for GeoJSON rather than for JSON: that is what a client gets that likes both alike, unless
-    it names GeoJSON."""
+    it names GeoJSON. Both are there as lines too."""
     weights: dict[str, float] = {}
     for item in accept.split(","):
         kind, *parameters = (part.strip() for part in item.split(";"))
@@ -39,8 +39,8 @@ def is_wanted(accept: str) -> bool:
     def weight_of(kind: str) -> float:
         return next((weights[it] for it in (kind, "application/*", "*/*") if it in weights), 0.0)
 
-    geojson, json = weight_of(MEDIA_TYPE), weight_of("application/json")
-    return geojson > json or MEDIA_TYPE in weights and geojson == json > 0
+    geojson, json = weight_of(wanted), weight_of(usual)
+    return geojson > json or wanted in weights and geojson == json > 0
 
 
 class Features(NamedTuple):

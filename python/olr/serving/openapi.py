@@ -3,12 +3,12 @@
 never ask with another profile.
 """
 
-from collections.abc import Iterable, Mapping
+from collections.abc import Collection, Iterable, Mapping
 from olr.messages.message import FORMATS
 from olr.model.answers import Reference
 from olr.model.profiles import FEED, PROFILE, PROFILES, PROGRAM, about_text, tolerances_of
 from olr.model.questions import NUMBERS, TOLERANCES, Number, What
-from olr.serving import features, listing, lists, meters, problems, streaming
+from olr.serving import feature_lines, features, listing, lists, meters, posted, problems, streaming
 from olr.serving.limits import Limits
 from olr.serving.queries import AFTER, REF, numbers_of
 from olr.serving.schemas import (
@@ -17,6 +17,7 @@ from olr.serving.schemas import (
     Json,
     examples,
     line_name,
+    object_of,
     reference_to,
     schemas,
 )
@@ -55,8 +56,9 @@ def document(limits: Limits, at: str = "") -> Json:
         ),
     }
     posts = {
+        **{what: _posted(what, limits) for what in NUMBERS},
         **{f"batch/{what}": _batch(what, limits) for what in NUMBERS},
-        "rows": _lines(rows, likeliest, limits, "Row"),
+        "rows": _lines(rows, likeliest, limits, _lines_of("Row")),
         "messages": _messages(limits),
     }
     own = {
@@ -71,6 +73,11 @@ def document(limits: Limits, at: str = "") -> Json:
             "Figures for Prometheus", [], {meters.MEDIA_TYPE: {"schema": TEXT}}, {}
         ),
     }
+    paths: dict[str, Json] = {}
+    for method, some in (("get", gets), ("post", posts), ("get", own)):
+        for name, address in some.items():
+            there = paths.setdefault(f"/{name}", {})
+            there[method] = {"operationId": _operation(method, name, gets)} | address
     return {
         "openapi": "3.0.3",
         "info": {
@@ -79,28 +86,59 @@ def document(limits: Limits, at: str = "") -> Json:
             "description": "Where OpenLR references lie on a map. Each error is a problem document (RFC 9457).",
         },
         "servers": [{"url": at or "/"}],
-        "paths": {
-            f"/{name}": {method: {"operationId": _operation(name)} | address}
-            for method, some in (("get", gets), ("post", posts), ("get", own))
-            for name, address in some.items()
-        },
+        "paths": paths,
         "components": {"schemas": schemas()},
     }
 
 
-def _operation(name: str) -> str:
-    """The name of a call in clients that are made of the document, such as `batchMatch`."""
+def _operation(method: str, name: str, gets: Collection[str]) -> str:
+    """The name of a call in clients that are made of the document, such as `batchMatch`, and `postMatch` beside `match`."""
     first, *others = name.split("/")
+    if method == "post" and name in gets:
+        first, others = method, [name]
     return first + "".join(map(str.capitalize, others))
 
 
 def _question(what: What, limits: Limits) -> Json:
+    parameters = [*_own(what), *_numbers(what, limits, PROGRAM)]
+    return _address(SUMMARIES[what], parameters, _answers(what))
+
+
+def _own(what: What) -> list[Json]:
+    """The options of a question about one reference."""
     after = _parameter(AFTER, TEXT, "a cursor: the page behind it is answered")
-    own = [_reference(), after] if what == "match" else [_reference()]
+    return [_reference(), after] if what == "match" else [_reference()]
+
+
+def _answers(what: What) -> Json:
+    """The answers to a question about one reference."""
     answers = _answer(OF_QUESTION[what])
     if what in ("match", "places"):
         answers[features.MEDIA_TYPE] = _about("Features")
-    return _address(SUMMARIES[what], [*own, *_numbers(what, limits, PROGRAM)], answers)
+    return answers
+
+
+def _posted(what: What, limits: Limits) -> Json:
+    """A question about one reference, or a few, as JSON."""
+    numbers = _numbers(what, limits, PROGRAM)
+    options = {it["name"]: _described(it) for it in numbers}
+    refs = {"type": "array", "items": TEXT, "maxItems": posted.MOST_REFS}
+    own = {it["name"]: _described(it) for it in _own(what)}
+    one = object_of(own | options, "A reference", (AFTER, *options))
+    many = object_of({posted.REFS: refs} | options, "References", options)
+    bodies = {"oneOf": [one, many, refs | {"description": "References"}]}
+    content = {posted.MEDIA_TYPE: {"schema": bodies, "example": {REF: EXAMPLE}}}
+    too_large = f"A body of more than {posted.MOST_BYTES:,} bytes"
+    refusals = STATUSES | {"413": too_large, "415": "A body of another type"}
+    summary = f"{SUMMARIES[what]}: options are members of a JSON object. With refs in place of ref, or a list, a line for each reference"
+    found = _address(summary, [], {**_answers(what), **_batch_lines(what)}, refusals)
+    return found | {"requestBody": {"required": True, "content": content}}
+
+
+def _described(parameter: Json) -> Json:
+    """The schema of a parameter, with what it says."""
+    found: Json = parameter["schema"] | {"description": parameter["description"]}
+    return found
 
 
 def _answer(made: type) -> Json:
@@ -118,6 +156,16 @@ def _lines_of(name: str) -> Json:
     """What lines of JSON have: a text, of which each line has a schema. OpenAPI 3.0 has no word for that."""
     text = TEXT | {"description": f"Lines of JSON, each of which is a {name}"}
     return {streaming.MEDIA_TYPE: {"schema": text, "x-item-schema": reference_to(name)}}
+
+
+def _batch_lines(what: What) -> Json:
+    """Lines of answers to a question, of JSON or of GeoJSON."""
+    found = _lines_of(line_name(what))
+    if what in ("match", "places"):
+        text = TEXT | {"description": "Texts of GeoJSON (RFC 8142), each of which is a FeatureLine"}
+        about = {"schema": text, "x-item-schema": reference_to("FeatureLine")}
+        found[feature_lines.MEDIA_TYPE] = about
+    return found
 
 
 def _address(
@@ -141,15 +189,15 @@ def _health(summary: str, refusals: Mapping[str, str]) -> Json:
 
 def _batch(what: What, limits: Limits) -> Json:
     summary = f"{SUMMARIES[what]}: a line for each line"
-    return _lines(summary, _numbers(what, limits, PROGRAM), limits, line_name(what))
+    return _lines(summary, _numbers(what, limits, PROGRAM), limits, _batch_lines(what))
 
 
-def _lines(summary: str, parameters: list[Json], limits: Limits, name: str) -> Json:
+def _lines(summary: str, parameters: list[Json], limits: Limits, answers: Json) -> Json:
     """An address that answers lines of JSON about lines of a body."""
     too_large, other = f"A body of more than {limits.body:,} bytes", "A body of another type"
     refusals = STATUSES | {"413": too_large, "415": other}
     taken = "Lines of a key, a tab and a reference, or of a reference alone"
-    found = _address(summary, parameters, _lines_of(name), refusals)
+    found = _address(summary, parameters, answers, refusals)
     return found | {"requestBody": _body(taken, streaming.TAKEN)}
 
 

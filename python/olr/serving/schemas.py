@@ -84,7 +84,8 @@ def schemas() -> Mapping[str, Json]:
     found = {it.__name__: _of_class(it) for it in classes}
     found |= {line_name(what): _line(it) for what, it in OF_QUESTION.items()}
     return found | {
-        "Features": _features(),
+        "Features": _features(_feature(_columns(ANSWERS, Answers))),
+        "FeatureLine": _feature({**_message_front(), **_columns(ANSWERS, Answers)}),
         "Row": _row(),
         "Message": _message(),
         "Scene": _scene(),
@@ -158,27 +159,31 @@ def _columns(columns: Mapping[str, Column[Any]], table: type) -> dict[str, Json]
     }
 
 
-def _features() -> Json:
-    """Answers as GeoJSON."""
+def _feature(columns: Mapping[str, Json]) -> Json:
+    """A feature with these columns."""
     spot = {"type": "array", "items": NUMBER, "minItems": 2, "maxItems": 2}
     geometry = {
         "type": TEXT | {"enum": ["Point", "LineString"]},
         "coordinates": {"type": "array", "items": {"oneOf": [NUMBER, spot]}},
     }
     about = "One row for each matching or place; one without a geometry where there is none"
-    properties = object_of(_columns(ANSWERS, Answers), about)
     feature = {
         "type": TEXT | {"enum": ["Feature"]},
-        "properties": properties,
+        "properties": object_of(columns, about),
         "geometry": or_null(
             object_of(geometry, "A polyline, or a point along a line, in degrees of WGS 84")
         ),
     }
+    return object_of(feature, "A row")
+
+
+def _features(feature: Json) -> Json:
+    """Answers as GeoJSON."""
     collection = {
         "type": TEXT | {"enum": ["FeatureCollection"]},
         "name": TEXT,
         "crs": {"type": "object"},
-        "features": {"type": "array", "items": object_of(feature, "A row")},
+        "features": {"type": "array", "items": feature},
     }
     return object_of(collection, "Matchings or places, as GeoJSON")
 

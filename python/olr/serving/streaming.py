@@ -7,7 +7,7 @@ answer that comes if that is longer.
 import asyncio
 import logging
 from collections.abc import AsyncGenerator, AsyncIterator, Callable
-from contextlib import aclosing, asynccontextmanager
+from contextlib import AbstractAsyncContextManager, aclosing, asynccontextmanager, nullcontext
 from starlette.requests import Request
 from starlette.types import Receive, Scope, Send
 
@@ -45,11 +45,20 @@ class Streaming:
     """An address whose answer is lines."""
 
     def __init__(
-        self, served: Served, limits: Limits, what: What, lines: Lines, profile: str = PROGRAM
+        self,
+        served: Served,
+        limits: Limits,
+        what: What,
+        lines: Lines,
+        profile: str = PROGRAM,
+        media_type: str = MEDIA_TYPE,
+        has_place: bool = True,
     ) -> None:
-        """Its options are those of the question `what`, and the tolerances that aren't given those of `profile`."""
+        """Its options are those of the question `what`, and the tolerances that aren't given those of `profile`. `has_place`: whether
+        `lines` is called within a place of the map."""
         self._served, self._limits, self._lines = served, limits, lines
         self._what, self._profile = what, profile
+        self._media_type, self._has_place = media_type, has_place
 
     async def __call__(self, scope: Scope, receive: Receive, send: Send) -> None:
         """Answers a request. Raises `ToolError` and `Problem` before it has begun to; later it closes the connection."""
@@ -58,11 +67,15 @@ class Streaming:
         kind = kind_of(self._what, options, self._limits.look)
         _require_type(request)
         self._require_length(request)
-        sent = _Sent(send)
+        await self.answer(kind, scope, receive, send)
+
+    async def answer(self, kind: Kind, scope: Scope, receive: Receive, send: Send) -> None:
+        """Answers a request whose options are known. Raises as a call does."""
+        sent = _Sent(send, self._media_type)
         limit = self._limits.time
         loop = asyncio.get_running_loop()
         try:
-            async with self._served.place(scope["is_gone"]):
+            async with self._place(scope["is_gone"]):
                 if scope["is_gone"]():
                     return
                 async with asyncio.timeout(limit) as deadline, _watched(scope, deadline):
@@ -86,6 +99,9 @@ class Streaming:
             await sent.stop(of_error(error), scope, receive)
         except Problem as problem:
             await sent.stop(problem, scope, receive)
+
+    def _place(self, is_gone: IsGone) -> AbstractAsyncContextManager[None]:
+        return self._served.place(is_gone) if self._has_place else nullcontext()
 
     async def _body(self, receive: Receive, deadline: asyncio.Timeout) -> AsyncIterator[bytes]:
         """The pieces of the body. Raises `Problem` for one that is too long."""
@@ -119,8 +135,8 @@ class Streaming:
 class _Sent:
     """An answer that is sent in pieces."""
 
-    def __init__(self, send: Send) -> None:
-        self._send = send
+    def __init__(self, send: Send, media_type: str) -> None:
+        self._send, self._media_type = send, media_type
         self._has_begun = False
 
     async def put(self, piece: bytes) -> None:
@@ -136,7 +152,7 @@ class _Sent:
     async def _begin(self) -> None:
         if not self._has_begun:
             self._has_begun = True
-            headers = [(b"content-type", MEDIA_TYPE.encode())]
+            headers = [(b"content-type", self._media_type.encode())]
             await self._send({"type": "http.response.start", "status": 200, "headers": headers})
 
     async def stop(self, problem: Problem, scope: Scope, receive: Receive) -> None:
