@@ -192,7 +192,7 @@ def test_geojson(
             path = path_of(what, some[int(key)], radius=80)
             reply = server.get(path, Accept="application/geo+json")
             assert reply.headers["content-type"] == "application/geo+json"
-            assert reply.headers["vary"] == "Accept"
+            assert reply.headers["vary"] == "Accept, Accept-Encoding"
             assert json.loads(reply.body)["features"] == features
         refused = server.get(path_of(what, "CwVG"), Accept="application/geo+json")
         assert refused.problem()[:2] == (422, "BadLength")

@@ -238,7 +238,8 @@ def test_pages_of_other_sites_that_may_ask() -> None:
         await send({"type": "http.response.start", "status": 200, "headers": []})
 
     async def run() -> None:
-        front = Front(app, ["/x"], ALLOWED, Meters(cast(Served, FakeMap())))
+        meters = Meters(cast(Served, FakeMap()))
+        front = Front(app, ["/x"], ALLOWED, meters)
         site = {"Host": "olr.example", "Origin": "https://maps.example"}
         asked = await status_of(front, "OPTIONS", Access_Control_Request_Method="POST", **site)
         assert asked["status"] == 204
@@ -247,6 +248,14 @@ def test_pages_of_other_sites_that_may_ask() -> None:
             named = dict((await status_of(front, **fields))["headers"])
             allowed = named.get(b"access-control-allow-origin")
             assert allowed == (b"https://maps.example" if fields is site else None)
+            exposed = named.get(b"access-control-expose-headers", b"")
+            assert (b"Retry-After" in exposed) == (fields is site)
+            assert named[b"vary"] == b"Origin"
+        evil = {"Host": "olr.example", "Origin": "https://evil.example"}
+        refused = await status_of(front, **evil)
+        assert refused["status"] == 403 and (b"vary", b"Origin") in refused["headers"]
+        alone = Front(app, ["/x"], ALLOWED._replace(others=frozenset()), meters)
+        assert b"vary" not in dict((await status_of(alone, Host="olr.example"))["headers"])
         assert (await status_of(front, "OPTIONS", **site))["status"] == 200
 
     run_within(run())

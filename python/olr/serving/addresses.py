@@ -149,16 +149,17 @@ class _Answers:
     ) -> Streaming:
         """Lines of JSON, or of GeoJSON where that is asked for."""
         lines, media_type = partial(_json_lines, batch), streaming.MEDIA_TYPE
-        seq = feature_lines.MEDIA_TYPE
-        if what in WITH_FEATURES and features.is_wanted(accept_of(request), seq, media_type):
+        seq, has_features = feature_lines.MEDIA_TYPE, what in WITH_FEATURES
+        if has_features and features.is_wanted(accept_of(request), seq, media_type):
             lines = partial(self._rows.lines, feature_lines.feature_text, batch)
             media_type = seq
+        headers = {"Content-Type": media_type} | (VARIES if has_features else {})
         return Streaming(
             self._served,
             self._limits,
             what,
             lines,
-            media_type=media_type,
+            headers=headers,
             has_place=has_place,
         )
 

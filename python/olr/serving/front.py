@@ -3,6 +3,7 @@
 import logging
 import time
 from collections.abc import Sequence
+from starlette.datastructures import MutableHeaders
 from starlette.responses import Response
 from starlette.types import ASGIApp, Message, Receive, Scope, Send
 
@@ -15,10 +16,12 @@ from olr.serving.waiting import CLIENT
 log = logging.getLogger("olr.serving.requests")
 PREFLIGHT = {
     "Access-Control-Allow-Methods": "GET, POST",
-    "Access-Control-Allow-Headers": "Content-Type",
+    "Access-Control-Allow-Headers": "Content-Type, If-None-Match, X-Request-Id",
     "Access-Control-Max-Age": "600",
 }
 """What a browser may send that asks for a page of an allowed site, and how many seconds it may keep that."""
+EXPOSED = {"Access-Control-Expose-Headers": "ETag, Retry-After, X-Request-Id"}
+"""What such a page may read of an answer, besides what all may."""
 
 
 class Front:
@@ -39,15 +42,18 @@ class Front:
         fields = fields_of(scope)
         origin = fields.get(b"origin")
         is_of_other = origin in self._allowed.others
+        allowing = {"Access-Control-Allow-Origin": (origin or b"").decode()} | EXPOSED
         status = 0
 
         async def sending(message: Message) -> None:
             nonlocal status
             if message["type"] == "http.response.start":
                 status = message["status"]
-                if is_of_other:
-                    allowing = [(b"access-control-allow-origin", origin), (b"vary", b"Origin")]
-                    message["headers"] = [*message.get("headers", ()), *allowing]
+                if self._allowed.others:
+                    headers = MutableHeaders(raw=[*message.get("headers", ())])
+                    headers.add_vary_header("Origin")
+                    headers.update(allowing if is_of_other else {})
+                    message["headers"] = headers.raw
             await send(message)
 
         CLIENT.set(scope["client"][0] if scope.get("client") else "")

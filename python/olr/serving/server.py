@@ -18,6 +18,7 @@ from olr.errors import ToolError
 from olr.model.map_folder import store_of
 from olr.serving.addresses import Service, application
 from olr.serving.allowed import allowed_for, in_url
+from olr.serving.compressing import Compressing
 from olr.serving.connections import Connection, Connections
 from olr.serving.folder_map import FolderMap
 from olr.serving.front import Front
@@ -137,7 +138,9 @@ async def _answer(settings: Settings, served: Served, listening: socket.socket) 
     )
     app = application(service)
     allowed = allowed_for(settings.host, port, settings.names, settings.origins)
-    front = Front(app, [getattr(route, "path") for route in app.routes], allowed, meters)
+    front = Front(
+        Compressing(app), [getattr(route, "path") for route in app.routes], allowed, meters
+    )
     connections = Connections(_most_connections())
     url = f"http://{in_url(settings.host)}:{port}/"
     server = _Server(_config(settings, front, connections), url)

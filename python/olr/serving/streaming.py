@@ -6,7 +6,7 @@ answer that comes if that is longer.
 
 import asyncio
 import logging
-from collections.abc import AsyncGenerator, AsyncIterator, Callable
+from collections.abc import AsyncGenerator, AsyncIterator, Callable, Mapping
 from contextlib import AbstractAsyncContextManager, aclosing, asynccontextmanager, nullcontext
 from starlette.requests import Request
 from starlette.types import Receive, Scope, Send
@@ -51,14 +51,14 @@ class Streaming:
         what: What,
         lines: Lines,
         profile: str = PROGRAM,
-        media_type: str = MEDIA_TYPE,
+        headers: Mapping[str, str] = {"Content-Type": MEDIA_TYPE},
         has_place: bool = True,
     ) -> None:
         """Its options are those of the question `what`, and the tolerances that aren't given those of `profile`. `has_place`: whether
         `lines` is called within a place of the map."""
         self._served, self._limits, self._lines = served, limits, lines
         self._what, self._profile = what, profile
-        self._media_type, self._has_place = media_type, has_place
+        self._headers, self._has_place = headers, has_place
 
     async def __call__(self, scope: Scope, receive: Receive, send: Send) -> None:
         """Answers a request. Raises `ToolError` and `Problem` before it has begun to; later it closes the connection."""
@@ -71,7 +71,7 @@ class Streaming:
 
     async def answer(self, kind: Kind, scope: Scope, receive: Receive, send: Send) -> None:
         """Answers a request whose options are known. Raises as a call does."""
-        sent = _Sent(send, self._media_type)
+        sent = _Sent(send, self._headers)
         limit = self._limits.time
         loop = asyncio.get_running_loop()
         try:
@@ -135,8 +135,8 @@ class Streaming:
 class _Sent:
     """An answer that is sent in pieces."""
 
-    def __init__(self, send: Send, media_type: str) -> None:
-        self._send, self._media_type = send, media_type
+    def __init__(self, send: Send, headers: Mapping[str, str]) -> None:
+        self._send, self._headers = send, headers
         self._has_begun = False
 
     async def put(self, piece: bytes) -> None:
@@ -152,7 +152,7 @@ class _Sent:
     async def _begin(self) -> None:
         if not self._has_begun:
             self._has_begun = True
-            headers = [(b"content-type", self._media_type.encode())]
+            headers = [(name.lower().encode(), it.encode()) for name, it in self._headers.items()]
             await self._send({"type": "http.response.start", "status": 200, "headers": headers})
 
     async def stop(self, problem: Problem, scope: Scope, receive: Receive) -> None:
