@@ -2,16 +2,26 @@
 
 import gzip
 import json
+import os
 import pytest
+import shutil
+import signal
 import zlib
 from collections.abc import Iterator, Sequence
+from pathlib import Path
 from starlette.types import Message, Receive, Scope, Send
 from typing import Any
 
 from conftest import REFERENCE, TOP, Program
 from fake_pool import run_within
+from olr.asking.files import Version
+from olr.errors import MapRefused
+from olr.model.questions import NUMBERS
 from olr.serving.compressing import LEAST, MOST_AT_ONCE, Compressing, is_wanted
-from servers import Server, path_of, serving
+from olr.serving.folder_map import FolderMap
+from olr.serving.limits import Capacity, Limits
+from olr.serving.store_map import StoreMap
+from servers import Server, path_of, serving, wait_until
 
 LINES = {"Content_Type": "text/plain"}
 SITE = "https://maps.example"
@@ -151,3 +161,94 @@ def test_what_answers_depend_on(server: Server) -> None:
     streamed = server.get("/batch/match", "POST", b"CwVG\n", **LINES)
     assert streamed.headers["vary"] == "Accept, Accept-Encoding, Origin"
     assert json.loads(streamed.body)["fault"] == "BadLength 3"
+
+
+CACHED = [path_of(what, REFERENCE) for what in ("show", *NUMBERS)]
+OTHER = "CwVGnSN2zhvHCgDX/tIzAw=="
+
+
+@pytest.mark.parametrize("path", CACHED)
+def test_answers_that_a_client_has(path: str, server: Server) -> None:
+    """The same question has the same tag, and another one another; a client that has the answer gets none."""
+    reply = server.get(path)
+    tag = reply.headers["etag"]
+    assert reply.headers["cache-control"] == "no-cache"
+    for said in (tag, f"W/{tag}", f'"x", {tag}', f'W/"y",W/{tag}'):
+        for method in ("GET", "HEAD"):
+            known = server.get(path, method, If_None_Match=said)
+            assert (known.status, known.body, known.headers["etag"]) == (304, b"", tag)
+            assert known.headers["vary"] == reply.headers["vary"]
+            assert known.headers["cache-control"] == "no-cache"
+    for said in ('"x"', tag[:-2], tag.strip('"'), ""):
+        assert server.get(path, If_None_Match=said).body == reply.body
+    packed = server.get(path, Accept_Encoding="gzip", If_None_Match=f"W/{tag}")
+    assert packed.status == 304
+
+
+def test_other_questions_have_other_tags(server: Server) -> None:
+    others: list[dict[str, object]] = [
+        {"page": 2},
+        {"radius": 99},
+        {"profile": "feed"},
+        {"after": "8:1.1.1", "page": 1},
+        {"after": "8:1.1.1", "page": 2},
+    ]
+    paths = [*CACHED, path_of("match", OTHER), path_of("why", REFERENCE, nearest=3)]
+    paths += [path_of("match", REFERENCE, **one) for one in others]
+    tags = [server.get(path).headers["etag"] for path in paths]
+    assert len(set(tags)) == len(paths)
+    for same in (
+        path_of("match", f" {REFERENCE}", page=10, radius=100),
+        path_of("match", REFERENCE, radius=100, profile="program"),
+    ):
+        assert (
+            server.get(same).headers["etag"]
+            == server.get(path_of("match", REFERENCE)).headers["etag"]
+        )
+
+
+def test_answers_without_a_tag(server: Server) -> None:
+    """Faults, and what isn't of the program alone: the names of roads may change beside the map."""
+    path = path_of("match", REFERENCE)
+    tag = server.get(path).headers["etag"]
+    geojson = server.get(path, Accept="application/geo+json", If_None_Match=tag)
+    assert geojson.status == 200 and "etag" not in geojson.headers
+    for path in (path_of("match", "CwVG"), path_of("scene", REFERENCE), "/health"):
+        assert "etag" not in server.get(path).headers
+    body = json.dumps({"ref": REFERENCE})
+    asked = server.get("/match", "POST", body, Content_Type="application/json", If_None_Match=tag)
+    assert asked.status == 200
+
+
+def test_another_map_has_other_tags(program: Program, tmp_path: Path) -> None:
+    """Without asking the program while the files are the same; and once they have changed it is asked."""
+    folder = Path(shutil.copytree(TOP / "examples", tmp_path / "map"))
+    path = path_of("match", REFERENCE)
+    with serving(program.path, folder, tmp_path / "log", "--workers", 1) as server:
+        tag = server.get(path).headers["etag"]
+        (process,) = server.programs()
+        os.kill(process, signal.SIGSTOP)
+        assert server.get(path, If_None_Match=tag).status == 304
+        os.kill(process, signal.SIGCONT)
+        (folder / "bans.csv").write_text("from,to\n")
+        wait_until(lambda: server.get("/ready").status == 503)
+        assert server.get(path, If_None_Match=tag).status == 304
+        server.signal(signal.SIGHUP)
+        wait_until(lambda: server.get("/ready").status == 200)
+        again = server.get(path, If_None_Match=tag)
+        assert again.status == 200 and again.headers["etag"] != tag
+
+
+def test_files_that_have_changed_are_not_known() -> None:
+    """And neither is a store, at which nobody looks."""
+
+    async def run() -> None:
+        found = FolderMap(TOP / "examples", Capacity(1, 1), Limits())
+        assert found.unchanged() is None
+        version = found.pool.edition.version = Version("a", "b")
+        assert found.unchanged() == version
+        found.pool.trouble = MapRefused("other files")
+        assert found.unchanged() is None
+        assert StoreMap(Path("map.gpkg"), Limits()).unchanged() is None
+
+    run_within(run())

@@ -22,7 +22,7 @@
 | `schemas`, `openapi`, `pages` | what answers have in them, the addresses as an OpenAPI document, and the pages with the files that they load |
 | `addresses` | the addresses, and what each answers |
 | `allowed`, `front` | who may ask, and what stands before the addresses |
-| `accepting`, `compressing` | what a client likes, and answers as gzip |
+| `accepting`, `compressing`, `tags` | what a client likes, answers as gzip, and answers that it has already |
 | `meters` | what is counted |
 | `connections` | connections and their limits |
 | `server` | the server |

@@ -12,6 +12,7 @@ from starlette.routing import Route
 from starlette.types import ASGIApp
 from typing import NamedTuple
 
+from olr.asking.files import Version
 from olr.asking.processes import Kind
 from olr.confidence.confidence import Confidence
 from olr.errors import ToolError
@@ -28,6 +29,7 @@ from olr.serving.posted import answered_one_by_one, posted_in, records_of
 from olr.serving.problems import Problem, of_error, of_status
 from olr.serving.queries import (
     Options,
+    Question,
     kind_of,
     options_of,
     question_of,
@@ -39,6 +41,7 @@ from olr.serving.rows import Batch, Rows, row_text
 from olr.serving.scenes import Scenes, json_of
 from olr.serving.served import IsGone, Served
 from olr.serving.streaming import Streaming
+from olr.serving.tags import headers_of, is_known, tag_of, unchanged
 from olr.version import VERSION
 
 JSON = "application/json"
@@ -119,8 +122,19 @@ class _Answers:
         if has_features and features.is_wanted(accept_of(request)):
             text = await self._features.of(question, request.scope["is_gone"])
             return Response(text, headers=VARIES, media_type=features.MEDIA_TYPE)
+        headers = VARIES if has_features else {}
+        version = self._served.unchanged()
+        if version is not None and is_known(request, tag := self._tag(question, version)):
+            return unchanged(tag, headers)
         known = await self._served.answer(question, request.scope["is_gone"])
-        return Response(known.json, headers=VARIES if has_features else None, media_type=JSON)
+        tag = self._tag(question, known.version)
+        if is_known(request, tag):
+            return unchanged(tag, headers)
+        return Response(known.json, headers={**headers, **headers_of(tag)}, media_type=JSON)
+
+    def _tag(self, question: Question, version: Version) -> str:
+        """The tag of the answer of the program to a question on a version of the map."""
+        return tag_of(self._served.program_version(), tuple(version), *question)
 
     def _few(self, what: What, options: Options, refs: Sequence[str], request: Request) -> ASGIApp:
         """Lines about a few references, which processes answer that answer others too."""
@@ -173,7 +187,11 @@ class _Answers:
         options = options_of(request.scope["query_string"])
         text = record_text(reference_of(options))
         require_no_options(options)
-        return Response(await self._served.show(text), media_type=JSON)
+        tag = tag_of(self._served.program_version(), text)
+        if is_known(request, tag):
+            return unchanged(tag, {})
+        said = await self._served.show(text)
+        return Response(said, headers=headers_of(tag), media_type=JSON)
 
     async def scene(self, request: Request) -> Response:
         """What the page draws."""

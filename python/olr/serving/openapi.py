@@ -46,8 +46,8 @@ def document(limits: Limits, at: str = "") -> Json:
     rows = "The likeliest place of each reference, and how probable it is, as the page's list shows them: a line for each line"
     gets = {
         **{what: _question(what, limits) for what in NUMBERS},
-        "show": _address(
-            "What a reference says, without the map", [_reference()], _answer(Reference)
+        "show": _cached(
+            _address("What a reference says, without the map", [_reference()], _answer(Reference))
         ),
         "scene": _address(
             "All that the page draws of a reference",
@@ -101,7 +101,13 @@ def _operation(method: str, name: str, gets: Collection[str]) -> str:
 
 def _question(what: What, limits: Limits) -> Json:
     parameters = [*_own(what), *_numbers(what, limits, PROGRAM)]
-    return _address(SUMMARIES[what], parameters, _answers(what))
+    return _cached(_address(SUMMARIES[what], parameters, _answers(what)))
+
+
+def _cached(address: Json) -> Json:
+    """An address whose answers have an ETag."""
+    address["responses"]["304"] = {"description": "The answer is that of If-None-Match"}
+    return address
 
 
 def _own(what: What) -> list[Json]:

@@ -60,6 +60,13 @@ class Served(Protocol):
     def batch(self, kind: Kind, body: AsyncIterator[bytes]) -> AsyncGenerator[list[Answered], None]:
         """The answers to the records of a body, some at a time, within a `place`. Raises as `answer`, and as the body does."""
 
+    def program_version(self) -> str:
+        """What the program says of its version."""
+
+    def unchanged(self) -> Version | None:
+        """The version of the files, if all that is asked now is answered by it and they are known to be the same still. It isn't looked
+        for."""
+
     def digest(self) -> str | None:
         """Of the nodes and lines that are asked now."""
 

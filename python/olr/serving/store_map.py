@@ -170,6 +170,14 @@ class StoreMap:
     async def _in_thread(self, call: Callable[[], Made]) -> Made:
         return await asyncio.get_running_loop().run_in_executor(self._thread, call)
 
+    def program_version(self) -> str:
+        """What the program says of its version."""
+        return self._version
+
+    def unchanged(self) -> Version | None:
+        """None: nobody looks at the store but who asks it."""
+        return None
+
     def digest(self) -> str | None:
         """Of the nodes and lines that are asked now."""
         return self._digest
