@@ -39,6 +39,8 @@ class Reply(NamedTuple):
         """The status, title and detail of a problem document."""
         assert self.headers["content-type"] == "application/problem+json"
         found = json.loads(self.body)
+        # What isn't HTTP has no name.
+        assert found.pop("request_id", None) == self.headers.get("x-request-id")
         assert found.keys() == {"type", "title", "status", "detail"}
         assert found["status"] == self.status and found["type"] == f"/docs#{found['title']}"
         return self.status, found["title"], found["detail"]

@@ -4,6 +4,7 @@ import gzip
 import json
 import os
 import pytest
+import re
 import shutil
 import signal
 import zlib
@@ -19,6 +20,7 @@ from olr.errors import MapRefused
 from olr.model.questions import NUMBERS
 from olr.serving.compressing import LEAST, MOST_AT_ONCE, Compressing, is_wanted
 from olr.serving.folder_map import FolderMap
+from olr.serving.front import request_id_of
 from olr.serving.limits import Capacity, Limits
 from olr.serving.store_map import StoreMap
 from servers import Server, path_of, serving, wait_until
@@ -67,8 +69,8 @@ def test_gzip_is_not_wanted(accept: str) -> None:
 def test_whole_answers_as_gzip(path: str, server: Server) -> None:
     """The same bytes, if there are enough of them to save any."""
     for accept in ("*/*", "application/geo+json"):
-        plain = server.get(path, Accept=accept)
-        packed = server.get(path, Accept=accept, Accept_Encoding="gzip")
+        plain = server.get(path, Accept=accept, X_Request_Id="x")
+        packed = server.get(path, Accept=accept, X_Request_Id="x", Accept_Encoding="gzip")
         is_long = len(plain.body) >= LEAST
         assert packed.headers.get("content-encoding") == ("gzip" if is_long else None)
         assert plain.body == (gzip.decompress(packed.body) if is_long else packed.body)
@@ -76,7 +78,8 @@ def test_whole_answers_as_gzip(path: str, server: Server) -> None:
         for one in (plain, packed):
             assert "Accept-Encoding" in one.headers["vary"]
             assert int(one.headers["content-length"]) == len(one.body)
-        head = server.get(path, "HEAD", Accept=accept, Accept_Encoding="gzip")
+        fields = {"Accept": accept, "X_Request_Id": "x", "Accept_Encoding": "gzip"}
+        head = server.get(path, "HEAD", **fields)
         assert head.headers["content-length"] == packed.headers["content-length"]
 
 
@@ -252,3 +255,33 @@ def test_files_that_have_changed_are_not_known() -> None:
         assert StoreMap(Path("map.gpkg"), Limits()).unchanged() is None
 
     run_within(run())
+
+
+@pytest.mark.parametrize(
+    "name", ["x", "8f3c2a9b-e07d-4415-a1b2-0123456789ab", "A" * 64, "a.b:c+/=@_"]
+)
+def test_names_of_requests(name: str, server: Server) -> None:
+    """That of the request is that of the answer, and of a problem."""
+    reply = server.get(path_of("match", REFERENCE), X_Request_Id=name)
+    assert (reply.status, reply.headers["x-request-id"]) == (200, name)
+    for path, method in ((path_of("match", "CwVG"), "GET"), ("/nothing", "GET"), ("/rows", "POST")):
+        refused = server.get(path, method, X_Request_Id=name)
+        assert json.loads(refused.body)["request_id"] == refused.headers["x-request-id"] == name
+        assert refused.problem()[0] in (422, 404, 415)
+    foreign = server.get("/health", Origin="https://evil.example", X_Request_Id=name)
+    assert foreign.problem()[0] == 403 and foreign.headers["x-request-id"] == name
+
+
+@pytest.mark.parametrize("name", ["", "A" * 65, "a b", "a\tb", '"', "ä", "<b>", "a%0Ab", "a,b"])
+def test_names_that_are_made(name: str, server: Server) -> None:
+    """Where there is none, or one that shouldn't be in a log; each is another one."""
+    replies = [server.get("/show?ref=CwVG", X_Request_Id=name) for _ in range(2)]
+    replies += [server.get("/show?ref=CwVG"), server.get("/assets/page.js")]
+    made = [reply.headers["x-request-id"] for reply in replies]
+    assert len(set(made)) == 4 and all(re.fullmatch("[0-9a-f]{16}", one) for one in made)
+
+
+def test_a_name_that_is_given_twice() -> None:
+    headers = [(b"x-request-id", b"a"), (b"x-request-id", b"b")]
+    assert request_id_of({"headers": headers[:1]}) == "a"
+    assert len(request_id_of({"headers": headers})) == 16

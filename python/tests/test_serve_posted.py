@@ -64,16 +64,22 @@ def test_one_reference(what: str, server: Server, texts: list[str]) -> None:
     options: dict[str, Any] = {"radius": 60, "profile": "feed"}
     for text in [text for text in texts[:6] if text.isascii()] + ODD[4:]:
         for accept in ("*/*", "application/geo+json"):
-            expected = server.get(path_of(what, text, **options), Accept=accept)
-            found = posted(server, f"/{what}", {"ref": text, **options}, Accept=accept)
+            fields = {"Accept": accept, "X_Request_Id": "x"}
+            expected = server.get(path_of(what, text, **options), **fields)
+            found = posted(server, f"/{what}", {"ref": text, **options}, **fields)
             assert (found.status, found.body) == (expected.status, expected.body), text
             assert found.headers["content-type"] == expected.headers["content-type"]
 
 
 def test_a_page_behind_a_cursor(server: Server, texts: list[str]) -> None:
-    options = {"after": "0:1.1", "page": 2}
-    expected = server.get(path_of("match", texts[1], **options))
-    assert posted(server, "/match", {"ref": texts[1], **options}).body == expected.body
+    pages = (json.loads(server.get(path_of("match", text, page=1)).body) for text in texts[1:9])
+    text, cursor = next(
+        (text, page["next"]) for text, page in zip(texts[1:9], pages) if page.get("next")
+    )
+    expected = server.get(path_of("match", text, after=cursor, page=2))
+    assert expected.status == 200
+    found = posted(server, "/match", {"ref": text, "after": cursor, "page": 2})
+    assert found.body == expected.body
 
 
 @pytest.mark.parametrize("what", NUMBERS)

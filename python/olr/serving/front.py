@@ -1,6 +1,8 @@
 """What stands before the addresses: who may ask, how many at once, and what is counted and logged."""
 
 import logging
+import re
+import secrets
 import time
 from collections.abc import Sequence
 from starlette.datastructures import MutableHeaders
@@ -14,6 +16,8 @@ from olr.serving.problems import Problem, busy
 from olr.serving.waiting import CLIENT
 
 log = logging.getLogger("olr.serving.requests")
+REQUEST_ID = re.compile(rb"[A-Za-z0-9._:+/=@-]{1,64}")
+"""What names a request: a UUID and what else is usual. It goes into the log."""
 PREFLIGHT = {
     "Access-Control-Allow-Methods": "GET, POST",
     "Access-Control-Allow-Headers": "Content-Type, If-None-Match, X-Request-Id",
@@ -38,6 +42,7 @@ class Front:
     async def __call__(self, scope: Scope, receive: Receive, send: Send) -> None:
         """Answers a request."""
         begin = time.perf_counter()
+        scope["request_id"] = request_id = request_id_of(scope)
         scope["path"] = path_below(scope.get("root_path", ""), scope["path"])
         fields = fields_of(scope)
         origin = fields.get(b"origin")
@@ -49,11 +54,12 @@ class Front:
             nonlocal status
             if message["type"] == "http.response.start":
                 status = message["status"]
+                headers = MutableHeaders(raw=[*message.get("headers", ())])
+                headers["X-Request-Id"] = request_id
                 if self._allowed.others:
-                    headers = MutableHeaders(raw=[*message.get("headers", ())])
                     headers.add_vary_header("Origin")
                     headers.update(allowing if is_of_other else {})
-                    message["headers"] = headers.raw
+                message["headers"] = headers.raw
             await send(message)
 
         CLIENT.set(scope["client"][0] if scope.get("client") else "")
@@ -78,6 +84,14 @@ class Front:
         self._meters.count(address, status, seconds)
         if log.isEnabledFor(logging.INFO):
             log.info("%s %s %d, %.1f ms", scope["method"], address, status, seconds * 1000)
+
+
+def request_id_of(scope: Scope) -> str:
+    """The name of a request: the one that its head gives it, if that is one short word, else a new one."""
+    given = [value for name, value in scope["headers"] if name == b"x-request-id"]
+    if len(given) == 1 and REQUEST_ID.fullmatch(given[0]):
+        return str(given[0].decode())
+    return secrets.token_hex(8)
 
 
 def path_below(root_path: str, path: str) -> str:

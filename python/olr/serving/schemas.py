@@ -240,5 +240,6 @@ def _problem() -> Json:
         "title": TEXT | {"description": "a word; for a reference without an answer, its fault"},
         "status": INTEGER,
         "detail": TEXT | {"description": "what is wrong"},
+        "request_id": TEXT | {"description": "the name of the request, as in X-Request-Id"},
     }
-    return object_of(members, "Why there is no answer (RFC 9457)")
+    return object_of(members, "Why there is no answer (RFC 9457)", ["request_id"])
