@@ -7,16 +7,22 @@ from collections.abc import Iterator
 from pathlib import Path
 from typing import Any, cast
 
+import olr
 from asking import draw_map, draw_references
-from conftest import REFERENCE, Program, Tools
+from conftest import REFERENCE, TOP, Program, Tools
 from fake_pool import run_within
 from olr.asking.files import Version
-from olr.errors import MapRefused
+from olr.confidence.judged import Judging
+from olr.errors import MapRefused, ProgramEnded
 from olr.model.questions import NUMBERS
-from olr.serving.feature_lines import MEDIA_TYPE
+from olr.serving.batches import Answered
+from olr.serving.feature_lines import MEDIA_TYPE, feature_text
+from olr.serving.judging import LongList
+from olr.serving.limits import MIB
 from olr.serving.posted import MOST_BYTES, MOST_REFS, answered_one_by_one, posted_of, records_of
 from olr.serving.problems import Problem
 from olr.serving.queries import kind_of
+from olr.serving.rows import MOST_LINES, lots_of
 from olr.serving.served import Known, Served
 from servers import Reply, Server, expected_of, path_of, serving
 
@@ -213,12 +219,47 @@ def test_lines_are_of_one_version_of_the_map() -> None:
     async def run() -> None:
         records = records_of(["x", "y", "z"])
         kind = kind_of("match", {}, 10)
-        answered = answered_one_by_one(cast(Served, Map()), kind, records, lambda: False)
-        assert (await anext(answered))[0].record.number == 1
+        found = answered_one_by_one(cast(Served, Map()), kind, records, lambda: False)
+        assert (await anext(found))[0].record.number == 1
         await asyncio.sleep(0)
         assert asked == [b"x"]
-        assert (await anext(answered))[0].answer == b"{}"
+        assert (await anext(found))[0].answer == b"{}"
         with pytest.raises(MapRefused):
-            await anext(answered)
+            await anext(found)
 
     run_within(run())
+
+
+def answered(*sizes: int) -> list[Answered]:
+    """Answers of so many bytes."""
+    records = records_of(["x"] * len(sizes))
+    return [Answered(record, b"x" * size, None) for record, size in zip(records, sizes)]
+
+
+@pytest.mark.parametrize(
+    "sizes, lots",
+    [
+        ([], []),
+        ([1] * MOST_LINES, [MOST_LINES]),
+        ([1] * (MOST_LINES + 1), [MOST_LINES, 1]),
+        ([MIB, 1], [1, 1]),
+        ([1, MIB - 1, 1], [2, 1]),
+        ([5 * MIB, 5 * MIB], [1, 1]),
+        ([1, 5 * MIB, 1], [1, 1, 1]),
+    ],
+)
+def test_lots(sizes: list[int], lots: list[int]) -> None:
+    """So many lines, and a MiB of answers, unless one alone has more."""
+    found = list(lots_of(answered(*sizes)))
+    assert [len(lot) for lot in found] == lots
+    assert [one for lot in found for one in lot] == answered(*sizes)
+
+
+def test_an_answer_that_is_too_large_for_features() -> None:
+    """It isn't read: its record has a fault."""
+    network = olr.Network.read(TOP / "examples")
+    asked = LongList(kind_of("match", {}, 10), Judging(), "")
+    (feature,) = features_in(feature_text(answered(MIB + 1), network, asked))
+    assert feature["properties"]["fault"] == "AnswerTooLarge" and feature["geometry"] is None
+    with pytest.raises(ProgramEnded, match="what is no answer"):
+        feature_text(answered(MIB), network, asked)

@@ -3,6 +3,7 @@
 from collections.abc import Sequence
 
 from olr.confidence.judged import Judging
+from olr.errors import ProgramEnded
 from olr.geometry.network import Network
 from olr.matching import chunks
 from olr.matching.chunks import Chunk
@@ -26,7 +27,10 @@ TOO_LARGE = Fault("AnswerTooLarge")
 
 def feature_text(some: Sequence[Answered], network: Network, asked: LongList) -> bytes:
     """The features of records, by what the program answered to them. Raises `ToolError`."""
-    answered = [_answered(one, network, asked) for one in some]
+    try:
+        answered = [_answered(one, network, asked) for one in some]
+    except ValueError as error:
+        raise ProgramEnded(f"the program wrote what is no answer: {error}") from error
     rows = Chunk(answered, network, asked.judging or Judging()).rows()
     front = values_of(IN_FRONT, [answered[number].item for number in rows.answers])
     features = features_of({**front, **rows.values}, rows.shapes)

@@ -59,13 +59,13 @@ class Rows(NamedTuple):
             if self.served.digest() != network.digest:
                 raise MapRefused("another version of the map took the place of the one to ask")
             async for some in answered:
-                for lot in _lots(some):
+                for lot in lots_of(some):
                     async with self.room.place(is_gone):
                         made = await asyncio.to_thread(text, lot, network, asked)
                     yield made
 
 
-def _lots(some: Sequence[Answered]) -> Iterator[Sequence[Answered]]:
+def lots_of(some: Sequence[Answered]) -> Iterator[Sequence[Answered]]:
     """Answers in lots."""
     begin = size = 0
     for number, one in enumerate(some):
