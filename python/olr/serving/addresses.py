@@ -20,6 +20,7 @@ from olr.model.fault import Fault
 from olr.model.profiles import FEED
 from olr.model.questions import NUMBERS, What, record_text
 from olr.serving import feature_lines, features, openapi, streaming
+from olr.serving.accepting import field_of
 from olr.serving.batches import Answered
 from olr.serving.limits import Limits
 from olr.serving.lists import Lists
@@ -41,7 +42,7 @@ from olr.serving.rows import Batch, Rows, row_text
 from olr.serving.scenes import Scenes, json_of
 from olr.serving.served import IsGone, Served
 from olr.serving.streaming import Streaming
-from olr.serving.tags import headers_of, is_known, tag_of, unchanged
+from olr.serving.tags import headers_of, tag_of, tags_of, unchanged
 from olr.version import VERSION
 
 JSON = "application/json"
@@ -123,18 +124,21 @@ class _Answers:
             text = await self._features.of(question, request.scope["is_gone"])
             return Response(text, headers=VARIES, media_type=features.MEDIA_TYPE)
         headers = VARIES if has_features else {}
-        version = self._served.unchanged()
-        if version is not None and is_known(request, tag := self._tag(question, version)):
+        known_tags = tags_of(request)
+        version = self._served.unchanged() if known_tags else None
+        if version is not None and (tag := self._tag(question, version)) in known_tags:
             return unchanged(tag, headers)
         known = await self._served.answer(question, request.scope["is_gone"])
         tag = self._tag(question, known.version)
-        if is_known(request, tag):
+        if tag in known_tags:
             return unchanged(tag, headers)
         return Response(known.json, headers={**headers, **headers_of(tag)}, media_type=JSON)
 
     def _tag(self, question: Question, version: Version) -> str:
-        """The tag of the answer of the program to a question on a version of the map."""
-        return tag_of(self._served.program_version(), tuple(version), *question)
+        """The tag of the answer of the program to a question on a version of the map. No part has a line end."""
+        kind, text, after = question
+        parts = [self._served.program_version(), *map(str, version), kind.what, *kind.words]
+        return tag_of("\n".join([*parts, str(after)]).encode() + b"\n" + text)
 
     def _few(self, what: What, options: Options, refs: Sequence[str], request: Request) -> ASGIApp:
         """Lines about a few references, which processes answer that answer others too."""
@@ -187,8 +191,8 @@ class _Answers:
         options = options_of(request.scope["query_string"])
         text = record_text(reference_of(options))
         require_no_options(options)
-        tag = tag_of(self._served.program_version(), text)
-        if is_known(request, tag):
+        tag = tag_of(f"{self._served.program_version()}\nshow\n".encode() + text)
+        if tag in tags_of(request):
             return unchanged(tag, {})
         said = await self._served.show(text)
         return Response(said, headers=headers_of(tag), media_type=JSON)
@@ -244,7 +248,7 @@ async def _json_lines(
 
 def accept_of(request: Request) -> str:
     """The types that a client likes."""
-    return ",".join(request.headers.getlist("accept"))
+    return field_of(request.scope["headers"], b"accept")
 
 
 def _pages(service: Service) -> Iterator[Route]:

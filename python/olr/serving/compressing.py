@@ -5,10 +5,11 @@ Starlette's middleware holds back lines of a stream until there are many, and pa
 
 import asyncio
 import zlib
-from starlette.datastructures import Headers, MutableHeaders
+from functools import lru_cache
+from starlette.datastructures import MutableHeaders
 from starlette.types import ASGIApp, Message, Receive, Scope, Send
 
-from olr.serving.accepting import weights_of
+from olr.serving.accepting import MOST_REMEMBERED, depending_on, field_of, weights_of
 
 LEVEL = 1
 """The quickest: answers are numbers and repeated names, which need no more."""
@@ -21,6 +22,7 @@ MOST_AT_ONCE = 65_536
 WITHOUT_BODY = (204, 304)
 
 
+@lru_cache(maxsize=MOST_REMEMBERED)
 def is_wanted(accept: str) -> bool:
     """Whether a field Accept-Encoding asks for gzip, and likes it no less than nothing."""
     weights = weights_of(accept)
@@ -36,7 +38,7 @@ class Compressing:
 
     async def __call__(self, scope: Scope, receive: Receive, send: Send) -> None:
         """Answers a request."""
-        accept = ",".join(Headers(scope=scope).getlist("accept-encoding"))
+        accept = field_of(scope["headers"], b"accept-encoding")
         await self._app(scope, receive, _Answer(send, is_wanted(accept)).send)
 
 
@@ -51,18 +53,17 @@ class _Answer:
     async def send(self, message: Message) -> None:
         """Passes on a message. The head waits for the beginning of the body."""
         if message["type"] == "http.response.start":
+            message["headers"] = depending_on(message["headers"], b"Accept-Encoding")
             self._start = message
             return
         body, has_more = message.get("body", b""), message.get("more_body", False)
         start, self._start = self._start, None
         if start is not None:
-            headers = MutableHeaders(scope=start)
-            headers.add_vary_header("Accept-Encoding")
             is_long = has_more or len(body) >= LEAST
             if self._is_wanted and is_long and start["status"] not in WITHOUT_BODY:
                 self._packing = zlib.compressobj(LEVEL, zlib.DEFLATED, GZIP)
                 body = await _packed(self._packing, body, has_more)
-                _note(headers, None if has_more else len(body))
+                _note(start, None if has_more else len(body))
             await self._send(start)
         elif self._packing is not None:
             body = await _packed(self._packing, body, has_more)
@@ -79,8 +80,9 @@ async def _packed(packing: "zlib._Compress", body: bytes, has_more: bool) -> byt
     return pack() if len(body) <= MOST_AT_ONCE else await asyncio.to_thread(pack)
 
 
-def _note(headers: MutableHeaders, length: int | None) -> None:
+def _note(start: Message, length: int | None) -> None:
     """Says in a head that the answer is packed, and how long it is if that is known. Its tag isn't that of the same bytes any more."""
+    headers = MutableHeaders(scope=start)
     headers["Content-Encoding"] = "gzip"
     del headers["Content-Length"]
     if length is not None:

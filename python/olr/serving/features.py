@@ -2,6 +2,7 @@
 
 import asyncio
 from contextlib import nullcontext
+from functools import lru_cache
 from io import BytesIO, TextIOWrapper
 from typing import NamedTuple
 
@@ -14,7 +15,7 @@ from olr.model.answers import Candidates
 from olr.model.fault import Fault
 from olr.model.objects import read_answer
 from olr.model.questions import TOLERANCES
-from olr.serving.accepting import weights_of
+from olr.serving.accepting import MOST_REMEMBERED, weights_of
 from olr.serving.judging import long_list_of
 from olr.serving.queries import Question
 from olr.serving.rooms import Room
@@ -25,6 +26,7 @@ PAGE_ALONE = 100
 """Pages of more matchings are asked for and made one at a time: one of 1,000 long ones has 18 MB as JSON and twice as much as GeoJSON."""
 
 
+@lru_cache(maxsize=MOST_REMEMBERED)
 def is_wanted(accept: str, wanted: str = MEDIA_TYPE, usual: str = "application/json") -> bool:
     """Whether the field Accept of a request asks for GeoJSON rather than for JSON: that is what a client gets that likes both alike, unless
     it names GeoJSON. Both are there as lines too."""

@@ -5,10 +5,10 @@ import re
 import secrets
 import time
 from collections.abc import Sequence
-from starlette.datastructures import MutableHeaders
 from starlette.responses import Response
 from starlette.types import ASGIApp, Message, Receive, Scope, Send
 
+from olr.serving.accepting import depending_on
 from olr.serving.allowed import Allowed, fields_of, require_allowed
 from olr.serving.limits import MOST_REQUESTS
 from olr.serving.meters import OTHER, Meters
@@ -24,7 +24,7 @@ PREFLIGHT = {
     "Access-Control-Max-Age": "600",
 }
 """What a browser may send that asks for a page of an allowed site, and how many seconds it may keep that."""
-EXPOSED = {"Access-Control-Expose-Headers": "ETag, Retry-After, X-Request-Id"}
+EXPOSED = (b"access-control-expose-headers", b"ETag, Retry-After, X-Request-Id")
 """What such a page may read of an answer, besides what all may."""
 
 
@@ -47,19 +47,18 @@ class Front:
         fields = fields_of(scope)
         origin = fields.get(b"origin")
         is_of_other = origin in self._allowed.others
-        allowing = {"Access-Control-Allow-Origin": (origin or b"").decode()} | EXPOSED
         status = 0
 
         async def sending(message: Message) -> None:
             nonlocal status
             if message["type"] == "http.response.start":
                 status = message["status"]
-                headers = MutableHeaders(raw=[*message.get("headers", ())])
-                headers["X-Request-Id"] = request_id
+                headers = [*message.get("headers", ()), (b"x-request-id", request_id.encode())]
                 if self._allowed.others:
-                    headers.add_vary_header("Origin")
-                    headers.update(allowing if is_of_other else {})
-                message["headers"] = headers.raw
+                    headers = depending_on(headers, b"Origin")
+                if is_of_other:
+                    headers += [(b"access-control-allow-origin", origin), EXPOSED]
+                message["headers"] = headers
             await send(message)
 
         CLIENT.set(scope["client"][0] if scope.get("client") else "")

@@ -17,7 +17,7 @@ from olr.serving.listing import MOST_ROWS
 from olr.serving.lists import most_bytes
 from olr.serving.problems import TITLES
 from olr.serving.queries import numbers_of
-from olr.serving.tags import headers_of, is_known, tag_of, unchanged
+from olr.serving.tags import headers_of, tag_of, tags_of, unchanged
 
 INDEX = "index.html"
 SHARED = ("base.css", "picture.css", "picture.js", "shared.css", "table.js")
@@ -38,7 +38,7 @@ class Asset(NamedTuple):
     async def answer(self, request: Request) -> Response:
         """The answer to a request for it: no content if the browser has it already."""
         tag = tag_of(self.content)
-        if is_known(request, tag):
+        if tag in tags_of(request):
             return unchanged(tag, {})
         return Response(self.content, headers=headers_of(tag), media_type=self.media_type)
 

@@ -1,17 +1,19 @@
 """Tags of answers: a client that has an answer asks whether it is still the same one."""
 
 import hashlib
-from collections.abc import Mapping
+from collections.abc import Mapping, Sequence
 from starlette.requests import Request
 from starlette.responses import Response
+
+from olr.serving.accepting import field_of
 
 CACHING = "no-cache"
 """A client keeps an answer, and asks each time whether it is still the same."""
 
 
-def tag_of(*parts: object) -> str:
-    """The tag of what these make: texts, numbers, and tuples of them. Others have another tag."""
-    return f'"{hashlib.sha256(repr(parts).encode()).hexdigest()[:32]}"'
+def tag_of(content: bytes) -> str:
+    """The tag of a content, or of what makes one. Others have another tag."""
+    return f'"{hashlib.sha256(content).hexdigest()[:32]}"'
 
 
 def headers_of(tag: str) -> dict[str, str]:
@@ -19,12 +21,12 @@ def headers_of(tag: str) -> dict[str, str]:
     return {"ETag": tag, "Cache-Control": CACHING}
 
 
-def is_known(request: Request, tag: str) -> bool:
-    """Whether a client says that it has the answer with a tag, packed or not."""
-    if request.method not in ("GET", "HEAD"):
-        return False
-    said = ",".join(request.headers.getlist("if-none-match")).split(",")
-    return tag in (one.strip().removeprefix("W/") for one in said)
+def tags_of(request: Request) -> Sequence[str]:
+    """The tags of the answers that a client says to have, packed or not."""
+    said = field_of(request.scope["headers"], b"if-none-match")
+    if not said or request.method not in ("GET", "HEAD"):
+        return ()
+    return [one.strip().removeprefix("W/") for one in said.split(",")]
 
 
 def unchanged(tag: str, headers: Mapping[str, str]) -> Response:
