@@ -132,7 +132,7 @@ def forked(words: Sequence[str], environment: dict[str, str], errors: Path) -> I
 
 @contextmanager
 def serving(
-    program: Path, folder: Path, errors: Path, *options: object, is_new: bool = False
+    program: Path, folder: Path | str, errors: Path, *options: object, is_new: bool = False
 ) -> Iterator[Server]:
     """A server on a map, at a free port. None of its processes outlives this. It is a fork of this one, unless its memory is looked at."""
     words = ["serve", "--map", folder, "--port", 0, "--workers", 2, *options]

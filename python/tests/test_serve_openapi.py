@@ -182,7 +182,7 @@ def test_what_a_page_asks(text: str, server: Server, described: Document) -> Non
 
 
 def test_what_is_said_of_the_server(server: Server, described: Document) -> None:
-    for path in ("/health", "/ready", "/metrics"):
+    for path in ("/health", "/ready", "/maps", "/metrics"):
         described.read(path, "GET", server.get(path))
 
 

@@ -21,6 +21,7 @@
 | `lists`, `listing` | `POST /messages`: lists as the page shows them; the process that reads one |
 | `schemas`, `openapi`, `pages` | what answers have in them, the addresses as an OpenAPI document, and the pages with the files that they load |
 | `addresses` | the addresses, and what each answers |
+| `maps` | several maps in one server |
 | `allowed`, `front` | who may ask, and what stands before the addresses |
 | `accepting`, `compressing`, `tags` | what a client likes, answers as gzip, and answers that it has already |
 | `meters` | what is counted |

@@ -1,7 +1,7 @@
 """The addresses, and what each answers."""
 
 import json
-from collections.abc import AsyncGenerator, AsyncIterator, Callable, Iterator, Sequence
+from collections.abc import AsyncGenerator, AsyncIterator, Callable, Iterator, Mapping, Sequence
 from contextlib import aclosing
 from functools import lru_cache, partial
 from starlette.applications import Starlette
@@ -53,6 +53,20 @@ MOST_PREFIXES = 16
 """OpenAPI documents that are kept, each for another path with which addresses begin."""
 
 
+class Shared(NamedTuple):
+    """What several maps have together, so that they need no more memory than one."""
+
+    room: Room
+    alone: Room
+    """For what is made one at a time."""
+    lists: Lists
+
+    @classmethod
+    def of(cls, limits: Limits) -> "Shared":
+        """What a server has."""
+        return cls(Room(limits.time), Room(limits.time, 1), Lists(limits))
+
+
 class Service(NamedTuple):
     """What the addresses are about."""
 
@@ -65,11 +79,16 @@ class Service(NamedTuple):
     """The URL of tiles for the page."""
     is_ending: Callable[[], bool] = lambda: False
     """Whether the server was told to end."""
+    maps: Mapping[str, Served] = {}
+    """All maps of the server by their names."""
+    shared: Shared | None = None
+    """What the addresses of all maps share."""
 
 
 def application(service: Service) -> Starlette:
     """The application. All that isn't an answer is a problem document."""
-    answers = _Answers(service)
+    shared = service.shared or Shared.of(service.limits)
+    answers = _Answers(service, shared)
     app = Starlette(
         routes=[
             *(
@@ -78,7 +97,7 @@ def application(service: Service) -> Starlette:
             ),
             Route("/show", answers.show),
             Route("/scene", answers.scene),
-            Route("/messages", Lists(service.limits).answer, methods=["POST"]),
+            Route("/messages", shared.lists.answer, methods=["POST"]),
             *(
                 Route(f"/batch/{what}", partial(answers.batch, what), methods=["POST"])
                 for what in NUMBERS
@@ -86,6 +105,7 @@ def application(service: Service) -> Starlette:
             Route("/rows", answers.rows(), methods=["POST"]),
             Route("/health", answers.health),
             Route("/ready", answers.ready),
+            Route("/maps", answers.maps),
             Route("/metrics", answers.metrics),
             *_pages(service),
         ],
@@ -100,11 +120,11 @@ def application(service: Service) -> Starlette:
 class _Answers:
     """What the addresses answer that ask the map."""
 
-    def __init__(self, service: Service) -> None:
+    def __init__(self, service: Service, shared: Shared) -> None:
         self._service, self._served, self._limits = service, service.served, service.limits
-        self._room = Room(service.limits.time)
+        self._room = shared.room
         self._features = features.Features(
-            self._served, service.confidence, self._room, Room(service.limits.time, 1)
+            self._served, service.confidence, shared.room, shared.alone
         )
         self._rows = Rows(self._served, service.confidence, self._room)
         self._scenes = Scenes(self._served, self._limits, service.confidence, self._room)
@@ -220,6 +240,15 @@ class _Answers:
         versions = {"olr": about.pop("program"), "olr-tools": VERSION}
         text = json.dumps({"able": is_able, **about, "versions": versions}, ensure_ascii=False)
         return is_able and not about["changed"], Response(text, media_type=JSON)
+
+    async def maps(self, _: Request) -> Response:
+        """The maps of the server, by their names, with what is known of each."""
+        found = []
+        for name, served in self._service.maps.items():
+            is_able, about = await served.health()
+            del about["program"]
+            found.append({"name": name or None, "able": is_able, **about})
+        return Response(json.dumps({"maps": found}, ensure_ascii=False), media_type=JSON)
 
     async def metrics(self, _: Request) -> Response:
         """What was counted."""

@@ -69,6 +69,7 @@ def document(limits: Limits, at: str = "") -> Json:
             "Whether the server can answer whatever is asked, and the same about it",
             {"503": "It can't: the files of the map have changed or can't be read, or it ends"},
         ),
+        "maps": _address("The maps of the server", [], {JSON: _about("Maps")}, {}),
         "metrics": _address(
             "Figures for Prometheus", [], {meters.MEDIA_TYPE: {"schema": TEXT}}, {}
         ),

@@ -90,6 +90,7 @@ def schemas() -> Mapping[str, Json]:
         "Message": _message(),
         "Scene": _scene(),
         "Health": _health(),
+        "Maps": _maps(),
         "Problem": _problem(),
     }
 
@@ -220,17 +221,30 @@ def _scene() -> Json:
 
 
 def _health() -> Json:
-    """What is known of the map."""
+    """What the server says of itself and its map."""
+    members = _map() | {
+        "versions": object_of({"olr": TEXT, "olr-tools": TEXT}, "Of the program, and of the tools"),
+    }
+    return object_of(members, "What the server knows of its map")
+
+
+def _maps() -> Json:
+    """The maps of a server."""
+    name = or_null(TEXT | {"description": "as in /{map}/match; null for a map alone"})
+    one = object_of({"name": name} | _map(), "A map")
+    return object_of({"maps": {"type": "array", "items": one}}, "The maps of the server")
+
+
+def _map() -> dict[str, Json]:
+    """What is known of a map."""
     digests = {"network": or_null(TEXT), "bans": or_null(TEXT)}
-    members = {
+    return {
         "able": BOOLEAN | {"description": "whether a process that runs can answer"},
         "map": TEXT | {"description": "the name of the folder or store"},
         "digest": object_of(digests, "Digests of the files that are served", digests),
         "changed": BOOLEAN | {"description": "whether the files are others now"},
         "refused": or_null(TEXT | {"description": "why files that were to be read anew weren't"}),
-        "versions": object_of({"olr": TEXT, "olr-tools": TEXT}, "Of the program, and of the tools"),
     }
-    return object_of(members, "What the server knows of its map")
 
 
 def _problem() -> Json:

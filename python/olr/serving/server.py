@@ -8,7 +8,7 @@ import signal
 import socket
 import uvicorn
 import uvloop
-from collections.abc import Sequence
+from collections.abc import Mapping, Sequence
 from functools import partial
 from pathlib import Path
 from typing import Any, NamedTuple
@@ -16,7 +16,7 @@ from typing import Any, NamedTuple
 from olr.confidence.choosing import confidence_of
 from olr.errors import ToolError
 from olr.model.map_folder import store_of
-from olr.serving.addresses import Service, application
+from olr.serving.addresses import Service, Shared, application
 from olr.serving.allowed import allowed_for, in_url
 from olr.serving.compressing import Compressing
 from olr.serving.connections import Connection, Connections
@@ -30,9 +30,10 @@ from olr.serving.limits import (
     Capacity,
     Limits,
 )
+from olr.serving.maps import ALONE, ByName, Together
 from olr.serving.meters import Meters
 from olr.serving.pages import policy_of
-from olr.serving.served import Served
+from olr.serving.served import Living, Served
 from olr.serving.store_map import StoreMap
 
 log = logging.getLogger("olr.serving")
@@ -43,8 +44,8 @@ BACKLOG = 2048
 class Settings(NamedTuple):
     """What the options of the command say."""
 
-    map: Path
-    """A folder, or a store."""
+    maps: Mapping[str, Path]
+    """Folders and stores by their names: an empty one for a map alone."""
     host: str
     port: int
     """0 for any that is free."""
@@ -98,20 +99,21 @@ async def _serve(settings: Settings) -> None:
     # Else it would end the server until the map is read, which is what it asks for.
     asyncio.get_running_loop().add_signal_handler(signal.SIGHUP, lambda: None)
     listening = _listen(settings.host, settings.port)
-    served = _served(settings)
+    served = {name: _served(map, settings) for name, map in settings.maps.items()}
+    together = Together(served)
     try:
-        await served.open()
-        await _answer(settings, served, listening)
+        await together.open()
+        await _answer(settings, served, together, listening)
     finally:
         listening.close()
-        await served.close()
+        await together.close()
 
 
-def _served(settings: Settings) -> Served:
-    """The map."""
-    if store_of(settings.map) is not None:
-        return StoreMap(settings.map, settings.limits)
-    return FolderMap(settings.map, settings.capacity, settings.limits)
+def _served(map: Path, settings: Settings) -> Served:
+    """A map."""
+    if store_of(map) is not None:
+        return StoreMap(map, settings.limits)
+    return FolderMap(map, settings.capacity, settings.limits)
 
 
 def _listen(host: str, port: int) -> socket.socket:
@@ -123,24 +125,28 @@ def _listen(host: str, port: int) -> socket.socket:
         raise ToolError(f"{host} port {port} can't be listened to: {error.strerror}") from error
 
 
-async def _answer(settings: Settings, served: Served, listening: socket.socket) -> None:
+async def _answer(
+    settings: Settings, maps: Mapping[str, Served], served: Living, listening: socket.socket
+) -> None:
     """Answers what comes, until a signal ends it."""
     port = listening.getsockname()[1]
     meters = Meters(served)
     confidence = confidence_of(settings.confidence)
     service = Service(
-        served,
+        next(iter(maps.values())),
         settings.limits,
         meters,
         confidence,
         settings.tiles,
         lambda: bool(server.should_exit),
+        maps,
+        Shared.of(settings.limits),
     )
-    app = application(service)
+    apps = {name: application(service._replace(served=one)) for name, one in maps.items()}
+    app = apps.get(ALONE) or ByName(apps)
+    addresses = [getattr(route, "path") for route in next(iter(apps.values())).routes]
     allowed = allowed_for(settings.host, port, settings.names, settings.origins)
-    front = Front(
-        Compressing(app), [getattr(route, "path") for route in app.routes], allowed, meters
-    )
+    front = Front(Compressing(app), addresses, allowed, meters)
     connections = Connections(_most_connections())
     url = f"http://{in_url(settings.host)}:{port}/"
     server = _Server(_config(settings, front, connections), url)
@@ -158,7 +164,7 @@ async def _answer(settings: Settings, served: Served, listening: socket.socket) 
             await asyncio.wait(server.server_state.tasks, timeout=1)
 
 
-def _handle_signals(server: _Server, served: Served) -> "set[asyncio.Task[None]]":
+def _handle_signals(server: _Server, served: Living) -> "set[asyncio.Task[None]]":
     """Lets SIGTERM and SIGINT end the server, a second one at once, and SIGHUP read the map anew. The answer has the tasks that do so."""
     loop = asyncio.get_running_loop()
     for ending in (signal.SIGINT, signal.SIGTERM):
