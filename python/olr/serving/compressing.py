@@ -18,7 +18,7 @@ GZIP = 31
 LEAST = 1000
 """Bytes of the shortest answer that is packed. A packet of the network has about as many."""
 MOST_AT_ONCE = 65_536
-"""Bytes that are packed while others wait: it takes a millisecond. More are packed in a thread."""
+"""Bytes that are packed while others wait: it takes a quarter of a millisecond. More are packed in a thread."""
 WITHOUT_BODY = (204, 304)
 
 

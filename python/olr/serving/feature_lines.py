@@ -21,7 +21,7 @@ MEDIA_TYPE = "application/geo+json-seq"
 BEFORE = "\x1e"
 """Stands before each feature."""
 MOST_ANSWER = MIB
-"""Bytes of an answer of the program of which features are made: these take some thirty times as much memory."""
+"""Bytes of an answer of the program of which features are made: making them takes some ten times as much memory."""
 TOO_LARGE = Fault("AnswerTooLarge")
 
 
