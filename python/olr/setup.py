@@ -43,6 +43,7 @@ FILES = {"/usr/share/javascript/leaflet/leaflet.min.js": "libjs-leaflet"}
 
 TEST_MODULES = {
     "black": "black",
+    "jsonschema": "python3-jsonschema",
     "mypy": "mypy",
     "osmnx": "python3-osmnx",
     "pytest": "python3-pytest",
@@ -54,8 +55,10 @@ TEST_FILES = {
     "/usr/bin/ogrinfo": "gdal-bin",
     "/usr/bin/pyflakes3": "pyflakes3",
     "/usr/bin/jq": "jq",
+    "/usr/sbin/nginx": "nginx-light",
     "/usr/share/doc/python-osmnx-doc": "python-osmnx-doc",
     "/usr/lib/python3/dist-packages/libpysal": "python3-libpysal",
+    "/usr/share/openapi-specification": "openapi-specification",
 }
 """Files that the tests read or run, with Debian's packages."""
 

@@ -39,6 +39,8 @@ class Reply(NamedTuple):
         """The status, title and detail of a problem document."""
         assert self.headers["content-type"] == "application/problem+json"
         found = json.loads(self.body)
+        # What isn't HTTP has no name.
+        assert found.pop("request_id", None) == self.headers.get("x-request-id")
         assert found.keys() == {"type", "title", "status", "detail"}
         assert found["status"] == self.status and found["type"] == f"/docs#{found['title']}"
         return self.status, found["title"], found["detail"]
@@ -130,7 +132,7 @@ def forked(words: Sequence[str], environment: dict[str, str], errors: Path) -> I
 
 @contextmanager
 def serving(
-    program: Path, folder: Path, errors: Path, *options: object, is_new: bool = False
+    program: Path, folder: Path | str, errors: Path, *options: object, is_new: bool = False
 ) -> Iterator[Server]:
     """A server on a map, at a free port. None of its processes outlives this. It is a fork of this one, unless its memory is looked at."""
     words = ["serve", "--map", folder, "--port", 0, "--workers", 2, *options]

@@ -1,8 +1,6 @@
 """The columns of tables of answers, beside the program's JSON, and pieces beside the columns."""
 
-import ast
 import csv
-import inspect
 import math
 import numpy as np
 import pandas
@@ -21,7 +19,7 @@ from asking import batch_of, draw_map, draw_references
 from conftest import REFERENCE, TOP, Program
 from olr.comparing.columns import CHANGES, Changes
 from olr.matching.columns import ANSWERS, PIECES, REASONS, Answers, Pieces, WhyNot
-from olr.matching.tables import Columns
+from olr.matching.tables import Columns, sentences_of
 from olr.model.map_folder import read_map
 
 ELLIPSOID = Geod(ellps="WGS84")
@@ -229,19 +227,6 @@ def test_types_never_change(program: Program) -> None:
     assert len(seen) == 1
     ((of_answers, of_pieces),) = seen
     assert dict(of_pieces)["from_m"] == "float64" and dict(of_answers)["lines"] == "object"
-
-
-def sentences_of(table: type) -> dict[str, str]:
-    """What stands below each name of a class."""
-    (made,) = ast.parse(inspect.getsource(table)).body
-    assert isinstance(made, ast.ClassDef)
-    sentences = {}
-    for column, below in zip(made.body, made.body[1:]):
-        if isinstance(column, ast.Assign) and isinstance(below, ast.Expr):
-            name, text = column.targets[0], ast.literal_eval(below.value)
-            assert isinstance(name, ast.Name)
-            sentences[name.id] = " ".join(text.split())
-    return sentences
 
 
 @pytest.mark.parametrize(

@@ -65,7 +65,7 @@ json.dump({
     },
     "openapi": {
         path: [it for it in methods[method]["parameters"] if it["name"] in ("height", "depth", "page", "look")]
-        for path, methods in paths.items() for method in methods
+        for path, methods in paths.items() for method in ([*methods][:1])
     },
     "page": json.loads(page.partition('type="application/json">')[2].partition("</script>")[0]),
     "python": olr.Map.of_folder(sys.argv[1], height=41).tolerances["height"],

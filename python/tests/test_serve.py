@@ -192,7 +192,7 @@ def test_geojson(
             path = path_of(what, some[int(key)], radius=80)
             reply = server.get(path, Accept="application/geo+json")
             assert reply.headers["content-type"] == "application/geo+json"
-            assert reply.headers["vary"] == "Accept"
+            assert reply.headers["vary"] == "Accept, Accept-Encoding"
             assert json.loads(reply.body)["features"] == features
         refused = server.get(path_of(what, "CwVG"), Accept="application/geo+json")
         assert refused.problem()[:2] == (422, "BadLength")
@@ -286,7 +286,7 @@ def test_what_isnt_there(server: Server) -> None:
     assert server.get("/nothing").problem()[:2] == (404, "NotFound")
     assert server.get("/match/").problem()[0] == 404
     assert server.get("/batch/show", "POST", b"", **LINES).problem()[0] == 404
-    for path in ("/match?ref=x", "/health", "/"):
+    for path in ("/show?ref=x", "/health", "/"):
         refused = server.get(path, "POST", b"", **LINES)
         assert refused.problem()[:2] == (405, "MethodNotAllowed")
         assert "GET" in refused.headers["allow"]
@@ -303,6 +303,9 @@ def test_health(server: Server, drawn: Path) -> None:
     with olr.Map(drawn) as asked:
         assert about["digest"]["network"] == asked.network().digest
     assert about["versions"] == {"olr": olr.__version__, "olr-tools": olr.__version__}
+    ready = server.get("/ready")
+    assert (ready.status, ready.body) == (200, reply.body)
+    assert server.figure('olr_requests_total{address="/ready",status="200"}') > 0
 
 
 def test_metrics(server: Server) -> None:
@@ -329,15 +332,15 @@ def test_the_description(server: Server) -> None:
     page = server.get("/docs").body.decode()
     for path, methods in document["paths"].items():
         assert f'id="{path}"' in page
-        ((method, about),) = methods.items()
-        status = server.get(path, method.upper()).status
-        assert status not in (404, 405), path
-        for parameter in about["parameters"]:
+        for method, about in methods.items():
+            assert f"{method.upper()} {path}<" in page
+            assert server.get(path, method.upper()).status not in (404, 405), path
+        for parameter in methods.get("get", about)["parameters"]:
             schema = parameter["schema"]
             if "minimum" in schema:
                 assert f"{schema['minimum']:,} to {schema['maximum']:,}" in page
                 least = {parameter["name"]: schema["minimum"] - 1}
-                if method == "get":
+                if "get" in methods:
                     assert server.get(path_of(path[1:], "x", **least)).status == 400
     named = {it["name"] for it in document["paths"]["/match"]["get"]["parameters"]}
     assert named == {"ref", "after", "profile", *TOLERANCES, *NUMBERS["match"]}

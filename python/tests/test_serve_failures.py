@@ -453,12 +453,14 @@ def test_files_that_change_without_a_signal(
     assert about["changed"] and about["able"]
     assert server.log().count("have changed") == server.log().count("\n") == 1
     assert "Map" not in server.log()
+    assert server.get("/ready").status == 503
     for pid in server.programs():
         os.kill(pid, signal.SIGKILL)
-    wait_until(lambda: server.get("/health").status == 503)
+    wait_until(lambda: not health_of(server)["able"])
+    assert (server.get("/health").status, server.get("/ready").status) == (200, 503)
     assert server.get(path_of("match", text)).problem()[0] == 503
     server.signal(signal.SIGHUP)
-    wait_until(lambda: server.get("/health").status == 200)
+    wait_until(lambda: server.get("/ready").status == 200)
     assert server.get(path_of("why", text)).status == 200
 
 

@@ -13,8 +13,10 @@ from typing import Any, cast
 from conftest import REFERENCE
 from fake_pool import run_within
 from olr.asking.exchange import AnswerTooLarge
+from olr.confidence.confidence import Confidence
 from olr.errors import MapRefused, ProgramEnded, ProgramNotFound, TimedOut, ToolError
 from olr.model.fault import Fault
+from olr.serving.addresses import Service, application
 from olr.serving.allowed import allowed_for, require_allowed
 from olr.serving.front import Front
 from olr.serving.limits import MIB, MOST_BODIES, MOST_REQUESTS, Limits
@@ -343,7 +345,8 @@ def test_pages_of_other_sites_that_may_ask() -> None:
         await send({"type": "http.response.start", "status": 200, "headers": []})
 
     async def run() -> None:
-        front = Front(app, ["/x"], ALLOWED, Meters(cast(Served, FakeMap())))
+        meters = Meters(cast(Served, FakeMap()))
+        front = Front(app, ["/x"], ALLOWED, meters)
         site = {"Host": "olr.example", "Origin": "https://maps.example"}
         asked = await status_of(front, "OPTIONS", Access_Control_Request_Method="POST", **site)
         assert asked["status"] == 204
@@ -352,6 +355,14 @@ def test_pages_of_other_sites_that_may_ask() -> None:
             named = dict((await status_of(front, **fields))["headers"])
             allowed = named.get(b"access-control-allow-origin")
             assert allowed == (b"https://maps.example" if fields is site else None)
+            exposed = named.get(b"access-control-expose-headers", b"")
+            assert (b"Retry-After" in exposed) == (fields is site)
+            assert named[b"vary"] == b"Origin"
+        evil = {"Host": "olr.example", "Origin": "https://evil.example"}
+        refused = await status_of(front, **evil)
+        assert refused["status"] == 403 and (b"vary", b"Origin") in refused["headers"]
+        alone = Front(app, ["/x"], ALLOWED._replace(others=frozenset()), meters)
+        assert b"vary" not in dict((await status_of(alone, Host="olr.example"))["headers"])
         assert (await status_of(front, "OPTIONS", **site))["status"] == 200
 
     run_within(run())
@@ -463,3 +474,31 @@ def test_options_of_a_list() -> None:
     assert reading_of({"format": "csv", "ref": "a"})[:2] == ("csv", "a")
     for options in ({"format": "xml"}, {"column": "a"}):
         assert refused(lambda: reading_of(options))[0] == 400
+
+
+def test_a_server_that_ends_is_not_ready() -> None:
+    """But it lives, also with a map that can't be asked."""
+
+    class Map(FakeMap):
+        """A map that says of itself what it is given."""
+
+        def __init__(self, is_able: bool, changed: bool) -> None:
+            self._about = is_able, changed
+
+        async def health(self) -> tuple[bool, dict[str, Any]]:
+            """Of which nothing else is known."""
+            return self._about[0], {"changed": self._about[1], "program": "1"}
+
+    async def run(is_able: bool, changed: bool, is_ending: bool) -> tuple[int, int]:
+        served = cast(Served, Map(is_able, changed))
+        service = Service(served, Limits(), Meters(served), Confidence.default())
+        app = application(service._replace(is_ending=lambda: is_ending))
+        front = Front(app, [], ALLOWED, Meters(served))
+        health, ready = [
+            await status_of(front, path=path, Host="olr.example") for path in ("/health", "/ready")
+        ]
+        return health["status"], ready["status"]
+
+    assert run_within(run(True, False, False)) == (200, 200)
+    for about in ((True, False, True), (True, True, False), (False, False, False)):
+        assert run_within(run(*about)) == (200, 503)

@@ -122,9 +122,9 @@ def test_another_store_in_its_place(
         assert server.get(path).status == 200
         os.replace(tmp_path / "other.gpkg", store)
         assert server.get(path).problem()[:2] == (503, "MapRefused")
-        assert server.get("/health").status == 503
+        assert (server.get("/health").status, server.get("/ready").status) == (200, 503)
         server.signal(signal.SIGHUP)
-        wait_until(lambda: server.get("/health").status == 200)
+        wait_until(lambda: server.get("/ready").status == 200)
         (expected,) = expected_of(program, other, "match", texts[1:2])
         assert expected.agrees(server.get(path))
         store.write_bytes(b"x")

@@ -3,6 +3,7 @@
 import click
 import os
 import re
+from collections.abc import Sequence
 from ipaddress import ip_address
 from pathlib import Path
 from typing import Any
@@ -12,11 +13,17 @@ from olr.model.questions import NUMBERS
 from olr.serving import logs
 from olr.serving.allowed import LOOPBACK
 from olr.serving.limits import MIB, Capacity, Limits
+from olr.serving.maps import ALONE
+from olr.serving.openapi import document
 from olr.serving.server import Settings, serve
 
 NAME = re.compile(r"([A-Za-z0-9._-]+|\[[0-9A-Fa-f:.]+\])(:[0-9]{1,5})?")
+MAP_NAME = re.compile("[A-Za-z0-9_-]{1,64}")
 ORIGIN = re.compile(r"https?://" + NAME.pattern)
+PREFIX = re.compile(r"(/[A-Za-z0-9_~-][A-Za-z0-9._~-]*)*")
 LIMITS = Limits()
+RESERVED = {"assets", "docs", *(path.split("/")[1] for path in document(LIMITS)["paths"])}
+"""What addresses begin with."""
 PROCESSES_OF_WORKER, MOST_PROCESSES = 4, 16
 """So many processes there are by default for each that works, and in all."""
 MOST_WORKERS = 1000
@@ -51,7 +58,15 @@ class Address(click.ParamType):
 
 
 @click.command()
-@options.MAP
+@click.option(
+    "--map",
+    "maps",
+    required=True,
+    multiple=True,
+    metavar="[NAME=]DIR|STORE",
+    help=f"The map: {options.OR_STORE}. Given several times, each with a NAME, the addresses of each begin with its name, such as /town/match; "
+    "those without one are of the first map.",
+)
 @click.option(
     "--host",
     default="127.0.0.1",
@@ -128,6 +143,14 @@ class Address(click.ParamType):
     help="The address of a server in front of it, whose field X-Forwarded-For says who asks. May be given several times. A client that isn't "
     "one has a part of what the server does at once.",
 )
+@click.option(
+    "--root-path",
+    "root_path",
+    default="",
+    type=Text(PREFIX, "a path, such as /olr"),
+    metavar="PATH",
+    help="The path below which a server in front has this one, such as /olr: links begin with it. By default there is none.",
+)
 @options.tiles_option(" on the page")
 @options.confidence_option
 @click.option(
@@ -139,7 +162,7 @@ class Address(click.ParamType):
     help="What is written on standard error: what fails or changes, or each request too, without its reference.",
 )
 def command(
-    folder: Path,
+    maps: Sequence[str],
     host: str,
     workers: int | None,
     processes: int | None,
@@ -162,7 +185,26 @@ def command(
             err=True,
         )
     limits = Limits(time, body * MIB, look)
-    serve(Settings(folder, host, capacity=_capacity(workers, processes), limits=limits, **chosen))
+    serve(
+        Settings(_maps(maps), host, capacity=_capacity(workers, processes), limits=limits, **chosen)
+    )
+
+
+def _maps(words: Sequence[str]) -> dict[str, Path]:
+    """The maps by their names, as `Settings` has them. Ends with a usage error if the name of one isn't clear."""
+    maps: dict[str, Path] = {}
+    for word in words:
+        name, equals, path = word.partition("=")
+        if not equals or Path(word).exists():
+            name, path = ALONE, word
+        elif not MAP_NAME.fullmatch(name):
+            raise click.UsageError(f"{name!r} isn't a name of a map: letters, digits, _ and -")
+        elif name in RESERVED:
+            raise click.UsageError(f"{name!r} isn't a name of a map: an address begins so")
+        if name in maps or ALONE in maps or name == ALONE and maps:
+            raise click.UsageError("several maps have a name each: --map NAME=DIR")
+        maps[name] = Path(path)
+    return maps
 
 
 def _capacity(workers: int | None, processes: int | None) -> Capacity:

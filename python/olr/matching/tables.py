@@ -5,6 +5,8 @@ The columns of a table are the same whatever is in them. Lengths and positions a
 in points.
 """
 
+import ast
+import inspect
 from collections.abc import Callable, Mapping, Sequence
 from typing import Any, Generic, Literal, NamedTuple, TypeVar
 
@@ -29,6 +31,19 @@ Columns = Mapping[str, Column[Rows]]
 def columns_of(table: type) -> dict[str, Column[Any]]:
     """The columns that a class names."""
     return {name: it for name, it in vars(table).items() if isinstance(it, Column)}
+
+
+def sentences_of(table: type) -> dict[str, str]:
+    """What stands below each column in a class that names them."""
+    (made,) = ast.parse(inspect.getsource(table)).body
+    assert isinstance(made, ast.ClassDef)
+    sentences = {}
+    for column, below in zip(made.body, made.body[1:]):
+        if isinstance(column, ast.Assign) and isinstance(below, ast.Expr):
+            name, text = column.targets[0], ast.literal_eval(below.value)
+            assert isinstance(name, ast.Name)
+            sentences[name.id] = " ".join(text.split())
+    return sentences
 
 
 def values_of(columns: Columns[Rows], rows: Rows) -> dict[str, Sequence[Any]]:

@@ -40,20 +40,24 @@ class GeoJson:
 
     def add(self, values: Mapping[str, Sequence[Any]], shapes: Polylines) -> None:
         """Adds rows. Raises `OSError`."""
-        points = np.round(shapes.points, DIGITS)
-        behind = np.cumsum(shapes.sizes).tolist()
-        for size, end, row in zip(shapes.sizes.tolist(), behind, zip(*values.values())):
-            # As lists they take ten times as much: those of one row at a time.
-            geometry = _geometry(points[end - size : end].tolist())
-            properties = dict(zip(values, row))
-            feature = {"type": "Feature", "properties": properties, "geometry": geometry}
-            text = json.dumps(feature, ensure_ascii=False, separators=(",", ":"))
+        for text in features_of(values, shapes):
             self._stream.write(f"{self._before}{text}")
             self._before = ",\n"
 
     def end(self) -> None:
         """Writes what stands behind the rows. Raises `OSError`."""
         self._stream.write("\n]}\n")
+
+
+def features_of(values: Mapping[str, Sequence[Any]], shapes: Polylines) -> Iterator[str]:
+    """The feature of each row, on one line."""
+    points = np.round(shapes.points, DIGITS)
+    behind = np.cumsum(shapes.sizes).tolist()
+    for size, end, row in zip(shapes.sizes.tolist(), behind, zip(*values.values())):
+        # As lists they take ten times as much: those of one row at a time.
+        geometry = _geometry(points[end - size : end].tolist())
+        feature = {"type": "Feature", "properties": dict(zip(values, row)), "geometry": geometry}
+        yield json.dumps(feature, ensure_ascii=False, separators=(",", ":"))
 
 
 def _geometry(points: Sequence[Sequence[float]]) -> Mapping[str, Any] | None:

@@ -14,12 +14,16 @@
 | `folder_map`, `store_map` | the map of a folder, and that of a store |
 | `judging` | how places are asked whose probability is shown |
 | `features`, `scenes`, `rows` | answers as GeoJSON, as what a page draws, and as the rows of its list |
+| `feature_lines` | answers to many references as lines of GeoJSON |
 | `rooms`, `threads` | how many of these are made at once, and calls in threads |
 | `streaming`, `bodies` | `POST /batch/{command}` and `POST /rows`, and their bodies |
+| `posted` | `POST /match` and so on: questions as JSON |
 | `lists`, `listing` | `POST /messages`: lists as the page shows them; the process that reads one |
-| `openapi`, `pages` | the addresses as an OpenAPI document, and the pages with the files that they load |
+| `schemas`, `openapi`, `pages` | what answers have in them, the addresses as an OpenAPI document, and the pages with the files that they load |
 | `addresses` | the addresses, and what each answers |
+| `maps` | several maps in one server |
 | `allowed`, `front` | who may ask, and what stands before the addresses |
+| `accepting`, `compressing`, `tags` | what a client likes, answers as gzip, and answers that it has already |
 | `peers`, `loads` | clients by their addresses, and how much of what is done at once one of them has |
 | `meters`, `logs` | what is counted, and what is logged |
 | `connections` | connections and their limits |

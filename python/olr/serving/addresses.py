@@ -1,16 +1,18 @@
 """The addresses, and what each answers."""
 
 import json
-from collections.abc import AsyncGenerator, AsyncIterator, Iterator
+from collections.abc import AsyncGenerator, AsyncIterator, Callable, Iterator, Mapping, Sequence
 from contextlib import aclosing
-from functools import partial
+from functools import lru_cache, partial
 from starlette.applications import Starlette
 from starlette.exceptions import HTTPException
 from starlette.requests import Request
 from starlette.responses import Response
 from starlette.routing import Route
+from starlette.types import ASGIApp
 from typing import NamedTuple
 
+from olr.asking.files import Version
 from olr.asking.processes import Kind
 from olr.asking.records import Record
 from olr.confidence.confidence import Confidence
@@ -18,22 +20,52 @@ from olr.errors import ToolError
 from olr.model.fault import Fault
 from olr.model.profiles import FEED
 from olr.model.questions import NUMBERS, What, record_text
-from olr.serving import features, openapi
+from olr.serving import feature_lines, features, openapi, streaming
+from olr.serving.accepting import field_of
+from olr.serving.batches import Answered
 from olr.serving.limits import Limits
 from olr.serving.lists import Lists
 from olr.serving.meters import MEDIA_TYPE, Meters
 from olr.serving.pages import INDEX, Asset, assets, described, with_data
+from olr.serving.posted import answered_one_by_one, posted_in, records_of
 from olr.serving.problems import Problem, of_error, of_status
-from olr.serving.queries import options_of, question_of, reference_of, require_no_options
+from olr.serving.queries import (
+    Options,
+    Question,
+    kind_of,
+    options_of,
+    question_of,
+    reference_of,
+    require_no_options,
+)
 from olr.serving.rooms import Room
-from olr.serving.rows import Rows
+from olr.serving.rows import Batch, Rows, row_text
 from olr.serving.scenes import Scenes, json_of
 from olr.serving.served import IsGone, Served
 from olr.serving.streaming import Streaming
+from olr.serving.tags import headers_of, tag_of, tags_of, unchanged
 from olr.version import VERSION
 
 JSON = "application/json"
 VARIES = {"Vary": "Accept"}
+WITH_FEATURES = ("match", "places")
+"""Questions whose answers are there as GeoJSON too."""
+MOST_PREFIXES = 16
+"""OpenAPI documents that are kept, each for another path with which addresses begin."""
+
+
+class Shared(NamedTuple):
+    """What several maps have together, so that they need no more memory than one."""
+
+    room: Room
+    alone: Room
+    """For what is made one at a time."""
+    lists: Lists
+
+    @classmethod
+    def of(cls, limits: Limits) -> "Shared":
+        """What a server has."""
+        return cls(Room(limits.time), Room(limits.time, 1), Lists(limits))
 
 
 class Service(NamedTuple):
@@ -46,20 +78,35 @@ class Service(NamedTuple):
     """How probable places are, where it is of what is asked."""
     tiles: str | None = None
     """The URL of tiles for the page."""
+    is_ending: Callable[[], bool] = lambda: False
+    """Whether the server was told to end."""
+    maps: Mapping[str, Served] = {}
+    """All maps of the server by their names."""
+    shared: Shared | None = None
+    """What the addresses of all maps share."""
 
 
 def application(service: Service) -> Starlette:
     """The application. All that isn't an answer is a problem document."""
-    answers = _Answers(service)
+    shared = service.shared or Shared.of(service.limits)
+    answers = _Answers(service, shared)
     app = Starlette(
         routes=[
-            *(Route(f"/{what}", partial(answers.question, what)) for what in NUMBERS),
+            *(
+                Route(f"/{what}", partial(answers.question, what), methods=["GET", "POST"])
+                for what in NUMBERS
+            ),
             Route("/show", answers.show),
             Route("/scene", answers.scene),
-            Route("/messages", Lists(service.limits).answer, methods=["POST"]),
-            *(Route(f"/batch/{what}", answers.batch(what), methods=["POST"]) for what in NUMBERS),
+            Route("/messages", shared.lists.answer, methods=["POST"]),
+            *(
+                Route(f"/batch/{what}", partial(answers.batch, what), methods=["POST"])
+                for what in NUMBERS
+            ),
             Route("/rows", answers.rows(), methods=["POST"]),
             Route("/health", answers.health),
+            Route("/ready", answers.ready),
+            Route("/maps", answers.maps),
             Route("/metrics", answers.metrics),
             *_pages(service),
         ],
@@ -74,31 +121,102 @@ def application(service: Service) -> Starlette:
 class _Answers:
     """What the addresses answer that ask the map."""
 
-    def __init__(self, service: Service) -> None:
+    def __init__(self, service: Service, shared: Shared) -> None:
         self._service, self._served, self._limits = service, service.served, service.limits
-        self._room = Room(service.limits.time)
+        self._room = shared.room
         self._features = features.Features(
-            self._served, service.confidence, self._room, Room(service.limits.time, 1)
+            self._served, service.confidence, shared.room, shared.alone
         )
+        self._rows = Rows(self._served, service.confidence, self._room)
         self._scenes = Scenes(self._served, self._limits, service.confidence, self._room)
 
-    async def question(self, what: What, request: Request) -> Response:
-        """The answer to a question, as the program gives it or as GeoJSON."""
-        options = options_of(request.scope["query_string"])
+    async def question(self, what: What, request: Request) -> ASGIApp:
+        """The answer to a question, as the program gives it or as GeoJSON; or the lines about a few references."""
+        if request.method == "POST":
+            posted = await posted_in(request, self._limits)
+            if posted.refs is not None:
+                return self._few(what, posted.options, posted.refs, request)
+            options = posted.options
+        else:
+            options = options_of(request.scope["query_string"])
         question = question_of(what, options, self._limits.look)
-        has_features = what in ("match", "places")
-        if has_features and features.is_wanted(",".join(request.headers.getlist("accept"))):
+        has_features = what in WITH_FEATURES
+        if has_features and features.is_wanted(accept_of(request)):
             text = await self._features.of(question, request.scope["is_gone"])
             return Response(text, headers=VARIES, media_type=features.MEDIA_TYPE)
+        headers = VARIES if has_features else {}
+        known_tags = tags_of(request)
+        version = self._served.unchanged() if known_tags else None
+        if version is not None and (tag := self._tag(question, version)) in known_tags:
+            return unchanged(tag, headers)
         known = await self._served.answer(question, request.scope["is_gone"])
-        return Response(known.json, headers=VARIES if has_features else None, media_type=JSON)
+        tag = self._tag(question, known.version)
+        if tag in known_tags:
+            return unchanged(tag, headers)
+        return Response(known.json, headers={**headers, **headers_of(tag)}, media_type=JSON)
+
+    def _tag(self, question: Question, version: Version) -> str:
+        """The tag of the answer of the program to a question on a version of the map. No part has a line end."""
+        kind, text, after = question
+        parts = [self._served.program_version(), *map(str, version), kind.what, *kind.words]
+        return tag_of("\n".join([*parts, str(after)]).encode() + b"\n" + text)
+
+    def _few(self, what: What, options: Options, refs: Sequence[str], request: Request) -> ASGIApp:
+        """Lines about a few references, which processes answer that answer others too."""
+        kind = kind_of(what, options, self._limits.look)
+        records = records_of(refs)
+
+        def batch(
+            kind: Kind, _: AsyncIterator[list[Record]], is_gone: IsGone
+        ) -> AsyncGenerator[list[Answered], None]:
+            return answered_one_by_one(self._served, kind, records, is_gone)
+
+        return partial(self._lines(what, batch, request, has_body=False).answer, kind)
+
+    async def batch(self, what: What, request: Request) -> ASGIApp:
+        """Lines about those of a body."""
+        return self._lines(what, self._apart, request)
+
+    def _apart(
+        self, kind: Kind, body: AsyncIterator[list[Record]], _: IsGone
+    ) -> AsyncGenerator[list[Answered], None]:
+        """The answers of a process for one body."""
+        return self._served.batch(kind, body)
+
+    def _lines(
+        self, what: What, batch: Batch, request: Request, has_body: bool = True
+    ) -> Streaming:
+        """Lines of JSON, or of GeoJSON where that is asked for."""
+        lines, media_type = partial(_json_lines, batch), streaming.MEDIA_TYPE
+        seq, has_features = feature_lines.MEDIA_TYPE, what in WITH_FEATURES
+        if has_features and features.is_wanted(accept_of(request), seq, media_type):
+            lines = partial(self._rows.lines, feature_lines.feature_text, batch)
+            media_type = seq
+        headers = {"Content-Type": media_type} | (VARIES if has_features else {})
+        return Streaming(
+            self._served,
+            self._limits,
+            what,
+            lines,
+            headers=headers,
+            has_body=has_body,
+        )
+
+    def rows(self) -> Streaming:
+        """The rows of the page's list."""
+        lines = partial(self._rows.lines, row_text, self._apart)
+        return Streaming(self._served, self._limits, "places", lines, FEED)
 
     async def show(self, request: Request) -> Response:
         """What a reference says."""
         options = options_of(request.scope["query_string"])
         text = record_text(reference_of(options))
         require_no_options(options)
-        return Response(await self._served.show(text), media_type=JSON)
+        tag = tag_of(f"{self._served.program_version()}\nshow\n".encode() + text)
+        if tag in tags_of(request):
+            return unchanged(tag, {})
+        said = await self._served.show(text)
+        return Response(said, headers=headers_of(tag), media_type=JSON)
 
     async def scene(self, request: Request) -> Response:
         """What the page draws."""
@@ -106,54 +224,79 @@ class _Answers:
         found = await self._scenes.scene(options, request.scope["is_gone"])
         return Response(json_of(found | {"tiles": self._service.tiles}), media_type=JSON)
 
-    def batch(self, what: What) -> Streaming:
-        """Answers to the lines of a body."""
-
-        async def lines(
-            kind: Kind, body: AsyncIterator[list[Record]], _: IsGone
-        ) -> AsyncGenerator[bytes, None]:
-            async with aclosing(self._served.batch(kind, body)) as answered:
-                async for some in answered:
-                    yield b"".join(one.line() for one in some)
-
-        return Streaming(self._served, self._limits, what, lines)
-
-    def rows(self) -> Streaming:
-        """The rows of the page's list."""
-        rows = Rows(self._served, self._service.confidence, self._room)
-        return Streaming(self._served, self._limits, "places", rows.lines, FEED)
-
     async def health(self, _: Request) -> Response:
-        """Whether the server can answer."""
+        """That the server lives, with what it knows of its map."""
+        return (await self._known())[1]
+
+    async def ready(self, _: Request) -> Response:
+        """Whether it can answer whatever is asked: also what needs another process, which reads the map's files anew."""
+        is_ready, response = await self._known()
+        if not is_ready or self._service.is_ending():
+            response.status_code = 503
+        return response
+
+    async def _known(self) -> tuple[bool, Response]:
+        """Whether the map can be asked and read, and what is known of it."""
         is_able, about = await self._served.health()
         versions = {"olr": about.pop("program"), "olr-tools": VERSION}
         text = json.dumps({"able": is_able, **about, "versions": versions}, ensure_ascii=False)
-        return Response(text, 200 if is_able else 503, media_type=JSON)
+        return is_able and not about["changed"], Response(text, media_type=JSON)
+
+    async def maps(self, _: Request) -> Response:
+        """The maps of the server, by their names, with what is known of each."""
+        found = []
+        for name, served in self._service.maps.items():
+            is_able, about = await served.health()
+            del about["program"]
+            found.append({"name": name or None, "able": is_able, **about})
+        return Response(json.dumps({"maps": found}, ensure_ascii=False), media_type=JSON)
 
     async def metrics(self, _: Request) -> Response:
         """What was counted."""
         return Response(self._service.meters.text(), headers={"Content-Type": MEDIA_TYPE})
 
-    async def refuse(self, _: Request, error: Exception) -> Response:
+    async def refuse(self, request: Request, error: Exception) -> Response:
         """Why there is no answer. Faults of references are counted."""
         if isinstance(error, Fault):
             self._service.meters.count_fault(error.name)
         if isinstance(error, HTTPException):
-            return of_status(error.status_code, error.headers).response()
+            return of_status(error.status_code, error.headers).response(request.scope)
         if isinstance(error, ToolError):
             error = of_error(error)
-        return (error if isinstance(error, Problem) else of_status(500)).response()
+        problem = error if isinstance(error, Problem) else of_status(500)
+        return problem.response(request.scope)
+
+
+async def _json_lines(
+    batch: Batch, kind: Kind, body: AsyncIterator[list[Record]], is_gone: IsGone
+) -> AsyncGenerator[bytes, None]:
+    """The lines of `olr batch`."""
+    async with aclosing(batch(kind, body, is_gone)) as answered:
+        async for some in answered:
+            yield b"".join(one.line() for one in some)
+
+
+def accept_of(request: Request) -> str:
+    """The types that a client likes."""
+    return field_of(request.scope["headers"], b"accept")
 
 
 def _pages(service: Service) -> Iterator[Route]:
     """The pages, and what they load."""
-    document = openapi.document(service.limits)
-    text = json.dumps(document, ensure_ascii=False, indent=1)
     there = assets()
     fixed = {
         "/": with_data(there.pop(INDEX), service.limits, service.tiles),
-        "/docs": Asset(described(document).encode(), "text/html"),
-        "/openapi.json": Asset(text.encode(), JSON),
+        "/docs": Asset(described(openapi.document(service.limits)).encode(), "text/html"),
         **{f"/assets/{name}": asset for name, asset in there.items()},
     }
-    return (Route(path, asset.answer) for path, asset in fixed.items())
+
+    @lru_cache(maxsize=MOST_PREFIXES)
+    def document(root_path: str) -> Asset:
+        text = json.dumps(openapi.document(service.limits, root_path), ensure_ascii=False, indent=1)
+        return Asset(text.encode(), JSON)
+
+    async def answer(request: Request) -> Response:
+        return await document(request.scope.get("root_path", "")).answer(request)
+
+    yield Route("/openapi.json", answer)
+    yield from (Route(path, asset.answer) for path, asset in fixed.items())

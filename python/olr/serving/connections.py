@@ -372,7 +372,7 @@ class Connection(HttpToolsProtocol):  # type: ignore[misc]
 
     def _say(self, problem: Problem) -> None:
         """Answers by a problem document, and closes the connection."""
-        body = problem.document()
+        body = problem.document(self.root_path)
         fields = [*self.server_state.default_headers, (b"content-type", MEDIA_TYPE.encode())]
         fields += [(b"content-length", b"%d" % len(body)), (b"connection", b"close")]
         head = b"".join(b"%b: %b\r\n" % field for field in fields)

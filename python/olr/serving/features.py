@@ -1,7 +1,7 @@
 """Answers as GeoJSON, with the columns of docs/COLUMNS.md: those that `olr-tools match` writes."""
 
-import re
 from contextlib import nullcontext
+from functools import lru_cache
 from io import BytesIO, TextIOWrapper
 from typing import NamedTuple
 
@@ -14,6 +14,7 @@ from olr.model.answers import Candidates
 from olr.model.fault import Fault
 from olr.model.objects import read_answer
 from olr.model.questions import TOLERANCES
+from olr.serving.accepting import MOST_REMEMBERED, weights_of
 from olr.serving.judging import long_list_of
 from olr.serving.queries import Question
 from olr.serving.rooms import Room
@@ -23,24 +24,19 @@ from olr.serving.threads import in_thread
 MEDIA_TYPE = "application/geo+json"
 PAGE_ALONE = 100
 """Pages of more matchings are asked for and made one at a time: one of 1,000 long ones has 18 MB as JSON and twice as much as GeoJSON."""
-WEIGHT = re.compile(r"q=(0(?:\.[0-9]{0,3})?|1(?:\.0{0,3})?)", re.IGNORECASE)
-"""How well a client likes a type, from 0 for not at all to 1: 1 where it doesn't say so."""
 
 
-def is_wanted(accept: str) -> bool:
+@lru_cache(maxsize=MOST_REMEMBERED)
+def is_wanted(accept: str, wanted: str = MEDIA_TYPE, usual: str = "application/json") -> bool:
     """Whether the field Accept of a request asks for GeoJSON rather than for JSON: that is what a client gets that likes both alike, unless
-    it names GeoJSON."""
-    weights: dict[str, float] = {}
-    for item in accept.split(","):
-        kind, *parameters = (part.strip() for part in item.split(";"))
-        said = filter(None, map(WEIGHT.fullmatch, parameters))
-        weights[kind.lower()] = next((float(weight[1]) for weight in said), 1.0)
+    it names GeoJSON. Both are there as lines too."""
+    weights = weights_of(accept)
 
     def weight_of(kind: str) -> float:
         return next((weights[it] for it in (kind, "application/*", "*/*") if it in weights), 0.0)
 
-    geojson, json = weight_of(MEDIA_TYPE), weight_of("application/json")
-    return geojson > json or MEDIA_TYPE in weights and geojson == json > 0
+    geojson, json = weight_of(wanted), weight_of(usual)
+    return geojson > json or wanted in weights and geojson == json > 0
 
 
 class Features(NamedTuple):

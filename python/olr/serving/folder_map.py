@@ -123,6 +123,14 @@ class FolderMap:
         """The one that is asked now."""
         return self.pool.edition.version
 
+    def program_version(self) -> str:
+        """What the program says of its version."""
+        return self._version
+
+    def unchanged(self) -> Version | None:
+        """The version that the processes have read: None once the files have changed, which is seen within a second."""
+        return None if self.pool.trouble is not None else self.pool.edition.version
+
     def digest(self) -> str | None:
         """Of the nodes and lines that are asked now."""
         return self.digests().get("network")

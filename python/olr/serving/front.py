@@ -1,5 +1,7 @@
 """What stands before the addresses: who may ask, how many at once, and what is counted and logged."""
 
+import re
+import secrets
 import time
 from asyncio import CancelledError, Future, Task, current_task
 from collections.abc import Mapping, Sequence
@@ -7,6 +9,7 @@ from starlette.responses import Response
 from starlette.types import ASGIApp, Message, Receive, Scope, Send
 from typing import cast
 
+from olr.serving.accepting import depending_on
 from olr.serving.allowed import Allowed, fields_of, require_allowed
 from olr.serving.loads import Loads
 from olr.serving.logs import note_request
@@ -15,9 +18,11 @@ from olr.serving.peers import client_of
 from olr.serving.problems import Problem
 from olr.serving.waiting import CLIENT
 
+REQUEST_ID = re.compile(rb"[A-Za-z0-9._:+/=@-]{1,64}")
+"""What names a request: a UUID and what else is usual. It goes into the log."""
 PREFLIGHT = {
     "Access-Control-Allow-Methods": "GET, POST",
-    "Access-Control-Allow-Headers": "Content-Type",
+    "Access-Control-Allow-Headers": "Content-Type, If-None-Match, X-Request-Id",
     "Access-Control-Max-Age": "600",
 }
 """What a browser may send that asks for a page of an allowed site, and how many seconds it may keep that."""
@@ -28,6 +33,8 @@ ALWAYS = frozenset({"/health", "/metrics", "/ready"})
 Fields = Mapping[bytes, bytes]
 LEFT = 499
 """The status of a request whose client left before its answer began, as nginx counts it."""
+EXPOSED = (b"access-control-expose-headers", b"ETag, Retry-After, X-Request-Id")
+"""What such a page may read of an answer, besides what all may."""
 
 
 class Front:
@@ -44,6 +51,8 @@ class Front:
     async def __call__(self, scope: Scope, receive: Receive, send: Send) -> None:
         """Answers a request."""
         begin = time.perf_counter()
+        scope["request_id"] = request_id = request_id_of(scope)
+        scope["path"] = path_below(scope.get("root_path", ""), scope["path"])
         fields = fields_of(scope)
         origin = fields.get(b"origin")
         is_of_other = origin in self._allowed.others
@@ -53,9 +62,12 @@ class Front:
             nonlocal status
             if message["type"] == "http.response.start":
                 status = message["status"]
+                headers = [*message.get("headers", ()), (b"x-request-id", request_id.encode())]
+                if self._allowed.others:
+                    headers = depending_on(headers, b"Origin")
                 if is_of_other:
-                    allowing = [(b"access-control-allow-origin", origin), (b"vary", b"Origin")]
-                    message["headers"] = [*message.get("headers", ()), *allowing]
+                    headers += [(b"access-control-allow-origin", origin), EXPOSED]
+                message["headers"] = headers
             await send(message)
 
         CLIENT.set(client_of(scope))
@@ -94,7 +106,7 @@ class Front:
             finally:
                 load.give_back()
         except Problem as problem:
-            await problem.response()(scope, receive, send)
+            await problem.response(scope)(scope, receive, send)
 
     def _note(self, scope: Scope, status: int, seconds: float) -> None:
         """Counts a request, and logs it if that is asked for. What it asked for isn't logged."""
@@ -106,3 +118,16 @@ class Front:
         """Counts and logs a request that was refused before its head was read."""
         self._meters.count(OTHER, problem.status, seconds)
         note_request(client, "-", OTHER, problem.status, seconds)
+
+
+def request_id_of(scope: Scope) -> str:
+    """The name of a request: the one that its head gives it, if that is one short word, else a new one."""
+    given = [value for name, value in scope["headers"] if name == b"x-request-id"]
+    if len(given) == 1 and REQUEST_ID.fullmatch(given[0]):
+        return str(given[0].decode())
+    return secrets.token_hex(8)
+
+
+def path_below(root_path: str, path: str) -> str:
+    """The path of an address, below the one with which all of them begin, as a server in front may pass it on, or may not."""
+    return path.removeprefix(root_path) if path.startswith(f"{root_path}/") else path

@@ -4,7 +4,7 @@ from prometheus_client import CollectorRegistry, Counter, Histogram, generate_la
 from prometheus_client.core import CounterMetricFamily, GaugeMetricFamily
 from prometheus_client.registry import Collector
 
-from olr.serving.served import Served
+from olr.serving.served import Living
 
 MEDIA_TYPE = "text/plain; version=0.0.4; charset=utf-8"
 SECONDS = (0.001, 0.0025, 0.005, 0.01, 0.025, 0.05, 0.1, 0.25, 0.5, 1, 2.5, 5, 10, 30)
@@ -15,7 +15,7 @@ OTHER = "other"
 class _Processes(Collector):
     """What a map knows of its processes, as it is when it is asked."""
 
-    def __init__(self, served: Served) -> None:
+    def __init__(self, served: Living) -> None:
         self._served = served
 
     def collect(self) -> "list[GaugeMetricFamily | CounterMetricFamily]":
@@ -39,7 +39,7 @@ class _Processes(Collector):
 class Meters:
     """Requests by address and status, faults by name, times, and processes."""
 
-    def __init__(self, served: Served) -> None:
+    def __init__(self, served: Living) -> None:
         self._registry = CollectorRegistry()
         self._requests = Counter(
             "olr_requests",

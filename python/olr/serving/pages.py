@@ -1,6 +1,5 @@
 """The pages, and the files that they load. All are read at the start: no name from a request leads to a file."""
 
-import hashlib
 import mimetypes
 import re
 from collections.abc import Iterator, Mapping
@@ -18,12 +17,11 @@ from olr.serving.listing import MOST_ROWS
 from olr.serving.lists import most_bytes
 from olr.serving.problems import TITLES
 from olr.serving.queries import numbers_of
+from olr.serving.tags import headers_of, tag_of, tags_of, unchanged
 
 INDEX = "index.html"
 SHARED = ("base.css", "picture.css", "picture.js", "shared.css", "table.js")
 """What the page has of `olr.pages`."""
-CACHING = "no-cache"
-"""A browser keeps a file, and asks each time whether it is still the same."""
 
 
 class Asset(NamedTuple):
@@ -39,11 +37,10 @@ class Asset(NamedTuple):
 
     async def answer(self, request: Request) -> Response:
         """The answer to a request for it: no content if the browser has it already."""
-        tag = f'"{hashlib.sha256(self.content).hexdigest()[:32]}"'
-        headers = {"ETag": tag, "Cache-Control": CACHING}
-        if tag in request.headers.get("if-none-match", ""):
-            return Response(status_code=304, headers=headers)
-        return Response(self.content, headers=headers, media_type=self.media_type)
+        tag = tag_of(self.content)
+        if tag in tags_of(request):
+            return unchanged(tag, {})
+        return Response(self.content, headers=headers_of(tag), media_type=self.media_type)
 
 
 def policy_of(tiles: str | None = None) -> str:

@@ -4,6 +4,7 @@ import json
 from collections.abc import Mapping
 from http import HTTPStatus
 from starlette.responses import Response
+from starlette.types import Scope
 
 from olr.asking.exchange import AnswerTooLarge
 from olr.errors import MapRefused, ProgramEnded, ProgramNotFound, TimedOut, ToolError
@@ -46,19 +47,22 @@ class Problem(Exception):
         self.status, self.title, self.detail = status, title, detail
         self.headers = dict(headers or {})
 
-    def document(self) -> bytes:
-        """The document, as JSON."""
+    def document(self, root_path: str = "", request_id: str | None = None) -> bytes:
+        """The document, as JSON, of a server whose addresses begin with a path, such as `/olr`, and for a request with a name."""
         about = {
-            "type": f"{PAGE}#{self.title}",
+            "type": f"{root_path}{PAGE}#{self.title}",
             "title": self.title,
             "status": self.status,
             "detail": self.detail,
         }
+        if request_id is not None:
+            about["request_id"] = request_id
         return json.dumps(about, ensure_ascii=False).encode()
 
-    def response(self) -> Response:
-        """The answer that has it."""
-        return Response(self.document(), self.status, self.headers, MEDIA_TYPE)
+    def response(self, scope: Scope) -> Response:
+        """The answer to a request that has it."""
+        document = self.document(scope.get("root_path", ""), scope.get("request_id"))
+        return Response(document, self.status, self.headers, MEDIA_TYPE)
 
 
 def of_status(status: int, headers: Mapping[str, str] | None = None) -> Problem:

@@ -1,18 +1,19 @@
-"""`POST /rows`: a row for each record of a body, as the page's list shows it: its likeliest place, and how probable that is.
+"""Lines about the records of a body that need the map's geometries: those of `POST /rows`, a row for each record, as the page's list shows
+it, with its likeliest place and how probable that is.
 
 What the program wrote while the lines before were judged is judged next: so nothing waits, and the server holds no more than a piece of
 that, a line, and the records that the program has at hand.
 """
 
 import json
-from collections.abc import AsyncGenerator, AsyncIterator, Sequence
+from collections.abc import AsyncGenerator, AsyncIterator, Callable, Iterator, Sequence
 from contextlib import aclosing
 from typing import Any, NamedTuple
 
 from olr.asking.processes import Kind
 from olr.asking.records import Record
 from olr.confidence.confidence import Confidence
-from olr.confidence.judged import Judged, judged
+from olr.confidence.judged import Judged, Judging, judged
 from olr.errors import MapRefused, ProgramEnded
 from olr.geometry.network import Network
 from olr.matching.columns import rounded
@@ -22,41 +23,67 @@ from olr.model.objects import read_answer
 from olr.model.reference import read_reference
 from olr.serving.batches import Answered
 from olr.serving.judging import LongList, long_list_of
+from olr.serving.limits import MIB
 from olr.serving.rooms import Room
 from olr.serving.served import IsGone, Served
 from olr.serving.threads import in_thread
 
 MOST_LINES = 64
 """Lines that are judged at once. Others get a turn between two lots."""
+MOST_BYTES = MIB
+"""Of the program's answers in a lot, unless one alone has more."""
+
+Batch = Callable[[Kind, AsyncIterator[list[Record]], IsGone], AsyncGenerator[list[Answered], None]]
+"""Gives the program's answers to the records of a body."""
+Text = Callable[[Sequence[Answered], Network, LongList], bytes]
+"""Makes lines of some answers. Raises `ToolError`."""
 
 
 class Rows(NamedTuple):
-    """Makes rows of a map."""
+    """Makes lines of a map."""
 
     served: Served
     confidence: Confidence
     room: Room
 
     async def lines(
-        self, kind: Kind, body: AsyncIterator[list[Record]], is_gone: IsGone
+        self,
+        text: Text,
+        batch: Batch,
+        kind: Kind,
+        body: AsyncIterator[list[Record]],
+        is_gone: IsGone,
     ) -> AsyncGenerator[bytes, None]:
-        """The rows of the records of a body, each as a line of JSON, in pieces, within a `place` of the map. Raises as `Served.batch` and
-        `Room.place`."""
+        """The lines about the records of a body, in pieces. Raises as `Room.place`, and as `batch`: `Served.batch` is one within a `place`
+        of the map."""
         async with self.room.place(is_gone):
             network = await in_thread(self.served.network)
-        asked = long_list_of(kind, self.confidence)
-        async with aclosing(self.served.batch(asked.kind, body)) as answered:
+        asked = LongList(kind, Judging(), "")
+        if kind.what == "places":
+            asked = long_list_of(kind, self.confidence)
+        async with aclosing(batch(asked.kind, body, is_gone)) as answered:
             if self.served.digest() != network.digest:
                 raise MapRefused("another version of the map took the place of the one to ask")
             async for some in answered:
-                for at in range(0, len(some), MOST_LINES):
+                for lot in lots_of(some):
                     async with self.room.place(is_gone):
-                        lot = some[at : at + MOST_LINES]
-                        text = await in_thread(_text, lot, network, asked)
-                    yield text
+                        made = await in_thread(text, lot, network, asked)
+                    yield made
 
 
-def _text(some: Sequence[Answered], network: Network, asked: LongList) -> bytes:
+def lots_of(some: Sequence[Answered]) -> Iterator[Sequence[Answered]]:
+    """Answers in lots."""
+    begin = size = 0
+    for number, one in enumerate(some):
+        if number - begin == MOST_LINES or size + len(one.answer) > MOST_BYTES and number > begin:
+            yield some[begin:number]
+            begin, size = number, 0
+        size += len(one.answer)
+    if begin < len(some):
+        yield some[begin:]
+
+
+def row_text(some: Sequence[Answered], network: Network, asked: LongList) -> bytes:
     """The rows of records, by what the program answered to them. Raises `ToolError`."""
     try:
         answers = [_answer_of(one, network) for one in some]

@@ -34,8 +34,8 @@ class Known(NamedTuple):
         return self.version.network
 
 
-class Served(Protocol):
-    """A map that is served."""
+class Living(Protocol):
+    """A map, or several, with processes of the program."""
 
     async def open(self) -> None:
         """Reads the map. Raises `ToolError`."""
@@ -45,6 +45,19 @@ class Served(Protocol):
 
     async def renew(self) -> None:
         """Reads the files anew. If they are refused all stays as it is."""
+
+    def sizes(self) -> dict[str, int]:
+        """How many processes there are, and requests that wait."""
+
+    def starts(self) -> int:
+        """How many processes were started."""
+
+    def restarts(self) -> dict[str, int]:
+        """How many processes ended that weren't told to, by the reason."""
+
+
+class Served(Living, Protocol):
+    """A map that is served."""
 
     async def health(self) -> tuple[bool, dict[str, Any]]:
         """Whether it can answer, and what is known of it."""
@@ -66,6 +79,13 @@ class Served(Protocol):
     def version(self) -> Version | None:
         """The one that is asked now: None until it was read."""
 
+    def program_version(self) -> str:
+        """What the program says of its version."""
+
+    def unchanged(self) -> Version | None:
+        """The version of the files, if all that is asked now is answered by it and they are known to be the same still. It isn't looked
+        for."""
+
     def digest(self) -> str | None:
         """Of the nodes and lines that are asked now."""
 
@@ -84,15 +104,6 @@ class Served(Protocol):
 
     def map_name(self) -> str | None:
         """The name of its folder, without those above: None for a store, which the program doesn't read."""
-
-    def sizes(self) -> dict[str, int]:
-        """How many processes there are, and requests that wait."""
-
-    def starts(self) -> int:
-        """How many processes were started."""
-
-    def restarts(self) -> dict[str, int]:
-        """How many processes ended that weren't told to, by the reason."""
 
 
 async def of_one_edition(served: Served, ask: Callable[["Versions"], Awaitable[Made]]) -> Made:

@@ -7,7 +7,7 @@ import socket
 import time
 import uvicorn
 import uvloop
-from collections.abc import Sequence
+from collections.abc import Mapping, Sequence
 from functools import partial
 from pathlib import Path
 from typing import Any, NamedTuple
@@ -15,25 +15,27 @@ from typing import Any, NamedTuple
 from olr.confidence.choosing import confidence_of
 from olr.model.map_folder import store_of
 from olr.serving import logs
-from olr.serving.addresses import Service, application
+from olr.serving.addresses import Service, Shared, application
 from olr.serving.allowed import allowed_for
+from olr.serving.compressing import Compressing
 from olr.serving.connections import Connection, Connections
 from olr.serving.folder_map import FolderMap
 from olr.serving.front import Front
 from olr.serving.limits import SECONDS_IDLE, SECONDS_TO_END, Capacity, Limits
 from olr.serving.listening import Sockets, listen, sockets_for, url_of
+from olr.serving.maps import ALONE, ByName, Together
 from olr.serving.meters import Meters
 from olr.serving.pages import policy_of
 from olr.serving.peers import Peers
-from olr.serving.served import Served
+from olr.serving.served import Living, Served
 from olr.serving.store_map import StoreMap
 
 
 class Settings(NamedTuple):
     """What the options of the command say."""
 
-    map: Path
-    """A folder, or a store."""
+    maps: Mapping[str, Path]
+    """Folders and stores by their names: an empty one for a map alone."""
     host: str
     port: int
     """0 for any that is free."""
@@ -49,6 +51,8 @@ class Settings(NamedTuple):
     """The file of a confidence: by default the one that comes with the package."""
     proxies: Sequence[str] = ()
     """Addresses of proxies that say who asks."""
+    root_path: str = ""
+    """With which addresses begin at the server in front."""
 
 
 class _Server(uvicorn.Server):  # type: ignore[misc]
@@ -88,32 +92,49 @@ async def _serve(settings: Settings) -> None:
     asyncio.get_running_loop().add_signal_handler(signal.SIGHUP, lambda: None)
     sockets = sockets_for(settings.capacity)
     listening = listen(settings.host, settings.port, sockets.backlog)
-    served = _served(settings)
+    served = {name: _served(map, settings) for name, map in settings.maps.items()}
+    together = Together(served)
     try:
-        await served.open()
-        await _answer(settings, served, listening, sockets)
+        await together.open()
+        await _answer(settings, served, together, listening, sockets)
     finally:
         listening.close()
-        await served.close()
+        await together.close()
 
 
-def _served(settings: Settings) -> Served:
-    """The map."""
-    if store_of(settings.map) is not None:
-        return StoreMap(settings.map, settings.limits)
-    return FolderMap(settings.map, settings.capacity, settings.limits)
+def _served(map: Path, settings: Settings) -> Served:
+    """A map."""
+    if store_of(map) is not None:
+        return StoreMap(map, settings.limits)
+    return FolderMap(map, settings.capacity, settings.limits)
 
 
 async def _answer(
-    settings: Settings, served: Served, listening: socket.socket, sockets: Sockets
+    settings: Settings,
+    maps: Mapping[str, Served],
+    served: Living,
+    listening: socket.socket,
+    sockets: Sockets,
 ) -> None:
     """Answers what comes, until a signal ends it."""
     port = listening.getsockname()[1]
     meters = Meters(served)
     confidence = confidence_of(settings.confidence)
-    app = application(Service(served, settings.limits, meters, confidence, settings.tiles))
+    service = Service(
+        next(iter(maps.values())),
+        settings.limits,
+        meters,
+        confidence,
+        settings.tiles,
+        lambda: bool(server.should_exit),
+        maps,
+        Shared.of(settings.limits),
+    )
+    apps = {name: application(service._replace(served=one)) for name, one in maps.items()}
+    app = apps.get(ALONE) or ByName(apps)
+    addresses = [getattr(route, "path") for route in next(iter(apps.values())).routes]
     allowed = allowed_for(settings.host, port, settings.names, settings.origins)
-    front = Front(app, [getattr(route, "path") for route in app.routes], allowed, meters)
+    front = Front(Compressing(app), addresses, allowed, meters)
     connections = Connections(
         sockets.connections,
         time.monotonic,
@@ -138,7 +159,7 @@ async def _answer(
             await asyncio.wait(server.server_state.tasks, timeout=1)
 
 
-def _handle_signals(server: _Server, served: Served) -> "set[asyncio.Task[None]]":
+def _handle_signals(server: _Server, served: Living) -> "set[asyncio.Task[None]]":
     """Lets SIGTERM and SIGINT end the server, a second one at once, and SIGHUP read the map anew. The answer has the tasks that do so."""
     loop = asyncio.get_running_loop()
     for ending in (signal.SIGINT, signal.SIGTERM):
@@ -165,6 +186,7 @@ def _config(settings: Settings, front: Front, connections: Connections, backlog:
         log_config=None,
         access_log=False,
         proxy_headers=False,
+        root_path=settings.root_path,
         server_header=False,
         headers=list(_headers(settings).items()),
         timeout_keep_alive=int(SECONDS_IDLE),

@@ -175,6 +175,14 @@ class StoreMap:
         """The one that is asked now."""
         return Version(self._digest, None)
 
+    def program_version(self) -> str:
+        """What the program says of its version."""
+        return self._version
+
+    def unchanged(self) -> Version | None:
+        """None: nobody looks at the store but who asks it."""
+        return None
+
     def digest(self) -> str | None:
         """Of the nodes and lines that are asked now."""
         return self._digest

@@ -6,7 +6,7 @@ answer that comes if that is longer.
 
 import asyncio
 import logging
-from collections.abc import AsyncGenerator, AsyncIterator, Callable
+from collections.abc import AsyncGenerator, AsyncIterator, Callable, Mapping
 from contextlib import aclosing
 from starlette.requests import Request
 from starlette.types import Receive, Scope, Send
@@ -40,11 +40,20 @@ class Streaming:
     """An address whose answer is lines."""
 
     def __init__(
-        self, served: Served, limits: Limits, what: What, lines: Lines, profile: str = PROGRAM
+        self,
+        served: Served,
+        limits: Limits,
+        what: What,
+        lines: Lines,
+        profile: str = PROGRAM,
+        headers: Mapping[str, str] = {"Content-Type": MEDIA_TYPE},
+        has_body: bool = True,
     ) -> None:
-        """Its options are those of the question `what`, and the tolerances that aren't given those of `profile`."""
+        """Its options are those of the question `what`, and the tolerances that aren't given those of `profile`. Without a body
+        the references are known to `lines`, which needs no place of the map then."""
         self._served, self._limits, self._lines = served, limits, lines
         self._what, self._profile = what, profile
+        self._headers, self._has_body = headers, has_body
 
     async def __call__(self, scope: Scope, receive: Receive, send: Send) -> None:
         """Answers a request. Raises `ToolError` and `Problem` before it has begun to; later it closes the connection."""
@@ -53,9 +62,14 @@ class Streaming:
         kind = kind_of(self._what, options, self._limits.look)
         _require_type(request)
         self._require_length(request)
-        sent = _Sent(send)
+        await self.answer(kind, scope, receive, send)
+
+    async def answer(self, kind: Kind, scope: Scope, receive: Receive, send: Send) -> None:
+        """Answers a request whose options are known. Raises as a call does."""
+        sent = _Sent(send, self._headers)
+        answer = self._answer if self._has_body else self._answer_few
         try:
-            await self._answer(kind, scope, receive, sent)
+            await answer(kind, scope, receive, sent)
         except Gone:
             return
         except TimeoutError:
@@ -65,6 +79,17 @@ class Streaming:
             await sent.stop(of_error(error), scope, receive)
         except Problem as problem:
             await sent.stop(problem, scope, receive)
+
+    async def _answer_few(self, kind: Kind, scope: Scope, _receive: Receive, sent: "_Sent") -> None:
+        """Answers a request whose references are known. Raises as `_answer`."""
+        limit = self._limits.time
+        loop = asyncio.get_running_loop()
+        async with asyncio.timeout(limit) as deadline:
+            async with aclosing(self._lines(kind, _nothing(), scope["is_gone"])) as lines:
+                async for piece in lines:
+                    await sent.put(piece)
+                    deadline.reschedule(loop.time() + limit)
+            await sent.end()
 
     async def _answer(self, kind: Kind, scope: Scope, receive: Receive, sent: "_Sent") -> None:
         """Answers a request. While its client rests it has no process; all of them are asked about one version of the map. Raises `TimeoutError`
@@ -102,11 +127,17 @@ class Streaming:
             raise too_large(self._limits.body)
 
 
+async def _nothing() -> AsyncIterator[list[Record]]:
+    """A body that isn't there."""
+    return
+    yield
+
+
 class _Sent:
     """An answer that is sent in pieces."""
 
-    def __init__(self, send: Send) -> None:
-        self._send = send
+    def __init__(self, send: Send, headers: Mapping[str, str]) -> None:
+        self._send, self._headers = send, headers
         self._has_begun = False
 
     async def put(self, piece: bytes) -> None:
@@ -124,7 +155,7 @@ class _Sent:
     async def _begin(self) -> None:
         if not self._has_begun:
             self._has_begun = True
-            headers = [(b"content-type", MEDIA_TYPE.encode())]
+            headers = [(name.lower().encode(), it.encode()) for name, it in self._headers.items()]
             await self._send({"type": "http.response.start", "status": 200, "headers": headers})
 
     async def stop(self, problem: Problem, scope: Scope, receive: Receive) -> None:
@@ -139,7 +170,7 @@ class _Sent:
             return
         self._has_begun = True
         problem.headers["Connection"] = "close"
-        await problem.response()(scope, receive, self._send)
+        await problem.response(scope)(scope, receive, self._send)
 
 
 def _require_type(request: Request) -> None:

@@ -1,0 +1,184 @@
+"""`olr-tools serve` behind nginx, as docs/SERVE.md shows it: at another port, and below a path."""
+
+import json
+import pytest
+import re
+import socket
+import subprocess
+from base64 import b64encode
+from collections.abc import Iterator
+from html.parser import HTMLParser
+from pathlib import Path
+from typing import NamedTuple
+from urllib.parse import urldefrag, urljoin, urlsplit
+
+from conftest import REFERENCE, TOP, Program
+from olr.serving.front import path_below
+from servers import Reply, Server, expected_of, path_of, serving, wait_until
+
+LOGIN = {"Authorization": f"Basic {b64encode(b'me:secret').decode()}"}
+LINES = f"1\t{REFERENCE}\n2\tCwVG\n" * 500
+
+
+class Behind(NamedTuple):
+    """nginx in front of a server."""
+
+    port: int
+    server: Server
+
+    def get(self, url: str, method: str = "GET", body: str | None = None, **headers: str) -> Reply:
+        """The answer to a request for a URL, or for a path."""
+        found = urlsplit(url)
+        path = f"{found.path}?{found.query}" if found.query else found.path
+        front = Server(self.server.process, self.server.errors, f"http://127.0.0.1:{self.port}/")
+        named = {"Host": f"olr.example:{self.port}", **LOGIN, **headers}
+        return front.get(path, method, body, **named)
+
+    @property
+    def url(self) -> str:
+        """Where its addresses begin."""
+        return f"http://olr.example:{self.port}/olr/"
+
+
+def free_port() -> int:
+    """A port at which nobody listens."""
+    with socket.socket() as one:
+        one.bind(("127.0.0.1", 0))
+        found: int = one.getsockname()[1]
+        return found
+
+
+def sample_of(page: Path) -> str:
+    """The sample for nginx on a page."""
+    (found,) = re.findall(r"(?m)^    server \{\n(?:     .*\n)+    \}\n", page.read_text())
+    return str(found)
+
+
+def configured(folder: Path, port: int, behind: int) -> Path:
+    """The page's own sample in a configuration: at that port without encryption, and below a path."""
+    sample = sample_of(TOP / "docs/SERVE.md")
+    for text, into in (
+        (r"listen 443 ssl;", f"listen 127.0.0.1:{port};"),
+        (r"ssl_\w+ .*;", ""),
+        (r"/etc/nginx/olr.htpasswd", f"{folder}/htpasswd"),
+        (r"location /", "location /olr/"),
+        (r"127.0.0.1:8000", f"127.0.0.1:{behind}"),
+    ):
+        sample, count = re.subn(text, into, sample)
+        assert count
+    (folder / "htpasswd").write_text("me:{PLAIN}secret\n")
+    kinds = ("client_body", "proxy", "fastcgi", "uwsgi", "scgi")
+    paths = "".join(f"{kind}_temp_path {folder}/{kind};\n" for kind in kinds)
+    file = folder / "nginx.conf"
+    file.write_text(
+        f"daemon off; master_process off; pid {folder}/pid; error_log {folder}/errors;\n"
+        f"events {{}} http {{ access_log off;\n{paths}{sample} }}\n"
+    )
+    return file
+
+
+@pytest.fixture(scope="module")
+def behind(program: Program, tmp_path_factory: pytest.TempPathFactory) -> Iterator[Behind]:
+    """A server on the example's town, behind nginx."""
+    folder, port = tmp_path_factory.mktemp("nginx"), free_port()
+    options = ("--root-path", "/olr", "--allow-host", f"olr.example:{port}")
+    with serving(program.path, TOP / "examples", folder / "log", *options) as server:
+        file = configured(folder, port, server.port)
+        command = ["/usr/sbin/nginx", "-e", f"{folder}/errors", "-c", str(file)]
+        with subprocess.Popen(command) as nginx:
+            try:
+                wait_until(lambda: nginx.poll() is not None or (folder / "pid").exists())
+                assert nginx.poll() is None, (folder / "errors").read_text()
+                yield Behind(port, server)
+            finally:
+                nginx.terminate()
+
+
+class Links(HTMLParser):
+    """What a page leads to and loads, and the marks that it has."""
+
+    def __init__(self, page: bytes) -> None:
+        super().__init__()
+        self.links: list[str] = []
+        self.marks: list[str] = []
+        self.feed(page.decode())
+
+    def handle_starttag(self, tag: str, attrs: list[tuple[str, str | None]]) -> None:
+        """Notes them."""
+        for name, value in attrs:
+            if name in ("href", "src") and value is not None and not value.startswith("data:"):
+                self.links.append(value)
+            elif name == "id" and value is not None:
+                self.marks.append(value)
+
+
+def test_a_login_is_asked_for(behind: Behind) -> None:
+    assert behind.get("/olr/", Authorization="").status == 401
+    assert behind.get("/olr/metrics").status == 403
+
+
+@pytest.mark.parametrize("page", ["", "docs"])
+def test_links_of_pages(page: str, behind: Behind) -> None:
+    """All of them lead somewhere."""
+    url = urljoin(behind.url, page)
+    reply = behind.get(url)
+    assert reply.status == 200
+    links = {urldefrag(urljoin(url, link)).url for link in Links(reply.body).links}
+    assert len(links) > 1
+    for link in links:
+        assert link.startswith(behind.url) and behind.get(link).status == 200, link
+
+
+def test_scripts_ask_by_relative_addresses() -> None:
+    for file in (TOP / "python/olr/serving/assets").glob("*.js"):
+        assert not re.search(
+            r"""(asked|askedJson|fetch|href =)\(? ?["'`]/""", file.read_text()
+        ), file
+
+
+def test_answers(behind: Behind, program: Program) -> None:
+    """Those of the program, also to long bodies, and to a page of this site."""
+    for what in ("match", "places"):
+        (expected,) = expected_of(program, TOP / "examples", what, [REFERENCE])
+        assert expected.agrees(behind.get(f"/olr{path_of(what, REFERENCE)}"))
+    own = {"Origin": f"https://olr.example:{behind.port}", "Content_Type": "text/plain"}
+    reply = behind.get("/olr/batch/match", "POST", LINES, **own)
+    assert (
+        reply.body
+        == behind.server.get("/batch/match", "POST", LINES, Content_Type="text/plain").body
+    )
+    assert reply.status == 200 and reply.body.count(b"\n") == 1000
+    other = {**own, "Origin": f"https://olr.example:{behind.port + 1}"}
+    assert behind.get("/olr/batch/match", "POST", LINES, **other).status == 403
+
+
+@pytest.mark.parametrize("path", ["match?ref=CwVG", "match", "nothing/there", "batch/match"])
+def test_types_of_problems_lead_to_a_page(path: str, behind: Behind) -> None:
+    url = urljoin(behind.url, path)
+    about = json.loads(behind.get(url).body)
+    page, mark = urldefrag(urljoin(url, about["type"]))
+    assert page == f"{behind.url}docs" and mark == about["title"]
+    assert mark in Links(behind.get(page).body).marks
+
+
+def test_the_document_says_where_addresses_begin(behind: Behind) -> None:
+    found = json.loads(behind.get("/olr/openapi.json").body)
+    assert found["servers"] == [{"url": "/olr"}]
+    assert behind.get(f"{found['servers'][0]['url']}/show?ref={REFERENCE}").status == 200
+
+
+def test_a_path_that_is_passed_on(behind: Behind) -> None:
+    """A server in front may take the path off, or not. What isn't HTTP has a problem too."""
+    for path in ("/show", "/olr/show"):
+        assert behind.server.get(f"{path}?ref={REFERENCE}").status == 200
+    assert behind.server.figure('olr_requests_total{address="/show",status="200"}') >= 2
+    refused = behind.server.get(f"/show?ref={'x' * 9000}")
+    assert (refused.status, json.loads(refused.body)["type"]) == (414, "/olr/docs#URITooLong")
+
+
+@pytest.mark.parametrize(
+    "path, below",
+    [("/olr/match", "/match"), ("/match", "/match"), ("/olrmatch", "/olrmatch"), ("/olr", "/olr")],
+)
+def test_paths(path: str, below: str) -> None:
+    assert path_below("/olr", path) == below and path_below("", path) == path
