@@ -24,7 +24,6 @@ from servers import (
     Server,
     ask_all,
     expected_of,
-    forked,
     is_running,
     path_of,
     reply_on,
@@ -308,58 +307,6 @@ def test_a_program_that_hangs_in_a_stream(
         assert "Traceback" not in server.log()
 
 
-def writing_program(file: Path) -> Path:
-    """Writes a program that answers with so many MiB as the reference says, or with a fault."""
-    file.write_text(
-        r"""#!/usr/bin/python3 -IS
-import sys
-for number, record in enumerate(sys.stdin.buffer, 1):
-    text = record.decode().split("\t")[1].strip()
-    end = '"key":"%d","record":%d}' % (number, number)
-    if text.isdigit():
-        print('{"answer":"' + "x" * (int(text) << 20) + '","fault":null,' + end, flush=True)
-    else:
-        print('{"answer":null,"fault":"Empty",' + end, flush=True)
-"""
-    )
-    file.chmod(0o755)
-    return file
-
-
-def test_an_answer_that_is_too_large(drawn: Path, tmp_path: Path) -> None:
-    """It isn't held: its process is ended, and the next one answers."""
-    program = writing_program(tmp_path / "program")
-    with serving(program, drawn, tmp_path / "log", "--workers", 1, is_new=True) as server:
-        assert server.get("/match?ref=100").problem()[:2] == (422, "AnswerTooLarge")
-        assert server.get("/match?ref=x").problem()[:2] == (422, "Empty")
-        assert len(server.get("/match?ref=20").body) == (20 << 20) + 2
-        one = server.get("/batch/match", "POST", b"100\n", content_type="text/plain")
-        assert one.problem()[:2] == (422, "AnswerTooLarge")
-        with pytest.raises(http.client.IncompleteRead) as caught:
-            server.get("/batch/match", "POST", b"x\n" * 50_000 + b"100", content_type="text/plain")
-        assert caught.value.partial.count(b"Empty") >= 1
-        assert server.log().count("a stream was cut off: AnswerTooLarge") == 1
-        assert server.memory() < 400_000
-
-
-def test_answers_that_arent_taken(drawn: Path, tmp_path: Path) -> None:
-    """The server holds some of them, and then closes connections: all of them would take 490 MB."""
-    program = writing_program(tmp_path / "program")
-    with serving(program, drawn, tmp_path / "log", "--workers", 1, is_new=True) as server:
-        connections = []
-        for _ in range(24):
-            connection = socket.create_connection(("127.0.0.1", server.port))
-            connection.sendall(
-                f"GET /match?ref=16 HTTP/1.1\r\nHost: localhost:{server.port}\r\n\r\n".encode()
-            )
-            assert connection.recv(100).startswith(b"HTTP/1.1 200 ")
-            connections.append(connection)
-            wait_until(lambda: server.memory() < 420_000)
-        assert server.get("/match?ref=x").status == 422
-        for connection in connections:
-            connection.close()
-
-
 def test_requests_wait_no_longer_than_they_may(
     program: Program, drawn: Path, tmp_path: Path, texts: list[str]
 ) -> None:
@@ -462,42 +409,6 @@ def test_files_that_change_without_a_signal(
     server.signal(signal.SIGHUP)
     wait_until(lambda: server.get("/ready").status == 200)
     assert server.get(path_of("why", text)).status == 200
-
-
-def test_a_map_that_is_refused_at_the_start(program: Program, drawn: Path, tmp_path: Path) -> None:
-    folder = Path(shutil.copytree(drawn, tmp_path / "map"))
-    (folder / "nodes.csv").write_text("id,lon,lat\nx,1,2\n")
-    log = tmp_path / "log"
-    assert refusal_of(program, folder, log).startswith("olr-tools: olr refuses the map: ")
-    assert "OpenFailed" in refusal_of(program, tmp_path / "none", log)
-    with socket.create_server(("127.0.0.1", 0)) as taken:
-        said = refusal_of(program, drawn, log, taken.getsockname()[1])
-    assert "can't be listened to" in said
-
-
-def test_a_signal_while_the_map_is_read(program: Program, drawn: Path, tmp_path: Path) -> None:
-    """SIGHUP ends no server that starts."""
-    file = tmp_path / "program"
-    file.write_text(
-        f"""#!/bin/sh
-if [ "$1" = batch ] && mkdir "$0.told" 2>/dev/null; then kill -HUP $PPID; sleep 0.3; fi
-exec {program.path} "$@"
-"""
-    )
-    file.chmod(0o755)
-    with serving(file, drawn, tmp_path / "log") as server:
-        assert (tmp_path / "program.told").exists()
-        assert server.get(path_of("match", GOOD)).status in (200, 422)
-
-
-def refusal_of(program: Program, folder: Path, log: Path, port: int = 0) -> str:
-    """The line that a server says which doesn't start."""
-    words = ["serve", "--map", str(folder), "--port", str(port)]
-    with forked(words, os.environ | {"OLR_PROGRAM": str(program.path)}, log) as process:
-        assert process.stdout is not None and process.stdout.read() == ""
-        assert process.wait() == 1
-    (line,) = log.read_text().splitlines()
-    return line
 
 
 @pytest.mark.parametrize("number", [signal.SIGTERM, signal.SIGINT])

@@ -473,29 +473,3 @@ def test_how_much_is_logged(program: Program, tmp_path: Path) -> None:
         wait_until(lambda: "/show" in server.log())
         assert server.log().count("GET /match 422") == 30
     assert "20 more lines like this one: 127.0.0.1 GET /match 422, " in errors.read_text()
-
-
-@pytest.mark.parametrize("files, said", [(120, "needs 124"), (144, "there are 24 connections")])
-def test_few_files(
-    files: int, said: str, program: Program, tmp_path: Path, monkeypatch: pytest.MonkeyPatch
-) -> None:
-    """It says how many connections that leaves, and answers on them; with too few it doesn't start."""
-    monkeypatch.setattr(resource, "getrlimit", lambda _: (files, files))
-    if files < 124:
-        with pytest.raises(AssertionError, match=said):
-            with serving(program.path, EXAMPLES, tmp_path / "log"):
-                pass
-        assert (tmp_path / "log").read_text().count("\n") == 1
-        return
-    with serving(program.path, EXAMPLES, tmp_path / "log") as server:
-        assert said in server.log() and server.log().count("\n") == 1
-        silent = list[socket.socket]()
-        stream = b"CwVG\n" * 100
-        for _ in range(10):
-            silent += (socket.create_connection(("127.0.0.1", server.port)) for _ in range(8))
-            assert is_well(server)
-            reply = server.get("/batch/match", "POST", stream, Content_Type="text/plain")
-            assert reply.status == 200 and reply.body.count(b"\n") == 100
-            assert server.get(path_of("show", REFERENCE)).status == 200
-        for connection in silent:
-            connection.close()

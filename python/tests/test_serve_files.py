@@ -1,0 +1,37 @@
+"""How many files `olr-tools serve` may open."""
+
+import pytest
+import resource
+import socket
+from pathlib import Path
+
+from conftest import REFERENCE, TOP, Program
+from servers import path_of, serving
+
+EXAMPLES = TOP / "examples"
+
+
+@pytest.mark.parametrize("files, said", [(120, "needs 124"), (144, "there are 24 connections")])
+def test_few_files(
+    files: int, said: str, program: Program, tmp_path: Path, monkeypatch: pytest.MonkeyPatch
+) -> None:
+    """It says how many connections that leaves, and answers on them; with too few it doesn't start."""
+    monkeypatch.setattr(resource, "getrlimit", lambda _: (files, files))
+    if files < 124:
+        with pytest.raises(AssertionError, match=said):
+            with serving(program.path, EXAMPLES, tmp_path / "log"):
+                pass
+        assert (tmp_path / "log").read_text().count("\n") == 1
+        return
+    with serving(program.path, EXAMPLES, tmp_path / "log") as server:
+        assert said in server.log() and server.log().count("\n") == 1
+        silent = list[socket.socket]()
+        stream = b"CwVG\n" * 100
+        for _ in range(10):
+            silent += (socket.create_connection(("127.0.0.1", server.port)) for _ in range(8))
+            assert server.get(path_of("match", REFERENCE)).status == 200
+            reply = server.get("/batch/match", "POST", stream, Content_Type="text/plain")
+            assert reply.status == 200 and reply.body.count(b"\n") == 100
+            assert server.get(path_of("show", REFERENCE)).status == 200
+        for connection in silent:
+            connection.close()

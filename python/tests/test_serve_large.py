@@ -1,0 +1,67 @@
+"""Answers of `olr-tools serve` that are too large, or that their clients don't take."""
+
+import http.client
+import pytest
+import socket
+from pathlib import Path
+
+from asking import draw_map
+from servers import serving, wait_until
+
+
+@pytest.fixture(scope="module")
+def drawn(tmp_path_factory: pytest.TempPathFactory) -> Path:
+    """A drawn map."""
+    return draw_map(tmp_path_factory.mktemp("drawn"))
+
+
+def writing_program(file: Path) -> Path:
+    """Writes a program that answers with so many MiB as the reference says, or with a fault."""
+    file.write_text(
+        r"""#!/usr/bin/python3 -IS
+import sys
+for number, record in enumerate(sys.stdin.buffer, 1):
+    text = record.decode().split("\t")[1].strip()
+    end = '"key":"%d","record":%d}' % (number, number)
+    if text.isdigit():
+        print('{"answer":"' + "x" * (int(text) << 20) + '","fault":null,' + end, flush=True)
+    else:
+        print('{"answer":null,"fault":"Empty",' + end, flush=True)
+"""
+    )
+    file.chmod(0o755)
+    return file
+
+
+def test_an_answer_that_is_too_large(drawn: Path, tmp_path: Path) -> None:
+    """It isn't held: its process is ended, and the next one answers."""
+    program = writing_program(tmp_path / "program")
+    with serving(program, drawn, tmp_path / "log", "--workers", 1, is_new=True) as server:
+        assert server.get("/match?ref=100").problem()[:2] == (422, "AnswerTooLarge")
+        assert server.get("/match?ref=x").problem()[:2] == (422, "Empty")
+        assert len(server.get("/match?ref=20").body) == (20 << 20) + 2
+        one = server.get("/batch/match", "POST", b"100\n", content_type="text/plain")
+        assert one.problem()[:2] == (422, "AnswerTooLarge")
+        with pytest.raises(http.client.IncompleteRead) as caught:
+            server.get("/batch/match", "POST", b"x\n" * 50_000 + b"100", content_type="text/plain")
+        assert caught.value.partial.count(b"Empty") >= 1
+        assert server.log().count("a stream was cut off: AnswerTooLarge") == 1
+        assert server.memory() < 400_000
+
+
+def test_answers_that_arent_taken(drawn: Path, tmp_path: Path) -> None:
+    """The server holds some of them, and then closes connections: all of them would take 490 MB."""
+    program = writing_program(tmp_path / "program")
+    with serving(program, drawn, tmp_path / "log", "--workers", 1, is_new=True) as server:
+        connections = []
+        for _ in range(24):
+            connection = socket.create_connection(("127.0.0.1", server.port))
+            connection.sendall(
+                f"GET /match?ref=16 HTTP/1.1\r\nHost: localhost:{server.port}\r\n\r\n".encode()
+            )
+            assert connection.recv(100).startswith(b"HTTP/1.1 200 ")
+            connections.append(connection)
+            wait_until(lambda: server.memory() < 420_000)
+        assert server.get("/match?ref=x").status == 422
+        for connection in connections:
+            connection.close()
