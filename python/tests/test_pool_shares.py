@@ -2,11 +2,16 @@
 
 import asyncio
 import pytest
+from collections.abc import Iterable
 from contextlib import AsyncExitStack
 
 from fake_pool import KINDS, MATCH, FakePool, run_within, turns
+from olr.asking.processes import Kind
 from olr.serving.problems import Problem
-from olr.serving.waiting import CLIENT
+from olr.serving.queries import kind_of
+from olr.serving.waiting import CLIENT, Waiting
+
+OTHER = kind_of("match", {"radius": "30"}, 10_000)
 
 
 def test_more_kinds_than_turns(monkeypatch: pytest.MonkeyPatch) -> None:
@@ -77,18 +82,59 @@ def test_a_client_has_half_of_the_turns(monkeypatch: pytest.MonkeyPatch) -> None
 
     async def run() -> None:
         fake = FakePool(monkeypatch, workers=4, processes=8, defaults={MATCH})
-        asked = [fake.asked("x", kind, client="a") for kind in KINDS]
+        asked = [fake.asked("x", OTHER, client="c")]
+        await turns()
+        (idle,) = fake.started
+        idle.read()
+        await turns()
+        idle.answer()
+        asked += [fake.asked("x", kind, client="a") for kind in KINDS]
         await turns()
         for one in fake.started:
             one.read()
         await turns()
-        assert [one.kind for one in fake.started] == KINDS[:2]
+        assert [one.kind for one in fake.started[1:]] == KINDS[:2]
         asked += [fake.asked("x", kind, client="b") for kind in KINDS[3:]]
         await turns()
-        assert [one.kind for one in fake.started] == [*KINDS[:2], KINDS[3]]
+        assert [one.kind for one in fake.started[1:]] == [*KINDS[:2], KINDS[3]]
+        asked.append(fake.asked("x", OTHER, client="c"))
+        await turns()
+        assert not idle.requests
         asked.append(fake.asked("x", client="a"))
         await turns()
-        assert fake.started[3].kind == MATCH
+        assert fake.started[4].kind == MATCH and not idle.requests
+        await fake.pool.close()
+        await asyncio.gather(*asked, return_exceptions=True)
+
+    run_within(run())
+
+
+def test_others_arent_looked_through_without_a_turn(monkeypatch: pytest.MonkeyPatch) -> None:
+    """A thousand of them may wait, and each answer gives a turn away."""
+    looked, others = 0, Waiting.others
+
+    def counting(waiting: Waiting) -> Iterable[Kind]:
+        nonlocal looked
+        looked += 1
+        return others(waiting)
+
+    async def run() -> None:
+        fake = FakePool(monkeypatch, workers=3, processes=6, defaults={MATCH})
+        asked = [fake.asked("x", KINDS[number], client=f"{number}") for number in range(2)]
+        for number in range(2):
+            await turns()
+            fake.started[number].read()
+        monkeypatch.setattr(Waiting, "others", counting)
+        asked += [fake.asked("x", kind, client="b") for kind in KINDS[2:]]
+        asked.append(fake.asked("x", client="c"))
+        await turns()
+        assert looked == 0 and [one.kind for one in fake.started] == [*KINDS[:2], MATCH]
+        fake.started[0].answer()
+        await turns()
+        assert looked > 0 and fake.pool.sizes()["waiting"] == 3
+        fake.started[2].read()
+        await turns()
+        assert fake.started[3].kind == KINDS[2]
         await fake.pool.close()
         await asyncio.gather(*asked, return_exceptions=True)
 
@@ -166,5 +212,6 @@ def test_processes_of_their_own(
                     await taken.enter_async_context(fake.pool.place())
                 assert fake.pool.sizes()["apart"] == number
             assert fake.pool.sizes()["apart"] == 0
+            assert not fake.pool._crew.apart, "clients that left are remembered"
 
     run_within(run())

@@ -11,6 +11,16 @@ from servers import path_of, serving
 EXAMPLES = TOP / "examples"
 
 
+def test_few_files_for_several_maps(
+    program: Program, tmp_path: Path, monkeypatch: pytest.MonkeyPatch
+) -> None:
+    """Each has as many processes."""
+    monkeypatch.setattr(resource, "getrlimit", lambda _: (144, 144))
+    with pytest.raises(AssertionError, match="needs 168 with 16 processes"):
+        with serving(program.path, f"a={EXAMPLES}", tmp_path / "log", "--map", f"b={EXAMPLES}"):
+            pass
+
+
 @pytest.mark.parametrize("files, said", [(120, "needs 124"), (144, "there are 24 connections")])
 def test_few_files(
     files: int, said: str, program: Program, tmp_path: Path, monkeypatch: pytest.MonkeyPatch

@@ -28,6 +28,20 @@ class Crew:
         self.apart: Counter[str] = Counter()
         """How many processes of their own there may be besides, by client."""
 
+    def is_default(self, kind: Kind) -> bool:
+        """Whether a kind is that of questions with defaults."""
+        return kind in self._defaults
+
+    def stand_apart(self, client: str) -> None:
+        """One of its own more for a client."""
+        self.apart[client] += 1
+
+    def leave(self, client: str) -> None:
+        """One of its own less."""
+        self.apart[client] -= 1
+        if not self.apart[client]:
+            del self.apart[client]
+
     def of_kind(self, kind: Kind) -> list[Process]:
         """Those that are asked such questions."""
         return [one for one in self.there if one.kind == kind and not one.is_retiring]
@@ -42,25 +56,43 @@ class Crew:
             key=lambda one: one.working_since,
         )
 
+    def idle_by_kind(self) -> dict[Kind, bool]:
+        """Whether one is idle, of each kind that has some."""
+        found: dict[Kind, bool] = {}
+        for one in self.there:
+            if not one.is_retiring:
+                is_idle = one.is_ready and not one.requests
+                found[one.kind] = is_idle or found.get(one.kind, False)
+        return found
+
     def at_work(self) -> Counter[str]:
-        """How many requests of each client are at work, or have a process started or of their own."""
+        """How many requests of each client are at work, with those that have a process of their own."""
         found = Counter(self.apart)
         for process in self.there:
             found.update(request.client for request in process.requests)
         return found
 
-    def has_turn(self, kind: Kind | None, client: str) -> bool:
-        """Whether one more process of a kind may work for a client, or one of its own."""
+    def has_turn(self, for_default: bool, client: str) -> bool:
+        """Whether one more process may work for a client: one of a default kind, or another one, or one of its own."""
         working = [one for one in self.there if one.requests or not one.is_ready]
         apart = self.apart.total()
         if len(working) + apart >= self.capacity.workers:
             return False
-        if kind is not None and kind in self._defaults:
+        if for_default:
             return True
-        others = [one for one in working if one.kind not in self._defaults]
-        own = sum(1 for one in others if one.client == client) + self.apart[client]
+        own = sum(1 for one in self._others_at_work() if one.client == client)
         share = max(1, self.capacity.workers // 2)
-        return own < share and len(others) + apart < max(1, self.capacity.workers - 1)
+        return own + self.apart[client] < share and self.has_turn_for_others()
+
+    def has_turn_for_others(self) -> bool:
+        """Whether one is left of the turns that aren't kept for defaults."""
+        others = len(self._others_at_work()) + self.apart.total()
+        return others < max(1, self.capacity.workers - 1)
+
+    def _others_at_work(self) -> list[Process]:
+        """Those that work at other questions than those with defaults."""
+        others = (one for one in self.there if one.kind not in self._defaults)
+        return [one for one in others if one.requests or not one.is_ready]
 
     def may_start(self) -> bool:
         """Whether one may be started: half of the turns at most are for reading the map."""
@@ -71,8 +103,8 @@ class Crew:
         """Whether there may be one more."""
         return len(self.there) + self.apart.total() < self.capacity.processes
 
-    def victim(self, kind: Kind | None) -> Process | None:
-        """The one that ends for a kind, or for one of its own, if one may: one that is idle, of a kind that has several ones; else of the
+    def victim(self, for_default: bool) -> Process | None:
+        """The one that ends for one of a default kind, or for another one, if one may: one that is idle, of a kind that has several ones; else of the
         client that used the most of them last the one that has been idle for longest."""
         idle = self.idle_for(0)
         kinds = Counter(one.kind for one in self.there)
@@ -86,7 +118,7 @@ class Crew:
             if one.working_since < now - SECONDS_OF_LULL or one.ready_since < now - SECONDS_OF_STAY
         ]
         are_few = sum(one in self._defaults for one in kinds) <= self.capacity.processes // 2
-        if are_few and (kind is None or kind not in self._defaults):
+        if are_few and not for_default:
             free = [one for one in free if one.kind not in self._defaults]
         holds = Counter(one.client for one in self.there if one.kind not in self._defaults)
         return max(free, key=lambda one: holds[one.client]) if free else None

@@ -110,7 +110,7 @@ class FolderMap:
             return await printed_by(self.pool.edition.program, words, self._limits.time)
 
     def place(self, is_gone: IsGone) -> AbstractAsyncContextManager[None]:
-        """Capacity for a process of its own, while it runs. Raises `Problem`."""
+        """Room for a process of its own, while it runs. Raises `Problem`."""
         return self.pool.place()
 
     def batch(

@@ -60,6 +60,10 @@ class Capacity(NamedTuple):
     processes: int
     """All of them: each holds the map."""
 
+    def of_all(self, maps: int) -> "Capacity":
+        """Those of so many maps together, each of which has as many."""
+        return Capacity(maps * self.workers, maps * self.processes)
+
 
 class Limits(NamedTuple):
     """What options set."""

@@ -4,8 +4,9 @@ import asyncio
 import logging
 import time
 from collections import Counter
-from collections.abc import AsyncIterator, Callable, Container, Coroutine, Iterator
+from collections.abc import AsyncIterator, Callable, Container, Coroutine, Iterable, Iterator
 from contextlib import asynccontextmanager, suppress
+from functools import cache, partial
 from itertools import count
 from typing import Any
 
@@ -60,7 +61,7 @@ class Pool:
         self.starts = 0
         """How many processes were started."""
         self._crew = Crew(capacity, defaults, clock)
-        self._waiting = Waiting()
+        self._waiting = Waiting(self._crew.is_default)
         self._slots: list[Slot] = []
         self._tasks: set[asyncio.Task[None]] = set()
         self._is_looking = False
@@ -91,7 +92,7 @@ class Pool:
 
     @asynccontextmanager
     async def place(self) -> AsyncIterator[None]:
-        """Capacity for a process of its own, while it runs. All such processes together leave one turn for the others, if there are two or
+        """Room for a process of its own, while it runs. All such processes together leave one turn for the others, if there are two or
         more. Raises `Problem`."""
         self._require_open()
         slot = Slot(CLIENT.get(), self.clock())
@@ -108,7 +109,8 @@ class Pool:
         finally:
             if slot in self._slots:
                 self._slots.remove(slot)
-            self._crew.apart[slot.client] -= slot.is_given
+            if slot.is_given:
+                self._crew.leave(slot.client)
             self._schedule()
 
     async def watch(self) -> None:
@@ -191,7 +193,7 @@ class Pool:
     def _takes(self, process: Process, request: Request) -> bool:
         """Whether a process gets a request more."""
         if process.is_ready and not process.requests:
-            return self._crew.has_turn(process.kind, request.client)
+            return self._crew.has_turn(self._crew.is_default(process.kind), request.client)
         return self._goes_on(process)
 
     def _goes_on(self, process: Process) -> bool:
@@ -203,7 +205,7 @@ class Pool:
 
     def _schedule(self) -> None:
         """Hands what waits to processes that work, and gives turns that are free to those who wait for one."""
-        if self._is_closed or not self._slots and not self._waiting.kinds():
+        if self._is_closed or not self._slots and not self._waiting:
             return
         for process in self._crew.there:
             if process.requests or not process.is_ready:
@@ -224,7 +226,7 @@ class Pool:
 
     def _others_wait(self, kind: Kind) -> bool:
         """Whether another kind, or a slot, waits for a turn."""
-        return bool(self._slots) or any(one != kind for one in self._waiting.kinds())
+        return bool(self._slots) or self._waiting.has_others(kind)
 
     def _next_claim(self) -> Request | Slot | None:
         """Who gets a turn: of those to whom one can be given the client that has the fewest requests at work, and who has waited longest."""
@@ -235,25 +237,33 @@ class Pool:
         return min(claims, key=lambda one: (at_work[one.client], one.since))
 
     def _claims(self) -> Iterator[Request | Slot]:
-        """Those to whom a turn can be given: slots, and of each kind the first request of each client."""
-        for slot in self._slots:
-            if self._crew.has_turn(None, slot.client) and self._can_make_room(None):
-                yield slot
-        for kind in self._waiting.kinds():
-            there = self._crew.of_kind(kind)
-            is_idle = any(one.is_ready and not one.requests for one in there)
-            if is_idle or not there and self._may_start() and self._can_make_room(kind):
-                for request in self._waiting.firsts(kind):
-                    if self._crew.has_turn(kind, request.client):
-                        yield request
+        """Those to whom a turn can be given: slots, and of each kind the first request of each client. Where none is free for kinds that aren't
+        defaults these aren't looked through: a thousand may wait."""
+        if not self._crew.has_turn(True, ""):
+            return
+        yield from self._claims_of(self._waiting.defaults(), True)
+        if not self._crew.has_turn_for_others():
+            return
+        yield from self._claims_of(self._waiting.others(), False)
+        if self._slots and self._can_make_room(False):
+            yield from (one for one in self._slots if self._crew.has_turn(False, one.client))
+
+    def _claims_of(self, kinds: Iterable[Kind], are_default: bool) -> Iterator[Request]:
+        """Those of kinds that wait, which are all defaults, or none. What they have in common is worked out once."""
+        idle = self._crew.idle_by_kind()
+        may_start = self._may_start() and self._can_make_room(are_default)
+        has_turn = cache(partial(self._crew.has_turn, are_default))
+        for kind in kinds:
+            if idle.get(kind, may_start):
+                yield from (one for one in self._waiting.firsts(kind) if has_turn(one.client))
 
     def _give(self, claim: Request | Slot) -> None:
         """Gives a turn."""
         if isinstance(claim, Slot):
-            self._make_room(None)
+            self._make_room(False)
             self._slots.remove(claim)
             if not claim.is_free.done():
-                self._crew.apart[claim.client] += 1
+                self._crew.stand_apart(claim.client)
                 claim.is_given = True
                 claim.is_free.set_result(None)
             return
@@ -264,7 +274,7 @@ class Pool:
             return
         process = next((one for one in self._crew.of_kind(kind) if not one.requests), None)
         if process is None:
-            self._make_room(kind)
+            self._make_room(self._crew.is_default(kind))
             process = self._started(kind)
         process.ask(claim)
         self._feed(process)
@@ -274,10 +284,11 @@ class Pool:
         there = self._crew.of_kind(kind)
         if self._others_wait(kind) or not all(one.is_ready and one.requests for one in there):
             return
-        if not self._crew.has_turn(kind, client) or not self._may_start():
+        is_default = self._crew.is_default(kind)
+        if not self._crew.has_turn(is_default, client) or not self._may_start():
             return
         if not self._crew.has_room():
-            unused = self._crew.victim(kind)
+            unused = self._crew.victim(is_default)
             if unused is None or unused.working_since > self.clock() - SECONDS_UNUSED:
                 return
             self._end(unused)
@@ -289,11 +300,11 @@ class Pool:
         """Whether a process may be started, and would read the map."""
         return self._crew.may_start() and not isinstance(self.trouble, MapRefused)
 
-    def _can_make_room(self, kind: Kind | None) -> bool:
-        return self._crew.has_room() or self._crew.victim(kind) is not None
+    def _can_make_room(self, for_default: bool) -> bool:
+        return self._crew.has_room() or self._crew.victim(for_default) is not None
 
-    def _make_room(self, kind: Kind | None) -> None:
-        victim = None if self._crew.has_room() else self._crew.victim(kind)
+    def _make_room(self, for_default: bool) -> None:
+        victim = None if self._crew.has_room() else self._crew.victim(for_default)
         if victim is not None:
             self._end(victim)
 

@@ -90,7 +90,7 @@ def serve(settings: Settings) -> None:
 async def _serve(settings: Settings) -> None:
     # Else it would end the server until the map is read, which is what it asks for.
     asyncio.get_running_loop().add_signal_handler(signal.SIGHUP, lambda: None)
-    sockets = sockets_for(settings.capacity)
+    sockets = sockets_for(settings.capacity.of_all(len(settings.maps)))
     listening = listen(settings.host, settings.port, sockets.backlog)
     served = {name: _served(map, settings) for name, map in settings.maps.items()}
     together = Together(served)

@@ -4,6 +4,7 @@ import asyncio
 from collections import deque
 from collections.abc import Callable, Iterable, Iterator
 from contextvars import ContextVar
+from itertools import chain
 
 from olr.asking.processes import Kind
 from olr.serving.process import Request
@@ -29,43 +30,62 @@ class Slot:
             self.is_free.set_exception(error)
 
 
+Queue = dict[str, deque[Request]]
+"""The requests of a kind by their clients, in the order of their turns."""
+
+
 class Waiting:
     """Requests that wait. Those of a client are in order, and the clients of a kind take turns, however many requests each has."""
 
-    def __init__(self) -> None:
-        self._queues: dict[Kind, dict[str, deque[Request]]] = {}
+    def __init__(self, is_default: Callable[[Kind], bool]) -> None:
+        """Kinds of questions with defaults, for which a turn is kept, are found without looking through the others: a thousand may wait."""
+        self._is_default = is_default
+        self._defaults: dict[Kind, Queue] = {}
+        self._others: dict[Kind, Queue] = {}
 
     def __len__(self) -> int:
-        return sum(len(own) for queue in self._queues.values() for own in queue.values())
+        return sum(len(own) for queue in self._all() for own in queue.values())
 
-    def kinds(self) -> list[Kind]:
-        """The kinds of which some wait."""
-        return list(self._queues)
+    def __bool__(self) -> bool:
+        return bool(self._defaults or self._others)
 
     def __contains__(self, kind: Kind) -> bool:
-        return kind in self._queues
+        return kind in self._queues(kind)
+
+    def defaults(self) -> Iterable[Kind]:
+        """The kinds with defaults of which some wait."""
+        return self._defaults.keys()
+
+    def others(self) -> Iterable[Kind]:
+        """The other ones."""
+        return self._others.keys()
+
+    def has_others(self, kind: Kind) -> bool:
+        """Whether some of another kind wait."""
+        return len(self._defaults) + len(self._others) > (kind in self)
 
     def firsts(self, kind: Kind) -> Iterator[Request]:
         """The first request of each client, of a kind, in the order of their turns."""
-        return (own[0] for own in self._queues.get(kind, {}).values())
+        return (own[0] for own in self._queues(kind)[kind].values())
 
     def add(self, request: Request) -> None:
         """One more, behind the others of its client."""
-        self._queues.setdefault(request.kind, {}).setdefault(request.client, deque()).append(
-            request
-        )
+        queue = self._queues(request.kind).setdefault(request.kind, {})
+        queue.setdefault(request.client, deque()).append(request)
 
     def put_back(self, requests: Iterable[Request]) -> None:
         """Some that were taken, before all others."""
         for request in reversed(list(requests)):
-            queue = self._queues.pop(request.kind, {})
+            queues = self._queues(request.kind)
+            queue = queues.pop(request.kind, {})
             own = queue.pop(request.client, deque())
             own.appendleft(request)
-            self._queues[request.kind] = {request.client: own, **queue}
+            queues[request.kind] = {request.client: own, **queue}
 
     def take(self, kind: Kind, client: str | None = None) -> Request | None:
         """Takes the next request of a kind, or of a client; then it is the turn of the others."""
-        queue = self._queues.get(kind)
+        queues = self._queues(kind)
+        queue = queues.get(kind)
         if queue is None:
             return None
         client = next(iter(queue)) if client is None else client
@@ -74,18 +94,24 @@ class Waiting:
         if own:
             queue[client] = own
         elif not queue:
-            del self._queues[kind]
+            del queues[kind]
         return request
 
     def take_those(self, which: Callable[[Request], bool]) -> list[Request]:
         """Takes all of which something is so."""
         taken, left = list[Request](), list[Request]()
-        for queue in self._queues.values():
+        for queue in self._all():
             for own in queue.values():
                 for request in own:
                     (taken if which(request) else left).append(request)
         if taken:
-            self._queues = {}
+            self._defaults, self._others = {}, {}
             for request in left:
                 self.add(request)
         return taken
+
+    def _queues(self, kind: Kind) -> dict[Kind, Queue]:
+        return self._defaults if self._is_default(kind) else self._others
+
+    def _all(self) -> Iterator[Queue]:
+        return chain(self._defaults.values(), self._others.values())
