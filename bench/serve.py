@@ -1,7 +1,7 @@
 #!/usr/bin/env python3
 """Times `olr-tools serve` beside `olr batch`, in one run.
 
-    bench/serve.py --program PATH --map FOLDER --input FILE [--seconds 10] [--clients 16] [--workers N] [--runs 5]
+    bench/serve.py --program PATH --map FOLDER --input FILE [--seconds 10] [--clients 16] [--workers N] [--runs 5] [--large FILE]
 
 1. `GET /match` by some clients, each of which asks when it was answered: answers a second, and how long they take, once all processes run. A
    client is a connection, and all of them are in the process of this script.
@@ -9,6 +9,8 @@
 3. The most memory of a process of the server beside that of `olr batch`, and that of the server.
 4. What the page asks for (`GET /scene`) by one, two and four people, each from an address and with a radius of their own.
 5. `GET /match` by one client, while another one varies its options on eight connections.
+6. The memory of the server once it has made GeoJSON, and while four clients ask for that of a thousand matchings of the reference in a file
+   (--large), as `generate_reference.py --points 24 --lines-per-leg 12` writes one, and how long `/health` takes meanwhile.
 
 It needs what ./olr-tools setup installs.
 """
@@ -21,6 +23,7 @@ import random
 import subprocess
 import tempfile
 import time
+from concurrent.futures import ThreadPoolExecutor
 from pathlib import Path
 
 from served import Client, children_of, kib_of, path_of, records_of, serving
@@ -82,6 +85,34 @@ async def beside_varied(port, texts, seconds):
     return sorted(times)
 
 
+def featured(port, path):
+    """The bytes of an answer as GeoJSON."""
+    size, connection = 0, http.client.HTTPConnection("127.0.0.1", port)
+    connection.request("GET", path, headers={"Accept": "application/geo+json"})
+    response = connection.getresponse()
+    while piece := response.read(1 << 16):
+        size += len(piece)
+    connection.close()
+    return size
+
+
+def large(server, port, text):
+    """Prints what large answers cost the server."""
+    featured(port, path_of("match", text))
+    print(f"memory of the server with the geometries: {kib_of(server.pid, 'VmHWM') / 1024:.0f} MiB")
+    path = f"{path_of('match', text)}&radius=400&percent=100&slack=10000&page=1000"
+    longest = 0.0
+    with ThreadPoolExecutor() as threads:
+        asked = [threads.submit(featured, port, path) for _ in range(4)]
+        while not all(one.done() for one in asked):
+            begin = time.perf_counter()
+            featured(port, "/health")
+            longest = max(longest, time.perf_counter() - begin)
+            time.sleep(0.05)
+    sizes = " ".join(f"{one.result() / 1e6:.1f}" for one in asked)
+    print(f"GeoJSON of {sizes} MB at once: {kib_of(server.pid, 'VmHWM') / 1024:.0f} MiB, /health {longest:.1f} s at most")
+
+
 def posted(port, file):
     """Seconds of a stream, and the bytes of its answer."""
     begin, size = time.perf_counter(), 0
@@ -115,6 +146,7 @@ def main():
     parser.add_argument("--clients", type=int, default=16)
     parser.add_argument("--workers", type=int, default=os.cpu_count())
     parser.add_argument("--runs", type=int, default=5)
+    parser.add_argument("--large", type=Path)
     chosen = parser.parse_args()
     texts = records_of(chosen.input)
     paths = [path_of("match", text) for text in texts]
@@ -142,6 +174,8 @@ def main():
         times = asyncio.run(beside_varied(port, texts, chosen.seconds))
         middle, late = (1000 * times[int(len(times) * share)] for share in (0.5, 0.99))
         print(f"GET /match beside options that vary: median {middle:.1f} ms, 99 percent {late:.1f} ms")
+        if chosen.large is not None:
+            large(server, port, chosen.large.read_text().strip())
 
 
 if __name__ == "__main__":
