@@ -110,6 +110,11 @@ def test_all_addresses_are_in_it(described: Document) -> None:
     )
 
 
+def test_bodies_may_be_too_slow_or_too_long(described: Document) -> None:
+    posts = [it["post"]["responses"] for it in described.about["paths"].values() if "post" in it]
+    assert len(posts) == 10 and all({"408", "413"} <= it.keys() for it in posts)
+
+
 def test_examples(described: Document) -> None:
     """Those of the program's answers are those of the specification."""
     pages = "".join(file.read_text() for file in (TOP / "docs/specification").glob("*.md"))

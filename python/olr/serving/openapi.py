@@ -37,6 +37,7 @@ STATUSES = {
     "503": "Too much is asked at once, or the map can't be read: ask again later",
     "504": "The program took too long",
 }
+OF_BODIES = STATUSES | {"408": "A body that came too slowly"}
 OTHERS = {"default": "Another problem, which any address may answer"}
 JSON = "application/json"
 
@@ -137,7 +138,7 @@ def _posted(what: What, limits: Limits) -> Json:
     bodies = {"oneOf": [one, many, refs | {"description": "References"}]}
     content = {posted.MEDIA_TYPE: {"schema": bodies, "example": {REF: EXAMPLE}}}
     too_large = f"A body of more than {posted.MOST_BYTES:,} bytes"
-    refusals = STATUSES | {"413": too_large, "415": "A body of another type"}
+    refusals = OF_BODIES | {"413": too_large, "415": "A body of another type"}
     summary = f"{SUMMARIES[what]}: options are members of a JSON object. With refs in place of ref, or a list, a line for each reference"
     found = _address(summary, [], {**_answers(what), **_batch_lines(what)}, refusals)
     return found | {"requestBody": {"required": True, "content": content}}
@@ -203,7 +204,7 @@ def _batch(what: What, limits: Limits) -> Json:
 def _lines(summary: str, parameters: list[Json], limits: Limits, answers: Json) -> Json:
     """An address that answers lines of JSON about lines of a body."""
     too_large, other = f"A body of more than {limits.body:,} bytes", "A body of another type"
-    refusals = STATUSES | {"413": too_large, "415": other}
+    refusals = OF_BODIES | {"413": too_large, "415": other}
     taken = "Lines of a key, a tab and a reference, or of a reference alone"
     found = _address(summary, parameters, answers, refusals)
     return found | {"requestBody": _body(taken, streaming.TAKEN)}
@@ -224,7 +225,7 @@ def _messages(limits: Limits) -> Json:
     ]
     summary = "What a list of messages has in it, as olr-tools match reads a file: record, key and reference, a line for each"
     too_large = f"A list of more than {lists.most_bytes(limits):,} bytes"
-    refusals = STATUSES | {"413": too_large, "422": "A list that isn't understood"}
+    refusals = OF_BODIES | {"413": too_large, "422": "A list that isn't understood"}
     taken = (
         f"Lines of a key, a tab and a reference, CSV or JSON. The first {listing.MOST_ROWS:,} messages are answered, and one more "
         "if there are more"
