@@ -138,7 +138,7 @@ def test_rows_as_csv(page: Page, server: Server, tmp_path: Path) -> None:
 
 
 def test_places_as_geojson(page: Page, tools: Tools, folder: Path, tmp_path: Path) -> None:
-    """A feature for each row that is shown: that of the likeliest place in the file of `olr-tools match`, or one without a geometry."""
+    """A feature for each row that is shown, in their order: that of the likeliest place in the file of `olr-tools match`, or one without a geometry."""
     page.read(MESSAGES)
     found = saved(page, tmp_path, "#save-geojson", "places.geojson")
     file, out = tmp_path / "messages.tsv", tmp_path / "out.geojson"
@@ -160,7 +160,7 @@ def test_places_as_geojson(page: Page, tools: Tools, folder: Path, tmp_path: Pat
 def test_geojson_that_is_stopped(page: Page) -> None:
     """By the same button, and by a server that doesn't answer, which is said."""
     page.read(MESSAGES)
-    hanging = "((before) => { window.fetch = (address, more) => String(address).startsWith('places') ? %s : before(address, more); })(fetch)"
+    hanging = "((before) => { window.fetch = (address, more) => String(address).startsWith('batch/places') ? %s : before(address, more); })(fetch)"
     never = "new Promise((_, fail) => more.signal.addEventListener('abort', () => fail(more.signal.reason)))"
     page.value(hanging % never)
     page.browser.click("#save-geojson")

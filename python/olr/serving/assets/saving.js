@@ -1,8 +1,10 @@
 "use strict";
 // What goes out of a list: its rows as CSV, and its likeliest places as GeoJSON. The columns are those of docs/COLUMNS.md, and `reference`.
 const SAVED = ["record", "key", "verdict", "probability", "none_of_these", "turns_back", "total", "margin", "reasons", "fault", "reference"];
-// Places that are asked for at once.
-const PLACES_AT_ONCE = 2;
+// Rows of which places are asked for at once. The server gives others a turn between two lots.
+const SAVED_AT_ONCE = 500;
+// What is in front of each feature of a stream.
+const RECORD_SEPARATOR = "\x1e";
 
 // Rows as CSV. A text that a spreadsheet would take for a formula has an apostrophe in front of it.
 function csvOf(rows) {
@@ -22,26 +24,33 @@ function valueOf(row, name) {
 // The likeliest place of each row as GeoJSON, in the order of the rows. A row without a place has a feature without a geometry. `options` are those to ask
 // with, and `onStep(count)` is told how many are there. Throws as `asked` of asking.js.
 async function geojsonOf(rows, options, signal, onStep) {
-  const found = new Array(rows.length);
-  const queue = rows.entries();
-  let count = 0;
-  const work = async () => {
-    for (const [at, row] of queue) {
-      found[at] = await featureOf(row, options, signal);
-      count += 1;
-      onStep(count);
-    }
-  };
-  await Promise.all(Array.from({ length: PLACES_AT_ONCE }, work));
-  return `{"type":"FeatureCollection","features":[\n${found.map((one) => JSON.stringify(one)).join(",\n")}\n]}\n`;
+  const texts = [];
+  while (texts.length < rows.length) {
+    const some = rows.slice(texts.length, texts.length + SAVED_AT_ONCE);
+    const features = await featuresOf(some, options, signal, (count) => onStep(texts.length + count));
+    if (features.length < some.length) throw new Trouble(BROKEN_OFF, true);
+    texts.push(...features.map((feature, at) => JSON.stringify(withRow(feature, some[at]))));
+  }
+  return `{"type":"FeatureCollection","features":[\n${texts.join(",\n")}\n]}\n`;
 }
 
-async function featureOf(row, options, signal) {
-  const { record, key } = row;
-  if (row.verdict === "refused") return { type: "Feature", geometry: null, properties: { record, key, verdict: "fault", fault: row.fault } };
-  const query = queryOf([["ref", row.reference], ...Object.entries({ ...options, most: 1 })]);
-  const { features } = await askedJson(`places?${query}`, { signal, headers: { Accept: "application/geo+json" } });
-  return { ...features[0], properties: { record, key, ...features[0].properties } };
+async function featuresOf(rows, options, signal, onStep) {
+  const body = rows.map((row, at) => `${at}\t${row.reference}\n`).join("");
+  const headers = { "Content-Type": "text/plain", Accept: "application/geo+json-seq" };
+  const query = queryOf(Object.entries({ ...options, most: 1 }));
+  const response = await asked(`batch/places?${query}`, { method: "POST", body, headers, signal });
+  const found = [];
+  for await (const lines of linesOf(response)) {
+    found.push(...lines.map((line) => JSON.parse(line.slice(RECORD_SEPARATOR.length))));
+    onStep(found.length);
+  }
+  return found;
+}
+
+// A feature of a stream, of which nobody has counted candidates, with the record and key of a row.
+function withRow(feature, { record, key }) {
+  const { candidates, ...properties } = feature.properties;
+  return { ...feature, properties: { ...properties, record, key } };
 }
 
 // Has the browser save a text as a file.
