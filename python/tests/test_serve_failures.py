@@ -370,8 +370,9 @@ def test_files_that_are_refused(server: Server, folder: Path, texts: list[str]) 
     (folder / "lines.csv").write_bytes(lines + b"x\n")
     server.signal(signal.SIGHUP)
     wait_until(lambda: health_of(server)["refused"] is not None)
+    wait_until(lambda: health_of(server)["changed"] is True)
     reply = server.get("/health")
-    assert reply.status == 200 and json.loads(reply.body)["changed"]
+    assert reply.status == 200
     assert str(folder) not in reply.body.decode()
     assert server.get(path).body == expected.body
     assert "the map stays as it was" in server.log()

@@ -7,7 +7,7 @@ from collections.abc import Awaitable, Callable
 from starlette.types import Scope
 from typing import Any, cast
 
-from conftest import REFERENCE
+from conftest import REFERENCE, TOP
 from fake_pool import run_within
 from olr.asking.exchange import AnswerTooLarge
 from olr.confidence.confidence import Confidence
@@ -15,8 +15,10 @@ from olr.errors import MapRefused, ProgramEnded, ProgramNotFound, TimedOut, Tool
 from olr.model.fault import Fault
 from olr.serving.addresses import Service, application
 from olr.serving.allowed import allowed_for, require_allowed
+from olr.serving.edition import Edition
+from olr.serving.folder_map import FolderMap
 from olr.serving.front import Front
-from olr.serving.limits import MOST_BODIES, MOST_REQUESTS, Limits
+from olr.serving.limits import MOST_BODIES, MOST_REQUESTS, Capacity, Limits
 from olr.serving.meters import Meters
 from olr.serving.problems import Problem, of_error, of_status
 from olr.serving.queries import kind_of, options_of, question_of
@@ -388,6 +390,21 @@ def test_problems_of_a_status() -> None:
         "NotFound",
         {"Allow": "GET"},
     )
+
+
+def test_health_while_files_dont_answer(monkeypatch: pytest.MonkeyPatch) -> None:
+    """Files aren't looked at for it."""
+
+    async def never(_: Edition) -> None:
+        await asyncio.Event().wait()
+
+    monkeypatch.setattr(Edition, "found", never)
+
+    async def run() -> dict[str, Any]:
+        served = FolderMap(TOP / "examples", Capacity(1, 1), Limits())
+        return (await served.health())[1]
+
+    assert run_within(run())["changed"] is False
 
 
 def test_a_server_that_ends_is_not_ready() -> None:

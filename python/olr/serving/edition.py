@@ -46,14 +46,6 @@ class Edition:
             await asyncio.to_thread(self.files.keep, version)
         self.version = version
 
-    async def is_there(self) -> bool:
-        """Whether the files are still those of this edition."""
-        try:
-            await self.found()
-        except MapRefused:
-            return False
-        return True
-
     def network(self) -> "Network":
         """The nodes and lines, which are read once. It takes seconds: call it in a thread. Raises `ToolError`."""
         from olr.geometry.network import Network

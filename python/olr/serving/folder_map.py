@@ -74,11 +74,10 @@ class FolderMap:
         return {} if version is None else version._asdict()
 
     async def health(self) -> tuple[bool, dict[str, Any]]:
-        """Whether it can answer, and what is known of it."""
+        """Whether it can answer, and what is known of it. Files aren't looked at: that may take long."""
         pool = self.pool
         about: dict[str, Any] = {"map": pool.edition.name, "digest": self.digests()}
-        about["changed"] = not await pool.edition.is_there()
-        about |= {"refused": self._refused, "program": self._version}
+        about |= {"changed": pool.is_changed(), "refused": self._refused, "program": self._version}
         return pool.is_able(), about
 
     async def answer(self, question: Question, is_gone: IsGone) -> Known:

@@ -82,6 +82,10 @@ class Pool:
         """Whether a process can be expected to answer."""
         return self.trouble is None or any(one.is_ready for one in self._crew.there)
 
+    def is_changed(self) -> bool:
+        """Whether the files weren't those of the edition any more when they were last looked at."""
+        return isinstance(self.trouble, MapRefused)
+
     async def answer(self, kind: Kind, text: bytes, is_gone: Callable[[], bool]) -> Answer:
         """What the program answers about the text of a reference. Raises `MapRefused`, `ProgramEnded`, `ProgramNotFound`, `TimedOut`, and
         `Problem` where no process is free for too long."""
@@ -298,7 +302,7 @@ class Pool:
 
     def _may_start(self) -> bool:
         """Whether a process may be started, and would read the map."""
-        return self._crew.may_start() and not isinstance(self.trouble, MapRefused)
+        return self._crew.may_start() and not self.is_changed()
 
     def _can_make_room(self, for_default: bool) -> bool:
         return self._crew.has_room() or self._crew.victim(for_default) is not None
@@ -378,14 +382,14 @@ class Pool:
             return
         finally:
             self._is_looking = False
-        if isinstance(self.trouble, MapRefused) and edition is self.edition:
+        if self.is_changed() and edition is self.edition:
             self.trouble = None
 
     def _note_trouble(self, error: ToolError) -> None:
         """Notes why a process didn't read the map. That the files aren't the right ones is told once; before any process has read them it is the
         error of whoever opens the pool."""
         if isinstance(error, MapRefused) and self._is_open:
-            if not isinstance(self.trouble, MapRefused):
+            if not self.is_changed():
                 log.warning("%s: SIGHUP reads them anew", error)
         self.trouble = error
 
