@@ -137,6 +137,7 @@ def test_a_process_that_isnt_used(monkeypatch: pytest.MonkeyPatch) -> None:
         await turns()
         assert len(first.requests) == ABREAST and fake.pool.sizes()["waiting"] == 1
         fake.clock.now += 4.9
+        first.answer()
         asked.append(fake.asked("more"))
         await turns()
         assert not second.is_retiring

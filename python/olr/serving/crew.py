@@ -14,12 +14,15 @@ SECONDS_OF_STAY = 1.0
 """So may one that is idle just now, and read the map so long ago: three times as long as it takes to read the largest one. So where there
 are more kinds than processes, most of the time is spent on answers."""
 
+SECONDS_LONG = 1.0
+"""A request takes long if a process has worked at it for so many seconds."""
+
 
 class Crew:
     """Processes, and how many there may be.
 
-    One client has half of the turns at most, and one turn is for questions with defaults. Half of the room is for processes of defaults,
-    which don't end for other kinds.
+    One client has half of the turns at most, and one turn is for questions with defaults. These have one turn more where all are held by
+    requests of other clients that take long. Half of the room is for processes of defaults, which don't end for other kinds.
     """
 
     def __init__(self, capacity: Capacity, defaults: Container[Kind], clock: Clock) -> None:
@@ -56,11 +59,17 @@ class Crew:
             key=lambda one: one.working_since,
         )
 
+    def is_long(self, process: Process) -> bool:
+        """Whether one works at a request that takes long: nobody else's waits behind it."""
+        if not process.is_ready or not process.requests:
+            return False
+        return process.working_since < self._clock() - SECONDS_LONG
+
     def idle_by_kind(self) -> dict[Kind, bool]:
-        """Whether one is idle, of each kind that has some."""
+        """Whether one is idle, of each kind that has some, but for those whose requests take long."""
         found: dict[Kind, bool] = {}
         for one in self.there:
-            if not one.is_retiring:
+            if not one.is_retiring and not self.is_long(one):
                 is_idle = one.is_ready and not one.requests
                 found[one.kind] = is_idle or found.get(one.kind, False)
         return found
@@ -74,15 +83,28 @@ class Crew:
 
     def has_turn(self, for_default: bool, client: str) -> bool:
         """Whether one more process may work for a client: one of a default kind, or another one, or one of its own."""
-        working = [one for one in self.there if one.requests or not one.is_ready]
-        apart = self.apart.total()
-        if len(working) + apart >= self.capacity.workers:
-            return False
+        free = self.free_turns()
         if for_default:
-            return True
+            return free > 0 or free == 0 and self._is_held_up(client)
+        if free <= 0:
+            return False
         own = sum(1 for one in self._others_at_work() if one.client == client)
         share = max(1, self.capacity.workers // 2)
         return own + self.apart[client] < share and self.has_turn_for_others()
+
+    def free_turns(self) -> int:
+        """How many turns are left: -1 while one more is given."""
+        return self.capacity.workers - len(self._working()) - self.apart.total()
+
+    def _working(self) -> list[Process]:
+        """Those that work, or read the map."""
+        return [one for one in self.there if one.requests or not one.is_ready]
+
+    def _is_held_up(self, client: str) -> bool:
+        """Whether all that work are held by others than a client, for long."""
+        return client not in self.apart and all(
+            self.is_long(one) and one.requests[0].client != client for one in self._working()
+        )
 
     def has_turn_for_others(self) -> bool:
         """Whether one is left of the turns that aren't kept for defaults."""
@@ -91,8 +113,7 @@ class Crew:
 
     def _others_at_work(self) -> list[Process]:
         """Those that work at other questions than those with defaults."""
-        others = (one for one in self.there if one.kind not in self._defaults)
-        return [one for one in others if one.requests or not one.is_ready]
+        return [one for one in self._working() if one.kind not in self._defaults]
 
     def may_start(self) -> bool:
         """Whether one may be started: half of the turns at most are for reading the map."""

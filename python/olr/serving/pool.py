@@ -135,6 +135,8 @@ class Pool:
                     self._end_working(process, TimedOut(text, None))
                 elif process.requests[0].is_gone() and process.working_since < now - SECONDS_LEFT:
                     self._end_working(process, busy("nobody waits for it"))
+                elif self._crew.is_long(process):
+                    self._take_back(process)
         self._refuse_late(now - self.limits.time)
         self._schedule()
 
@@ -185,7 +187,9 @@ class Pool:
         if not there and isinstance(self.trouble, MapRefused):
             request.refuse(self.trouble)
             return
-        best = min(there, key=lambda one: len(one.requests), default=None)
+        best = min(
+            there, key=lambda one: (self._crew.is_long(one), len(one.requests)), default=None
+        )
         if best is None or kind in self._waiting or not self._takes(best, request):
             self._waiting.add(request)
             self._schedule()
@@ -203,6 +207,8 @@ class Pool:
     def _goes_on(self, process: Process) -> bool:
         """Whether a process that works, or reads the map, gets more."""
         if process.is_retiring or len(process.requests) >= ABREAST:
+            return False
+        if self._crew.is_long(process) or self._crew.free_turns() < 0:
             return False
         is_over = process.busy_since < self.clock() - SECONDS_OF_TURN
         return not (process.is_ready and is_over and self._others_wait(process.kind))
@@ -354,6 +360,15 @@ class Pool:
             self._put_back(process)
             process.requests.clear()
             self._end(process)
+
+    def _take_back(self, process: Process) -> None:
+        """Lets requests that wait behind one of another client, which takes long, wait for another process. This one answers them for nobody."""
+        client = process.requests[0].client
+        taken = [one for one in process.requests if one.client != client]
+        for at, one in enumerate(process.requests):
+            if one.client != client:
+                process.requests[at] = one.for_nobody(client)
+        self._waiting.put_back(taken)
 
     def _put_back(self, process: Process) -> None:
         """Lets the requests of a process wait in front of the others."""

@@ -55,6 +55,10 @@ class Request:
         self.since = since
         """Since when it waits for a process."""
 
+    def for_nobody(self, client: str) -> "Request":
+        """The same question, whose answer nobody waits for any more, at the cost of a client."""
+        return Request(self.kind, self.text, lambda: True, self.since, client)
+
     def give(self, answer: Answer) -> None:
         """Gives the answer to whoever waits for it."""
         if not self.answer.done():
