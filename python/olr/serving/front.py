@@ -1,7 +1,7 @@
 """What stands before the addresses: who may ask, how many at once, and what is counted and logged."""
 
+import random
 import re
-import secrets
 import time
 from asyncio import CancelledError, Future, Task, current_task
 from collections.abc import Mapping, Sequence
@@ -61,7 +61,7 @@ class Front:
         async def sending(message: Message) -> None:
             nonlocal status
             if message["type"] == "http.response.start":
-                status = message["status"]
+                status = status or message["status"]
                 headers = [*message.get("headers", ()), (b"x-request-id", request_id.encode())]
                 if self._allowed.others:
                     headers = depending_on(headers, b"Origin")
@@ -125,7 +125,7 @@ def request_id_of(scope: Scope) -> str:
     given = [value for name, value in scope["headers"] if name == b"x-request-id"]
     if len(given) == 1 and REQUEST_ID.fullmatch(given[0]):
         return str(given[0].decode())
-    return secrets.token_hex(8)
+    return f"{random.getrandbits(64):016x}"
 
 
 def path_below(root_path: str, path: str) -> str:
