@@ -104,7 +104,7 @@ def test_all_addresses_are_in_it(described: Document) -> None:
     service = Service(
         cast(Served, None), Limits(), Meters(cast(Served, None)), Confidence.default()
     )
-    paths = {getattr(route, "path") for route in application(service).routes}
+    paths = set(application(service).paths)
     assert {it for it in paths - OWN if not it.startswith("/assets/")} == set(
         described.about["paths"]
     )
