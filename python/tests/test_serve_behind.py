@@ -14,6 +14,7 @@ from urllib.parse import urldefrag, urljoin, urlsplit
 
 from conftest import REFERENCE, TOP, Program
 from olr.serving.front import path_below
+from olr.serving.peers import MOST_PREFIX, Peers
 from servers import Reply, Server, expected_of, path_of, serving, wait_until
 
 LOGIN = {"Authorization": f"Basic {b64encode(b'me:secret').decode()}"}
@@ -81,7 +82,7 @@ def configured(folder: Path, port: int, behind: int) -> Path:
 def behind(program: Program, tmp_path_factory: pytest.TempPathFactory) -> Iterator[Behind]:
     """A server on the example's town, behind nginx."""
     folder, port = tmp_path_factory.mktemp("nginx"), free_port()
-    options = ("--root-path", "/olr", "--allow-host", f"olr.example:{port}")
+    options = ["--root-path", "/olr", "--allow-host", f"olr.example:{port}", "--proxy", "127.0.0.1"]
     with serving(program.path, TOP / "examples", folder / "log", *options) as server:
         file = configured(folder, port, server.port)
         command = ["/usr/sbin/nginx", "-e", f"{folder}/errors", "-c", str(file)]
@@ -182,3 +183,48 @@ def test_a_path_that_is_passed_on(behind: Behind) -> None:
 )
 def test_paths(path: str, below: str) -> None:
     assert path_below("/olr", path) == below and path_below("", path) == path
+
+
+@pytest.mark.parametrize(
+    "said, prefix",
+    [
+        (["/maps/olr"], "/maps/olr"),
+        (["/theirs", "/own"], "/own"),
+        (["/" + "x" * (MOST_PREFIX - 1)], "/" + "x" * (MOST_PREFIX - 1)),
+        (["/" + "x" * MOST_PREFIX], None),
+        ([], None),
+        ([""], None),
+        (["/"], None),
+        (["maps"], None),
+        (["//evil.example"], None),
+        (["/maps/"], None),
+        (["/maps/.."], None),
+        (["/a, /b"], None),
+        (["/<b>"], None),
+        (["/olr\n"], None),
+    ],
+)
+def test_prefixes(said: list[str], prefix: str | None) -> None:
+    """The last one, if it is a plain path."""
+    fields = [(b"x-forwarded-prefix", text.encode()) for text in said]
+    assert Peers().prefix_before([(b"host", b"x"), *fields]) == prefix
+
+
+def test_a_path_that_a_proxy_says(behind: Behind, program: Program, tmp_path: Path) -> None:
+    """For that request. Of others none is believed, and nginx drops those of its clients."""
+    for prefix, expected in (("/maps", "/maps"), ("//evil.example", "/olr")):
+        said = {"X_Forwarded_Prefix": prefix}
+        found = json.loads(behind.server.get("/openapi.json", **said).body)
+        assert found["servers"] == [{"url": expected}]
+        for path, headers in (
+            (f"{expected}/match", said),
+            ("/show", said | {"Upgrade": "x", "Connection": "upgrade"}),
+        ):
+            refused = json.loads(behind.server.get(path, **headers).body)
+            assert refused["type"] == f"{expected}/docs#BadRequest"
+        assert json.loads(behind.get("/olr/openapi.json", **said).body)["servers"] == [
+            {"url": "/olr"}
+        ]
+    with serving(program.path, TOP / "examples", tmp_path / "log") as server:
+        found = json.loads(server.get("/openapi.json", X_Forwarded_Prefix="/maps").body)
+        assert found["servers"] == [{"url": "/"}]
