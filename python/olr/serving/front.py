@@ -112,12 +112,13 @@ class Front:
         """Counts a request, and logs it if that is asked for. What it asked for isn't logged."""
         address = scope["path"] if scope["path"] in self._addresses else OTHER
         self._meters.count(address, status, seconds)
-        note_request(client_of(scope), scope["method"], address, status, seconds)
+        alike = client_of(scope), scope["method"], address, status
+        note_request(alike, seconds, scope["request_id"])
 
     def refused(self, client: str, problem: Problem, seconds: float) -> None:
         """Counts and logs a request that was refused before its head was read."""
         self._meters.count(OTHER, problem.status, seconds)
-        note_request(client, "-", OTHER, problem.status, seconds)
+        note_request((client, "-", OTHER, problem.status), seconds, "-")
 
 
 def request_id_of(scope: Scope) -> str:
