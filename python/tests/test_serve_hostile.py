@@ -448,8 +448,7 @@ LINE = re.compile(
 
 
 def test_what_is_logged(program: Program, tmp_path: Path) -> None:
-    """A line for each request if that is asked for, in which nothing is from the request but the address and its name. What isn't HTTP has one too.
-    """
+    """A line for each request if that is asked for, in which nothing is from the request but the address and its name. What isn't HTTP has one too."""
     with serving(program.path, EXAMPLES, tmp_path / "log", "--log", "requests") as server:
         refused = server.get("/match?ref=%0aolr-tools:%20secret", X_Request_Id="a b")
         server.get("/secret%0asecret", X_Request_Id="mine")
