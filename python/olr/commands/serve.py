@@ -140,8 +140,9 @@ class Address(click.ParamType):
     multiple=True,
     type=Address(),
     metavar="ADDRESS",
-    help="The address of a server in front of it, whose fields X-Forwarded-For and X-Forwarded-Prefix say who asks, and below which path. May be given "
-    "several times. By default there is none, and whoever is connected asks. One client has a part of what the server does at once.",
+    help="The address of a server in front of it, whose field X-Forwarded-For says who asks, and X-Forwarded-Prefix below "
+    "which path. May be given several times. By default there is none, and whoever is connected asks. One client has a part of what the "
+    "server does at once.",
 )
 @click.option(
     "--root-path",

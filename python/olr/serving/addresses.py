@@ -261,7 +261,7 @@ class _Answers:
 
 @lru_cache(maxsize=KINDS)
 def _asked_of(program: str, version: Version, kind: Kind) -> bytes:
-    """What is asked, but for the reference, of what. No part has a line end."""
+    """What a tag depends on besides the reference and the cursor. No part has a line end."""
     return "\n".join([program, *map(str, version), kind.what, *kind.words, ""]).encode()
 
 

@@ -5,6 +5,7 @@ from collections.abc import Iterable
 from ipaddress import IPv6Address, ip_address, ip_network
 from starlette.types import Scope
 
+from olr.serving.accepting import Field
 from olr.serving.problems import busy
 
 BITS_OF_CLIENT = 64
@@ -18,7 +19,6 @@ PREFIX = re.compile(r"(/[A-Za-z0-9_~-][A-Za-z0-9._~-]*)*")
 """A path below which a server in front has this one, or none."""
 MOST_PREFIX = 200
 """Letters of such a path that is said with a request."""
-Fields = Iterable[tuple[bytes, bytes]]
 
 
 def plain_address(text: str) -> str:
@@ -59,20 +59,20 @@ class Peers:
         """Whether an address is that of a proxy."""
         return plain_address(address) in self._proxies
 
-    def client_behind(self, fields: Fields) -> str | None:
+    def client_behind(self, fields: Iterable[Field]) -> str | None:
         """The client that a proxy speaks for: the last address of X-Forwarded-For, which the proxy itself has put there. None if it says
         nothing that is one."""
         said = _last(fields, FORWARDED)
         return None if said is None else client_at(said.rpartition(",")[2].strip())
 
-    def prefix_before(self, fields: Fields) -> str | None:
+    def prefix_before(self, fields: Iterable[Field]) -> str | None:
         """The path below which a proxy has the server, by X-Forwarded-Prefix. None if it says nothing that is one."""
         said = _last(fields, PREFIXED)
         is_one = said and len(said) <= MOST_PREFIX and PREFIX.fullmatch(said)
         return said if is_one else None
 
 
-def _last(fields: Fields, wanted: bytes) -> str | None:
+def _last(fields: Iterable[Field], wanted: bytes) -> str | None:
     """The last field of that name."""
     values = [value for name, value in fields if name == wanted]
     return values[-1].decode("latin-1") if values else None

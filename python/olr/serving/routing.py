@@ -1,7 +1,7 @@
 """Which address answers a request.
 
 Starlette's application asks one route after the other whether a path is its own, and hands each part of an answer through three layers: a
-tenth of the server's time for a short one. The addresses here have no parameters.
+twentieth of the server's time for a short one. The addresses here have no parameters.
 """
 
 from collections.abc import Callable, Sequence

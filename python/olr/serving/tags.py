@@ -25,7 +25,7 @@ def tags_of(request: Request) -> Sequence[str]:
 
 
 def tagged(response: Response, tag: str, fields: Sequence[Field] = ()) -> Response:
-    """An answer, to which its tag is added and other fields. They are bytes: to make all of texts, as Starlette does, takes three times as long."""
+    """An answer, to which its tag is added and other fields. They are bytes: to make them of texts, as Starlette does, takes twice as long."""
     response.raw_headers += [*fields, (b"etag", tag.encode()), CACHING]
     return response
 
