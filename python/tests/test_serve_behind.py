@@ -1,5 +1,6 @@
 """`olr-tools serve` behind nginx, as docs/SERVE.md shows it: at another port, and below a path."""
 
+import http.client
 import json
 import pytest
 import re
@@ -14,7 +15,8 @@ from urllib.parse import urldefrag, urljoin, urlsplit
 
 from conftest import REFERENCE, TOP, Program
 from olr.serving.front import path_below
-from servers import Reply, Server, expected_of, path_of, serving, wait_until
+from olr.serving.peers import MOST_PREFIX, Peers
+from servers import SECONDS, Reply, Server, expected_of, path_of, reply_on, serving, wait_until
 
 LOGIN = {"Authorization": f"Basic {b64encode(b'me:secret').decode()}"}
 LINES = f"1\t{REFERENCE}\n2\tCwVG\n" * 500
@@ -81,7 +83,8 @@ def configured(folder: Path, port: int, behind: int) -> Path:
 def behind(program: Program, tmp_path_factory: pytest.TempPathFactory) -> Iterator[Behind]:
     """A server on the example's town, behind nginx."""
     folder, port = tmp_path_factory.mktemp("nginx"), free_port()
-    options = ("--root-path", "/olr", "--allow-host", f"olr.example:{port}")
+    options = ["--root-path", "/olr", "--allow-host", f"olr.example:{port}"]
+    options += ["--proxy", "127.0.0.1", "--log", "requests"]
     with serving(program.path, TOP / "examples", folder / "log", *options) as server:
         file = configured(folder, port, server.port)
         command = ["/usr/sbin/nginx", "-e", f"{folder}/errors", "-c", str(file)]
@@ -182,3 +185,62 @@ def test_a_path_that_is_passed_on(behind: Behind) -> None:
 )
 def test_paths(path: str, below: str) -> None:
     assert path_below("/olr", path) == below and path_below("", path) == path
+
+
+def test_clients_are_told_apart(behind: Behind) -> None:
+    """Each has a part of what the server does at once, by the address that nginx says, whatever it says itself."""
+    for address in ("127.0.0.2", "127.0.0.3"):
+        connection = http.client.HTTPConnection("127.0.0.1", behind.port, SECONDS, (address, 0))
+        headers = {"Host": f"olr.example:{behind.port}", "X-Forwarded-For": "192.0.2.7", **LOGIN}
+        reply = reply_on(
+            connection, "/olr/show?ref=x", "GET", None, X_Request_Id=address, **headers
+        )
+        connection.close()
+        assert reply.status == 422
+        said = rf"(?m) {re.escape(address)} GET /show 422, .* ms, {re.escape(address)}$"
+        wait_until(lambda: bool(re.search(said, behind.server.log())))
+
+
+@pytest.mark.parametrize(
+    "said, prefix",
+    [
+        (["/maps/olr"], "/maps/olr"),
+        (["/theirs", "/own"], "/own"),
+        (["/" + "x" * (MOST_PREFIX - 1)], "/" + "x" * (MOST_PREFIX - 1)),
+        (["/" + "x" * MOST_PREFIX], None),
+        ([], None),
+        ([""], None),
+        (["/"], None),
+        (["maps"], None),
+        (["//evil.example"], None),
+        (["/maps/"], None),
+        (["/maps/.."], None),
+        (["/a, /b"], None),
+        (["/<b>"], None),
+        (["/olr\n"], None),
+    ],
+)
+def test_prefixes(said: list[str], prefix: str | None) -> None:
+    """The last one, if it is a plain path."""
+    fields = [(b"x-forwarded-prefix", text.encode()) for text in said]
+    assert Peers().prefix_before([(b"host", b"x"), *fields]) == prefix
+
+
+def test_a_path_that_a_proxy_says(behind: Behind, program: Program, tmp_path: Path) -> None:
+    """For that request. Of others none is believed, and nginx drops those of its clients."""
+    for prefix, expected in (("/maps", "/maps"), ("//evil.example", "/olr")):
+        said = {"X_Forwarded_Prefix": prefix}
+        found = json.loads(behind.server.get("/openapi.json", **said).body)
+        assert found["servers"] == [{"url": expected}]
+        for path, headers in (
+            (f"{expected}/match", said),
+            ("/show", said | {"Upgrade": "x", "Connection": "upgrade"}),
+        ):
+            refused = json.loads(behind.server.get(path, **headers).body)
+            assert refused["type"] == f"{expected}/docs#BadRequest"
+        assert json.loads(behind.get("/olr/openapi.json", **said).body)["servers"] == [
+            {"url": "/olr"}
+        ]
+    with serving(program.path, TOP / "examples", tmp_path / "log") as server:
+        found = json.loads(server.get("/openapi.json", X_Forwarded_Prefix="/maps").body)
+        assert found["servers"] == [{"url": "/"}]

@@ -442,22 +442,24 @@ def test_own_addresses_alone(program: Program, tmp_path: Path) -> None:
 
 
 LINE = re.compile(
-    r"\d{4}-\d\d-\d\dT\d\d:\d\d:\d\d\.\d{3}[+-]\d\d:\d\d olr-tools: 127\.0\.0\.1 (\S+ \S+ \d+), \d+\.\d ms"
+    r"\d{4}-\d\d-\d\dT\d\d:\d\d:\d\d\.\d{3}[+-]\d\d:\d\d olr-tools: 127\.0\.0\.1 (\S+ \S+ \d+), \d+\.\d ms, (\S+)"
 )
-"""A line for a request: the time, the client, the method, the address, the status and how long it took."""
+"""A line for a request: the time, the client, the method, the address, the status, how long it took, and its name."""
 
 
 def test_what_is_logged(program: Program, tmp_path: Path) -> None:
-    """A line for each request if that is asked for, in which nothing is from the request but the address. What isn't HTTP has one too."""
+    """A line for each request if that is asked for, in which nothing is from the request but the address and its name. What isn't HTTP has one too."""
     with serving(program.path, EXAMPLES, tmp_path / "log", "--log", "requests") as server:
-        server.get("/match?ref=%0aolr-tools:%20secret")
-        server.get("/secret%0asecret")
+        refused = server.get("/match?ref=%0aolr-tools:%20secret", X_Request_Id="a b")
+        server.get("/secret%0asecret", X_Request_Id="mine")
         said_to(server, b"nonsense\r\n\r\n")
         server.get("/match?ref=" + "A" * 9000)
         wait_until(lambda: server.log().count("\n") == 4)
         found = [LINE.fullmatch(line) for line in server.log().splitlines()]
         said = [line[1] for line in found if line]
         assert said == ["GET /match 422", "GET other 404", "- other 400", "- other 414"]
+        names = [line[2] for line in found if line]
+        assert names == [refused.headers["x-request-id"], "mine", "-", "-"]
         assert server.figure('olr_requests_total{address="other",status="414"}') == 1
 
 

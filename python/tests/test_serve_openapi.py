@@ -3,12 +3,14 @@
 import json
 import pytest
 import re
+import shutil
 from collections.abc import Iterator
 from jsonschema import Draft4Validator, RefResolver
 from jsonschema.validators import extend
 from pathlib import Path
 from typing import Any, cast
 
+from bad_programs import bad_program
 from conftest import REFERENCE, TOP, Program
 from olr.confidence.confidence import Confidence
 from olr.model.questions import NUMBERS
@@ -18,7 +20,7 @@ from olr.serving.meters import Meters
 from olr.serving.openapi import document
 from olr.serving.schemas import OF_QUESTION, examples
 from olr.serving.served import Served
-from servers import Reply, Server, path_of, serving
+from servers import Reply, Server, path_of, serving, wait_until
 
 OPENAPI = Path("/usr/share/openapi-specification/schemas/v3.0/schema.json")
 KIOSK, FAR, DAMAGED = "KwVGnCN20HPDBwFCATFjT5Y=", "CwVGnSN2zhtnBgEB/2IjAQ==", "CwVG"
@@ -71,6 +73,12 @@ class Document:
             self.require(json.loads(text), content["schema"])
         self.seen.add((address, method.lower(), status))
 
+    def status_of(self, path: str, method: str, reply: Reply) -> int:
+        """The status of an answer, which is one of those of its address, and is read by its own schema."""
+        self.read(path, method, reply)
+        assert (path.partition("?")[0], method.lower(), str(reply.status)) in self.seen
+        return reply.status
+
 
 @pytest.fixture(scope="module")
 def server(program: Program, tmp_path_factory: pytest.TempPathFactory) -> Iterator[Server]:
@@ -104,7 +112,7 @@ def test_all_addresses_are_in_it(described: Document) -> None:
     service = Service(
         cast(Served, None), Limits(), Meters(cast(Served, None)), Confidence.default()
     )
-    paths = {getattr(route, "path") for route in application(service).routes}
+    paths = set(application(service).paths)
     assert {it for it in paths - OWN if not it.startswith("/assets/")} == set(
         described.about["paths"]
     )
@@ -189,6 +197,34 @@ def test_what_a_page_asks(text: str, server: Server, described: Document) -> Non
 def test_what_is_said_of_the_server(server: Server, described: Document) -> None:
     for path in ("/health", "/ready", "/maps", "/metrics"):
         described.read(path, "GET", server.get(path))
+
+
+@pytest.mark.parametrize("way, seconds, status", [("exits", 30, 503), ("hangs", 0.5, 504)])
+def test_a_program_that_fails(
+    way: str, seconds: float, status: int, program: Program, described: Document, tmp_path: Path
+) -> None:
+    bad = bad_program(tmp_path / "bad", program, {REFERENCE: way})
+    options = ("--time-limit", seconds)
+    with serving(bad, TOP / "examples", tmp_path / "log", *options) as server:
+        for what in (*NUMBERS, "scene"):
+            path = path_of(what, REFERENCE)
+            assert described.status_of(path, "GET", server.get(path)) == status
+        for what in NUMBERS:
+            kind, body = "application/json", json.dumps({"ref": REFERENCE})
+            reply = server.get(f"/{what}", "POST", body, Content_Type=kind)
+            assert described.status_of(f"/{what}", "POST", reply) == status
+        for path in (*(f"/batch/{what}" for what in NUMBERS), "/rows"):
+            reply = server.get(path, "POST", REFERENCE, Content_Type="text/plain")
+            assert described.status_of(path, "POST", reply) == status
+
+
+def test_files_that_have_changed(program: Program, described: Document, tmp_path: Path) -> None:
+    folder = shutil.copytree(TOP / "examples", tmp_path / "map")
+    with serving(program.path, folder, tmp_path / "log") as server:
+        (folder / "lines.csv").write_text("")
+        wait_until(lambda: server.get("/ready").status == 503)
+        for path in ("/ready", path_of("match", FAR, after="0:1")):
+            assert described.status_of(path, "GET", server.get(path)) == 503
 
 
 def test_members_that_arent_there_are_seen(described: Document) -> None:

@@ -3,8 +3,7 @@
 import asyncio
 import json
 import pytest
-from collections.abc import Awaitable, Callable
-from starlette.types import Scope
+from collections.abc import Awaitable, Callable, Sequence
 from typing import Any, cast
 
 from conftest import REFERENCE, TOP
@@ -14,7 +13,7 @@ from olr.confidence.confidence import Confidence
 from olr.errors import MapRefused, ProgramEnded, ProgramNotFound, TimedOut, ToolError
 from olr.model.fault import Fault
 from olr.serving.addresses import Service, application
-from olr.serving.allowed import allowed_for, require_allowed
+from olr.serving.allowed import Allowed, allowed_for, fields_of, require_allowed
 from olr.serving.edition import Edition
 from olr.serving.folder_map import FolderMap
 from olr.serving.front import Front
@@ -85,10 +84,11 @@ def test_cursors() -> None:
     assert refused(lambda: question_of("match", {}, 500))[2].startswith("ref is missing")
 
 
-def head_of(*fields: tuple[str, str]) -> Scope:
-    """A request with these fields."""
+def ask(fields: Sequence[tuple[str, str]], allowed: Allowed = ALLOWED) -> None:
+    """Sees whether a request with these fields is allowed."""
     pairs = [(name.lower().encode(), value.encode()) for name, value in fields]
-    return {"type": "http", "headers": pairs}
+    scope = {"type": "http", "headers": pairs}
+    require_allowed(scope, fields_of(scope), allowed)
 
 
 @pytest.mark.parametrize(
@@ -104,7 +104,7 @@ def head_of(*fields: tuple[str, str]) -> Scope:
     ],
 )
 def test_who_may_ask(fields: list[tuple[str, str]]) -> None:
-    require_allowed(head_of(*fields), ALLOWED)
+    ask(fields)
 
 
 @pytest.mark.parametrize(
@@ -125,13 +125,13 @@ def test_who_may_ask(fields: list[tuple[str, str]]) -> None:
     ],
 )
 def test_who_may_not_ask(fields: list[tuple[str, str]], status: int) -> None:
-    assert refused(lambda: require_allowed(head_of(*fields), ALLOWED))[0] == status
+    assert refused(lambda: ask(fields))[0] == status
 
 
 def test_names_at_the_port_of_the_web() -> None:
     """A browser leaves it out."""
-    require_allowed(head_of(("Host", "localhost")), allowed_for("::", 80, [], []))
-    assert refused(lambda: require_allowed(head_of(("Host", "localhost")), ALLOWED))[0] == 421
+    ask([("Host", "localhost")], allowed_for("::", 80, [], []))
+    assert refused(lambda: ask([("Host", "localhost")]))[0] == 421
 
 
 class FakeMap:

@@ -58,14 +58,15 @@ class Exchange:
 
     def receive(self, data: bytes) -> Iterator[RawLine]:
         """The lines that end in what was read. Raises `ProgramEnded` at one that isn't that of the next record, and `AnswerTooLarge`."""
-        first, *others = data.split(b"\n")
-        self._unfinished.append(first)
-        self._size += len(first)
-        if others:
-            lines = [b"".join(self._unfinished), *others[:-1]]
-            self._unfinished, self._size = others[-1:], len(others[-1])
-            for line in lines:
-                yield self._line(line)
+        begin = 0
+        # An answer has some thousand bytes, which `split` looks at one by one.
+        while (end := data.find(b"\n", begin)) >= 0:
+            line = b"".join([*self._unfinished, data[begin:end]])
+            self._unfinished, self._size = [], 0
+            begin = end + 1
+            yield self._line(line)
+        self._unfinished.append(data[begin:])
+        self._size += len(data) - begin
         if self._size > self._most:
             raise AnswerTooLarge(f"{self._program} wrote a line of more than {self._most:,} bytes")
 

@@ -15,12 +15,12 @@ from olr.serving.allowed import LOOPBACK
 from olr.serving.limits import MIB, Capacity, Limits
 from olr.serving.maps import ALONE
 from olr.serving.openapi import document
+from olr.serving.peers import PREFIX
 from olr.serving.server import Settings, serve
 
 NAME = re.compile(r"([A-Za-z0-9._-]+|\[[0-9A-Fa-f:.]+\])(:[0-9]{1,5})?")
 MAP_NAME = re.compile("[A-Za-z0-9_-]{1,64}")
 ORIGIN = re.compile(r"https?://" + NAME.pattern)
-PREFIX = re.compile(r"(/[A-Za-z0-9_~-][A-Za-z0-9._~-]*)*")
 LIMITS = Limits()
 RESERVED = {"assets", "docs", *(path.split("/")[1] for path in document(LIMITS)["paths"])}
 """What addresses begin with."""
@@ -140,8 +140,9 @@ class Address(click.ParamType):
     multiple=True,
     type=Address(),
     metavar="ADDRESS",
-    help="The address of a server in front of it, whose field X-Forwarded-For says who asks. May be given several times. By default "
-    "there is none, and whoever is connected asks. One client has a part of what the server does at once.",
+    help="The address of a server in front of it, whose field X-Forwarded-For says who asks, and X-Forwarded-Prefix below "
+    "which path. May be given several times. By default there is none, and whoever is connected asks. One client has a part of what the "
+    "server does at once.",
 )
 @click.option(
     "--root-path",

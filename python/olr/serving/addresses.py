@@ -4,8 +4,6 @@ import json
 from collections.abc import AsyncGenerator, AsyncIterator, Callable, Iterator, Mapping, Sequence
 from contextlib import aclosing
 from functools import lru_cache, partial
-from starlette.applications import Starlette
-from starlette.exceptions import HTTPException
 from starlette.requests import Request
 from starlette.responses import Response
 from starlette.routing import Route
@@ -28,8 +26,9 @@ from olr.serving.lists import Lists
 from olr.serving.meters import MEDIA_TYPE, Meters
 from olr.serving.pages import INDEX, Asset, assets, described, with_data
 from olr.serving.posted import answered_one_by_one, posted_in, records_of
-from olr.serving.problems import Problem, of_error, of_status
+from olr.serving.problems import Problem, of_error
 from olr.serving.queries import (
+    KINDS,
     Options,
     Question,
     kind_of,
@@ -39,15 +38,17 @@ from olr.serving.queries import (
     require_no_options,
 )
 from olr.serving.rooms import Room
+from olr.serving.routing import Addresses
 from olr.serving.rows import Batch, Rows, row_text
 from olr.serving.scenes import Scenes, json_of
 from olr.serving.served import IsGone, Served
 from olr.serving.streaming import Streaming
-from olr.serving.tags import headers_of, tag_of, tags_of, unchanged
+from olr.serving.tags import tag_of, tagged, tags_of, unchanged
 from olr.version import VERSION
 
 JSON = "application/json"
-VARIES = {"Vary": "Accept"}
+VARY, VARIES = (b"vary", b"Accept"), {"Vary": "Accept"}
+"""What an answer depends on that is there as GeoJSON too: as bytes, and as texts."""
 WITH_FEATURES = ("match", "places")
 """Questions whose answers are there as GeoJSON too."""
 MOST_PREFIXES = 16
@@ -86,12 +87,12 @@ class Service(NamedTuple):
     """What the addresses of all maps share."""
 
 
-def application(service: Service) -> Starlette:
-    """The application. All that isn't an answer is a problem document."""
+def application(service: Service) -> Addresses:
+    """The application."""
     shared = service.shared or Shared.of(service.limits)
     answers = _Answers(service, shared)
-    app = Starlette(
-        routes=[
+    return Addresses(
+        [
             *(
                 Route(f"/{what}", partial(answers.question, what), methods=["GET", "POST"])
                 for what in NUMBERS
@@ -110,12 +111,8 @@ def application(service: Service) -> Starlette:
             Route("/metrics", answers.metrics),
             *_pages(service),
         ],
-        exception_handlers=dict.fromkeys(
-            (Problem, ToolError, HTTPException, Exception), answers.refuse
-        ),
+        answers.problem_of,
     )
-    app.router.redirect_slashes = False
-    return app
 
 
 class _Answers:
@@ -144,22 +141,22 @@ class _Answers:
         if has_features and features.is_wanted(accept_of(request)):
             text = await self._features.of(question, request.scope["is_gone"])
             return Response(text, headers=VARIES, media_type=features.MEDIA_TYPE)
-        headers = VARIES if has_features else {}
+        fields = [VARY] if has_features else []
         known_tags = tags_of(request)
         version = self._served.unchanged() if known_tags else None
         if version is not None and (tag := self._tag(question, version)) in known_tags:
-            return unchanged(tag, headers)
+            return unchanged(tag, fields)
         known = await self._served.answer(question, request.scope["is_gone"])
         tag = self._tag(question, known.version)
         if tag in known_tags:
-            return unchanged(tag, headers)
-        return Response(known.json, headers={**headers, **headers_of(tag)}, media_type=JSON)
+            return unchanged(tag, fields)
+        return tagged(Response(known.json, media_type=JSON), tag, fields)
 
     def _tag(self, question: Question, version: Version) -> str:
-        """The tag of the answer of the program to a question on a version of the map. No part has a line end."""
+        """The tag of the answer of the program to a question on a version of the map."""
         kind, text, after = question
-        parts = [self._served.program_version(), *map(str, version), kind.what, *kind.words]
-        return tag_of("\n".join([*parts, str(after)]).encode() + b"\n" + text)
+        asked = _asked_of(self._served.program_version(), version, kind)
+        return tag_of(b"%b%a\n%b" % (asked, after, text))
 
     def _few(self, what: What, options: Options, refs: Sequence[str], request: Request) -> ASGIApp:
         """Lines about a few references, which processes answer that answer others too."""
@@ -214,9 +211,9 @@ class _Answers:
         require_no_options(options)
         tag = tag_of(f"{self._served.program_version()}\nshow\n".encode() + text)
         if tag in tags_of(request):
-            return unchanged(tag, {})
+            return unchanged(tag)
         said = await self._served.show(text)
-        return Response(said, headers=headers_of(tag), media_type=JSON)
+        return tagged(Response(said, media_type=JSON), tag)
 
     async def scene(self, request: Request) -> Response:
         """What the page draws."""
@@ -255,16 +252,17 @@ class _Answers:
         """What was counted."""
         return Response(self._service.meters.text(), headers={"Content-Type": MEDIA_TYPE})
 
-    async def refuse(self, request: Request, error: Exception) -> Response:
+    def problem_of(self, error: Problem | ToolError) -> Problem:
         """Why there is no answer. Faults of references are counted."""
         if isinstance(error, Fault):
             self._service.meters.count_fault(error.name)
-        if isinstance(error, HTTPException):
-            return of_status(error.status_code, error.headers).response(request.scope)
-        if isinstance(error, ToolError):
-            error = of_error(error)
-        problem = error if isinstance(error, Problem) else of_status(500)
-        return problem.response(request.scope)
+        return error if isinstance(error, Problem) else of_error(error)
+
+
+@lru_cache(maxsize=KINDS)
+def _asked_of(program: str, version: Version, kind: Kind) -> bytes:
+    """What a tag depends on besides the reference and the cursor. No part has a line end."""
+    return "\n".join([program, *map(str, version), kind.what, *kind.words, ""]).encode()
 
 
 async def _json_lines(

@@ -1,6 +1,6 @@
 """Who may ask: the names of the server, and the sites whose pages may."""
 
-from collections.abc import Sequence
+from collections.abc import Mapping, Sequence
 from starlette.types import Scope
 from typing import NamedTuple
 
@@ -46,10 +46,9 @@ def fields_of(scope: Scope) -> dict[bytes, bytes]:
     return {name: value.lower() for name, value in scope["headers"]}
 
 
-def require_allowed(scope: Scope, allowed: Allowed) -> None:
+def require_allowed(scope: Scope, fields: Mapping[bytes, bytes], allowed: Allowed) -> None:
     """Raises `Problem` for a request to another name, as a page makes whose own name was made to lead here, and for one that a page of
-    another site makes. A link on such a page may lead here."""
-    fields = fields_of(scope)
+    another site makes. A link on such a page may lead here. `fields` are those of `fields_of`."""
     if [name for name, _ in scope["headers"]].count(b"host") != 1:
         raise bad_request("a request has one field Host")
     host = fields[b"host"]

@@ -51,16 +51,20 @@ class _Answer:
         self._packing: "zlib._Compress | None" = None
 
     async def send(self, message: Message) -> None:
-        """Passes on a message. The head waits for the beginning of the body."""
+        """Passes on a message. Where packing is wanted the head waits for the beginning of the body."""
         if message["type"] == "http.response.start":
             message["headers"] = depending_on(message["headers"], b"Accept-Encoding")
-            self._start = message
+            if self._is_wanted:
+                self._start = message
+                return
+        if not self._is_wanted:
+            await self._send(message)
             return
         body, has_more = message.get("body", b""), message.get("more_body", False)
         start, self._start = self._start, None
         if start is not None:
             is_long = has_more or len(body) >= LEAST
-            if self._is_wanted and is_long and start["status"] not in WITHOUT_BODY:
+            if is_long and start["status"] not in WITHOUT_BODY:
                 self._packing = zlib.compressobj(LEVEL, zlib.DEFLATED, GZIP)
                 body = await _packed(self._packing, body, has_more)
                 _note(start, None if has_more else len(body))

@@ -301,7 +301,9 @@ class Connection(HttpToolsProtocol):  # type: ignore[misc]
     def on_headers_complete(self) -> None:
         """The whole head is there."""
         if self.peer is None:
-            self.scope["client"] = self._all.peers.client_behind(self.headers) or self.client[0], 0
+            peers = self._all.peers
+            self.scope["client"] = peers.client_behind(self.headers) or self.client[0], 0
+            self.scope["root_path"] = peers.prefix_before(self.headers) or self.root_path
         if not self.url.startswith(b"/"):
             self._refuse(bad_request("a request names a path"))
         if len(self.pipeline) >= MOST_AHEAD:
@@ -372,7 +374,7 @@ class Connection(HttpToolsProtocol):  # type: ignore[misc]
 
     def _say(self, problem: Problem) -> None:
         """Answers by a problem document, and closes the connection."""
-        body = problem.document(self.root_path)
+        body = problem.document(self.scope["root_path"] if self.scope else self.root_path)
         fields = [*self.server_state.default_headers, (b"content-type", MEDIA_TYPE.encode())]
         fields += [(b"content-length", b"%d" % len(body)), (b"connection", b"close")]
         head = b"".join(b"%b: %b\r\n" % field for field in fields)

@@ -1,7 +1,7 @@
 """What stands before the addresses: who may ask, how many at once, and what is counted and logged."""
 
+import random
 import re
-import secrets
 import time
 from asyncio import CancelledError, Future, Task, current_task
 from collections.abc import Mapping, Sequence
@@ -61,7 +61,7 @@ class Front:
         async def sending(message: Message) -> None:
             nonlocal status
             if message["type"] == "http.response.start":
-                status = message["status"]
+                status = status or message["status"]
                 headers = [*message.get("headers", ()), (b"x-request-id", request_id.encode())]
                 if self._allowed.others:
                     headers = depending_on(headers, b"Origin")
@@ -91,7 +91,7 @@ class Front:
     async def _answer(self, scope: Scope, fields: Fields, receive: Receive, send: Send) -> None:
         """Answers a request, if its client may ask, and hasn't asked for too much."""
         try:
-            require_allowed(scope, self._allowed)
+            require_allowed(scope, fields, self._allowed)
             app, asked = self._app, b"access-control-request-method" in fields
             is_of_other = fields.get(b"origin") in self._allowed.others
             if is_of_other and asked and scope["method"] == "OPTIONS":
@@ -100,7 +100,7 @@ class Front:
                 await app(scope, receive, send)
                 return
             has_body = scope["method"] == "POST" and not fields.keys().isdisjoint(OF_BODIES)
-            load = self._loads.taken(client_of(scope), has_body)
+            load = self._loads.taken(CLIENT.get(), has_body)
             try:
                 await app(scope, load.receiving(receive) if has_body else receive, send)
             finally:
@@ -112,12 +112,13 @@ class Front:
         """Counts a request, and logs it if that is asked for. What it asked for isn't logged."""
         address = scope["path"] if scope["path"] in self._addresses else OTHER
         self._meters.count(address, status, seconds)
-        note_request(client_of(scope), scope["method"], address, status, seconds)
+        alike = CLIENT.get(), scope["method"], address, status
+        note_request(alike, seconds, scope["request_id"])
 
     def refused(self, client: str, problem: Problem, seconds: float) -> None:
         """Counts and logs a request that was refused before its head was read."""
         self._meters.count(OTHER, problem.status, seconds)
-        note_request(client, "-", OTHER, problem.status, seconds)
+        note_request((client, "-", OTHER, problem.status), seconds, "-")
 
 
 def request_id_of(scope: Scope) -> str:
@@ -125,9 +126,10 @@ def request_id_of(scope: Scope) -> str:
     given = [value for name, value in scope["headers"] if name == b"x-request-id"]
     if len(given) == 1 and REQUEST_ID.fullmatch(given[0]):
         return str(given[0].decode())
-    return secrets.token_hex(8)
+    return f"{random.getrandbits(64):016x}"
 
 
 def path_below(root_path: str, path: str) -> str:
     """The path of an address, below the one with which all of them begin, as a server in front may pass it on, or may not."""
-    return path.removeprefix(root_path) if path.startswith(f"{root_path}/") else path
+    is_within = root_path and path.startswith(f"{root_path}/")
+    return path.removeprefix(root_path) if is_within else path

@@ -29,7 +29,9 @@ class Load:
         self._shares = all.bodies if has_body else all.requests
         # A body that is there soon is a request at work.
         all.requests.require_room(client)
-        self._shares.take(client)
+        if has_body:
+            all.bodies.require_room(client)
+        self._shares.add(client)
 
     def receiving(self, receive: Receive) -> Receive:
         """By what the body is received: when it is there the request is at work."""

@@ -17,6 +17,8 @@ MOST_CAUSES = 1000
 SECONDS = 60.0
 FORMAT = "olr-tools: %(message)s"
 REQUESTS = logging.getLogger("olr.serving.requests")
+Alike = tuple[str, str, str, int]
+"""A client, a method, an address and a status: what requests have in common of which so many are written."""
 
 
 class _Form(logging.Formatter):
@@ -98,9 +100,8 @@ async def watch() -> None:
             one.look(is_over=True)
 
 
-def note_request(client: str, method: str, address: str, status: int, seconds: float) -> None:
+def note_request(alike: Alike, seconds: float, request_id: str) -> None:
     """Notes a request that was answered, or refused."""
     if REQUESTS.isEnabledFor(logging.INFO):
-        cause = client, method, address, status
-        text = "%s %s %s %d, %.1f ms"
-        REQUESTS.info(text, *cause, seconds * 1000, extra={"cause": cause})
+        text = "%s %s %s %d, %.1f ms, %s"
+        REQUESTS.info(text, *alike, seconds * 1000, request_id, extra={"cause": alike})

@@ -1,5 +1,6 @@
 """What is counted, in the text form of Prometheus."""
 
+from functools import cache
 from prometheus_client import CollectorRegistry, Counter, Histogram, generate_latest
 from prometheus_client.core import CounterMetricFamily, GaugeMetricFamily
 from prometheus_client.registry import Collector
@@ -41,7 +42,7 @@ class Meters:
 
     def __init__(self, served: Living) -> None:
         self._registry = CollectorRegistry()
-        self._requests = Counter(
+        requests = Counter(
             "olr_requests",
             "Requests that were answered",
             ["address", "status"],
@@ -50,7 +51,7 @@ class Meters:
         self._faults = Counter(
             "olr_faults", "References without an answer", ["fault"], registry=self._registry
         )
-        self._seconds = Histogram(
+        seconds = Histogram(
             "olr_request_seconds",
             "Seconds from the head of a request to the end of its answer",
             ["address"],
@@ -58,11 +59,13 @@ class Meters:
             registry=self._registry,
         )
         self._registry.register(_Processes(served))
+        # Addresses and statuses are few, and to look a meter up takes as long as to count.
+        self._requests_of, self._seconds_of = cache(requests.labels), cache(seconds.labels)
 
     def count(self, address: str, status: int, seconds: float) -> None:
         """Counts a request that was answered."""
-        self._requests.labels(address, str(status)).inc()
-        self._seconds.labels(address).observe(seconds)
+        self._requests_of(address, status).inc()
+        self._seconds_of(address).observe(seconds)
 
     def count_fault(self, name: str) -> None:
         """Counts a reference without an answer."""

@@ -34,7 +34,7 @@ SUMMARIES: Mapping[What, str] = {
 STATUSES = {
     "400": "An option that isn't one, is out of its range or is given twice; no reference",
     "422": "A reference without an answer: the title is the name of the fault",
-    "503": "Too much is asked at once, or the map can't be read: ask again later",
+    "503": "Too much is asked at once, the program failed, or the map can't be read: ask again later",
     "504": "The program took too long",
 }
 OF_BODIES = STATUSES | {"408": "A body that came too slowly"}

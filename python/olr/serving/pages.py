@@ -17,7 +17,7 @@ from olr.serving.listing import MOST_ROWS
 from olr.serving.lists import most_bytes
 from olr.serving.problems import TITLES
 from olr.serving.queries import numbers_of
-from olr.serving.tags import headers_of, tag_of, tags_of, unchanged
+from olr.serving.tags import tag_of, tagged, tags_of, unchanged
 
 INDEX = "index.html"
 SHARED = ("base.css", "picture.css", "picture.js", "shared.css", "table.js")
@@ -39,8 +39,8 @@ class Asset(NamedTuple):
         """The answer to a request for it: no content if the browser has it already."""
         tag = tag_of(self.content)
         if tag in tags_of(request):
-            return unchanged(tag, {})
-        return Response(self.content, headers=headers_of(tag), media_type=self.media_type)
+            return unchanged(tag)
+        return tagged(Response(self.content, media_type=self.media_type), tag)
 
 
 def policy_of(tiles: str | None = None) -> str:

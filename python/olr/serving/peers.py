@@ -1,9 +1,11 @@
 """Clients by their addresses, and how much of what there is one of them has at most."""
 
+import re
 from collections.abc import Iterable
 from ipaddress import IPv6Address, ip_address, ip_network
 from starlette.types import Scope
 
+from olr.serving.accepting import Field
 from olr.serving.problems import busy
 
 BITS_OF_CLIENT = 64
@@ -12,7 +14,11 @@ PARTS = 4
 """One client has one of so many parts."""
 LEAST_PART = 8
 """Or so many things, if that is more: a browser opens six connections."""
-FORWARDED = b"x-forwarded-for"
+FORWARDED, PREFIXED = b"x-forwarded-for", b"x-forwarded-prefix"
+PREFIX = re.compile(r"(/[A-Za-z0-9_~-][A-Za-z0-9._~-]*)*")
+"""A path below which a server in front has this one, or none."""
+MOST_PREFIX = 200
+"""Letters of such a path that is said with a request."""
 
 
 def plain_address(text: str) -> str:
@@ -46,20 +52,30 @@ class Peers:
     """Who is at the other side of a connection: a client, or a proxy that speaks for many."""
 
     def __init__(self, proxies: Iterable[str] = ()) -> None:
-        """`proxies` are the addresses of proxies whose field X-Forwarded-For is believed."""
+        """`proxies` are the addresses of proxies whose fields X-Forwarded-For and X-Forwarded-Prefix are believed."""
         self._proxies = frozenset(map(plain_address, proxies))
 
     def is_proxy(self, address: str) -> bool:
         """Whether an address is that of a proxy."""
         return plain_address(address) in self._proxies
 
-    def client_behind(self, fields: Iterable[tuple[bytes, bytes]]) -> str | None:
+    def client_behind(self, fields: Iterable[Field]) -> str | None:
         """The client that a proxy speaks for: the last address of X-Forwarded-For, which the proxy itself has put there. None if it says
         nothing that is one."""
-        values = [value for name, value in fields if name == FORWARDED]
-        return (
-            client_at(values[-1].decode("latin-1").rpartition(",")[2].strip()) if values else None
-        )
+        said = _last(fields, FORWARDED)
+        return None if said is None else client_at(said.rpartition(",")[2].strip())
+
+    def prefix_before(self, fields: Iterable[Field]) -> str | None:
+        """The path below which a proxy has the server, by X-Forwarded-Prefix. None if it says nothing that is one."""
+        said = _last(fields, PREFIXED)
+        is_one = said and len(said) <= MOST_PREFIX and PREFIX.fullmatch(said)
+        return said if is_one else None
+
+
+def _last(fields: Iterable[Field], wanted: bytes) -> str | None:
+    """The last field of that name."""
+    values = [value for name, value in fields if name == wanted]
+    return values[-1].decode("latin-1") if values else None
 
 
 class Shares:

@@ -225,7 +225,7 @@ class Pool:
 
     def _feed(self, process: Process) -> None:
         """Gives a process that works, or reads the map, what waits of its kind, as much as it may have."""
-        while self._goes_on(process):
+        while self._waiting and self._goes_on(process):
             request = self._waiting.take(process.kind)
             if request is None:
                 return
@@ -291,11 +291,11 @@ class Pool:
 
     def _help(self, kind: Kind, client: str) -> None:
         """Starts one more process for a kind whose processes all work, if there is a turn and room that nobody else waits for."""
-        there = self._crew.of_kind(kind)
-        if self._others_wait(kind) or not all(one.is_ready and one.requests for one in there):
-            return
         is_default = self._crew.is_default(kind)
         if not self._crew.has_turn(is_default, client) or not self._may_start():
+            return
+        there = self._crew.of_kind(kind)
+        if self._others_wait(kind) or not all(one.is_ready and one.requests for one in there):
             return
         if not self._crew.has_room():
             unused = self._crew.victim(is_default)

@@ -101,7 +101,13 @@ def _kind(what: What, options: tuple[tuple[str, str], ...], most_look: int) -> K
     for name, number in admitted.items():
         if numbers[name] > number.greatest:
             raise bad_request(f"{name} is {number.greatest:,} at most on this server")
-    return Kind(what, tuple(all_words(numbers)))
+    return _same(Kind(what, tuple(all_words(numbers))))
+
+
+@lru_cache(maxsize=KINDS)
+def _same(kind: Kind) -> Kind:
+    """The first one that was made of equal kinds: it is compared with itself at once, and with others word by word."""
+    return kind
 
 
 def _number(name: str, value: str) -> int:

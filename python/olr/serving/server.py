@@ -132,7 +132,7 @@ async def _answer(
     )
     apps = {name: application(service._replace(served=one)) for name, one in maps.items()}
     app = apps.get(ALONE) or ByName(apps)
-    addresses = [getattr(route, "path") for route in next(iter(apps.values())).routes]
+    addresses = next(iter(apps.values())).paths
     allowed = allowed_for(settings.host, port, settings.names, settings.origins)
     front = Front(Compressing(app), addresses, allowed, meters)
     connections = Connections(

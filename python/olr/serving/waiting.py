@@ -50,7 +50,7 @@ class Waiting:
         return bool(self._defaults or self._others)
 
     def __contains__(self, kind: Kind) -> bool:
-        return kind in self._queues(kind)
+        return bool(self) and kind in self._queues(kind)
 
     def defaults(self) -> Iterable[Kind]:
         """The kinds with defaults of which some wait."""
