@@ -12,6 +12,7 @@ from conftest import REFERENCE, Program, Tools
 from olr.pages.view.scene import scene_of
 from olr.regions.making import make_store_of_folder
 from olr.serving.folder_map import FolderMap
+from olr.serving.ground import Grounds
 from olr.serving.limits import Capacity, Limits
 from olr.serving.served import Known, Versions
 from servers import path_of, serving, wait_until
@@ -116,20 +117,20 @@ def test_streets_are_those_of_the_version_that_is_served(program: Program, tmp_p
     with olr.Map(folder, program=program.path) as asked:
         matching = asked.match(drawn.text).matchings[0]
     about = {"lowest": 0}, olr.decode(drawn.text, program=program.path), matching
-    served, late = read_map_of(folder), read_map_of(folder)
-    version = served.pool.edition.version
-    assert version is not None and late.pool.edition.version == version
-    late.network()
-    versions = Versions(served)
+    versions = Versions(read_map_of(folder))
+    version = read_map_of(folder).pool.edition.version
+    assert version is not None
     versions.note(Known(b"", version))
-    streets = versions.streets(*about)
+    assert versions.are_one() and versions.map().version == version
+    grounds = Grounds()
+    streets = grounds.of(versions.map()).streets(*about)
     assert streets.is_banned(0, 1) and not streets.is_banned(0, 3)
     (folder / "bans.csv").write_text("from,to\n1,4\n")
-    assert versions.streets(*about) is streets
+    assert grounds.of(versions.map()).streets(*about) is streets
     with pytest.raises(olr.MapRefused):
-        late.streets(version, *about)
+        Grounds().of(versions.map())
+    with pytest.raises(olr.MapRefused):
+        grounds.of(versions.map()._replace(version=version._replace(bans="0")))
+    assert grounds.of(versions.map()).streets(*about) is streets
     versions.note(Known(b"", version._replace(bans="0")))
-    with pytest.raises(olr.MapRefused):
-        versions.streets(*about)
-    with pytest.raises(olr.MapRefused):
-        served.streets(version._replace(bans="0"), *about)
+    assert not versions.are_one()

@@ -39,8 +39,12 @@ RETRY_AFTER = 2
 ABREAST = 4
 """Requests that one process has at once. It answers one at a time: with the next ones at hand it doesn't wait for the server between
 two; but they wait for one that takes long."""
-MOST_ANSWER = 64 * MIB
-"""Bytes of an answer that is held in memory. A page of 1,000 matchings of 200 lines each has 6 MiB."""
+MOST_ANSWER = 32 * MIB
+"""Bytes of an answer of the program, which is held in memory. A page of 1,000 matchings of 24 points on the largest map has 18 MB."""
+MOST_MADE = 128 * MIB
+"""Bytes of GeoJSON, which is in a file. That of such a page has 63 MB."""
+MOST_TAKEN = 32
+"""Answers in files that clients take at once, 4 GiB at most."""
 MOST_UNREAD = 128 * MIB
 """Bytes of answers that clients don't take. Above it, looked at each second, connections are closed, the ones that are silent for longest
 first."""

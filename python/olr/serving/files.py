@@ -1,0 +1,41 @@
+"""Answers that are in files: a client takes them in pieces, however slowly, and nothing else is held for it."""
+
+import asyncio
+import os
+from collections.abc import Mapping
+from starlette.types import Receive, Scope, Send
+from typing import IO
+
+from olr.serving.peers import Shares, client_of
+
+PIECE = 65_536
+"""Bytes that are sent at once."""
+
+
+class FileAnswer:
+    """An answer that is all of a file, which is closed then."""
+
+    def __init__(self, file: IO[bytes], headers: Mapping[str, str], taken: Shares) -> None:
+        """`taken` counts those that clients take."""
+        self._file, self._headers, self._taken = file, headers, taken
+
+    async def __call__(self, scope: Scope, receive: Receive, send: Send) -> None:
+        """Answers a request. Raises `Problem` where too many are taken."""
+        client = client_of(scope)
+        with self._file:
+            self._taken.take(client)
+            try:
+                await self._answer(send)
+            finally:
+                self._taken.give_back(client)
+
+    async def _answer(self, send: Send) -> None:
+        size = os.fstat(self._file.fileno()).st_size
+        headers = {"Content-Length": str(size), **self._headers}
+        pairs = [(name.lower().encode(), value.encode()) for name, value in headers.items()]
+        await send({"type": "http.response.start", "status": 200, "headers": pairs})
+        for begin in range(0, size, PIECE):
+            body, has_more = os.pread(self._file.fileno(), PIECE, begin), begin + PIECE < size
+            await send({"type": "http.response.body", "body": body, "more_body": has_more})
+            # A client that takes all at once leaves nothing to wait for.
+            await asyncio.sleep(0)
