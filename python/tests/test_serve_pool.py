@@ -9,7 +9,7 @@ from pathlib import Path
 
 from asking import draw_map
 from olr.asking.processes import Kind
-from olr.errors import TimedOut, ToolError
+from olr.errors import TimedOut
 from olr.serving import process
 from olr.serving.edition import Edition
 from olr.serving.folder_map import FIRST, FolderMap

@@ -21,7 +21,7 @@ from olr.model.profiles import FEED
 from olr.model.questions import NUMBERS, What, record_text
 from olr.serving import features, openapi, streaming
 from olr.serving.accepting import field_of
-from olr.serving.files import FileAnswer
+from olr.serving.files import FileAnswer, answer_of
 from olr.serving.limits import MOST_TAKEN, Limits
 from olr.serving.lists import Lists
 from olr.serving.makers import Makers
@@ -159,7 +159,8 @@ class _Answers:
         tag = self._tag(question, known.version)
         if tag in known_tags:
             return unchanged(tag, headers)
-        return Response(known.json, headers={**headers, **headers_of(tag)}, media_type=JSON)
+        fields = {**headers, **headers_of(tag), "Content-Type": JSON}
+        return answer_of(known.json, fields, self._taken)
 
     def _tag(self, question: Question, version: Version) -> str:
         """The tag of the answer of the program to a question on a version of the map. No part has a line end."""

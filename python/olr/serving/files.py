@@ -1,15 +1,45 @@
 """Answers that are in files: a client takes them in pieces, however slowly, and nothing else is held for it."""
 
 import asyncio
+import logging
 import os
 from collections.abc import Mapping
-from starlette.types import Receive, Scope, Send
+from contextlib import ExitStack
+from starlette.responses import Response
+from starlette.types import ASGIApp, Receive, Scope, Send
+from tempfile import TemporaryFile
 from typing import IO
 
+from olr.serving.limits import MIB
 from olr.serving.peers import Shares, client_of
+from olr.serving.problems import Problem, busy
 
 PIECE = 65_536
 """Bytes that are sent at once."""
+LARGE = MIB
+"""Bytes above which an answer is put into a file: in memory those that clients don't take would add up."""
+log = logging.getLogger("olr.serving")
+
+
+def answer_of(body: bytes, headers: Mapping[str, str], taken: Shares) -> ASGIApp:
+    """An answer with a body, which is put into a file if it is large. Raises `Problem` if it can't be."""
+    if len(body) <= LARGE:
+        return Response(body, headers=headers)
+    try:
+        with ExitStack() as files:
+            file = files.enter_context(TemporaryFile())
+            file.write(body)
+            file.flush()
+            files.pop_all()
+    except OSError as error:
+        raise not_kept(error) from error
+    return FileAnswer(file, headers, taken)
+
+
+def not_kept(error: OSError) -> Problem:
+    """The problem of an answer that can't be put into a file."""
+    log.warning("an answer can't be kept: %s", error)
+    return busy("the answer can't be kept")
 
 
 class FileAnswer:

@@ -10,13 +10,15 @@ import pickle
 import socket
 import sys
 from asyncio.subprocess import DEVNULL, Process
+from contextlib import suppress
 from tempfile import TemporaryFile
 from typing import IO, NamedTuple
 
 from olr.asking.starting import command_of, kill_group_of
 from olr.errors import ProgramEnded
+from olr.serving.files import not_kept
 from olr.serving.limits import MIB, MOST_MADE, Limits
-from olr.serving.problems import Problem, busy
+from olr.serving.problems import Problem
 from olr.serving.rooms import Room
 from olr.serving.runs import python_words
 from olr.serving.served import IsGone
@@ -61,8 +63,7 @@ class Makers:
                 if error.errno == errno.EFBIG:
                     text = f"the answer has more than {MOST_MADE:,} bytes: ask for fewer matchings or places"
                     raise Problem(422, "AnswerTooLarge", text) from error
-                log.warning("an answer can't be kept: %s", error)
-                raise busy("the answer can't be kept") from error
+                raise not_kept(error) from error
 
     async def close(self) -> None:
         """Ends all processes."""
@@ -184,7 +185,9 @@ class _Forked:
 
     async def ended(self) -> None:
         """Waits for the answer. Raises the error for which there is none, and `ProgramEnded`."""
-        said = await asyncio.get_running_loop().sock_recv(self._asked, MOST_MESSAGE)
+        said = b""
+        with suppress(ConnectionError):
+            said = await asyncio.get_running_loop().sock_recv(self._asked, MOST_MESSAGE)
         if not said:
             raise ProgramEnded("a process that makes GeoJSON and scenes ended")
         error = pickle.loads(said)
