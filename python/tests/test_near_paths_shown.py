@@ -14,7 +14,10 @@ from olr.regions.making import make_store_of_folder
 from olr.serving.folder_map import FolderMap
 from olr.serving.ground import Grounds
 from olr.serving.limits import Capacity, Limits
+from olr.serving.queries import kind_of
+from olr.serving.scene_texts import streets_for
 from olr.serving.served import Known, Versions
+from olr.serving.tasks import JudgedBy, MapVersion, SceneTask
 from servers import path_of, serving, wait_until
 from test_near_paths import block
 
@@ -134,3 +137,12 @@ def test_streets_are_those_of_the_version_that_is_served(program: Program, tmp_p
     assert grounds.of(versions.map()).streets(*about) is streets
     versions.note(Known(b"", version._replace(bans="0")))
     assert not versions.are_one()
+    judged_by = JudgedBy(kind_of("places", {}, 10), None)
+    task = SceneTask(judged_by, drawn.text, b"", b"", b"", b"", None, True, None, None)
+    _, reference, matching = about
+    ground = grounds.of(
+        MapVersion(tuple((folder / it) for it in ("nodes.csv", "lines.csv", "bans.csv")), version)
+    )
+    assert streets_for(task, ground, reference, matching) is streets
+    with pytest.raises(olr.MapRefused):
+        streets_for(task._replace(has_bans=False), ground, reference, matching)

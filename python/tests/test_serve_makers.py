@@ -152,6 +152,8 @@ def test_versions_of_a_map(drawn: Path, tmp_path: Path) -> None:
         with pytest.raises(MapRefused):
             await made_of(asked, old, task_of())
         await made_of(asked, new, task_of())
+        while tasks_of(os.getpid()):
+            await asyncio.sleep(0.05)
 
     with_makers(run)
 
@@ -232,6 +234,11 @@ def test_makers_that_are_killed(map: MapVersion, caplog: pytest.LogCaptureFixtur
                 with suppress(ProcessLookupError):
                     os.kill(one, signal.SIGCONT)
             await made_of(asked, map, task_of())
+
+        (alone,) = makers_of(os.getpid())
+        os.kill(alone, signal.SIGKILL)
+        # One is made by the process that waits still.
+        await asyncio.gather(*(made_of(asked, map, task_of()) for _ in range(2)))
 
     with_makers(run)
     assert "ended with the status -9" in caplog.text

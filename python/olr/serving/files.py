@@ -38,7 +38,7 @@ def answer_of(body: bytes, headers: Mapping[str, str], taken: Shares) -> ASGIApp
 
 def not_kept(error: OSError) -> Problem:
     """The problem of an answer that can't be put into a file."""
-    log.warning("an answer can't be kept: %s", error)
+    log.warning("an answer can't be made or kept: %s", error)
     return busy("the answer can't be kept")
 
 

@@ -18,12 +18,14 @@ from typing import NoReturn
 from olr.confidence.confidence import Confidence
 from olr.errors import ToolError
 from olr.serving import feature_texts, row_texts, scene_texts
-from olr.serving.ground import Ground, Grounds
+from olr.serving.ground import Ground, Grounds, StoreGround
 from olr.serving.limits import MIB, MOST_MADE
 from olr.serving.tasks import MOST_MESSAGE, FeaturesTask, LinesTask, SceneTask, Task
 
-MOST_MEMORY = 512 * MIB
-"""Bytes that one process may take besides what it shares."""
+MOST_MEMORY = 128 * MIB
+"""Bytes that one process may take besides what it shares. GeoJSON of 1,000 matchings of 24 points on the largest map takes 40 MiB."""
+MOST_OF_STORE = 384 * MIB
+"""So many of a store: it reads the lines around a place by itself, as many as the largest map has at most."""
 PAGE = resource.getpagesize()
 
 
@@ -52,7 +54,7 @@ def _work(asked: socket.socket, ground: Ground | ToolError) -> NoReturn:
     """Makes what is asked for, until the server has closed the socket."""
     try:
         _end_with(asked)
-        _limit(MOST_MEMORY, MOST_MADE)
+        _limit(MOST_OF_STORE if isinstance(ground, StoreGround) else MOST_MEMORY, MOST_MADE)
         while descriptors := socket.recv_fds(asked, 1, 1)[1]:
             asked.send(pickle.dumps(_made(descriptors[0], ground)))
     except ConnectionError:

@@ -10,7 +10,7 @@ import pickle
 import socket
 import sys
 from asyncio.subprocess import DEVNULL, Process
-from contextlib import suppress
+from contextlib import ExitStack, suppress
 from tempfile import TemporaryFile
 from typing import IO, NamedTuple
 
@@ -46,15 +46,13 @@ class Makers:
         large, or can't be kept."""
         async with self._room.place(is_gone):
             try:
-                file = TemporaryFile()
-                try:
+                with ExitStack() as files:
+                    file = files.enter_context(TemporaryFile())
                     pickle.dump(task, file)
                     file.flush()
                     await self._make(map, file)
                     file.seek(0)
-                except BaseException:
-                    file.close()
-                    raise
+                    files.pop_all()
                 return file
             except MemoryError as error:
                 text = "making the answer takes too much memory: ask for fewer matchings or places"
@@ -67,8 +65,9 @@ class Makers:
 
     async def close(self) -> None:
         """Ends all processes."""
-        while self._idle:
-            self._idle.pop().close()
+        for one in self._idle:
+            one.waiting.cancel()
+            one.close()
         if self._maker is not None:
             self._maker.kill()
             await self._maker.ended()
@@ -78,7 +77,8 @@ class Makers:
         forked = self._idle_of(map)
         if forked is None or not forked.ask(file):
             forked = await self._new(map)
-            forked.ask(file)
+            if not forked.ask(file):
+                raise _ended()
         try:
             await forked.ended()
         except BaseException:
@@ -103,8 +103,8 @@ class Makers:
         """A process of a version of a map that waits. Those of other versions of it end."""
         for one in [one for one in self._idle if one.map.files == map.files]:
             self._idle.remove(one)
+            one.waiting.cancel()
             if one.map == map:
-                one.waiting.cancel()
                 return one
             one.close()
         return None
@@ -179,7 +179,7 @@ class _Forked:
         try:
             socket.send_fds(self._asked, [b"."], [file.fileno()])
         except ConnectionError:
-            self._asked.close()
+            self.close()
             return False
         return True
 
@@ -189,7 +189,7 @@ class _Forked:
         with suppress(ConnectionError):
             said = await asyncio.get_running_loop().sock_recv(self._asked, MOST_MESSAGE)
         if not said:
-            raise ProgramEnded("a process that makes GeoJSON and scenes ended")
+            raise _ended()
         error = pickle.loads(said)
         if error is not None:
             raise error
@@ -197,6 +197,11 @@ class _Forked:
     def close(self) -> None:
         """Ends it."""
         self._asked.close()
+
+
+def _ended() -> ProgramEnded:
+    """The error of an answer whose process has ended."""
+    return ProgramEnded("a process that makes GeoJSON and scenes ended")
 
 
 def _sockets() -> tuple[socket.socket, socket.socket]:

@@ -28,7 +28,7 @@ def text_of(task: SceneTask, ground: Ground) -> bytes:
     answered = _answered(task, network.digest)
     (judgement,) = judgements_of([answered], network, chosen.judging)
     scene = scene_of_answers(answered, network, judgement, chosen.judging.confidence)
-    streets = partial(_streets, task, ground)
+    streets = partial(streets_for, task, ground)
     scene |= notes_of(scene, answered, network, numbers["lowest"], streets)
     box = box_of(scene)
     scene["lines"], scene["cut"] = ground.around(box).lines(box)
@@ -59,7 +59,7 @@ def _answered(task: SceneTask, digest: str | None) -> Answered:
     )
 
 
-def _streets(task: SceneTask, ground: Ground, asked: Reference, matching: Matching) -> Streets:
+def streets_for(task: SceneTask, ground: Ground, asked: Reference, matching: Matching) -> Streets:
     """The lines and bans for a matching. Raises `ToolError`, and `MapRefused` if the answers are of several versions, of which only the bans differ."""
     if not task.has_bans:
         raise MapRefused("the bans are of another version of the map")
