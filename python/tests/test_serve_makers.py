@@ -237,6 +237,8 @@ def test_makers_that_are_killed(map: MapVersion, caplog: pytest.LogCaptureFixtur
 
         (alone,) = makers_of(os.getpid())
         os.kill(alone, signal.SIGKILL)
+        while is_running(alone):
+            await asyncio.sleep(0.02)
         # One is made by the process that waits still.
         await asyncio.gather(*(made_of(asked, map, task_of()) for _ in range(2)))
 
