@@ -23,7 +23,7 @@ from typing import IO, Any, cast
 from asking import draw_map, draw_references
 from conftest import Program
 from fake_pool import run_within
-from olr.asking.files import MapFiles
+from olr.asking.files import MapFiles, Version
 from olr.errors import MapRefused, ProgramEnded, ToolError
 from olr.model.fault import Fault
 from olr.serving import files, maker
@@ -134,6 +134,17 @@ def test_processes_that_wait(map: MapVersion) -> None:
     with_makers(run)
 
 
+def test_an_answer_that_is_shorter_than_its_task(map: MapVersion) -> None:
+    """Nothing is left behind it."""
+    task = task_of(candidates=b'{"points":[%b]}' % (b" " * 10_000))
+
+    async def run(asked: Makers) -> None:
+        made = await made_of(asked, map, task)
+        assert json.loads(made)["features"] and len(made) < 10_000
+
+    with_makers(run)
+
+
 def test_versions_of_a_map(drawn: Path, tmp_path: Path) -> None:
     """Another version takes the place of the one that is there, and then that one is refused: nothing is made of it."""
     folder = Path(shutil.copytree(drawn, tmp_path / "map"))
@@ -146,6 +157,9 @@ def test_versions_of_a_map(drawn: Path, tmp_path: Path) -> None:
         for name in ("nodes.csv", "lines.csv"):
             shutil.copy(other / name, folder / name)
         # What was read is there still.
+        await made_of(asked, old, task_of())
+        with pytest.raises(MapRefused):
+            await made_of(asked, old._replace(version=Version("0", None)), task_of())
         await made_of(asked, old, task_of())
         new = old._replace(version=MapFiles.of_folder(folder).found())
         await made_of(asked, new, task_of())
@@ -270,7 +284,11 @@ class Working:
     def end(self) -> None:
         """Closes the socket, and waits until it has ended."""
         self.server.close()
-        wait_until(lambda: os.waitpid(self.pid, os.WNOHANG)[0] == self.pid)
+        try:
+            wait_until(lambda: os.waitpid(self.pid, os.WNOHANG)[0] == self.pid, 10)
+        except AssertionError:
+            os.kill(self.pid, signal.SIGKILL)
+            raise
 
 
 def test_a_process_that_works_ends_with_its_client() -> None:

@@ -46,21 +46,23 @@ class FileAnswer:
     """An answer that is all of a file, which is closed then."""
 
     def __init__(self, file: IO[bytes], headers: Mapping[str, str], taken: Shares) -> None:
-        """`taken` counts those that clients take."""
+        """`taken` counts those of several pieces that clients take."""
         self._file, self._headers, self._taken = file, headers, taken
 
     async def __call__(self, scope: Scope, receive: Receive, send: Send) -> None:
         """Answers a request. Raises `Problem` where too many are taken."""
         client = client_of(scope)
         with self._file:
+            size = os.fstat(self._file.fileno()).st_size
+            if size <= PIECE:
+                return await self._answer(send, size)
             self._taken.take(client)
             try:
-                await self._answer(send)
+                await self._answer(send, size)
             finally:
                 self._taken.give_back(client)
 
-    async def _answer(self, send: Send) -> None:
-        size = os.fstat(self._file.fileno()).st_size
+    async def _answer(self, send: Send, size: int) -> None:
         headers = {"Content-Length": str(size), **self._headers}
         pairs = [(name.lower().encode(), value.encode()) for name, value in headers.items()]
         await send({"type": "http.response.start", "status": 200, "headers": pairs})

@@ -1,6 +1,6 @@
 """What answers are made of besides what the program says: the geometries of a map, the lines around a place, and the turns between lines."""
 
-from collections.abc import Callable, Mapping
+from collections.abc import Mapping
 from contextlib import suppress
 from functools import cached_property
 from typing import Protocol
@@ -35,10 +35,8 @@ class Ground(Protocol):
 class FolderGround:
     """A version of a folder's map, of which all is read at once: processes that are forked then share it."""
 
-    def __init__(self, map: MapVersion) -> None:
-        """Reads it, which takes seconds. Raises `ToolError`, and `MapRefused` if the files are of another version."""
-        files = MapFiles(map.files[0], map.files[1], map.files[2] if map.files[2:] else None)
-        files.keep(map.version)
+    def __init__(self, files: MapFiles) -> None:
+        """Reads files whose version is known, which takes seconds. Raises `ToolError`, and `MapRefused` if they are of another version."""
         with files.reading():
             self.network = Network(files.nodes, files.lines)
         with suppress(ToolError):
@@ -94,13 +92,20 @@ class Grounds:
         self._there: dict[tuple[object, ...], tuple[MapVersion, Ground]] = {}
 
     def of(self, map: MapVersion) -> Ground:
-        """A version of a map, which is read if it isn't there. Raises as `FolderGround`: then the one that is there stays."""
+        """A version of a map, which is read if it isn't there. Raises `ToolError`, and `MapRefused` if the files are of another version: then
+        the one that is there stays."""
         there = self._there.get(map.files)
         if there is not None and there[0] == map:
             return there[1]
-        kind: Callable[[MapVersion], Ground] = FolderGround
+        ground: Ground
         if len(map.files) == 1:
-            kind = StoreGround
-        ground = kind(map)
+            ground = StoreGround(map)
+        else:
+            files = MapFiles(map.files[0], map.files[1], map.files[2] if map.files[2:] else None)
+            files.keep(map.version)
+            # Both at once would take twice as much.
+            self._there.pop(map.files, None)
+            del there
+            ground = FolderGround(files)
         self._there[map.files] = map, ground
         return ground

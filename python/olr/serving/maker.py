@@ -20,7 +20,7 @@ from olr.errors import ToolError
 from olr.serving import feature_texts, row_texts, scene_texts
 from olr.serving.ground import Ground, Grounds, StoreGround
 from olr.serving.limits import MIB, MOST_MADE
-from olr.serving.tasks import MOST_MESSAGE, FeaturesTask, LinesTask, SceneTask, Task
+from olr.serving.tasks import MOST_MESSAGE, FeaturesTask, LinesTask, MapVersion, SceneTask, Task
 
 MOST_MEMORY = 128 * MIB
 """Bytes that one process may take besides what it shares. GeoJSON of 1,000 matchings of 24 points on the largest map takes 40 MiB."""
@@ -40,14 +40,19 @@ def main(_: list[str]) -> int:
             if not message:
                 return 0
             with socket.socket(fileno=descriptors[0]) as asked:
-                try:
-                    ground: Ground | ToolError = grounds.of(pickle.loads(message))
-                except ToolError as error:
-                    ground = error
-                gc.freeze()
-                if os.fork() == 0:
-                    control.close()
-                    _work(asked, ground)
+                _fork(control, asked, grounds, pickle.loads(message))
+
+
+def _fork(control: socket.socket, asked: socket.socket, grounds: Grounds, map: MapVersion) -> None:
+    """Forks a process that makes what is asked for on a socket."""
+    try:
+        ground: Ground | ToolError = grounds.of(map)
+    except ToolError as error:
+        ground = error
+    gc.freeze()
+    if os.fork() == 0:
+        control.close()
+        _work(asked, ground)
 
 
 def _work(asked: socket.socket, ground: Ground | ToolError) -> NoReturn:
