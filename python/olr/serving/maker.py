@@ -64,6 +64,8 @@ def _work(asked: socket.socket, ground: Ground | ToolError) -> NoReturn:
             asked.send(pickle.dumps(_made(descriptors[0], ground)))
     except ConnectionError:
         pass
+    except Exception:
+        traceback.print_exc()
     finally:
         sys.stderr.flush()
         os._exit(0)

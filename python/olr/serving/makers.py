@@ -25,7 +25,7 @@ from olr.serving.served import IsGone
 from olr.serving.tasks import MOST_MESSAGE, MapVersion, Task
 
 log = logging.getLogger("olr.serving")
-SECONDS_IDLE = 2.0
+SECONDS_WAITING = 2.0
 """A process that the maker forked waits for so long for something else to make."""
 MOST_KEPT = MIB
 """Bytes of an answer behind which it doesn't wait: the memory that it took goes back."""
@@ -97,7 +97,7 @@ class Makers:
             forked.close()
 
         self._idle.append(forked)
-        forked.waiting = asyncio.get_running_loop().call_later(SECONDS_IDLE, end)
+        forked.waiting = asyncio.get_running_loop().call_later(SECONDS_WAITING, end)
 
     def _idle_of(self, map: MapVersion) -> "_Forked | None":
         """A process of a version of a map that waits. Those of other versions of it end."""
