@@ -11,7 +11,8 @@
 5. `GET /match` by one client, while another one varies its options on eight connections.
 6. The memory of the server and of all its processes while four clients ask for a thousand matchings of the reference in a file (--large), as
    `generate_reference.py --points 24 --lines-per-leg 12` writes one, as GeoJSON and as JSON, and while four send the largest list with the most
-   values, and how long `/health` takes meanwhile. What several processes share is divided among them (Pss).
+   values, and how long `/health` takes meanwhile. What several processes share is divided among them (Pss). The status is 1 if the server itself
+   had more than 300 MiB.
 
 It needs what ./olr-tools setup installs.
 """
@@ -22,12 +23,15 @@ import http.client
 import os
 import random
 import subprocess
+import sys
 import tempfile
 import time
 from concurrent.futures import ThreadPoolExecutor
 from pathlib import Path
 
 from served import Client, all_of, children_of, command_of, kib_of, path_of, records_of, serving, shared_kib_of
+
+MOST_OF_SERVER = 300 * 1024  # KiB
 
 
 async def load(port, paths, clients, seconds):
@@ -112,10 +116,13 @@ class Peaks:
         makers = [one for one in found if b"olr.serving.maker" in command_of(one)]
         self.one = max([self.one, *(found[one] for one in makers)])
 
+    def own(self):
+        """The most that the server itself had."""
+        return kib_of(self._server.pid, "VmHWM")
+
     def text(self):
         """What was seen, in MiB."""
-        own = kib_of(self._server.pid, "VmHWM")
-        return f"the server {own / 1024:.0f} MiB, a maker {self.one / 1024:.0f}, all processes {self.all / 1024:.0f}"
+        return f"the server {self.own() / 1024:.0f} MiB, a maker {self.one / 1024:.0f}, all processes {self.all / 1024:.0f}"
 
 
 def large(server, port, text):
@@ -143,6 +150,8 @@ def at_once(port, peaks, name, ask):
     sizes = " ".join(f"{one.result() / 1e6:.1f}" for one in there)
     seconds = time.perf_counter() - begin
     print(f"{name} of {sizes} MB at once, {seconds:.0f} s: {peaks.text()}; /health {longest:.2f} s at most")
+    if peaks.own() > MOST_OF_SERVER:
+        sys.exit(f"the server has more than {MOST_OF_SERVER >> 10} MiB")
 
 
 def posted(port, file):
