@@ -9,8 +9,10 @@
 3. The most memory of a process of the server beside that of `olr batch`, and that of the server.
 4. What the page asks for (`GET /scene`) by one, two and four people, each from an address and with a radius of their own.
 5. `GET /match` by one client, while another one varies its options on eight connections.
-6. The memory of the server once it has made GeoJSON, and while four clients ask for that of a thousand matchings of the reference in a file
-   (--large), as `generate_reference.py --points 24 --lines-per-leg 12` writes one, and how long `/health` takes meanwhile.
+6. The memory of the server and of all its processes while four clients ask for a thousand matchings of the reference in a file (--large), as
+   `generate_reference.py --points 24 --lines-per-leg 12` writes one, as GeoJSON and as JSON, and while four send the largest list with the most
+   values, and how long `/health` takes meanwhile. What several processes share is divided among them (Pss). The status is 1 if the server itself
+   had more than 300 MiB.
 
 It needs what ./olr-tools setup installs.
 """
@@ -21,12 +23,15 @@ import http.client
 import os
 import random
 import subprocess
+import sys
 import tempfile
 import time
 from concurrent.futures import ThreadPoolExecutor
 from pathlib import Path
 
-from served import Client, children_of, kib_of, path_of, records_of, serving
+from served import Client, all_of, children_of, command_of, kib_of, path_of, records_of, serving, shared_kib_of
+
+MOST_OF_SERVER = 300 * 1024  # KiB
 
 
 async def load(port, paths, clients, seconds):
@@ -85,10 +90,11 @@ async def beside_varied(port, texts, seconds):
     return sorted(times)
 
 
-def featured(port, path):
-    """The bytes of an answer as GeoJSON."""
+def asked(port, path, method="GET", body=None, **headers):
+    """The bytes of an answer."""
     size, connection = 0, http.client.HTTPConnection("127.0.0.1", port)
-    connection.request("GET", path, headers={"Accept": "application/geo+json"})
+    named = {name.replace("_", "-"): value for name, value in headers.items()}
+    connection.request(method, path, body, named)
     response = connection.getresponse()
     while piece := response.read(1 << 16):
         size += len(piece)
@@ -96,21 +102,56 @@ def featured(port, path):
     return size
 
 
+class Peaks:
+    """The most memory that a server and its processes have, by looks at them."""
+
+    def __init__(self, server):
+        self._server = server
+        self.all = self.one = 0
+
+    def look(self):
+        """Looks once."""
+        found = {one: shared_kib_of(one) for one in all_of(self._server.pid)}
+        self.all = max(self.all, sum(found.values()))
+        makers = [one for one in found if b"olr.serving.maker" in command_of(one)]
+        self.one = max([self.one, *(found[one] for one in makers)])
+
+    def own(self):
+        """The most that the server itself had."""
+        return kib_of(self._server.pid, "VmHWM")
+
+    def text(self):
+        """What was seen, in MiB."""
+        return f"the server {self.own() / 1024:.0f} MiB, a maker {self.one / 1024:.0f}, all processes {self.all / 1024:.0f}"
+
+
 def large(server, port, text):
-    """Prints what large answers cost the server."""
-    featured(port, path_of("match", text))
-    print(f"memory of the server with the geometries: {kib_of(server.pid, 'VmHWM') / 1024:.0f} MiB")
+    """Prints what large answers cost."""
+    peaks = Peaks(server)
     path = f"{path_of('match', text)}&radius=400&percent=100&slack=10000&page=1000"
-    longest = 0.0
+    at_once(port, peaks, "GeoJSON", lambda: asked(port, path, Accept="application/geo+json"))
+    at_once(port, peaks, "GeoJSON as gzip", lambda: asked(port, path, Accept="application/geo+json", Accept_Encoding="gzip"))
+    at_once(port, peaks, "JSON", lambda: asked(port, path))
+    body = b"[" + b",".join([b"[]"] * (16 * 1024 * 1024 // 3 - 1)) + b"]"
+    at_once(port, peaks, "answers to lists", lambda: asked(port, "/messages?format=json", "POST", body))
+
+
+def at_once(port, peaks, name, ask):
+    """Prints what it costs when four clients ask for something."""
+    longest, begin = 0.0, time.perf_counter()
     with ThreadPoolExecutor() as threads:
-        asked = [threads.submit(featured, port, path) for _ in range(4)]
-        while not all(one.done() for one in asked):
-            begin = time.perf_counter()
-            featured(port, "/health")
-            longest = max(longest, time.perf_counter() - begin)
+        there = [threads.submit(ask) for _ in range(4)]
+        while not all(one.done() for one in there):
+            asking = time.perf_counter()
+            asked(port, "/health")
+            longest = max(longest, time.perf_counter() - asking)
+            peaks.look()
             time.sleep(0.05)
-    sizes = " ".join(f"{one.result() / 1e6:.1f}" for one in asked)
-    print(f"GeoJSON of {sizes} MB at once: {kib_of(server.pid, 'VmHWM') / 1024:.0f} MiB, /health {longest:.1f} s at most")
+    sizes = " ".join(f"{one.result() / 1e6:.1f}" for one in there)
+    seconds = time.perf_counter() - begin
+    print(f"{name} of {sizes} MB at once, {seconds:.0f} s: {peaks.text()}; /health {longest:.2f} s at most")
+    if peaks.own() > MOST_OF_SERVER:
+        sys.exit(f"the server has more than {MOST_OF_SERVER >> 10} MiB")
 
 
 def posted(port, file):

@@ -94,6 +94,29 @@ def kib_of(process, name):
     return int(found[0]) if found else 0
 
 
+def shared_kib_of(process):
+    """The memory of a process in KiB, where what several share is divided among them; 0 if it has ended."""
+    try:
+        text = Path(f"/proc/{process}/smaps_rollup").read_text()
+    except OSError:
+        return 0
+    found = text.partition("\nPss:")[2].split()
+    return int(found[0]) if found else 0
+
+
+def command_of(process):
+    """The words of a process; none if it has ended."""
+    try:
+        return Path(f"/proc/{process}/cmdline").read_bytes()
+    except OSError:
+        return b""
+
+
+def all_of(process):
+    """A process, and all that it or those have started."""
+    return [process, *(one for child in children_of(process) for one in all_of(child))]
+
+
 def children_of(parent):
     """The processes that one has started."""
     try:

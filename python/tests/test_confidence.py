@@ -31,7 +31,8 @@ from olr.confidence.weights import (
 from olr.errors import ToolError
 from olr.likely.evidence import Evidence, Fit
 from olr.likely.listed import Listed
-from olr.likely.order import LIST, Shown
+from olr.likely.long_list import LIST
+from olr.likely.order import Shown
 from olr.model.profiles import FEED, tolerances_of
 from olr.model.questions import TOLERANCES
 from olr.model.reference import read_reference

@@ -411,7 +411,7 @@ def test_what_is_refused_is_known(sent: bytes, status: int) -> None:
 
 
 def test_answers_that_arent_taken() -> None:
-    """Beyond 128 MiB of all together the connections are closed that are silent for longest, as many as it takes."""
+    """Beyond 64 MiB of all together the connections are closed that are silent for longest, as many as it takes."""
 
     async def run() -> None:
         clients = Clients()
@@ -420,10 +420,10 @@ def test_answers_that_arent_taken() -> None:
         for connection, transport in there:
             connection.data_received(HEAD + b"\r\n")
             await turns(20)
-            transport.unread = 50 << 20
+            transport.unread = 25 << 20
         clients.all.look()
         assert [transport.is_aborted for _, transport in there] == [True, False, False]
-        there[1][1].unread = 78 << 20
+        there[1][1].unread = 39 << 20
         clients.all.look()
         assert not there[1][1].is_aborted
 

@@ -21,7 +21,7 @@ from olr.comparing.columns import CHANGES
 from olr.confidence.expected import Expected
 from olr.confidence.likeness import Range
 from olr.confidence.sentences import probability_text
-from olr.likely.order import LIST
+from olr.likely.long_list import LIST
 from olr.matching.columns import ANSWERS
 from olr.matching.tables import Columns
 from olr.model.answers import AnswerOrFault, Places

@@ -3,16 +3,19 @@
 import asyncio
 import pytest
 from collections.abc import Mapping
+from io import BytesIO
+from pathlib import Path
 from typing import Any, cast
 
 from fake_pool import run_within, turns
 from olr.asking.files import Version
-from olr.confidence.confidence import Confidence
 from olr.errors import MapRefused
 from olr.serving.features import Features, is_wanted
+from olr.serving.makers import Makers
 from olr.serving.queries import Question, kind_of
 from olr.serving.rooms import Room
 from olr.serving.served import Known, Served
+from olr.serving.tasks import MapVersion
 
 GEOJSON = "application/geo+json"
 
@@ -77,14 +80,28 @@ class FakeMap:
         what = question.kind.what
         return Known(empty[what], Version(self.versions[what], None))
 
-    def network(self) -> "FakeMap":
-        """What has the digest."""
-        return self
+    def files(self) -> tuple[Path, ...]:
+        """None that is read."""
+        return ()
+
+
+class FakeMakers:
+    """Makes nothing, of the version that is there."""
+
+    def __init__(self, digest: str) -> None:
+        self.digest = digest
+
+    async def made(self, map: MapVersion, *_: object) -> BytesIO:
+        """An empty answer. Raises `MapRefused` for another version."""
+        if map.version.network != self.digest:
+            raise MapRefused("another version of the map is there")
+        return BytesIO()
 
 
 def features_of(served: FakeMap) -> Features:
     """What makes GeoJSON of a map."""
-    return Features(cast(Served, served), Confidence.default(), Room(5), Room(5, 1))
+    makers = cast(Makers, FakeMakers(served.digest))
+    return Features(cast(Served, served), None, makers, Room(5, 1))
 
 
 @pytest.mark.parametrize(("page", "most"), [(100, 3), (101, 1)])
@@ -105,8 +122,7 @@ def test_large_ones_are_made_one_at_a_time(page: int, most: int) -> None:
         features = features_of(Counting({"match": "a", "candidates": "a"}, "a"))
         question = Question(kind_of("match", {"page": str(page)}, 10_000), b"x", None)
         asked = [features.of(question, lambda: False) for _ in range(3)]
-        # The network is a made-up one, of which nothing can be drawn.
-        await asyncio.gather(*asked, return_exceptions=True)
+        await asyncio.gather(*asked)
         assert greatest == most
 
     run_within(run())

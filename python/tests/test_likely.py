@@ -15,8 +15,8 @@ from olr.geometry.network import Network
 from olr.geometry.store_network import StoreNetwork
 from olr.likely.evidence import INTERVAL, evidence_of, fit_of
 from olr.likely.listed import listed
+from olr.likely.long_list import LIST
 from olr.likely.order import (
-    LIST,
     Shown,
     are_shown,
     is_cut_off,

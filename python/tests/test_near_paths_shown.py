@@ -12,8 +12,12 @@ from conftest import REFERENCE, Program, Tools
 from olr.pages.view.scene import scene_of
 from olr.regions.making import make_store_of_folder
 from olr.serving.folder_map import FolderMap
+from olr.serving.ground import Grounds
 from olr.serving.limits import Capacity, Limits
+from olr.serving.queries import kind_of
+from olr.serving.scene_texts import streets_for
 from olr.serving.served import Known, Versions
+from olr.serving.tasks import JudgedBy, MapVersion, SceneTask
 from servers import path_of, serving, wait_until
 from test_near_paths import block
 
@@ -116,20 +120,29 @@ def test_streets_are_those_of_the_version_that_is_served(program: Program, tmp_p
     with olr.Map(folder, program=program.path) as asked:
         matching = asked.match(drawn.text).matchings[0]
     about = {"lowest": 0}, olr.decode(drawn.text, program=program.path), matching
-    served, late = read_map_of(folder), read_map_of(folder)
-    version = served.pool.edition.version
-    assert version is not None and late.pool.edition.version == version
-    late.network()
-    versions = Versions(served)
+    versions = Versions(read_map_of(folder))
+    version = read_map_of(folder).pool.edition.version
+    assert version is not None
     versions.note(Known(b"", version))
-    streets = versions.streets(*about)
+    assert versions.are_one() and versions.map().version == version
+    grounds = Grounds()
+    streets = grounds.of(versions.map()).streets(*about)
     assert streets.is_banned(0, 1) and not streets.is_banned(0, 3)
     (folder / "bans.csv").write_text("from,to\n1,4\n")
-    assert versions.streets(*about) is streets
+    assert grounds.of(versions.map()).streets(*about) is streets
     with pytest.raises(olr.MapRefused):
-        late.streets(version, *about)
+        Grounds().of(versions.map())
+    with pytest.raises(olr.MapRefused):
+        grounds.of(versions.map()._replace(version=version._replace(bans="0")))
+    assert grounds.of(versions.map()).streets(*about) is streets
     versions.note(Known(b"", version._replace(bans="0")))
+    assert not versions.are_one()
+    judged_by = JudgedBy(kind_of("places", {}, 10), None)
+    task = SceneTask(judged_by, drawn.text, b"", b"", b"", b"", None, True, None, None)
+    _, reference, matching = about
+    ground = grounds.of(
+        MapVersion(tuple((folder / it) for it in ("nodes.csv", "lines.csv", "bans.csv")), version)
+    )
+    assert streets_for(task, ground, reference, matching) is streets
     with pytest.raises(olr.MapRefused):
-        versions.streets(*about)
-    with pytest.raises(olr.MapRefused):
-        served.streets(version._replace(bans="0"), *about)
+        streets_for(task._replace(has_bans=False), ground, reference, matching)

@@ -16,7 +16,7 @@ from xml.etree import ElementTree
 import olr
 from conftest import OF_PROGRAM, TOP, Program
 from olr.client.given import opened
-from olr.likely.order import LIST
+from olr.likely.long_list import LIST
 from olr.matching.columns import ANSWERS
 from olr.model.answers import about
 from olr.model.questions import NUMBERS

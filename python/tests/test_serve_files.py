@@ -15,19 +15,19 @@ def test_few_files_for_several_maps(
     program: Program, tmp_path: Path, monkeypatch: pytest.MonkeyPatch
 ) -> None:
     """Each has as many processes."""
-    monkeypatch.setattr(resource, "getrlimit", lambda _: (144, 144))
-    with pytest.raises(AssertionError, match="needs 168 with 16 processes"):
+    monkeypatch.setattr(resource, "getrlimit", lambda _: (208, 208))
+    with pytest.raises(AssertionError, match="needs 232 with 16 processes"):
         with serving(program.path, f"a={EXAMPLES}", tmp_path / "log", "--map", f"b={EXAMPLES}"):
             pass
 
 
-@pytest.mark.parametrize("files, said", [(120, "needs 124"), (144, "there are 24 connections")])
+@pytest.mark.parametrize("files, said", [(184, "needs 188"), (208, "there are 24 connections")])
 def test_few_files(
     files: int, said: str, program: Program, tmp_path: Path, monkeypatch: pytest.MonkeyPatch
 ) -> None:
     """It says how many connections that leaves, and answers on them; with too few it doesn't start."""
     monkeypatch.setattr(resource, "getrlimit", lambda _: (files, files))
-    if files < 124:
+    if files < 188:
         with pytest.raises(AssertionError, match=said):
             with serving(program.path, EXAMPLES, tmp_path / "log"):
                 pass

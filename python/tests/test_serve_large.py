@@ -6,7 +6,7 @@ import socket
 from pathlib import Path
 
 from asking import draw_map
-from servers import serving, wait_until
+from servers import Server, serving, wait_until
 
 
 @pytest.fixture(scope="module")
@@ -16,7 +16,7 @@ def drawn(tmp_path_factory: pytest.TempPathFactory) -> Path:
 
 
 def writing_program(file: Path) -> Path:
-    """Writes a program that answers with so many MiB as the reference says, or with a fault."""
+    """Writes a program that answers with so many KiB as the reference says, or with a fault."""
     file.write_text(
         r"""#!/usr/bin/python3 -IS
 import sys
@@ -24,7 +24,7 @@ for number, record in enumerate(sys.stdin.buffer, 1):
     text = record.decode().split("\t")[1].strip()
     end = '"key":"%d","record":%d}' % (number, number)
     if text.isdigit():
-        print('{"answer":"' + "x" * (int(text) << 20) + '","fault":null,' + end, flush=True)
+        print('{"answer":"' + "x" * (int(text) << 10) + '","fault":null,' + end, flush=True)
     else:
         print('{"answer":null,"fault":"Empty",' + end, flush=True)
 """
@@ -37,31 +37,43 @@ def test_an_answer_that_is_too_large(drawn: Path, tmp_path: Path) -> None:
     """It isn't held: its process is ended, and the next one answers."""
     program = writing_program(tmp_path / "program")
     with serving(program, drawn, tmp_path / "log", "--workers", 1, is_new=True) as server:
-        assert server.get("/match?ref=100").problem()[:2] == (422, "AnswerTooLarge")
+        assert server.get("/match?ref=40000").problem()[:2] == (422, "AnswerTooLarge")
         assert server.get("/match?ref=x").problem()[:2] == (422, "Empty")
-        assert len(server.get("/match?ref=20").body) == (20 << 20) + 2
-        one = server.get("/batch/match", "POST", b"100\n", content_type="text/plain")
+        assert len(server.get("/match?ref=20000").body) == (20_000 << 10) + 2
+        one = server.get("/batch/match", "POST", b"40000\n", content_type="text/plain")
         assert one.problem()[:2] == (422, "AnswerTooLarge")
         with pytest.raises(http.client.IncompleteRead) as caught:
-            server.get("/batch/match", "POST", b"x\n" * 50_000 + b"100", content_type="text/plain")
+            server.get(
+                "/batch/match", "POST", b"x\n" * 50_000 + b"40000", content_type="text/plain"
+            )
         assert caught.value.partial.count(b"Empty") >= 1
         assert server.log().count("a stream was cut off: AnswerTooLarge") == 1
-        assert server.memory() < 400_000
+        assert server.memory() < 250_000
 
 
-def test_answers_that_arent_taken(drawn: Path, tmp_path: Path) -> None:
-    """The server holds some of them, and then closes connections: all of them would take 490 MB."""
+def asked(server: Server, path: str) -> tuple[socket.socket, bytes]:
+    """A connection on which an answer isn't taken, but for its status."""
+    connection = socket.create_connection(("127.0.0.1", server.port))
+    connection.sendall(f"GET {path} HTTP/1.1\r\nHost: localhost:{server.port}\r\n\r\n".encode())
+    return connection, connection.recv(12)[9:]
+
+
+@pytest.mark.parametrize(("size", "count"), [(1000, 150), (16_000, 8)])
+def test_answers_that_arent_taken(size: int, count: int, drawn: Path, tmp_path: Path) -> None:
+    """The server holds some of them, and then closes connections: all of them would take 150 MB. Large ones are in files, of which a client
+    has eight."""
     program = writing_program(tmp_path / "program")
     with serving(program, drawn, tmp_path / "log", "--workers", 1, is_new=True) as server:
         connections = []
-        for _ in range(24):
-            connection = socket.create_connection(("127.0.0.1", server.port))
-            connection.sendall(
-                f"GET /match?ref=16 HTTP/1.1\r\nHost: localhost:{server.port}\r\n\r\n".encode()
-            )
-            assert connection.recv(100).startswith(b"HTTP/1.1 200 ")
+        for _ in range(count):
+            connection, status = asked(server, f"/match?ref={size}")
+            assert status == b"200"
             connections.append(connection)
-            wait_until(lambda: server.memory() < 420_000)
+        wait_until(lambda: server.memory() < 140_000)
         assert server.get("/match?ref=x").status == 422
+        if size > 1024:
+            assert server.get(f"/match?ref={size}").problem()[:2] == (503, "Busy")
+            connections.pop().close()
+            wait_until(lambda: server.get(f"/match?ref={size}").status == 200)
         for connection in connections:
             connection.close()

@@ -14,8 +14,9 @@ from conftest import REFERENCE
 from fake_pool import run_within
 from olr.serving.limits import MIB, Limits
 from olr.serving.listing import MOST_ROWS
-from olr.serving.lists import LISTING, MOST_COMING, Lists, most_bytes, reading_of
+from olr.serving.lists import MOST_COMING, Lists, most_bytes, reading_of
 from olr.serving.problems import Problem
+from olr.serving.runs import python_words
 
 
 def test_bytes_of_a_list() -> None:
@@ -73,7 +74,8 @@ def test_lists_that_come_slowly() -> None:
 
 def read_list(body: bytes, format: str | None = None) -> tuple[int, bytes, bytes]:
     """The status of a process that reads a list, its lines, and what it says."""
-    command = [sys.executable, "-P", "-c", LISTING, json.dumps([format, None, None])]
+    words = [*python_words("olr.serving.listing"), json.dumps([format, None, None])]
+    command = [sys.executable, *words]
     ended = subprocess.run(command, input=body, capture_output=True, check=False, timeout=60)
     return ended.returncode, ended.stdout, ended.stderr
 

@@ -12,12 +12,14 @@ from asking import said
 from bad_programs import bad_program
 from browser import Browser
 from conftest import Program
+from olr.asking.files import MapFiles
 from olr.geometry.network import Network
 from olr.model.profiles import FEED, tolerances_of
 from olr.model.questions import TOLERANCES
 from olr.pages.view.scene import scene_of
-from olr.pages.view.surroundings import Surroundings
-from olr.serving import scenes
+from olr.pages.view.surroundings import Surroundings, box_of
+from olr.serving import ground
+from olr.serving.tasks import MapVersion
 from page_of_server import AS_PROGRAM, MESSAGES, OF_FEED, ROADWORKS, UNMATCHED, Page, opened
 from servers import Server, serving, wait_until
 
@@ -296,7 +298,7 @@ def test_tiles_and_a_smaller_limit(
 def test_boxes_of_lines_are_computed_once(
     program: Program, folder: Path, monkeypatch: pytest.MonkeyPatch
 ) -> None:
-    """For each network, not for each scene."""
+    """For each version of a map, not for each scene."""
     made: list[Network] = []
 
     class Counted(Surroundings):
@@ -304,13 +306,13 @@ def test_boxes_of_lines_are_computed_once(
             made.append(network)
             super().__init__(network)
 
-    monkeypatch.setattr(scenes, "Surroundings", Counted)
-    ground = scenes.Ground()
+    monkeypatch.setattr(ground, "Surroundings", Counted)
     with olr.Map.of_folder(folder, program=program.path) as asked:
         scene = scene_of(ROADWORKS, asked)
-    expected = scene.pop("lines"), scene.pop("cut")
-    networks = [Network(folder / "nodes.csv", folder / "lines.csv") for _ in range(2)]
-    for network in (*networks[:1] * 3, *networks[1:] * 3):
-        ground.add_lines(scene, network)
-        assert (scene.pop("lines"), scene.pop("cut")) == expected
-    assert made == networks
+    files = MapFiles.of_folder(folder)
+    map = MapVersion(tuple(files.paths()), files.found())
+    grounds = ground.Grounds()
+    for _ in range(3):
+        box = box_of(scene)
+        assert grounds.of(map).around(box).lines(box) == (scene["lines"], scene["cut"])
+    assert made == [grounds.of(map).network]

@@ -1,17 +1,15 @@
 """The pool of `olr-tools serve`, asked without a server."""
 
 import asyncio
-import gc
 import pytest
 import shutil
-import threading
 from collections.abc import Callable
 from contextlib import AsyncExitStack
 from pathlib import Path
 
 from asking import draw_map
 from olr.asking.processes import Kind
-from olr.errors import TimedOut, ToolError
+from olr.errors import TimedOut
 from olr.serving import process
 from olr.serving.edition import Edition
 from olr.serving.folder_map import FIRST, FolderMap
@@ -20,7 +18,6 @@ from olr.serving.pool import Pool
 from olr.serving.problems import Problem
 from olr.serving.queries import Question, kind_of
 from olr.serving.rooms import ABREAST, Room
-from olr.serving.threads import in_thread
 
 OTHER = kind_of("places", {}, 10_000)
 
@@ -201,40 +198,5 @@ def test_room_for_some_at_once() -> None:
         for _ in range(ABREAST + 1):
             with pytest.raises(Problem, match="nobody"):
                 await room.place(lambda: True).__aenter__()
-
-    asyncio.run(run())
-
-
-@pytest.mark.parametrize("fails", [False, True])
-def test_a_thread_keeps_its_room(fails: bool) -> None:
-    """Also where nobody waits for what it makes any more, and where that fails."""
-    going_on = threading.Event()
-
-    def call() -> None:
-        going_on.wait(10)
-        if fails:
-            raise ToolError("it failed")
-
-    async def run() -> None:
-        room = Room(0.1)
-
-        async def made() -> None:
-            async with room.place(lambda: False):
-                await in_thread(call)
-
-        logged: list[object] = []
-        asyncio.get_running_loop().set_exception_handler(lambda _, about: logged.append(about))
-        making = [asyncio.create_task(made()) for _ in range(ABREAST)]
-        await asyncio.sleep(0)
-        for one in making:
-            one.cancel()
-        with pytest.raises(Problem, match="too many"):
-            await room.place(lambda: False).__aenter__()
-        going_on.set()
-        found = await asyncio.gather(*making, return_exceptions=True)
-        assert all(isinstance(one, asyncio.CancelledError) for one in found)
-        await room.place(lambda: False).__aenter__()
-        gc.collect()
-        assert not logged
 
     asyncio.run(run())

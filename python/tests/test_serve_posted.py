@@ -12,18 +12,18 @@ from asking import draw_map, draw_references
 from conftest import REFERENCE, TOP, Program, Tools
 from fake_pool import run_within
 from olr.asking.files import Version
-from olr.confidence.judged import Judging
+from olr.asking.records import Answered
 from olr.errors import MapRefused, ProgramEnded
 from olr.model.questions import NUMBERS
-from olr.serving.batches import Answered
-from olr.serving.feature_lines import MEDIA_TYPE, feature_text
-from olr.serving.judging import LongList
+from olr.serving.feature_texts import lines_of
+from olr.serving.features import OF_LINES
 from olr.serving.limits import MIB
 from olr.serving.posted import MOST_BYTES, MOST_REFS, answered_one_by_one, posted_of, records_of
 from olr.serving.problems import Problem
 from olr.serving.queries import kind_of
 from olr.serving.rows import MOST_LINES, lots_of
 from olr.serving.served import Known, Served
+from olr.serving.tasks import JudgedBy
 from servers import Reply, Server, expected_of, path_of, serving
 
 ODD = ["", "a\tb", "x\ny", "\ud800", "ä", "CwVG", f" {REFERENCE}\n", "A" * 400]
@@ -125,20 +125,20 @@ def test_lines_of_geojson(
     expected = json.loads(out.read_text())["features"]
     for feature in expected:
         feature["properties"]["candidates"] = None
-    headers = {"Content_Type": "text/plain", "Accept": MEDIA_TYPE}
+    headers = {"Content_Type": "text/plain", "Accept": OF_LINES}
     path = f"/batch/{what}?profile=feed"
     streamed = server.get(path, "POST", records.read_bytes(), **headers)
-    assert (streamed.status, streamed.headers["content-type"]) == (200, MEDIA_TYPE)
+    assert (streamed.status, streamed.headers["content-type"]) == (200, OF_LINES)
     assert features_in(streamed.body) == expected
-    few = posted(server, f"/{what}", {"refs": some, "profile": "feed"}, Accept=MEDIA_TYPE)
+    few = posted(server, f"/{what}", {"refs": some, "profile": "feed"}, Accept=OF_LINES)
     for feature in expected:
         feature["properties"]["key"] = None
-    assert few.headers["content-type"] == MEDIA_TYPE and features_in(few.body) == expected
+    assert few.headers["content-type"] == OF_LINES and features_in(few.body) == expected
 
 
 @pytest.mark.parametrize("what", ["candidates", "why"])
 def test_answers_that_are_no_features(what: str, server: Server, texts: list[str]) -> None:
-    reply = posted(server, f"/{what}", texts[:2], Accept=MEDIA_TYPE)
+    reply = posted(server, f"/{what}", texts[:2], Accept=OF_LINES)
     assert reply.headers["content-type"] == "application/x-ndjson"
 
 
@@ -258,8 +258,8 @@ def test_lots(sizes: list[int], lots: list[int]) -> None:
 def test_an_answer_that_is_too_large_for_features() -> None:
     """It isn't read: its record has a fault."""
     network = olr.Network.read(TOP / "examples")
-    asked = LongList(kind_of("match", {}, 10), Judging(), "")
-    (feature,) = features_in(feature_text(answered(MIB + 1), network, asked))
+    judged_by = JudgedBy(kind_of("match", {}, 10), None)
+    (feature,) = features_in(lines_of(answered(MIB + 1), network, judged_by))
     assert feature["properties"]["fault"] == "AnswerTooLarge" and feature["geometry"] is None
     with pytest.raises(ProgramEnded, match="what is no answer"):
-        feature_text(answered(MIB), network, asked)
+        lines_of(answered(MIB), network, judged_by)

@@ -48,6 +48,18 @@ class Record(NamedTuple):
         return b'{"answer":%b,%b\n' % (b"null" if own else answer, members[1:])
 
 
+class Answered(NamedTuple):
+    """A record, and the JSON of its answer, or `null` and a fault."""
+
+    record: Record
+    answer: bytes
+    fault: str | None
+
+    def line(self) -> bytes:
+        """Its line, as the program writes it."""
+        return self.record.line(self.answer, self.fault)
+
+
 class Splitter:
     """Bytes that come in pieces, as records. It holds the piece and the unfinished record, or of one that is too long as much as shows it."""
 

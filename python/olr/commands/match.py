@@ -8,8 +8,9 @@ from typing import Any
 
 from olr.client.map_client import Map
 from olr.commands import options
-from olr.confidence.choosing import Chosen, cut_off_line, judging_for, listing
+from olr.confidence.choosing import Chosen, cut_off_line, judging_for
 from olr.confidence.judged import Judging
+from olr.likely.long_list import listing
 from olr.matching.asking import Asked
 from olr.matching.columns import OF_QUESTION, PIECES
 from olr.matching.lacking import Lacking, Other

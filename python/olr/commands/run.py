@@ -16,7 +16,7 @@ from olr.confidence.choosing import cut_off_line, judging_for
 from olr.content import Content, Stamp
 from olr.errors import ToolError
 from olr.extras import needed_by
-from olr.likely.order import LIST
+from olr.likely.long_list import LIST
 from olr.messages.message import KEY, REF, Reading
 from olr.messages.opening import as_file, name_of
 from olr.messages.reading import format_in

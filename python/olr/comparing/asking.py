@@ -8,9 +8,9 @@ from typing import NamedTuple, cast
 from olr.client.map_client import Map
 from olr.comparing.changes import Compared, Side, compared
 from olr.comparing.places import Answer, Limits, likeliest_places
-from olr.confidence.choosing import listing
 from olr.confidence.judged import Judged, Judging, judged
 from olr.geometry.network import Network
+from olr.likely.long_list import listing
 from olr.matching.rows import AnswerRows
 from olr.messages.message import Message
 from olr.model.answers import Places

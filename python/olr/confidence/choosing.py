@@ -7,7 +7,7 @@ from typing import Any, NamedTuple
 from olr.confidence.confidence import Confidence
 from olr.confidence.judged import Judging
 from olr.errors import ToolError
-from olr.likely.order import LIST, Shown
+from olr.likely.order import Shown
 from olr.model.questions import NUMBERS
 
 REMEDY = "make a file with your options by olr-tools calibrate"
@@ -60,11 +60,6 @@ def judging_by(
     apart = numbers.get("apart", NUMBERS["places"]["apart"].default)
     others = confidence.others(tolerances, apart)
     return Chosen(Judging(None if others else confidence, Shown.of(numbers)), others)
-
-
-def listing(numbers: Mapping[str, int]) -> dict[str, int]:
-    """The numbers of `places` with which is asked, so that what is shown doesn't depend on how long the list is."""
-    return {**numbers, **LIST}
 
 
 def cut_off_line(count: int) -> str | None:

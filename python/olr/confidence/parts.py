@@ -17,7 +17,7 @@ from olr.geometry.agreement import agreement
 from olr.geometry.network import Network
 from olr.geometry.parts import parts_of as arrays_of
 from olr.likely.listed import Listed, evidence_for, listed
-from olr.likely.order import LIST
+from olr.likely.long_list import LIST
 from olr.model.answers import Places
 from olr.model.map_folder import read_map, write_records
 from olr.model.profiles import as_arguments

@@ -22,8 +22,6 @@ PER_METRE = 1 / 3
 """Points for each metre that a point lies from the proper end of its line."""
 TURNING_BACK = 120.0
 """Points for a route that turns back."""
-LIST = {"within": NUMBERS["places"]["within"].greatest, "most": NUMBERS["places"]["most"].greatest}
-"""The list that is asked for: all places, up to 100. So what is shown of it doesn't depend on its length, unless looking was cut off."""
 
 Verdict = Literal["unique", "ambiguous", "open", "none"]
 

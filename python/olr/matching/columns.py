@@ -1,18 +1,20 @@
-"""The tables of answers. Each column stands below its name with the sentence of docs/COLUMNS.md about it."""
+"""The tables of answers. Each column stands below its name with the sentence of docs/COLUMNS.md about it. It needs no numpy."""
 
 from collections.abc import Callable, Mapping, Sequence
 from operator import attrgetter
-from typing import Any
+from typing import TYPE_CHECKING, Any
 
-from olr.confidence.judged import Judged, JudgedPlace
-from olr.confidence.likeness import Range
-from olr.matching.rows import AnswerRows, PieceRows, Row
 from olr.matching.tables import Column, Columns, columns_of
 from olr.messages.message import Message
 from olr.model.answers import Matching, Remedy, Why
 from olr.model.fault import Fault
 from olr.model.questions import What
 from olr.model.road_map import Origin
+
+if TYPE_CHECKING:
+    from olr.confidence.judged import Judged, JudgedPlace
+    from olr.confidence.likeness import Range
+    from olr.matching.rows import AnswerRows, PieceRows, Row
 
 Reasons = Why | Fault
 Values = list[Any]
@@ -21,27 +23,27 @@ DIGITS = 3
 """Of probabilities behind the point."""
 
 
-def of_rows(value: Callable[[Row], Any]) -> Callable[[AnswerRows], Values]:
+def of_rows(value: "Callable[[Row], Any]") -> "Callable[[AnswerRows], Values]":
     """What each row has of its answer."""
     return lambda rows: [value(row) for row in rows.rows]
 
 
-def of_matchings(value: Callable[[Matching], Any]) -> Callable[[AnswerRows], Values]:
+def of_matchings(value: Callable[[Matching], Any]) -> "Callable[[AnswerRows], Values]":
     """What each row has of its matching, or of that of its place."""
     return lambda rows: [None if one is None else value(one) for one in rows.matchings]
 
 
-def of_places(value: Callable[[JudgedPlace], Any]) -> Callable[[AnswerRows], Values]:
+def of_places(value: "Callable[[JudgedPlace], Any]") -> "Callable[[AnswerRows], Values]":
     """What each row has of its place."""
     return lambda rows: [None if one is None else value(one) for one in rows.places]
 
 
-def of_first(value: Callable[[Judged], Any]) -> Callable[[AnswerRows], Values]:
+def of_first(value: "Callable[[Judged], Any]") -> "Callable[[AnswerRows], Values]":
     """What the row of the likeliest place of an answer has of all of them."""
     return lambda rows: [None if one is None else value(one) for one in rows.firsts]
 
 
-def of_difference(value: Callable[[Range], float]) -> Callable[[AnswerRows], Values]:
+def of_difference(value: "Callable[[Range], float]") -> "Callable[[AnswerRows], Values]":
     """What that row has of how different maps are."""
     return of_first(lambda it: it.map_differs and rounded(value(it.map_differs)))
 
@@ -89,22 +91,22 @@ class Answers:
     """how many matchings are this place"""
     candidates = Column("int64", of_rows(lambda it: it.candidates))
     """how many lines all points of the reference may lie on: those of each point, added up"""
-    part = Column("str", AnswerRows.parts)
+    part = Column["AnswerRows"]("str", lambda rows: rows.parts())
     """which part of the location `lines` to `to_m` and the geometry are of: `outer`, which covers it, `inner`, which it covers at least, or
     `point`"""
-    lines = Column("str", AnswerRows.lines)
+    lines = Column["AnswerRows"]("str", lambda rows: rows.lines())
     """the ids of the lines of that part in the order of travel, with `;` between them"""
-    sources = Column[AnswerRows]("str", lambda rows: rows.texts(lambda it: it.source))
+    sources = Column["AnswerRows"]("str", lambda rows: rows.texts(lambda it: it.source))
     """their sources, by the map's `ids.csv`, with `;` between them: one that several lines in a row have is there once"""
-    names = Column[AnswerRows]("str", lambda rows: rows.texts(lambda it: it.name))
+    names = Column["AnswerRows"]("str", lambda rows: rows.texts(lambda it: it.name))
     """their names, likewise"""
-    from_m = Column("float", AnswerRows.from_m)
+    from_m = Column["AnswerRows"]("float", lambda rows: rows.from_m())
     """where the part begins, in metres from the start of its first line"""
-    to_m = Column("float", AnswerRows.to_m)
+    to_m = Column["AnswerRows"]("float", lambda rows: rows.to_m())
     """where it ends, in metres from the start of its last line"""
-    outer_m = Column("float", AnswerRows.outer_m)
+    outer_m = Column["AnswerRows"]("float", lambda rows: rows.outer_m())
     """the length of the outer part in metres"""
-    inner_m = Column("float", AnswerRows.inner_m)
+    inner_m = Column["AnswerRows"]("float", lambda rows: rows.inner_m())
     """the length of the inner part in metres: 0 where the location may be nothing"""
     reasons = Column("str", of_places(lambda it: it.reasons or None))
     """why the place is as probable, the weightiest reason first, with `; ` between them"""
@@ -114,7 +116,7 @@ class Answers:
     """why a message is refused, in the program's words"""
 
 
-def of_sources(value: Callable[[Origin], Any]) -> Callable[[PieceRows], Values]:
+def of_sources(value: Callable[[Origin], Any]) -> "Callable[[PieceRows], Values]":
     """What each piece has of the source of its line."""
     return lambda rows: rows.distinct.of_sources(value)
 
@@ -122,13 +124,13 @@ def of_sources(value: Callable[[Origin], Any]) -> Callable[[PieceRows], Values]:
 class Pieces:
     """Those of pieces of lines, between the key and the geometry."""
 
-    rank = Column[PieceRows]("int64", lambda rows: [row.rank for row in rows.rows])
+    rank = Column["PieceRows"]("int64", lambda rows: [row.rank for row in rows.rows])
     """of the matching or place, as in the answers"""
-    part = Column[PieceRows]("str", lambda rows: rows.parts)
+    part = Column["PieceRows"]("str", lambda rows: rows.parts)
     """`outer` or `inner`; of a point along a line `point`, for what lies between its two positions"""
-    piece = Column[PieceRows]("int64", lambda rows: rows.numbers)
+    piece = Column["PieceRows"]("int64", lambda rows: rows.numbers)
     """the number of the piece along its part, from 1, in the order of travel"""
-    line = Column[PieceRows]("int64", lambda rows: rows.lines)
+    line = Column["PieceRows"]("int64", lambda rows: rows.lines)
     """the id of the line in the map"""
     source = Column("str", of_sources(lambda it: it.source))
     """what the line was made of, by the map's `ids.csv`: the number of your link, or of a way"""
@@ -138,9 +140,9 @@ class Pieces:
     """`forward` where the line goes as the source is drawn, `backward` where it goes against it"""
     name = Column("str", of_sources(lambda it: it.name or None))
     """the source's name"""
-    from_m = Column[PieceRows]("float", lambda rows: rows.starts)
+    from_m = Column["PieceRows"]("float", lambda rows: rows.starts)
     """where the piece begins, in metres from the start of the line"""
-    to_m = Column[PieceRows]("float", lambda rows: rows.ends)
+    to_m = Column["PieceRows"]("float", lambda rows: rows.ends)
     """where it ends, in metres from the start of the line"""
 
 
@@ -183,8 +185,8 @@ class InFront:
     """its key, or nothing where it has none"""
 
 
-ANSWERS: Columns[AnswerRows] = columns_of(Answers)
-PIECES: Columns[PieceRows] = columns_of(Pieces)
+ANSWERS: "Columns[AnswerRows]" = columns_of(Answers)
+PIECES: "Columns[PieceRows]" = columns_of(Pieces)
 REASONS: Columns[Sequence[Reasons]] = columns_of(WhyNot)
 IN_FRONT: Columns[Sequence[Message]] = columns_of(InFront)
 OF_QUESTION: Mapping[What, Columns[Any]] = {"match": ANSWERS, "places": ANSWERS, "why": REASONS}

@@ -14,7 +14,7 @@ with needed_by("olr.locate", "geo"):
 
     from olr.confidence.choosing import judging_with
     from olr.confidence.confidence import Confidence
-    from olr.likely.order import LIST
+    from olr.likely.long_list import LIST
     from olr.matching.columns import ANSWERS
     from olr.matching.geodataframe import CRS, to_geodataframe
     from olr.matching.rows import Extent, Located, require_extent

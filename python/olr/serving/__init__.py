@@ -13,9 +13,11 @@
 | `served` | what the addresses ask of a map |
 | `folder_map`, `store_map` | the map of a folder, and that of a store |
 | `judging` | how places are asked whose probability is shown |
-| `features`, `scenes`, `rows` | answers as GeoJSON, as what a page draws, and as the rows of its list |
-| `feature_lines` | answers to many references as lines of GeoJSON |
-| `rooms`, `threads` | how many of these are made at once, and calls in threads |
+| `features`, `scenes`, `rows` | what is asked for answers as GeoJSON, for what a page draws, and for lines about many references |
+| `tasks`, `makers`, `rooms` | what the server asks of processes of its own, which make these; who asks them; how many work at once |
+| `maker`, `ground` | such a process; what it has of a map |
+| `feature_texts`, `scene_texts`, `row_texts`, `chosen` | what it makes, and by what places are judged there |
+| `files` | answers in files |
 | `streaming`, `bodies` | `POST /batch/{command}` and `POST /rows`, and their bodies |
 | `posted` | `POST /match` and so on: questions as JSON |
 | `lists`, `listing` | `POST /messages`: lists as the page shows them; the process that reads one |

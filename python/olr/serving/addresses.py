@@ -8,23 +8,24 @@ from starlette.requests import Request
 from starlette.responses import Response
 from starlette.routing import Route
 from starlette.types import ASGIApp
-from typing import NamedTuple
+from typing import TYPE_CHECKING, NamedTuple
 
 from olr.asking.files import Version
 from olr.asking.processes import Kind
-from olr.asking.records import Record
-from olr.confidence.confidence import Confidence
+from olr.asking.records import Answered, Record
 from olr.errors import ToolError
 from olr.model.fault import Fault
 from olr.model.profiles import FEED
 from olr.model.questions import NUMBERS, What, record_text
-from olr.serving import feature_lines, features, openapi, streaming
+from olr.serving import features, openapi, streaming
 from olr.serving.accepting import field_of
-from olr.serving.batches import Answered
-from olr.serving.limits import Limits
+from olr.serving.files import FileAnswer, answer_of, typed
+from olr.serving.limits import MOST_TAKEN, Limits
 from olr.serving.lists import Lists
+from olr.serving.makers import Makers
 from olr.serving.meters import MEDIA_TYPE, Meters
 from olr.serving.pages import INDEX, Asset, assets, described, with_data
+from olr.serving.peers import Shares
 from olr.serving.posted import answered_one_by_one, posted_in, records_of
 from olr.serving.problems import Problem, of_error
 from olr.serving.queries import (
@@ -39,12 +40,15 @@ from olr.serving.queries import (
 )
 from olr.serving.rooms import Room
 from olr.serving.routing import Addresses
-from olr.serving.rows import Batch, Rows, row_text
-from olr.serving.scenes import Scenes, json_of
+from olr.serving.rows import Batch, Rows
+from olr.serving.scenes import Scenes
 from olr.serving.served import IsGone, Served
 from olr.serving.streaming import Streaming
 from olr.serving.tags import tag_of, tagged, tags_of, unchanged
 from olr.version import VERSION
+
+if TYPE_CHECKING:
+    from olr.confidence.confidence import Confidence
 
 JSON = "application/json"
 VARY, VARIES = (b"vary", b"Accept"), {"Vary": "Accept"}
@@ -58,15 +62,18 @@ MOST_PREFIXES = 16
 class Shared(NamedTuple):
     """What several maps have together, so that they need no more memory than one."""
 
-    room: Room
+    makers: Makers
     alone: Room
     """For what is made one at a time."""
+    taken: Shares
+    """Answers in files."""
     lists: Lists
 
     @classmethod
     def of(cls, limits: Limits) -> "Shared":
         """What a server has."""
-        return cls(Room(limits.time), Room(limits.time, 1), Lists(limits))
+        taken = Shares(MOST_TAKEN, "answers that are taken")
+        return cls(Makers(limits), Room(limits.time, 1), taken, Lists(limits))
 
 
 class Service(NamedTuple):
@@ -75,8 +82,8 @@ class Service(NamedTuple):
     served: Served
     limits: Limits
     meters: Meters
-    confidence: Confidence
-    """How probable places are, where it is of what is asked."""
+    confidence: "Confidence | None" = None
+    """How probable places are, where it is of what is asked: that of the package for None."""
     tiles: str | None = None
     """The URL of tiles for the page."""
     is_ending: Callable[[], bool] = lambda: False
@@ -120,12 +127,10 @@ class _Answers:
 
     def __init__(self, service: Service, shared: Shared) -> None:
         self._service, self._served, self._limits = service, service.served, service.limits
-        self._room = shared.room
-        self._features = features.Features(
-            self._served, service.confidence, shared.room, shared.alone
-        )
-        self._rows = Rows(self._served, service.confidence, self._room)
-        self._scenes = Scenes(self._served, self._limits, service.confidence, self._room)
+        self._taken, confidence, makers = shared.taken, service.confidence, shared.makers
+        self._features = features.Features(self._served, confidence, makers, shared.alone)
+        self._rows = Rows(self._served, confidence, makers)
+        self._scenes = Scenes(self._served, self._limits, confidence, makers, service.tiles)
 
     async def question(self, what: What, request: Request) -> ASGIApp:
         """The answer to a question, as the program gives it or as GeoJSON; or the lines about a few references."""
@@ -139,8 +144,8 @@ class _Answers:
         question = question_of(what, options, self._limits.look)
         has_features = what in WITH_FEATURES
         if has_features and features.is_wanted(accept_of(request)):
-            text = await self._features.of(question, request.scope["is_gone"])
-            return Response(text, headers=VARIES, media_type=features.MEDIA_TYPE)
+            file = await self._features.of(question, request.scope["is_gone"])
+            return FileAnswer(file, [VARY, typed(features.MEDIA_TYPE)], self._taken)
         fields = [VARY] if has_features else []
         known_tags = tags_of(request)
         version = self._served.unchanged() if known_tags else None
@@ -150,7 +155,8 @@ class _Answers:
         tag = self._tag(question, known.version)
         if tag in known_tags:
             return unchanged(tag, fields)
-        return tagged(Response(known.json, media_type=JSON), tag, fields)
+        response = tagged(Response(known.json, media_type=JSON), tag, fields)
+        return answer_of(response, self._taken)
 
     def _tag(self, question: Question, version: Version) -> str:
         """The tag of the answer of the program to a question on a version of the map."""
@@ -185,9 +191,9 @@ class _Answers:
     ) -> Streaming:
         """Lines of JSON, or of GeoJSON where that is asked for."""
         lines, media_type = partial(_json_lines, batch), streaming.MEDIA_TYPE
-        seq, has_features = feature_lines.MEDIA_TYPE, what in WITH_FEATURES
+        seq, has_features = features.OF_LINES, what in WITH_FEATURES
         if has_features and features.is_wanted(accept_of(request), seq, media_type):
-            lines = partial(self._rows.lines, feature_lines.feature_text, batch)
+            lines = partial(self._rows.lines, "features", batch)
             media_type = seq
         headers = {"Content-Type": media_type} | (VARIES if has_features else {})
         return Streaming(
@@ -201,7 +207,7 @@ class _Answers:
 
     def rows(self) -> Streaming:
         """The rows of the page's list."""
-        lines = partial(self._rows.lines, row_text, self._apart)
+        lines = partial(self._rows.lines, "rows", self._apart)
         return Streaming(self._served, self._limits, "places", lines, FEED)
 
     async def show(self, request: Request) -> Response:
@@ -215,11 +221,11 @@ class _Answers:
         said = await self._served.show(text)
         return tagged(Response(said, media_type=JSON), tag)
 
-    async def scene(self, request: Request) -> Response:
+    async def scene(self, request: Request) -> ASGIApp:
         """What the page draws."""
         options = options_of(request.scope["query_string"])
-        found = await self._scenes.scene(options, request.scope["is_gone"])
-        return Response(json_of(found | {"tiles": self._service.tiles}), media_type=JSON)
+        file = await self._scenes.scene(options, request.scope["is_gone"])
+        return FileAnswer(file, [typed(JSON)], self._taken)
 
     async def health(self, _: Request) -> Response:
         """That the server lives, with what it knows of its map."""

@@ -6,28 +6,15 @@ from collections import deque
 from collections.abc import AsyncGenerator, AsyncIterator, Sequence
 from contextlib import suppress
 from pathlib import Path
-from typing import NamedTuple
 
 from olr.asking.exchange import Exchange
 from olr.asking.processes import Kind
-from olr.asking.records import Record
+from olr.asking.records import Answered, Record
 from olr.asking.starting import command_of, kill_group_of, not_started
 from olr.serving.edition import Edition
 from olr.serving.limits import MOST_ANSWER, MOST_SAID
 
 PIECE = 1 << 18
-
-
-class Answered(NamedTuple):
-    """A record, and the JSON of its answer, or `null` and a fault."""
-
-    record: Record
-    answer: bytes
-    fault: str | None
-
-    def line(self) -> bytes:
-        """Its line, as the program writes it."""
-        return self.record.line(self.answer, self.fault)
 
 
 async def started(program: Path, words: Sequence[str], stdin: int = PIPE) -> Process:

@@ -1,21 +1,15 @@
 """One edition of a map: a version of its files, which all of its processes read."""
 
 import asyncio
-import threading
 from collections.abc import Iterator
 from contextlib import contextmanager
 from pathlib import Path
-from typing import TYPE_CHECKING
 
 from olr.asking.exchange import Asked
 from olr.asking.files import MapFiles, Version
 from olr.asking.processes import Kind
 from olr.asking.program import PathLike, find_program
 from olr.errors import ANOTHER_MAP, MapRefused
-
-if TYPE_CHECKING:
-    from olr.geometry.network import Network
-    from olr.near_paths.streets import Streets
 
 
 class Edition:
@@ -27,9 +21,6 @@ class Edition:
         self.program = find_program(program)
         self.version: Version | None = None
         """None until the first process has read them."""
-        self._network: "Network | None" = None
-        self._streets: "Streets | None" = None
-        self._reading = threading.Lock()
 
     def words(self, kind: Kind) -> list[str]:
         """The words of a process, behind the program."""
@@ -45,28 +36,6 @@ class Edition:
         with _for_operators():
             await asyncio.to_thread(self.files.keep, version)
         self.version = version
-
-    def network(self) -> "Network":
-        """The nodes and lines, which are read once. It takes seconds: call it in a thread. Raises `ToolError`."""
-        from olr.geometry.network import Network
-
-        with self._reading:
-            if self._network is None:
-                with self.files.reading():
-                    self._network = Network(self.files.nodes, self.files.lines)
-            return self._network
-
-    def streets(self) -> "Streets":
-        """The lines and the bans between them, to search other paths: made once, of the version that the processes read. They take 30 MB
-        for 200,000 lines and as many bans, and half a second: call it in a thread. Raises `ToolError`, and `MapRefused` if the files were
-        changed before."""
-        from olr.near_paths.notes import streets_of_files
-
-        network = self.network()
-        with self._reading:
-            if self._streets is None:
-                self._streets = streets_of_files(network, self.files)
-            return self._streets
 
 
 @contextmanager

@@ -2,18 +2,17 @@
 
 import asyncio
 import logging
-from collections.abc import AsyncGenerator, AsyncIterator, Mapping
+from collections.abc import AsyncGenerator, AsyncIterator
 from contextlib import AbstractAsyncContextManager
 from pathlib import Path
-from typing import TYPE_CHECKING, Any
+from typing import Any
 
 from olr.asking.files import Version
 from olr.asking.processes import Kind
-from olr.asking.records import Record
-from olr.errors import MapRefused, ToolError
-from olr.model.answers import Matching, Reference
+from olr.asking.records import Answered, Record
+from olr.errors import ToolError
 from olr.model.fault import Fault
-from olr.serving.batches import Answered, answered_by
+from olr.serving.batches import answered_by
 from olr.serving.edition import Edition
 from olr.serving.judging import default_kinds
 from olr.serving.limits import Capacity, Limits
@@ -22,10 +21,6 @@ from olr.serving.problems import busy
 from olr.serving.queries import Question, kind_of
 from olr.serving.runs import printed_by, version_of
 from olr.serving.served import IsGone, Known
-
-if TYPE_CHECKING:
-    from olr.geometry.network import Network
-    from olr.near_paths.streets import Streets
 
 log = logging.getLogger("olr.serving")
 FIRST = kind_of("match", {}, 0)
@@ -130,26 +125,9 @@ class FolderMap:
         """The version that the processes have read: None once the files have changed, which is seen within a second."""
         return None if self.pool.trouble is not None else self.pool.edition.version
 
-    def digest(self) -> str | None:
-        """Of the nodes and lines that are asked now."""
-        return self.digests().get("network")
-
-    def network(self) -> "Network":
-        """Its nodes and lines. Call it in a thread. Raises `ToolError`."""
-        return self.pool.edition.network()
-
-    def streets(
-        self,
-        version: Version,
-        tolerances: Mapping[str, int],
-        reference: Reference,
-        matching: Matching,
-    ) -> "Streets":
-        """All its lines and bans. Call it in a thread. Raises `ToolError`, and `MapRefused` if another version is served."""
-        edition = self.pool.edition
-        if edition.version != version:
-            raise MapRefused(f"another version of the map {edition.name} is served")
-        return edition.streets()
+    def files(self) -> tuple[Path, ...]:
+        """Those that are asked now."""
+        return tuple(self.pool.edition.files.paths())
 
     def map_name(self) -> str | None:
         """The name of its folder."""

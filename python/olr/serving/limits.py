@@ -18,8 +18,9 @@ MOST_BACKLOG = 2048
 """Connections that the system keeps until they are taken."""
 LEAST_CONNECTIONS = 16
 """With fewer, those that are to be taken included, the server doesn't start: a browser has six."""
-FILES = 64
-"""Files that the server has open besides, or reads for a while: its own, those of the map and of the modules, and lists that come."""
+FILES = 128
+"""Files that the server has open besides, or reads for a while: its own, those of the map and of the modules, lists that come, answers that are
+taken, and sockets of those that make them."""
 FILES_OF_PROCESS = 4
 """And so many for each process, which has three pipes."""
 FILES_OF_WORKER = 6
@@ -39,10 +40,14 @@ RETRY_AFTER = 2
 ABREAST = 4
 """Requests that one process has at once. It answers one at a time: with the next ones at hand it doesn't wait for the server between
 two; but they wait for one that takes long."""
-MOST_ANSWER = 64 * MIB
-"""Bytes of an answer that is held in memory. A page of 1,000 matchings of 200 lines each has 6 MiB."""
-MOST_UNREAD = 128 * MIB
-"""Bytes of answers that clients don't take. Above it, looked at each second, connections are closed, the ones that are silent for longest
+MOST_ANSWER = 32 * MIB
+"""Bytes of an answer of the program, which is held in memory. A page of 1,000 matchings of 24 points on the largest map has 18 MB."""
+MOST_MADE = 128 * MIB
+"""Bytes of GeoJSON, which is in a file. That of such a page has 63 MB."""
+MOST_TAKEN = 32
+"""Answers in files that clients take at once: 4 GiB at most."""
+MOST_UNREAD = 64 * MIB
+"""Bytes of answers that clients don't take, but for those in files. Above it, looked at each second, connections are closed, the ones that are silent for longest
 first."""
 SECONDS_TO_READ = 120.0
 """How long a process may take to read the map. The largest map takes a third of a second from memory."""

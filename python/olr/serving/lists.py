@@ -17,7 +17,7 @@ from olr.serving.peers import Shares, client_of
 from olr.serving.problems import Problem, bad_request, busy
 from olr.serving.queries import Options, options_of
 from olr.serving.rooms import Room
-from olr.serving.runs import ended_with
+from olr.serving.runs import ended_with, python_words
 
 MEDIA_TYPE = "application/x-ndjson"
 MOST_BYTES = 16 * MIB
@@ -31,9 +31,6 @@ ABREAST = 2
 LARGE = MIB
 """Of longer ones one is read at a time."""
 log = logging.getLogger("olr.serving")
-PACKAGE = Path(__file__).resolve().parents[2]
-LISTING = f"import sys; sys.path.insert(0, {str(PACKAGE)!r}); from olr.serving.listing import main; sys.exit(main(sys.argv[1:]))"
-"""What the process runs: the package lies where this server has it, installed or not."""
 
 
 def most_bytes(limits: Limits) -> int:
@@ -94,7 +91,7 @@ class Lists:
 
 async def _read(file: IO[bytes], reading: Reading, seconds: float) -> tuple[int, bytes, bytes]:
     """The status, the lines and the error of a process that reads a list. Raises `TimeoutError`."""
-    words = ["-P", "-c", LISTING, json.dumps(reading)]
+    words = [*python_words("olr.serving.listing"), json.dumps(reading)]
     return await ended_with(Path(sys.executable), words, seconds, file.fileno())
 
 

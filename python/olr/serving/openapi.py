@@ -9,7 +9,7 @@ from olr.messages.message import FORMATS
 from olr.model.answers import Reference
 from olr.model.profiles import FEED, PROFILE, PROFILES, PROGRAM, about_text, tolerances_of
 from olr.model.questions import NUMBERS, TOLERANCES, Number, What
-from olr.serving import feature_lines, features, listing, lists, meters, posted, problems, streaming
+from olr.serving import features, listing, lists, meters, posted, problems, streaming
 from olr.serving.limits import Limits
 from olr.serving.queries import AFTER, REF, numbers_of
 from olr.serving.schemas import (
@@ -173,7 +173,7 @@ def _batch_lines(what: What) -> Json:
     if what in ("match", "places"):
         text = TEXT | {"description": "Texts of GeoJSON (RFC 8142), each of which is a FeatureLine"}
         about = {"schema": text, "x-item-schema": reference_to("FeatureLine")}
-        found[feature_lines.MEDIA_TYPE] = about
+        found[features.OF_LINES] = about
     return found
 
 

@@ -7,12 +7,11 @@ from starlette.requests import ClientDisconnect, Request
 from typing import Any, NamedTuple
 
 from olr.asking.processes import Kind
-from olr.asking.records import Record
+from olr.asking.records import Answered, Record
 from olr.errors import MapRefused
 from olr.model.fault import Fault
 from olr.model.profiles import PROFILE
 from olr.model.questions import NO_LETTER, record_text
-from olr.serving.batches import Answered
 from olr.serving.limits import Limits
 from olr.serving.problems import Problem, bad_request, busy
 from olr.serving.queries import AFTER, REF, Options, Question

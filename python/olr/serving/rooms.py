@@ -1,4 +1,4 @@
-"""Room for what is made in a thread, so many at once."""
+"""Room for what is made, so many at once."""
 
 import asyncio
 from collections.abc import AsyncIterator
@@ -8,8 +8,7 @@ from olr.serving.problems import busy
 from olr.serving.served import IsGone
 
 ABREAST = 4
-"""Scenes, GeoJSON and lots of rows that are made at once, each in a thread. Python works at one at a time. There are a few threads more,
-which look at the files of the map: they don't wait for all that are to be made."""
+"""Scenes, GeoJSON and lots of rows that are made at once, each by a process."""
 
 
 class Room:

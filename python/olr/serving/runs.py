@@ -14,6 +14,14 @@ from olr.serving.batches import started
 from olr.serving.limits import MOST_ANSWER, MOST_SAID
 
 SECONDS_OF_VERSION = 10.0
+PACKAGE = Path(__file__).resolve().parents[2]
+
+
+def python_words(module: str) -> list[str]:
+    """The words, behind Python, of a process that runs `main` of a module of this package, which lies where the server has it, installed or
+    not."""
+    text = f"import sys; sys.path.insert(0, {str(PACKAGE)!r}); from {module} import main; sys.exit(main(sys.argv[1:]))"
+    return ["-P", "-c", text]
 
 
 async def printed_by(program: Path, words: Sequence[str], seconds: float) -> bytes:

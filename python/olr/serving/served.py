@@ -1,20 +1,16 @@
 """What the addresses ask of a map, whether it is a folder or a store."""
 
-from collections.abc import AsyncGenerator, AsyncIterator, Awaitable, Callable, Mapping
+from collections.abc import AsyncGenerator, AsyncIterator, Awaitable, Callable
 from contextlib import AbstractAsyncContextManager
-from typing import TYPE_CHECKING, Any, NamedTuple, Protocol, TypeVar
+from pathlib import Path
+from typing import Any, NamedTuple, Protocol, TypeVar
 
 from olr.asking.files import Version
 from olr.asking.processes import Kind
-from olr.asking.records import Record
+from olr.asking.records import Answered, Record
 from olr.errors import MapRefused
-from olr.model.answers import Matching, Reference
-from olr.serving.batches import Answered
 from olr.serving.queries import Question
-
-if TYPE_CHECKING:
-    from olr.geometry.network import Network
-    from olr.near_paths.streets import Streets
+from olr.serving.tasks import MapVersion
 
 Made = TypeVar("Made")
 IsGone = Callable[[], bool]
@@ -86,21 +82,8 @@ class Served(Living, Protocol):
         """The version of the files, if all that is asked now is answered by it and they are known to be the same still. It isn't looked
         for."""
 
-    def digest(self) -> str | None:
-        """Of the nodes and lines that are asked now."""
-
-    def network(self) -> "Network":
-        """Its nodes and lines. Call it in a thread. Raises `ToolError`."""
-
-    def streets(
-        self,
-        version: Version,
-        tolerances: Mapping[str, int],
-        reference: Reference,
-        matching: Matching,
-    ) -> "Streets":
-        """The lines and bans of a version that may matter for the matching of a reference, asked with these tolerances. Call it in a
-        thread. Raises `ToolError`, and `MapRefused` if another version is served."""
+    def files(self) -> tuple[Path, ...]:
+        """Those of nodes, lines and, if there are any, bans; or that of a store."""
 
     def map_name(self) -> str | None:
         """The name of its folder, without those above: None for a store, which the program doesn't read."""
@@ -127,23 +110,12 @@ class Versions:
         """An answer that is used."""
         self._noted.add(known.version)
 
-    def network(self) -> "Network":
-        """The network of the same version. Call it in a thread, after the last answer. Raises `MapRefused` if there is none."""
-        network = self._served.network()
-        if {version.network for version in self._noted} - {network.digest}:
-            raise _other_version()
-        return network
+    def are_one(self) -> bool:
+        """Whether there is one: else the bans differ."""
+        return len(self._noted) == 1
 
-    def streets(
-        self, tolerances: Mapping[str, int], reference: Reference, matching: Matching
-    ) -> "Streets":
-        """The lines and bans of the same version. Call it in a thread, after the last answer. Raises as `Served.streets`, and `MapRefused`
-        if the answers are of several versions, of which only the bans differ."""
-        if len(self._noted) != 1:
-            raise _other_version()
-        (version,) = self._noted
-        return self._served.streets(version, tolerances, reference, matching)
-
-
-def _other_version() -> MapRefused:
-    return MapRefused("another version of the map took the place of the one that was asked")
+    def map(self) -> MapVersion:
+        """The map that they are of. Raises `MapRefused` if the nodes or lines differ."""
+        if len({version.network for version in self._noted}) != 1:
+            raise MapRefused("another version of the map took the place of the one that was asked")
+        return MapVersion(self._served.files(), next(iter(self._noted)))

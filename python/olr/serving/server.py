@@ -10,9 +10,8 @@ import uvloop
 from collections.abc import Mapping, Sequence
 from functools import partial
 from pathlib import Path
-from typing import Any, NamedTuple
+from typing import TYPE_CHECKING, Any, NamedTuple
 
-from olr.confidence.choosing import confidence_of
 from olr.model.map_folder import store_of
 from olr.serving import logs
 from olr.serving.addresses import Service, Shared, application
@@ -28,7 +27,9 @@ from olr.serving.meters import Meters
 from olr.serving.pages import policy_of
 from olr.serving.peers import Peers
 from olr.serving.served import Living, Served
-from olr.serving.store_map import StoreMap
+
+if TYPE_CHECKING:
+    from olr.confidence.confidence import Confidence
 
 
 class Settings(NamedTuple):
@@ -105,8 +106,19 @@ async def _serve(settings: Settings) -> None:
 def _served(map: Path, settings: Settings) -> Served:
     """A map."""
     if store_of(map) is not None:
+        from olr.serving.store_map import StoreMap
+
         return StoreMap(map, settings.limits)
     return FolderMap(map, settings.capacity, settings.limits)
+
+
+def _confidence(settings: Settings) -> "Confidence | None":
+    """That of a file, which needs numpy: else makers have it alone. Raises `ToolError` if the file is none."""
+    if settings.confidence is None:
+        return None
+    from olr.confidence.confidence import Confidence
+
+    return Confidence.of_file(settings.confidence)
 
 
 async def _answer(
@@ -119,16 +131,16 @@ async def _answer(
     """Answers what comes, until a signal ends it."""
     port = listening.getsockname()[1]
     meters = Meters(served)
-    confidence = confidence_of(settings.confidence)
+    shared = Shared.of(settings.limits)
     service = Service(
         next(iter(maps.values())),
         settings.limits,
         meters,
-        confidence,
+        _confidence(settings),
         settings.tiles,
         lambda: bool(server.should_exit),
         maps,
-        Shared.of(settings.limits),
+        shared,
     )
     apps = {name: application(service._replace(served=one)) for name, one in maps.items()}
     app = apps.get(ALONE) or ByName(apps)
@@ -155,6 +167,7 @@ async def _answer(
         # What isn't answered by now is left: its connection is closed, and its process ends.
         connections.close()
         await served.close()
+        await shared.makers.close()
         if server.server_state.tasks:
             await asyncio.wait(server.server_state.tasks, timeout=1)
 

@@ -2,34 +2,27 @@
 
 import asyncio
 import logging
-import threading
-from collections.abc import AsyncGenerator, AsyncIterator, Callable, Mapping
+from collections.abc import AsyncGenerator, AsyncIterator, Callable
 from concurrent.futures import ThreadPoolExecutor
 from contextlib import asynccontextmanager
 from pathlib import Path
-from typing import TYPE_CHECKING, Any, TypeVar
+from typing import Any, TypeVar
 
 from olr.asking.files import Version
 from olr.asking.processes import Kind
 from olr.asking.program import find_program
-from olr.asking.records import Record
+from olr.asking.records import Answered, Record
 from olr.client.map_client import Map
 from olr.errors import MapRefused, ToolError
-from olr.geometry.store_network import StoreNetwork
-from olr.model.answers import Matching, Reference
 from olr.model.fault import Fault
 from olr.model.map_folder import store_of
 from olr.model.questions import TOLERANCES, argument
 from olr.regions.current import CurrentStore
-from olr.serving.batches import Answered
 from olr.serving.limits import Limits
 from olr.serving.problems import busy
 from olr.serving.queries import Question
 from olr.serving.runs import printed_by, version_of
 from olr.serving.served import IsGone, Known
-
-if TYPE_CHECKING:
-    from olr.near_paths.streets import Streets
 
 log = logging.getLogger("olr.serving")
 Made = TypeVar("Made")
@@ -51,8 +44,6 @@ class StoreMap:
         self._digest = ""
         self._refused: str | None = None
         self._version = ""
-        self._network: StoreNetwork | None = None
-        self._opening = threading.Lock()
         self._turn = asyncio.Lock()
         self._showing = asyncio.Semaphore(MOST_SHOWN)
         self._waiting = 0
@@ -183,33 +174,9 @@ class StoreMap:
         """None: nobody looks at the store but who asks it."""
         return None
 
-    def digest(self) -> str | None:
-        """Of the nodes and lines that are asked now."""
-        return self._digest
-
-    def network(self) -> "StoreNetwork":
-        """Its nodes and lines. Call it in a thread. Raises `ToolError`."""
-        with self._opening:
-            if self._network is None or self._network.digest != self._digest:
-                network = StoreNetwork(self._path)
-                network.require_digest(self._digest)
-                self._network = network
-            return self._network
-
-    def streets(
-        self,
-        version: Version,
-        tolerances: Mapping[str, int],
-        reference: Reference,
-        matching: Matching,
-    ) -> "Streets":
-        """The lines and bans that may matter for a matching. Call it in a thread. Raises `ToolError`, and `MapRefused` if another version
-        is served."""
-        from olr.near_paths.notes import streets_near
-
-        network = self.network()
-        network.require_digest(version.network or "")
-        return streets_near(network, reference, matching, tolerances)
+    def files(self) -> tuple[Path, ...]:
+        """That of the store."""
+        return (self._path,)
 
     def map_name(self) -> str | None:
         """None: the program doesn't read a store."""

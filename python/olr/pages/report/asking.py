@@ -4,8 +4,8 @@ from collections.abc import Mapping
 from typing import NamedTuple
 
 from olr.client.map_client import Map
-from olr.confidence.choosing import listing
 from olr.confidence.judged import Judging
+from olr.likely.long_list import listing
 from olr.matching.asking import Asked
 from olr.matching.chunks import Answered, chunks_of
 from olr.matching.lacking import Lacking

@@ -10,7 +10,8 @@ from olr.client.map_client import Map
 from olr.confidence.confidence import Confidence
 from olr.confidence.judged import Judged, JudgedPlace, Judging, judged
 from olr.geometry.network import Network, OnLine, middle
-from olr.likely.order import LIST, Shown
+from olr.likely.long_list import LIST
+from olr.likely.order import Shown
 from olr.model.answers import Candidate, Candidates, Matching, Page, Places, Reference, Why
 from olr.model.asked_with import command_text
 from olr.model.fault import Fault

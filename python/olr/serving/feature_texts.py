@@ -1,0 +1,79 @@
+"""Texts of GeoJSON with the columns of docs/COLUMNS.md: a collection about one reference, and lines about many (RFC 8142)."""
+
+from collections.abc import Sequence
+from io import BufferedRandom, TextIOWrapper
+
+from olr.asking.records import Answered
+from olr.confidence.judged import Judging
+from olr.errors import ProgramEnded
+from olr.geometry.network import Network
+from olr.matching import chunks
+from olr.matching.chunks import Chunk
+from olr.matching.columns import IN_FRONT
+from olr.matching.tables import values_of
+from olr.matching.texts import GeoJson, features_of
+from olr.messages.message import Message
+from olr.model.answers import Candidates
+from olr.model.fault import Fault
+from olr.model.objects import read_answer
+from olr.model.questions import What
+from olr.serving.chosen import chosen_by
+from olr.serving.limits import MIB
+from olr.serving.tasks import FeaturesTask, JudgedBy
+
+BEFORE = "\x1e"
+"""Stands before each line."""
+MOST_ANSWER = MIB
+"""Bytes of an answer of the program of which lines are made: making them takes some ten times as much memory."""
+TOO_LARGE = Fault("AnswerTooLarge")
+
+
+def write(task: FeaturesTask, network: Network, file: BufferedRandom) -> None:
+    """Writes a collection: a feature for each matching, or for each place that is shown, the likeliest one first; or one without a
+    geometry. Raises `ToolError` and `OSError`."""
+    what, digest = task.judged_by.kind.what, network.digest
+    counted: chunks.Counted = None
+    if isinstance(task.candidates, Fault):
+        counted = task.candidates
+    else:
+        found = read_answer("candidates", task.candidates, digest)
+        assert isinstance(found, Candidates)
+        counted = found
+    answer = read_answer(what, task.answer, digest)
+    asked = chunks.Answered(None, task.reference, answer, counted)
+    rows = Chunk([asked], network, _judging_of(task.judged_by)).rows()
+    stream = TextIOWrapper(file, encoding="utf-8", newline="")
+    written = GeoJson(stream, what)
+    written.add(rows.values, rows.shapes)
+    written.end()
+    stream.detach()
+
+
+def lines_of(some: Sequence[Answered], network: Network, judged_by: JudgedBy) -> bytes:
+    """The features of records, by what the program answered to them. Raises `ToolError`."""
+    what = judged_by.kind.what
+    try:
+        answered = [_answered(one, network, what) for one in some]
+    except ValueError as error:
+        raise ProgramEnded(f"the program wrote what is no answer: {error}") from error
+    rows = Chunk(answered, network, _judging_of(judged_by)).rows()
+    front = values_of(IN_FRONT, [answered[number].item for number in rows.answers])
+    features = features_of({**front, **rows.values}, rows.shapes)
+    return "".join(f"{BEFORE}{feature}\n" for feature in features).encode()
+
+
+def _judging_of(judged_by: JudgedBy) -> Judging:
+    """By what answers are judged: matchings by nothing."""
+    return chosen_by(judged_by).judging if judged_by.kind.what == "places" else Judging()
+
+
+def _answered(one: Answered, network: Network, what: What) -> chunks.Answered[Message]:
+    record = one.record
+    text = record.text().decode()
+    message = Message(record.number, record.key(), text)
+    fault = record.fault() or one.fault
+    if fault is not None:
+        return chunks.Answered(message, text, Fault(fault))
+    if len(one.answer) > MOST_ANSWER:
+        return chunks.Answered(message, text, TOO_LARGE)
+    return chunks.Answered(message, text, read_answer(what, one.answer, network.digest))

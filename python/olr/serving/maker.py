@@ -1,0 +1,126 @@
+"""A process that makes GeoJSON, scenes and rows. It has read the map, and forks a process for each that works: so they share what was read, each can be
+killed, and gives all of its memory back. `tasks.py` says what is asked of it.
+"""
+
+import fcntl
+import gc
+import os
+import pickle
+import resource
+import select
+import signal
+import socket
+import sys
+import traceback
+from io import BufferedRandom
+from typing import NoReturn
+
+from olr.confidence.confidence import Confidence
+from olr.errors import ToolError
+from olr.serving import feature_texts, row_texts, scene_texts
+from olr.serving.ground import Ground, Grounds, StoreGround
+from olr.serving.limits import MIB, MOST_MADE
+from olr.serving.tasks import MOST_MESSAGE, FeaturesTask, LinesTask, MapVersion, SceneTask, Task
+
+MOST_MEMORY = 128 * MIB
+"""Bytes that one process may take besides what it shares. GeoJSON of 1,000 matchings of 24 points on the largest map takes 40 MiB."""
+MOST_OF_STORE = 384 * MIB
+"""So many of a store: it reads the lines around a place by itself, as many as the largest map has at most."""
+PAGE = resource.getpagesize()
+
+
+def main(_: list[str]) -> int:
+    """Forks a process for each socket that comes, until the server has ended. Answers the status."""
+    signal.signal(signal.SIGCHLD, signal.SIG_IGN)
+    Confidence.default()
+    grounds = Grounds()
+    with socket.socket(fileno=sys.stdin.fileno()) as control:
+        while True:
+            message, descriptors = socket.recv_fds(control, MOST_MESSAGE, 1)[:2]
+            if not message:
+                return 0
+            with socket.socket(fileno=descriptors[0]) as asked:
+                _fork(control, asked, grounds, pickle.loads(message))
+
+
+def _fork(control: socket.socket, asked: socket.socket, grounds: Grounds, map: MapVersion) -> None:
+    """Forks a process that makes what is asked for on a socket."""
+    try:
+        ground: Ground | ToolError = grounds.of(map)
+    except ToolError as error:
+        ground = error
+    gc.freeze()
+    if os.fork() == 0:
+        control.close()
+        _work(asked, ground)
+
+
+def _work(asked: socket.socket, ground: Ground | ToolError) -> NoReturn:
+    """Makes what is asked for, until the server has closed the socket."""
+    try:
+        _end_with(asked)
+        _limit(MOST_OF_STORE if isinstance(ground, StoreGround) else MOST_MEMORY, MOST_MADE)
+        while descriptors := socket.recv_fds(asked, 1, 1)[1]:
+            asked.send(pickle.dumps(_made(descriptors[0], ground)))
+    except ConnectionError:
+        pass
+    except Exception:
+        traceback.print_exc()
+    finally:
+        sys.stderr.flush()
+        os._exit(0)
+
+
+def _end_with(asked: socket.socket) -> None:
+    """Ends this process once the other end of a socket is closed: what it has begun in files is deleted."""
+    watched = select.poll()
+    watched.register(asked, 0)
+
+    def look(*_: object) -> None:
+        if watched.poll(0):
+            sys.exit()
+
+    signal.signal(signal.SIGIO, look)
+    fcntl.fcntl(asked, fcntl.F_SETOWN, os.getpid())
+    fcntl.fcntl(asked, fcntl.F_SETFL, fcntl.fcntl(asked, fcntl.F_GETFL) | os.O_ASYNC)
+    look()
+
+
+def _limit(memory: int, size: int) -> None:
+    """Lets this process take so many bytes of memory more, and write so many to a file."""
+    with open("/proc/self/statm", encoding="ascii") as stream:
+        there = int(stream.read().split()[5]) * PAGE
+    resource.setrlimit(resource.RLIMIT_DATA, (there + memory, there + memory))
+    resource.setrlimit(resource.RLIMIT_FSIZE, (size, size))
+
+
+def _made(descriptor: int, ground: Ground | ToolError) -> Exception | None:
+    """Makes the answer to the task of a file in its place. Answers why there is none."""
+    try:
+        with open(descriptor, "r+b") as file:
+            file.seek(0)
+            task = pickle.load(file)
+            file.seek(0)
+            file.truncate()
+            if isinstance(ground, ToolError):
+                raise ground
+            _make(task, ground, file)
+    except MemoryError:
+        return MemoryError()
+    except (ToolError, OSError) as error:
+        return error
+    except Exception:
+        traceback.print_exc()
+        return RuntimeError("an answer wasn't made: the log has more above")
+    return None
+
+
+def _make(task: Task, ground: Ground, file: BufferedRandom) -> None:
+    """Writes the answer to a task. Raises `ToolError`, `OSError` and `MemoryError`."""
+    if isinstance(task, FeaturesTask):
+        feature_texts.write(task, ground.network, file)
+    elif isinstance(task, SceneTask):
+        file.write(scene_texts.text_of(task, ground))
+    elif isinstance(task, LinesTask):
+        texts = row_texts if task.form == "rows" else feature_texts
+        file.write(texts.lines_of(task.some, ground.network, task.judged_by))

@@ -1,0 +1,78 @@
+"""What the server asks of a maker, as both know it: `makers.py` asks, and `maker.py` is the process.
+
+The maker's standard input is a socket. Each message on it has a `MapVersion`, and comes with another socket, for which the maker forks a process.
+That one makes answers, one after the other: a message is a file in which there is a task, and the answer takes its place. Then the
+process sends None, or the error for which there is no answer. It ends once the server has closed the socket.
+"""
+
+from collections.abc import Sequence
+from pathlib import Path
+from typing import TYPE_CHECKING, Literal, NamedTuple
+
+from olr.asking.files import Version
+from olr.asking.processes import Kind
+from olr.asking.records import Answered
+from olr.model.fault import Fault
+
+if TYPE_CHECKING:
+    from olr.confidence.confidence import Confidence
+
+Form = Literal["rows", "features"]
+"""Rows of the page's list, or lines of GeoJSON."""
+MOST_MESSAGE = 65_536
+"""Bytes of a message."""
+
+
+class MapVersion(NamedTuple):
+    """A version of a map that is made of files."""
+
+    files: tuple[Path, ...]
+    """Those of nodes, lines and, if there are any, bans; or that of a store alone."""
+    version: Version
+
+
+class JudgedBy(NamedTuple):
+    """By what places are judged."""
+
+    kind: Kind
+    """What was asked for: its numbers say what is shown."""
+    confidence: "Confidence | None"
+    """None for the one that comes with the package."""
+
+
+class FeaturesTask(NamedTuple):
+    """A collection of features, of an answer to `match` or `places`."""
+
+    judged_by: JudgedBy
+    reference: str
+    answer: bytes
+    candidates: bytes | Fault
+
+
+class SceneTask(NamedTuple):
+    """All that the page draws of a reference."""
+
+    judged_by: JudgedBy
+    reference: str
+    said: bytes
+    """What the reference says."""
+    candidates: bytes | Fault
+    places: bytes | Fault
+    page: bytes | Fault
+    why: bytes | None
+    """None where it fits somewhere."""
+    has_bans: bool
+    """Whether all answers are of the version of the map, and not only of its nodes and lines."""
+    map_name: str | None
+    tiles: str | None
+
+
+class LinesTask(NamedTuple):
+    """Lines about records, by what the program answered to them."""
+
+    form: Form
+    judged_by: JudgedBy
+    some: Sequence[Answered]
+
+
+Task = FeaturesTask | SceneTask | LinesTask
