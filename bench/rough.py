@@ -5,6 +5,7 @@ import contextlib
 import hashlib
 import http.client
 import signal
+import socket
 import subprocess
 
 from served import path_of
@@ -87,13 +88,16 @@ class Rough:
 
     async def slow_reading(self, text):
         """Asks for a large answer, and hardly takes it."""
+        loop = asyncio.get_running_loop()
         while not self._is_over.is_set():
-            with contextlib.suppress(OSError):
-                reader, writer = await self._open(6)
-                writer.write(self._head("GET", f"{path_of('match', text)}&{LARGE}"))
-                while not self._is_over.is_set() and await reader.read(64):
+            with contextlib.suppress(OSError), socket.socket() as connection:
+                connection.setsockopt(socket.SOL_SOCKET, socket.SO_RCVBUF, 4096)
+                connection.setblocking(False)
+                connection.bind(("127.0.0.6", 0))
+                await loop.sock_connect(connection, ("127.0.0.1", self._port))
+                await loop.sock_sendall(connection, self._head("GET", f"{path_of('match', text)}&{LARGE}"))
+                while not self._is_over.is_set() and await loop.sock_recv(connection, 64):
                     await asyncio.sleep(1)
-                writer.close()
             self._note("slow readings")
             await asyncio.sleep(1)
 
