@@ -16,6 +16,13 @@ SLOW = 100
 """Connections on each of which a body comes too slowly."""
 UNREAD = 4
 """Connections on each of which a large answer is taken too slowly."""
+ESTABLISHED = b"\x01"
+"""The state of a connection of which no side is closed, as Linux has it."""
+
+
+def is_open(connection):
+    """Whether a connection wasn't closed by the other side. What came before can be read all the same."""
+    return connection.getsockopt(socket.IPPROTO_TCP, socket.TCP_INFO, 1) == ESTABLISHED
 
 
 class Rough:
@@ -96,7 +103,7 @@ class Rough:
                 connection.bind(("127.0.0.6", 0))
                 await loop.sock_connect(connection, ("127.0.0.1", self._port))
                 await loop.sock_sendall(connection, self._head("GET", f"{path_of('match', text)}&{LARGE}"))
-                while not self._is_over.is_set() and await loop.sock_recv(connection, 64):
+                while not self._is_over.is_set() and is_open(connection) and await loop.sock_recv(connection, 64):
                     await asyncio.sleep(1)
             self._note("slow readings")
             await asyncio.sleep(1)
