@@ -100,11 +100,12 @@ def _made(descriptor: int, ground: Ground | ToolError) -> Exception | None:
         with open(descriptor, "r+b") as file:
             file.seek(0)
             task = pickle.load(file)
-            file.seek(0)
-            file.truncate()
             if isinstance(ground, ToolError):
                 raise ground
+            file.seek(0)
             _make(task, ground, file)
+            # Cut off before, its blocks would be written to the disk: ext4 takes that for a file which is replaced.
+            file.truncate()
     except MemoryError:
         return MemoryError()
     except (ToolError, OSError) as error:
