@@ -51,7 +51,7 @@ TEST_MODULES = {
 """Modules that the tests need besides."""
 
 TEST_FILES = {
-    "/usr/bin/chromium": "chromium",
+    "/usr/bin/chromium-headless-shell": "chromium-headless-shell",
     "/usr/bin/ogrinfo": "gdal-bin",
     "/usr/bin/pyflakes3": "pyflakes3",
     "/usr/bin/jq": "jq",

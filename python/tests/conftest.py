@@ -3,6 +3,7 @@
 The program is the one that the environment variable OLR_PROGRAM names, else the built one.
 """
 
+import gc
 import os
 import pytest
 import subprocess
@@ -12,7 +13,7 @@ from io import BytesIO, TextIOWrapper
 from pathlib import Path
 from typing import TYPE_CHECKING, NamedTuple
 
-from browser import Browser
+from browser import ONE_THREAD, Browser
 from drawing import Drawing
 from olr.counts import Counts
 from olr.model.map_folder import write_map
@@ -36,6 +37,17 @@ OF_PROGRAM = ("--profile", "program")
 """Words of `olr-tools` for the program's own tolerances: where what it writes is compared with what the program says, or was drawn for them."""
 ASKED_WITH_PROGRAM = "asked with: radius 100 m, bearing 4 sectors, class 7, lowest 0, percent 30 %, slack 300 dm, profile program"
 """What a summary says then."""
+
+
+def pytest_collection() -> None:
+    """Modules and tests aren't garbage: nothing is looked for while they come."""
+    gc.disable()
+
+
+def pytest_collection_finish() -> None:
+    """They stay to the end, so no later collection of garbage goes through them."""
+    gc.freeze()
+    gc.enable()
 
 
 class Program:
@@ -135,7 +147,7 @@ def tools() -> Tools:
 @pytest.fixture(scope="session")
 def chromium() -> Iterator[Browser]:
     """A browser for all tests: it takes a second to start and to end."""
-    with Browser() as started:
+    with Browser(ONE_THREAD) as started:
         yield started
 
 

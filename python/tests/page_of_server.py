@@ -19,25 +19,26 @@ MESSAGES = (TOP / "examples/messages.tsv").read_text()
 SHOWN = "[...document.querySelectorAll('#rows tbody tr[data-index]')]"
 """The rows of its table that are in the document."""
 ALL_CELLS = (
-    """(async () => {
+    """(() => {
   const frame = document.querySelector('#rows .frame');
   const before = frame.scrollTop;
   const found = new Map();
   const scroll = (top) => {
     frame.scrollTop = top;
-    return new Promise((done) => requestAnimationFrame(() => requestAnimationFrame(done)));
+    frame.dispatchEvent(new Event('scroll'));
   };
   for (let top = 0; ; top += 4 * frame.clientHeight) {
-    await scroll(top);
+    scroll(top);
     for (const line of %s) found.set(Number(line.ariaRowIndex), [...line.cells].map((cell) => cell.textContent));
     if (frame.scrollTop < top || !frame.clientHeight || top + frame.clientHeight >= frame.scrollHeight) break;
   }
-  await scroll(before);
+  scroll(before);
   return [...found].sort(([one], [other]) => one - other).map(([, cells]) => cells);
 })()"""
     % SHOWN
 )
-"""The texts of all rows, which are scrolled through."""
+"""The texts of all rows, which are scrolled through. The table is told of it at once: the browser tells it with its next frame, and draws none
+that it has no need of."""
 OF_FEED = [word for name, value in tolerances_of(FEED).items() for word in (f"--{name}", value)]
 """Words of the program for what the page asks, if nobody changes an option."""
 AS_PROGRAM = "?profile=program"

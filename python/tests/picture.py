@@ -23,9 +23,9 @@ def view_command() -> list[str]:
     return shlex.split(command.removeprefix("$ "))
 
 
-def draw(picture: Path, browser: Browser) -> None:
+def draw(picture: Path) -> None:
     """Writes the picture as a PNG."""
-    with tempfile.TemporaryDirectory(prefix="picture.") as folder:
+    with tempfile.TemporaryDirectory(prefix="picture.") as folder, Browser() as browser:
         for name in ("olr-tools", "examples"):
             Path(folder, name).symlink_to(TOP / name)
         command = view_command()
@@ -35,5 +35,4 @@ def draw(picture: Path, browser: Browser) -> None:
 
 
 if __name__ == "__main__":
-    with Browser() as chromium:
-        draw(PICTURE, chromium)
+    draw(PICTURE)

@@ -20,7 +20,7 @@ from conftest import REFERENCE, TOP, Program
 from olr.asking.processes import AHEAD
 from olr.errors import ToolError
 from olr.model.fault_table import ROWS
-from servers import wait_until
+from servers import is_running, wait_until
 
 ROADWORKS = "CwVGnSN2zhvHCgDX/tIzAw=="
 
@@ -246,15 +246,10 @@ def test_python_is_killed(call: str, tmp_path: Path) -> None:
         while not (tmp_path / "pid").exists():
             assert python.poll() is None
             time.sleep(0.02)
-        status = Path(f"/proc/{int((tmp_path / 'pid').read_text())}/stat")
-        assert status.exists()
+        asked = int((tmp_path / "pid").read_text())
+        assert is_running(asked)
         python.kill()
-    for _ in range(100):
-        if not status.exists() or status.read_text().split()[2] == "Z":
-            break
-        time.sleep(0.1)
-    else:
-        raise AssertionError("the program is left behind")
+    wait_until(lambda: not is_running(asked))
 
 
 def test_a_thread_that_asked_has_ended(program: Program) -> None:

@@ -272,7 +272,8 @@ def test_apart_is_up_to_where_places_are_the_same() -> None:
 def spot(x: float, y: float, lead: tuple[float, float], reach: float = 500) -> Spot:
     """A point in metres, on a straight route that goes so far to either side of it."""
     (east, north), at = lead, np.array((x, y))
-    line = np.array([at - np.multiply(lead, reach), at + np.multiply(lead, reach)])
+    way = np.multiply(lead, reach)
+    line = np.array([at - way, at + way])
     behind = np.array([at - (east / 10, north / 10), at])
     return Spot(at / DEGREE, behind / DEGREE, line / DEGREE)
 

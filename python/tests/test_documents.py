@@ -11,7 +11,6 @@ from io import StringIO
 from pathlib import Path
 
 import picture
-from browser import Browser
 from conftest import TOP, Program
 from olr.tools import run
 
@@ -177,13 +176,13 @@ def test_the_readme_is_short() -> None:
 
 
 def test_the_picture_is_of_the_readmes_page(
-    program: Program, browser: Browser, tmp_path: Path, monkeypatch: pytest.MonkeyPatch
+    program: Program, tmp_path: Path, monkeypatch: pytest.MonkeyPatch
 ) -> None:
     """It is shown, is small, and can be drawn again. Pixels aren't compared: fonts differ."""
     assert "](docs/view.png)" in read("README.md")
     assert picture.PICTURE.stat().st_size < 200_000
     monkeypatch.setenv("OLR_PROGRAM", os.fspath(program.path))
-    picture.draw(tmp_path / "drawn.png", browser)
+    picture.draw(tmp_path / "drawn.png")
     for file in (picture.PICTURE, tmp_path / "drawn.png"):
         data = file.read_bytes()
         assert data[:8] == b"\x89PNG\r\n\x1a\n" and len(data) > 20_000

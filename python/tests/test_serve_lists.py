@@ -365,16 +365,20 @@ def test_ten_thousand_rows(page: Page) -> None:
 
     def look(expected: list[str]) -> list[int]:
         """The numbers of the rows that are in the document, whose keys are those that are expected."""
-        page.value("new Promise(done => requestAnimationFrame(() => requestAnimationFrame(done)))")
         found = page.value(drawn)
         assert len(found) <= 100
         assert [expected[at - 2] for at, _ in found] == [key for _, key in found]
         assert page.value(f"{table}.ariaRowCount") == str(len(expected) + 1)
         return [at for at, _ in found]
 
+    def scroll(top: str) -> None:
+        """Scrolls to a height, and tells the table so."""
+        page.value(f"{frame}.scrollTop = {top}")
+        page.value(f"{frame}.dispatchEvent(new Event('scroll'))")
+
     assert look(keys)[0] == 2
     height = page.value(f"{frame}.scrollHeight")
-    page.value(f"{frame}.scrollTop = 5000 * {SHOWN}[0].offsetHeight")
+    scroll(f"5000 * {SHOWN}[0].offsetHeight")
     middle = look(keys)
     # The chosen row has the keys, and stays.
     assert middle[0] == 2 and middle[1] < 5002 < middle[-1] and page.chosen(KEY) == keys[0]
@@ -400,7 +404,7 @@ def test_ten_thousand_rows(page: Page) -> None:
     found = [key for key in ordered if "k99" in key]
     assert look(found)[0] == 2 and look(found)[-1] < 100 < len(found)
     assert page.text(".tools .status") == f"{len(found)} of {count} rows"
-    page.value(f"{frame}.scrollTop = 1e6")
+    scroll("1e6")
     assert look(found)[-1] == len(found) + 1
     page.fill("#rows input", "k777")
     assert look(["k777", *(f"k777{digit}" for digit in range(10))]) == list(range(2, 13))

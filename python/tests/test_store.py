@@ -205,8 +205,8 @@ def test_the_lines_of_many_discs(tmp_path: Path, file: Path) -> None:
             Disc(west[place], south[place], draw.uniform(20, 200), 6500)
             for place in draw.sample(range(len(west)), 40)
         ]
-        each = np.unique(np.concatenate([store.lines_meeting([disc]) for disc in discs]))
-        together = store.lines_meeting(discs)
+        found = np.concatenate([store.lines_meeting([disc]) for disc in discs])
+        each, together = np.unique(found), store.lines_meeting(discs)
         assert set(each) <= set(together)
         assert len(each) <= len(together) < 1.5 * len(each) < 0.6 * store.sizes.lines
 

@@ -133,8 +133,8 @@ def _dead_ends(road_map: MapArrays) -> Integers:
     nodes = len(road_map.node_id)
     ends = np.concatenate([road_map.start, road_map.end])
     others = np.concatenate([road_map.end, road_map.start])
-    pairs = np.unique(np.stack([ends, others])[:, ends != others], axis=1)
-    neighbours = np.bincount(pairs[0], minlength=nodes)
+    pairs = np.stack([ends, others])[:, ends != others]
+    neighbours = np.bincount(np.unique(pairs, axis=1)[0], minlength=nodes)
     return np.flatnonzero(neighbours == 1)
 
 
@@ -143,7 +143,8 @@ def _near(road_map: MapArrays, dead_ends: Integers) -> list[tuple[int, int, floa
     if not len(dead_ends) or len(road_map.node_id) < 2:
         return []
     spots = on_sphere(road_map.lon / 1e6, road_map.lat / 1e6)
-    used = np.unique(np.concatenate([road_map.start, road_map.end]))
+    ends = np.concatenate([road_map.start, road_map.end])
+    used = np.unique(ends)
     nearest = min(3, len(used))
     tree = cKDTree(spots[used])
     metres, found = tree.query(spots[dead_ends], nearest, distance_upper_bound=NEAR_METRES)

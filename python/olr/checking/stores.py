@@ -38,6 +38,7 @@ def fault_lines(store: Store, most: int) -> Iterator[str]:
 
 def all_lines(store: Store) -> Integers:
     """The ids of all lines, sorted. Raises `ToolError` if a block isn't what was written."""
-    blocks = [store.lines_of_block(number) for number in range(store.blocks())]
-    result: Integers = np.unique(np.concatenate([np.zeros(0, dtype=np.int64), *blocks]))
-    return result
+    blocks = [np.zeros(0, dtype=np.int64)]
+    blocks += [store.lines_of_block(number) for number in range(store.blocks())]
+    lines: Integers = np.concatenate(blocks)
+    return np.unique(lines)

@@ -87,6 +87,7 @@ def probabilities(weights: Floats, differences: Differences) -> Probabilities:
     of_place = -differences.of_place @ weights[: len(OF_PLACE)]
     of_none = differences.of_none @ weights[len(OF_PLACE) :]
     greatest = np.maximum(np.maximum.reduceat(of_place, starts), of_none)
-    place, none = np.exp(of_place - np.repeat(greatest, sizes)), np.exp(of_none - greatest)
+    of_place -= np.repeat(greatest, sizes)
+    place, none = np.exp(of_place), np.exp(of_none - greatest)
     whole = np.add.reduceat(place, starts) + none
     return Probabilities(place / np.repeat(whole, sizes), none / whole)

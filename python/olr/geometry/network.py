@@ -400,7 +400,7 @@ def _line_string(points: Floats) -> "LineString":
 
 def _sums(values: Integers | Booleans, sizes: Integers) -> Integers:
     """The sums of values, in rows of these sizes, which may be 0."""
-    sums = np.concatenate([[0], np.cumsum(values, dtype=np.int64)])
+    sums = np.insert(np.cumsum(values, dtype=np.int64), 0, 0)
     behind = np.cumsum(sizes)
     result: Integers = sums[behind] - sums[behind - sizes]
     return result

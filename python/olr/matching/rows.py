@@ -271,7 +271,8 @@ class _Lines:
 
 def _metres(parts: Parts) -> Floats:
     """The length of each part."""
-    sums = np.concatenate([[0], np.cumsum(parts.pieces[:, 2] - parts.pieces[:, 1])])
+    lengths = parts.pieces[:, 2] - parts.pieces[:, 1]
+    sums = np.insert(np.cumsum(lengths), 0, 0)
     behind = np.cumsum(parts.counts)
     result: Floats = (sums[behind] - sums[behind - parts.counts]) / 10
     return result

@@ -114,7 +114,8 @@ class _InnerVertices:
 def _nodes_of_ends(roads: Sequence[VectorRoad], tolerance: float) -> tuple[Integers, Floats]:
     """The index of the node at each end of each road, and the nodes' positions in degrees: each is that of its first end."""
     ends = np.array([road.points[place] for road in roads for place in (0, -1)])
-    places, place_of_end = np.unique(np.round(ends * 1e6), axis=0, return_inverse=True)
+    rounded = np.round(ends * 1e6)
+    places, place_of_end = np.unique(rounded, axis=0, return_inverse=True)
     pairs = np.zeros((0, 2), dtype=np.int64)
     if tolerance > 0:
         tree = cKDTree(on_sphere(places[:, 0] / 1e6, places[:, 1] / 1e6))
@@ -196,7 +197,8 @@ def _near_pairs(
     found = tree.query_ball_point(on_sphere(nodes[:, 0], nodes[:, 1]), reach)
     node = np.repeat(np.arange(len(nodes)), [len(hits) for hits in found])
     hits = np.concatenate([np.array(hits, dtype=np.int64) for hits in found])
-    near, there = np.unique(np.stack([segment[hits], node]), axis=1)
+    pairs = np.stack([segment[hits], node])
+    near, there = np.unique(pairs, axis=1)
     return near, there
 
 
@@ -214,7 +216,8 @@ def _projections(start: Floats, end: Floats, spot: Floats) -> tuple[Floats, Floa
 
 def _common_vertices(roads: Sequence[VectorRoad]) -> set[Position]:
     """The positions of vertices between the ends of roads that come more than once."""
-    inner = np.round(np.concatenate([road.points[1:-1] for road in roads]) * 1e6).astype(np.int64)
+    degrees: Floats = np.concatenate([road.points[1:-1] for road in roads])
+    inner = np.round(degrees * 1e6).astype(np.int64)
     road_of = np.repeat(np.arange(len(roads)), [len(road.points) - 2 for road in roads])
     again = np.zeros(len(inner), dtype=bool)
     again[1:] = (inner[1:] == inner[:-1]).all(axis=1) & (road_of[1:] == road_of[:-1])

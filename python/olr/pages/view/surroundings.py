@@ -37,7 +37,8 @@ def box_of(scene: Scene) -> Box:
 def around_points(drawn: Floats) -> Box:
     """What lies around some points, which are given by latitude and longitude in degrees."""
     room = AROUND / MICRODEGREE / 1e6
-    wide = room / max(0.1, float(np.cos(np.radians(drawn[:, 0].mean()))))
+    middle = np.radians(drawn[:, 0].mean())
+    wide = room / max(0.1, float(np.cos(middle)))
     return Box(drawn.min(axis=0) - [room, wide], drawn.max(axis=0) + [room, wide])
 
 
