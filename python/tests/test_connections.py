@@ -66,6 +66,9 @@ class FakeTransport:
         """Its state."""
         return self.state
 
+    def setsockopt(self, *_: object) -> None:
+        """What the system keeps isn't known."""
+
     def pause_reading(self) -> None:
         """Nothing is read by itself."""
 

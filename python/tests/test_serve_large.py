@@ -6,6 +6,7 @@ import socket
 from pathlib import Path
 
 from asking import draw_map
+from olr.serving.connections import ESTABLISHED
 from servers import Server, serving, wait_until
 
 
@@ -56,6 +57,21 @@ def asked(server: Server, path: str) -> tuple[socket.socket, bytes]:
     connection = socket.create_connection(("127.0.0.1", server.port))
     connection.sendall(f"GET {path} HTTP/1.1\r\nHost: localhost:{server.port}\r\n\r\n".encode())
     return connection, connection.recv(12)[9:]
+
+
+def test_the_system_keeps_nothing_of_an_answer(drawn: Path, tmp_path: Path) -> None:
+    """Of one whose client was too slow: it would for as long as the client has the connection open."""
+    program, options = writing_program(tmp_path / "program"), ("--workers", 1, "--time-limit", 1)
+    with serving(program, drawn, tmp_path / "log", *options, is_new=True) as server:
+        connection, status = asked(server, "/match?ref=16000")
+        assert status == b"200" and is_open(connection)
+        wait_until(lambda: not is_open(connection))
+        connection.close()
+
+
+def is_open(connection: socket.socket) -> bool:
+    """Whether a connection wasn't closed by the other side, whatever came before."""
+    return connection.getsockopt(socket.IPPROTO_TCP, socket.TCP_INFO, 1) == ESTABLISHED
 
 
 @pytest.mark.parametrize(("size", "count"), [(1000, 150), (16_000, 8)])

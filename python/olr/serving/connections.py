@@ -3,6 +3,7 @@
 import asyncio
 import logging
 import socket
+import struct
 import time
 from collections import deque
 from collections.abc import Callable
@@ -38,6 +39,9 @@ Refused = Callable[[str, Problem, float], None]
 """Hears of a client whose request was refused, and how many seconds behind its beginning."""
 ESTABLISHED = b"\x01"
 """The state of a connection of which no side is closed, as Linux has it."""
+
+RESET = struct.pack("ii", 1, 0)
+"""A connection that is closed so waits no seconds for what is to be sent: it is reset."""
 
 
 class Pace:
@@ -145,7 +149,7 @@ class Connections:
     def _abort(self, connection: "Connection") -> None:
         """Closes one, whatever it has to send."""
         self.discard(connection)
-        connection.abort()
+        connection.drop()
 
 
 class Connection(HttpToolsProtocol):  # type: ignore[misc]
@@ -250,6 +254,14 @@ class Connection(HttpToolsProtocol):  # type: ignore[misc]
         self._leave()
         self.transport.abort()
 
+    def drop(self) -> None:
+        """Closes the connection at once. The system keeps nothing for its client either, which it would as long as that is there."""
+        if self.unread():
+            self.transport.get_extra_info("socket").setsockopt(
+                socket.SOL_SOCKET, socket.SO_LINGER, RESET
+            )
+        self.abort()
+
     def give_up(self) -> None:
         """Closes a connection that is too slow. It says so if nothing was answered yet."""
         self.scope["status"] = SLOW.status
@@ -257,7 +269,7 @@ class Connection(HttpToolsProtocol):  # type: ignore[misc]
             self._leave()
             self._say(SLOW)
         else:
-            self.abort()
+            self.drop()
 
     def _leave(self) -> None:
         """Lets all requests end that aren't answered. uvicorn tells it to the last one alone; the one before would write to a connection that
