@@ -22,7 +22,7 @@
 | `posted` | `POST /match` and so on: questions as JSON |
 | `lists`, `listing` | `POST /messages`: lists as the page shows them; the process that reads one |
 | `schemas`, `openapi`, `pages` | what answers have in them, the addresses as an OpenAPI document, and the pages with the files that they load |
-| `addresses` | the addresses, and what each answers |
+| `addresses`, `routing` | the addresses, and what each answers; which of them answers a request |
 | `maps` | several maps in one server |
 | `allowed`, `front` | who may ask, and what stands before the addresses |
 | `accepting`, `compressing`, `tags` | what a client likes, answers as gzip, and answers that it has already |
@@ -38,4 +38,5 @@
 | `page.js` | the page: its state, its address, and what is asked |
 | `address.js`, `asking.js` | a state as an address, and requests with what goes wrong |
 | `options.js`, `list.js` | the fields of the numbers, and a list of references |
+| `kept.js`, `saving.js` | what the tab keeps of a list, and what goes out of it |
 """
