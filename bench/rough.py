@@ -36,12 +36,16 @@ class Rough:
         self._counts()[name] += 1
 
     async def stream(self, body, expected):
-        """Sends a file of records again and again. What comes has to be what `olr batch` says, or the beginning of it where the process was killed."""
+        """Sends a file of records again and again. What comes has to be what `olr batch` says, or the beginning of it where the process was killed; 503
+        if that was before it."""
         headers = {"Content-Type": "text/plain"}
         while not self._is_over.is_set():
             status, answer, is_whole = await asyncio.to_thread(self._ask, 2, "POST", "/batch/match", body, headers)
+            if status != 200:
+                self._note(f"streams {status}")
+                continue
             self._note("streams" if is_whole else "cut")
-            self._counts()["stream differs"] += status != 200 or not (answer == expected if is_whole else expected.startswith(answer))
+            self._counts()["stream differs"] += not (answer == expected if is_whole else expected.startswith(answer))
 
     async def large(self, text, headers):
         """Asks for a page of a thousand matchings again and again. All of these answers have to be the same."""

@@ -1,6 +1,7 @@
 """What a pool of `olr-tools serve` does beside questions that take long: nobody waits behind those of another client."""
 
 import asyncio
+import gc
 import pytest
 
 from fake_pool import KINDS, MATCH, FakePool, run_within, turns
@@ -34,6 +35,28 @@ def test_a_question_behind_a_long_one(monkeypatch: pytest.MonkeyPatch) -> None:
         first.answer()
         assert await long == b"long" and fake.pool.sizes()["idle"] == 2
         await fake.pool.close()
+
+    run_within(run())
+
+
+def test_nobody_hears_of_an_answer_for_nobody(monkeypatch: pytest.MonkeyPatch) -> None:
+    """Nor why there is none: it would go to the log."""
+
+    async def run() -> None:
+        heard: list[object] = []
+        asyncio.get_running_loop().set_exception_handler(lambda _, context: heard.append(context))
+        fake = FakePool(monkeypatch, workers=1, processes=1)
+        first = await fake.ready()
+        asked = [fake.asked("long", client="a"), fake.asked("quick", client="b")]
+        await turns()
+        fake.clock.now += LONG
+        fake.pool.look()
+        await fake.pool.close()
+        await asyncio.gather(*asked, return_exceptions=True)
+        assert first.texts == [b"long", b"quick"]
+        first.requests.clear()
+        gc.collect()
+        assert not heard
 
     run_within(run())
 

@@ -56,8 +56,10 @@ class Request:
         """Since when it waits for a process."""
 
     def for_nobody(self, client: str) -> "Request":
-        """The same question, whose answer nobody waits for any more, at the cost of a client."""
-        return Request(self.kind, self.text, lambda: True, self.since, client)
+        """The same question at the cost of a client. Nobody waits for its answer."""
+        request = Request(self.kind, self.text, lambda: True, self.since, client)
+        request.answer.cancel()
+        return request
 
     def give(self, answer: Answer) -> None:
         """Gives the answer to whoever waits for it."""
