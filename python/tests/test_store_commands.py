@@ -120,6 +120,7 @@ def test_check(
     monkeypatch.setattr(road_map, "MOST_LINES", 1)
     assert said(town.store)[4:] == [
         "faults 0",
+        "lines that go more than half round the earth 0",
         "    the network and the lengths of a map of this size aren't looked at",
     ]
 
