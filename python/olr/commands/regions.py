@@ -52,13 +52,14 @@ def _hint_of_lines_round_the_earth(file: Path) -> None:
 
 def _store_of_osm(source: Path, file: Path, force: bool) -> Sizes:
     """Makes a store of an OpenStreetMap file, and tells its size. Raises `ToolError`."""
-    if ".osm" not in source.suffixes and source.suffix != ".pbf":
+    # Its modules of Debian are needed for such files alone.
+    from olr.osm.format import UNKNOWN, format_of
+    from olr.osm.importing import Options, import_osm
+
+    if format_of(source) == UNKNOWN:
         raise ToolError(
             f"{source} isn't an OpenStreetMap file: make a map of it first, by olr-tools import"
         )
-    # Its modules of Debian are needed for such files alone.
-    from olr.osm.importing import Options, import_osm
-
     counts = Counts()
     imported = import_osm(source, Options(), counts)
     sizes = make_store_of_map(imported.road_map, file, force, [source])
