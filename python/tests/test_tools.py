@@ -28,7 +28,11 @@ def osm(node: int = 1, way: int = 1) -> bytes:
     "name, content, words",
     [
         ("none.osm", None, "isn't a file"),
-        ("some.txt", b"no map", "can't be read as OpenStreetMap data: Could not detect file format"),
+        (
+            "some.txt",
+            b"no map",
+            "can't be read as OpenStreetMap data: Could not detect file format",
+        ),
         ("empty.osm", b"", "can't be read as OpenStreetMap data: XML parsing error"),
         ("other.osm", b"<html/>", "can't be read as OpenStreetMap data: Unknown top-level element"),
         ("cut.osm", osm()[:90], "can't be read as OpenStreetMap data: XML parsing error"),
