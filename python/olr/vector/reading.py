@@ -18,6 +18,7 @@ from olr.model.box import Box
 from olr.model.measure import position_of
 from olr.vector.fields import Fields, Meanings, list_of, require_fields
 from olr.vector.options import Options
+from olr.vector.packed import opened_by_gdal
 from olr.vector.system import Area, Strays, System, why_not_on_map
 from olr.vector.table import ValueTable
 from olr.vector.whole import require_whole_shapefile, whole_features
@@ -69,18 +70,19 @@ def read_layer(file: Path, options: Options, table: ValueTable, counts: Counts) 
         raise ToolError(f"{file} can't be opened: there is no such file")
     strays = Strays()
     try:
-        name = _layer_name(file, options.layer)
-        with fiona.open(str(file), layer=name) as collection:
-            if collection.driver == "ESRI Shapefile":
-                require_whole_shapefile(file, name)
-            system = System.of(file, collection.crs_wkt, options.crs)
-            properties = list(collection.schema["properties"])
-            require_fields(file, properties, options.fields)
-            area = None if options.box is None else system.area(options.box)
-            meanings = Meanings(options.fields, properties, table, counts)
-            features = whole_features(file, collection)
-            records = list(_records(features, meanings, area, strays, counts))
-            meanings.count_unnamed()
+        with opened_by_gdal(file) as place:
+            name = _layer_name(file, place, options.layer)
+            with fiona.open(place, layer=name) as collection:
+                if collection.driver == "ESRI Shapefile":
+                    require_whole_shapefile(file, name)
+                system = System.of(file, collection.crs_wkt, options.crs)
+                properties = list(collection.schema["properties"])
+                require_fields(file, properties, options.fields)
+                area = None if options.box is None else system.area(options.box)
+                meanings = Meanings(options.fields, properties, table, counts)
+                features = whole_features(file, collection)
+                records = list(_records(features, meanings, area, strays, counts))
+                meanings.count_unnamed()
     except READ_ERRORS as error:
         why = " ".join(str(error).split()) or type(error).__name__
         raise ToolError(f"{file} can't be read: {why}") from error
@@ -90,9 +92,9 @@ def read_layer(file: Path, options: Options, table: ValueTable, counts: Counts) 
     return Layer(with_ids, name, system.name, meanings.name_field, doubt)
 
 
-def _layer_name(file: Path, layer: str | None) -> str:
+def _layer_name(file: Path, place: str, layer: str | None) -> str:
     """The name of the layer to read."""
-    names = fiona.listlayers(str(file))
+    names = fiona.listlayers(place)
     if layer is None:
         if len(names) != 1:
             raise ToolError(
