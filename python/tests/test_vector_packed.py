@@ -11,11 +11,10 @@ from collections.abc import Mapping
 from pathlib import Path
 
 from conftest import Tools
-from vector_files import assert_refused, road, rows, write
+from vector_files import DRIVERS, assert_refused, road, rows, write
 
 WORDS = ("--class", "3", "--form", "3")
 ROADS = [road([(9.0 + i / 1000, 49.0), (9.001 + i / 1000, 49.0)], code=i + 1) for i in range(20)]
-DRIVERS = {".gpkg": "GPKG", ".geojson": "GeoJSON", ".fgb": "FlatGeobuf", ".shp": "ESRI Shapefile"}
 Capture = pytest.CaptureFixture[str]
 
 
