@@ -47,8 +47,8 @@ def _require_whole_gzip(file: Path) -> None:
 
 
 def _place_in_archive(file: Path) -> str:
-    """Where an archive has its layers: a folder with Shapefiles or a geodatabase, or a file, behind a stroke. Raises `ToolError` if that can't be known, or if the archive is
-    damaged."""
+    """Where an archive has its layers, as GDAL has it behind the archive's name: in a folder with Shapefiles or a geodatabase, or in a
+    file. Raises `ToolError` if that can't be known, or if the archive is damaged."""
     with _unpacking(file), zipfile.ZipFile(file) as archive:
         if (damaged := archive.testzip()) is not None:
             raise zipfile.BadZipFile(f"bad checksum of {damaged}")

@@ -183,7 +183,7 @@ def _in_degrees(
 
 
 def _cut_at_180(points: Floats) -> Sequence[Floats]:
-    """The pieces of a line string on either side of longitude 180: mostly all of it."""
+    """The pieces of a line string on either side of longitude 180; itself, where it doesn't lead across."""
     if np.ptp(points[:, 0]) <= 180.0:
         return [points]
     vertices = points.tolist()
