@@ -132,4 +132,4 @@ def test_a_map_that_is_too_large_becomes_a_store(
     (found,) = texts(tmp_path)
     assert found.startswith("TooMany lines: lines.csv record 2 (line 3): ")
     assert "Make a store of the map by olr-tools regions" in found
-    assert "`./olr-tools regions DIR --out STORE`" in ROWS["TooMany FILE"][1]
+    assert "`olr-tools regions DIR --out STORE`" in ROWS["TooMany FILE"][1]
