@@ -1,5 +1,6 @@
 """OpenStreetMap files made by hand, for tests."""
 
+import osmium
 from collections.abc import Mapping, Sequence
 from pathlib import Path
 from xml.sax.saxutils import quoteattr
@@ -49,6 +50,31 @@ class Drawing:
         parts = ['<osm version="0.6">', *self._nodes, *self._ways, *self._relations, "</osm>"]
         file.write_text("\n".join(parts) + "\n", encoding="utf-8")
         return file
+
+
+def write_pbf(drawn: Path, file: Path, sorting: str = "") -> Path:
+    """Writes a drawn file as PBF, which says of itself how it is sorted. Its objects of each type are in a block of their own. One that is
+    called .osh.pbf says that it is a history."""
+    header = osmium.io.Header()
+    if sorting:
+        header.set("sorting", sorting)
+    writer = osmium.SimpleWriter(str(file), 1 << 20, header)
+
+    class Copying(osmium.SimpleHandler):
+        """Hands on what it comes upon."""
+
+        def node(self, node: osmium.osm.Node) -> None:
+            writer.add_node(node)
+
+        def way(self, way: osmium.osm.Way) -> None:
+            writer.add_way(way)
+
+        def relation(self, relation: osmium.osm.Relation) -> None:
+            writer.add_relation(relation)
+
+    Copying().apply_file(str(drawn))
+    writer.close()
+    return file
 
 
 def _tags(tags: dict[str, str]) -> list[str]:

@@ -4,7 +4,8 @@ import pytest
 from pathlib import Path
 
 from olr.checking.faults import shown
-from olr.checking.files import check_files
+from olr.checking.files import LIMITS, check_files
+from olr.model.fault_table import ROWS
 from olr.tools import run
 
 NODES = "id,lon,lat\n1,0,0\n2,1000,0\n3,2000,0\n"
@@ -122,3 +123,13 @@ def test_many_faults_are_counted(tmp_path: Path, capsys: pytest.CaptureFixture[s
 def test_texts_are_shown_on_one_line() -> None:
     assert shown("a\x00b\r\n\xc3\xa9\xff") == '"a\\x00b\\r\\né\\xff"'
     assert len(shown("9" * 1000)) < 50
+
+
+def test_a_map_that_is_too_large_becomes_a_store(
+    tmp_path: Path, monkeypatch: pytest.MonkeyPatch
+) -> None:
+    monkeypatch.setitem(LIMITS, "lines", 1)
+    (found,) = texts(tmp_path)
+    assert found.startswith("TooMany lines: lines.csv record 2 (line 3): ")
+    assert "Make a store of the map by olr-tools regions" in found
+    assert "`olr-tools regions DIR --out STORE`" in ROWS["TooMany FILE"][1]

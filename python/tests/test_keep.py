@@ -12,7 +12,7 @@ from olr.model.road_map import Origin
 from olr.model.sources import COLUMNS, Sources
 from olr.regions.store import Store
 from olr.tools import run
-from vector_files import STREETS, about, assert_refused
+from vector_files import DRIVERS, STREETS, about, assert_refused
 
 NAMES = {
     1: 'the "old" road',
@@ -47,7 +47,7 @@ def streets(file: Path) -> Path:
 
 def layer(file: Path, fields: dict[str, str], values: Sequence[dict[str, Any]]) -> Path:
     """A row of roads with such fields, in a file whose name says its format."""
-    driver = {".gpkg": "GPKG", ".geojson": "GeoJSON", ".shp": "ESRI Shapefile"}[file.suffix]
+    driver = DRIVERS[file.suffix]
     schema = {"geometry": "LineString", "properties": fields}
     roads = [
         {
@@ -268,7 +268,8 @@ def test_check_compares_lines_and_sources(
         "records of ids.csv without a line 3: 100001, 140000, ..",
     ]
     file.write_text(text + "7\n", encoding="utf-8")
-    assert said() == [f"ids.csv can't be used: {file}: record 17 has 1 fields, not 5"]
+    (unusable,) = said()
+    assert unusable.startswith(f"ids.csv can't be used: {file}: record 17 has 1 fields, not 5: ")
     file.unlink()
     assert said() == []
 

@@ -8,6 +8,7 @@ import sqlite3
 from contextlib import closing
 from pathlib import Path
 
+from conftest import Tools
 from olr.errors import ToolError
 from olr.geometry.network import Network
 from olr.model.road_map import Line, Node, Origin, Position, RoadMap
@@ -244,3 +245,19 @@ def test_a_network_of_a_store_that_is_made_again_has_its_sources(tmp_path: Path)
     make_store_of_folder(folder, file, force=True)
     assert network.line(7).length > 0
     assert network.sources()[7].source == "T"
+
+
+@pytest.mark.parametrize(
+    "text", ["line,way\n11,7\n", f"{HEADER}\n11,S\n", f"{HEADER}\n11,S,F,0,N\n"]
+)
+def test_a_file_of_another_content_can_be_renamed(tools: Tools, tmp_path: Path, text: str) -> None:
+    """No store is made before, and one without sources then."""
+    folder, store = map_of(tmp_path / "map"), tmp_path / "store.gpkg"
+    (folder / "ids.csv").write_text(text)
+    ended = tools.run("regions", folder, "--out", store)
+    assert ended.returncode == 1 and ended.stderr.count("\n") == 1 and not store.exists()
+    assert "rename it, such as to other-ids.csv: a map needs none" in ended.stderr
+    (folder / "ids.csv").rename(folder / "other-ids.csv")
+    assert tools.run("regions", folder, "--out", store).returncode == 0
+    with Store.open(store) as opened:
+        assert not Sources.of_store(opened)

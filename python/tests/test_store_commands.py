@@ -4,13 +4,15 @@ import json
 import os
 import pytest
 import random
+import shlex
 import sqlite3
 from pathlib import Path
 from typing import Any
 
 import olr
-from conftest import TOP
+from conftest import REFERENCE, TOP, Program, Tools
 from olr.model import road_map
+from olr.model.fault_table import ROWS
 from olr.model.map_folder import read_map
 from olr.pages.view.scene import scene_of
 from olr.regions.making import make_store_of_folder
@@ -120,6 +122,7 @@ def test_check(
     monkeypatch.setattr(road_map, "MOST_LINES", 1)
     assert said(town.store)[4:] == [
         "faults 0",
+        "lines that go more than half round the earth 0",
         "    the network and the lengths of a map of this size aren't looked at",
     ]
 
@@ -147,3 +150,32 @@ def test_check_of_a_damaged_store(store: Path, capsys: pytest.CaptureFixture[str
         f"{store} is damaged, block 0 isn't what was written: make it again by olr-tools regions",
         "faults 1",
     ]
+
+
+def test_an_import_that_becomes_a_store_says_what_to_run(
+    tools: Tools, program: Program, tmp_path: Path, monkeypatch: pytest.MonkeyPatch
+) -> None:
+    """The last line, with the file of messages in place of a word."""
+    monkeypatch.setattr(road_map, "MOST_LINES", 1)
+    monkeypatch.chdir(tmp_path)
+    ended = tools.run("import", "osm", EXAMPLES / "town.osm", "--out", "a town")
+    monkeypatch.undo()
+    assert ended.returncode == 0 and (tmp_path / "a town/map.gpkg").exists()
+    *_, reason, command = ended.stdout.splitlines()
+    assert (
+        reason == "the map is too large for olr, so it became a store: docs/SCALE.md has its uses"
+    )
+    assert command == "olr-tools match MESSAGES --map 'a town' --out answers.gpkg"
+    monkeypatch.chdir(tmp_path)
+    words = [str(EXAMPLES / "messages.tsv") if w == "MESSAGES" else w for w in shlex.split(command)]
+    ended = tools.run(*words[1:])
+    assert ended.returncode == 0 and (tmp_path / "answers.gpkg").exists(), ended.stderr
+
+
+def test_the_program_refuses_a_store(program: Program, store: Path) -> None:
+    """By the words that docs/FAULTS.md has of it, with the commands that take one."""
+    ended = program.run("match", REFERENCE, "--map", store)
+    assert ended.returncode == 1 and ended.stderr == "olr: OpenFailed nodes\n"
+    _, remedy = ROWS["OpenFailed FILE"]
+    assert "olr-tools match MESSAGES --map STORE" in remedy
+    assert "olr-tools run MESSAGES --store STORE" in remedy

@@ -28,7 +28,11 @@ def osm(node: int = 1, way: int = 1) -> bytes:
     "name, content, words",
     [
         ("none.osm", None, "isn't a file"),
-        ("some.txt", osm(), "can't be read as OpenStreetMap data: Could not detect file format"),
+        (
+            "some.txt",
+            b"no map",
+            "can't be read as OpenStreetMap data: Could not detect file format",
+        ),
         ("empty.osm", b"", "can't be read as OpenStreetMap data: XML parsing error"),
         ("other.osm", b"<html/>", "can't be read as OpenStreetMap data: Unknown top-level element"),
         ("cut.osm", osm()[:90], "can't be read as OpenStreetMap data: XML parsing error"),
@@ -37,8 +41,8 @@ def osm(node: int = 1, way: int = 1) -> bytes:
             bz2.compress(osm())[:60],
             "can't be read as OpenStreetMap data: bzip2 error",
         ),
-        ("no.osm.bz2", osm(), "can't be read as OpenStreetMap data: bzip2 error"),
-        ("no.osm.pbf", osm(), "can't be read as OpenStreetMap data: PBF error"),
+        ("no.osm.bz2", b"no map", "can't be read as OpenStreetMap data: bzip2 error"),
+        ("no.osm.pbf", b"no map", "can't be read as OpenStreetMap data: PBF error"),
         ("id.osm", osm().replace(b'id="2"', b'id="2x"'), "OpenStreetMap data: illegal id"),
         ("lon.osm", osm().replace(b"0.001", b"0,001"), "characters after coordinate: ',001'"),
         ("bare.osm", b'<osm version="0.6"></osm>', "has no roads"),

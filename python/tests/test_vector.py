@@ -150,19 +150,17 @@ def test_parts_and_long_shapes(tmp_path: Path, table: Path, out: Path) -> None:
 
 
 def test_places_that_are_not_read(tmp_path: Path, out: Path) -> None:
-    """Beyond latitude 80, off the earth, and across longitude 180."""
+    """Beyond latitude 80, and off the earth."""
     roads = [
         road([(9.0, 49.0), (9.001, 49.0)]),
         road([(9.0, 79.0), (9.001, 80.1)]),
         road([(500.0, 1.0), (501.0, 1.0)]),
-        road([(179.9, 1.0), (-179.9, 1.0)]),
         road([(9.0, 49.0)]),
     ]
     file = write(tmp_path / "roads.geojson", roads, "GeoJSON", 4326)
     words = ["import", "vector", str(file), "--class", "3", "--form", "3", "--out", str(out)]
     assert run(words) == 0
     assert about(out)["left_out"] == {
-        "line strings across longitude 180": 1,
         "line strings beyond latitude 80": 1,
         "line strings beyond longitude 180": 1,
         "line strings without two vertices": 1,

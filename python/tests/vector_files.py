@@ -18,6 +18,8 @@ from olr.vector.options import Options
 
 STREETS = Path("/usr/lib/python3/dist-packages/libpysal/examples/geodanet/streets.shp")
 """The streets of Tempe, of Debian's python3-libpysal."""
+DRIVERS = {".gpkg": "GPKG", ".geojson": "GeoJSON", ".fgb": "FlatGeobuf", ".shp": "ESRI Shapefile"}
+"""What GDAL calls the formats of files with these suffixes."""
 FIELDS = {"kind": "str", "carriageways": "int", "dir": "str", "code": "int"}
 
 
@@ -42,13 +44,14 @@ def write(
     driver: str = "GPKG",
     crs: int | None = 25832,
     layer: str | None = None,
+    **more: str,
 ) -> Path:
-    """Writes features as a layer of a file. Coordinates are in the units of the reference system."""
+    """Writes features as a layer of a file. Coordinates are in the units of the reference system. `more` are options of the format."""
     schema = {"geometry": "Unknown", "properties": FIELDS}
     if driver == "ESRI Shapefile":
         schema["geometry"] = "LineString"
     system = None if crs is None else CRS.from_epsg(crs)
-    more = {} if layer is None else {"layer": layer}
+    more |= {} if layer is None else {"layer": layer}
     with fiona.open(str(file), "w", driver=driver, schema=schema, crs=system, **more) as sink:
         sink.writerecords(roads)
     return file

@@ -94,7 +94,7 @@ def _counted(
     for number, (line, fields) in enumerate(records, 1):
         if number == limit + 1:
             what = f"the file has more than {limit:,} records"
-            remedy = "Cut out the surroundings of your references, or make several maps"
+            remedy = "Make a store of the map by olr-tools regions, or cut out the surroundings of your references"
             faults.add(Fault("TooMany", file, what, remedy, number, line))
         if len(fields) != wanted:
             what = f"the record has {len(fields)} fields, not {wanted}"

@@ -1,4 +1,4 @@
-"""How long the lines of a map say they are, and how long their shapes are on the earth (WGS 84)."""
+"""How long the lines of a map say they are, and how long and how wide their shapes are on the earth (WGS 84)."""
 
 import numpy as np
 from dataclasses import dataclass
@@ -6,6 +6,7 @@ from dataclasses import dataclass
 from olr.arrays import Floats, Integers, with_ends
 from olr.checking.map_arrays import MapArrays
 from olr.model.measure import metres_along
+from olr.model.road_map import GREATEST_LON
 
 FAR_SHARE = 0.05
 FAR_DECIMETRES = 10
@@ -65,10 +66,28 @@ def _greatest(share: Floats, among: Integers) -> Shorter | None:
 
 def measure(road_map: MapArrays) -> Floats:
     """The length of each line's shape on the ellipsoid, in decimetres."""
-    ends = np.stack([road_map.start, road_map.end], axis=1).ravel()
+    ends = _ends(road_map)
     lon = with_ends(road_map.shape_lon, road_map.points, road_map.lon[ends])
     lat = with_ends(road_map.shape_lat, road_map.points, road_map.lat[ends])
     return metres_along(lon / 1e6, lat / 1e6, road_map.points + 2) * 10.0
+
+
+def lines_round_the_earth(road_map: MapArrays) -> Integers:
+    """The ids, sorted, of lines that go more than half round the earth: some of their points are more than 180 degrees of longitude apart."""
+    if not len(road_map.line_id):
+        return road_map.line_id
+    lon = with_ends(road_map.shape_lon, road_map.points, road_map.lon[_ends(road_map)])
+    sizes = road_map.points + 2
+    firsts = np.cumsum(sizes) - sizes
+    width = np.maximum.reduceat(lon, firsts) - np.minimum.reduceat(lon, firsts)
+    result: Integers = road_map.line_id[width > GREATEST_LON]
+    return result
+
+
+def _ends(road_map: MapArrays) -> Integers:
+    """The indices of the nodes of each line, in turn."""
+    result: Integers = np.stack([road_map.start, road_map.end], axis=1).ravel()
+    return result
 
 
 def likely_unit(ratio: float, latitude: float) -> str | None:

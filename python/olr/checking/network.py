@@ -12,6 +12,7 @@ from scipy.spatial import cKDTree
 from olr.arrays import Integers
 from olr.checking.map_arrays import MapArrays
 from olr.geometry.turns import matrix, turns_from
+from olr.model.road_map import GREATEST_LON
 from olr.sphere import on_sphere
 
 MOST_TURNS = 5_000_000
@@ -58,7 +59,8 @@ class Connectivity:
     unused_nodes: Integers
     """The indices of nodes without a line."""
     near: list[tuple[int, int, float]]
-    """Dead ends with a node that lies within `NEAR_METRES`, to which no line leads from it: two indices and the metres."""
+    """Dead ends with a node on the same side of longitude 180 that lies within `NEAR_METRES`, to which no line leads from it: two indices
+    and the metres."""
 
 
 def look_at_network(road_map: MapArrays) -> Connectivity:
@@ -150,11 +152,15 @@ def _near(road_map: MapArrays, dead_ends: Integers) -> list[tuple[int, int, floa
     metres, found = tree.query(spots[dead_ends], nearest, distance_upper_bound=NEAR_METRES)
     joined = set(zip(road_map.start.tolist(), road_map.end.tolist()))
     near = []
+    lon = road_map.lon.tolist()
     for node, distances, places in zip(dead_ends.tolist(), metres, found):
         for distance, place in zip(distances, places):
             if place == len(used) or used[place] == node:
                 continue
             other = int(used[place])
+            # No node is on both sides of longitude 180.
+            if abs(lon[node] - lon[other]) > GREATEST_LON:
+                continue
             if (node, other) not in joined and (other, node) not in joined:
                 near.append((node, other, float(distance)))
                 break

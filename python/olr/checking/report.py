@@ -52,6 +52,11 @@ def box_lines(road_map: MapArrays) -> Iterator[str]:
     yield f"box {box} (west, south, east, north in degrees)"
 
 
+def round_lines(ids: Integers, most: int) -> Iterator[str]:
+    """How many lines go more than half round the earth, by the ids of all of them, of which some are named."""
+    yield f"lines that go more than half round the earth {len(ids):,}{named(ids, np.arange(len(ids)), most)}"
+
+
 def kind_lines(road_map: MapArrays) -> Iterator[str]:
     """Lines and kilometres of each class and each form."""
     whole = max(int(road_map.length.sum()), 1)

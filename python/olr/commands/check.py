@@ -6,7 +6,7 @@ from pathlib import Path
 
 from olr.checking import report, sources, stores
 from olr.checking.files import check_files
-from olr.checking.lengths import look_at_lengths
+from olr.checking.lengths import lines_round_the_earth, look_at_lengths
 from olr.checking.map_arrays import MapArrays, arrays_of
 from olr.checking.network import look_at_network
 from olr.commands import options
@@ -66,6 +66,7 @@ def _of_store(file: Path, most: int) -> Iterator[str]:
                 _, tables = check_files(folder, max(most, 1))
                 yield from _described(arrays_of(tables), most)
         else:
+            yield from report.round_lines(store.lines_round_the_earth(), most)
             yield "    the network and the lengths of a map of this size aren't looked at"
         yield from sources.lines_of_store(store, most)
 
@@ -73,6 +74,7 @@ def _of_store(file: Path, most: int) -> Iterator[str]:
 def _described(road_map: MapArrays, most: int) -> Iterator[str]:
     """What a map without a fault should be looked at for."""
     yield from report.box_lines(road_map)
+    yield from report.round_lines(lines_round_the_earth(road_map), most)
     yield from report.kind_lines(road_map)
     yield from report.length_lines(road_map, look_at_lengths(road_map), most)
     yield from report.network_lines(road_map, look_at_network(road_map), most)

@@ -25,7 +25,7 @@ from olr.osm.importing import Options, import_osm
     "A table of which tags are roads, and of what class and form they are: docs/IMPORT.md. By default tags.toml of this package.",
 )
 def command(file: Path, folder: Path, force: bool, **chosen: Any) -> None:
-    """Make a map from an OpenStreetMap file: FILE is .osm, .osm.pbf, .osm.bz2 or .osm.gz.
+    """Make a map from an OpenStreetMap file: FILE is XML, also packed by gzip or bzip2, or PBF, whatever its name.
 
     What was left out or changed is counted on standard error, and in the map's import.json."""
     wanted = Options(**chosen)

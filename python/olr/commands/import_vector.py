@@ -95,7 +95,8 @@ def command(
     keep: tuple[str, ...],
     **chosen: Any,
 ) -> None:
-    """Make a map from a vector file of roads: FILE is a GeoPackage, a Shapefile, a GeoJSON, or another file that GDAL reads.
+    """Make a map from a vector file of roads: FILE is a GeoPackage, a Shapefile, a GeoJSON, or another file that GDAL reads,
+    also packed by zip or gzip.
 
     What was left out or changed is counted on standard error, and in the map's import.json."""
     wanted = Options(Fields(road_class, form, oneway, id_field, name_field, keep), **chosen)

@@ -1,5 +1,6 @@
 """What all imports have in common: bans on a map, and how a map is written."""
 
+import shlex
 import sys
 from collections.abc import Mapping, Sequence
 from dataclasses import replace
@@ -12,6 +13,9 @@ from olr.importing.u_turns import DeadEnds, UTurns, effective_dead_ends, u_turn_
 from olr.model.map_folder import STORE, write_csv, write_map
 from olr.model.road_map import Ban, RoadMap, within_limits
 from olr.regions.making import write_store
+
+NEXT = ("olr-tools", "match", "MESSAGES")
+"""The command that asks a store about a file of references."""
 
 
 class Imported(NamedTuple):
@@ -57,7 +61,8 @@ def _roads_by_field(road_map: RoadMap) -> dict[str, int]:
 
 
 def write_import(imported: Imported, folder: Path, force: bool, counts: Counts) -> None:
-    """Writes a map, and then prints what was counted, and how large the map is. One that is too large for `olr` becomes a store."""
+    """Writes a map, and then prints what was counted, and how large the map is. One that is too large for `olr` becomes a store: then the
+    last line is the command to ask it."""
     about = imported.about
     bans = about["bans"]
     small = within_limits(about["nodes"], about["lines"], bans["all"])
@@ -65,9 +70,10 @@ def write_import(imported: Imported, folder: Path, force: bool, counts: Counts) 
     counts.report()
     for name, roads in about["kept"].items():
         print(f"kept: roads with {short(name)}: {roads:,}", file=sys.stderr)
-    if not small:
-        print("the map is too large for olr, so it became a store: docs/SCALE.md has its uses")
     print(
         f"{folder if small else folder / STORE}: {about['nodes']:,} nodes, {about['lines']:,} lines, {bans['all']:,} bans "
         f"({bans['turn_restrictions']:,} of turn restrictions, {bans['u_turns']:,} of U-turns)"
     )
+    if not small:
+        print("the map is too large for olr, so it became a store: docs/SCALE.md has its uses")
+        print(shlex.join([*NEXT, "--map", str(folder), "--out", "answers.gpkg"]))

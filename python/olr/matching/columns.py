@@ -99,7 +99,8 @@ class Answers:
     sources = Column["AnswerRows"]("str", lambda rows: rows.texts(lambda it: it.source))
     """their sources, by the map's `ids.csv`, with `;` between them: one that several lines in a row have is there once"""
     names = Column["AnswerRows"]("str", lambda rows: rows.texts(lambda it: it.name))
-    """their names, likewise"""
+    """their names, likewise; lines without a name are left out, so that lines of one name that have such between them count as in a
+    row"""
     from_m = Column["AnswerRows"]("float", lambda rows: rows.from_m())
     """where the part begins, in metres from the start of its first line"""
     to_m = Column["AnswerRows"]("float", lambda rows: rows.to_m())

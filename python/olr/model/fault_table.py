@@ -22,7 +22,7 @@ ROWS: dict[str, tuple[str, str]] = {
     ),
     "OpenFailed FILE": (
         "the file of nodes, lines or bans can't be opened, or that of the records of a batch, which is `input`",
-        "`ls -l` the path",
+        "`ls -l` the path; a store is asked by `olr-tools match MESSAGES --map STORE --out FILE`, and about any number of references by `olr-tools run MESSAGES --store STORE --out DIR`",
     ),
     "TooLong": (
         "more than 344 bytes of text",
@@ -74,7 +74,7 @@ ROWS: dict[str, tuple[str, str]] = {
     ),
     "TooMany FILE": (
         "more than 100,000 nodes, 200,000 lines or 200,000 bans",
-        "cut out the surroundings of the reference: its points (`olr show`), the radius, and room for detours",
+        "make a store of the map, `olr-tools regions DIR --out STORE`, and ask it by `olr-tools match` or `run`; or cut out the surroundings of the reference: its points (`olr show`), the radius, and room for detours",
     ),
     "Shape FILE N": (
         "the record has another number of fields than the header",

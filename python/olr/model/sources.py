@@ -30,6 +30,8 @@ COLUMNS = ("line", "source", "direction", "part", NAME)
 """The columns of each `ids.csv` that an import writes, before those of fields that are kept."""
 NEEDED = COLUMNS[:4]
 """Those that each one has."""
+RENAME = f"if it isn't of an import, rename it, such as to other-{IDS}: a map needs none"
+"""What to do about a file of another content under this name."""
 DIRECTIONS: Mapping[str, Direction] = {"forward": "forward", "backward": "backward"}
 
 
@@ -148,7 +150,7 @@ def _records(file: Path, stream: Iterable[str]) -> Iterator[list[str]]:
 def _fields_of(file: Path, header: Sequence[str]) -> tuple[tuple[str, ...], bool]:
     """The names of the fields that a file keeps, and whether it has names of roads."""
     if tuple(header[: len(NEEDED)]) != NEEDED:
-        raise ToolError(f"{file} doesn't begin with the header {','.join(NEEDED)}")
+        raise ToolError(f"{file} doesn't begin with the header {','.join(NEEDED)}: {RENAME}")
     named = tuple(header[: len(COLUMNS)]) == COLUMNS
     kept = tuple(header[len(COLUMNS) if named else len(NEEDED) :])
     require_columns(kept, f"{file}: column")
@@ -160,12 +162,14 @@ def _origins(file: Path, records: Iterator[list[str]], kept: int, named: bool) -
     width = len(NEEDED) + named + kept
     for number, record in enumerate(records, 1):
         if len(record) != width:
-            raise ToolError(f"{_place(file, number)} has {len(record)} fields, not {width}")
+            raise ToolError(
+                f"{_place(file, number)} has {len(record)} fields, not {width}: {RENAME}"
+            )
         line, part = id_of(record[0]), number_of(record[3], 0, 10**MOST_DIGITS)
         direction = DIRECTIONS.get(record[2])
         if line is None or direction is None or part is None:
             raise ToolError(
-                f"{_place(file, number)} isn't understood: it needs the id of a line, a source, forward or backward, and a part"
+                f"{_place(file, number)} isn't understood: it needs the id of a line, a source, forward or backward, and a part: {RENAME}"
             )
         name = record[4] if named else ""
         yield Origin(line, record[1], direction, part, name, tuple(record[width - kept :]))

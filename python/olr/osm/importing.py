@@ -4,8 +4,9 @@ from dataclasses import dataclass
 from pathlib import Path
 from typing import Any
 
-from olr.counts import Counts
+from olr.counts import Counts, ValueCounts
 from olr.errors import ToolError
+from olr.importing.antimeridian import cut_roads_across
 from olr.importing.roads import cut_roads, map_of
 from olr.importing.u_turns import DEAD_ENDS, DeadEnds, UTurns
 from olr.importing.writing import Imported, with_bans
@@ -40,7 +41,10 @@ def import_osm(file: Path, options: Options, counts: Counts) -> Imported:
     table = read_tag_table(options.tags)
     wanted = Wanted(table, options.service, options.box, options.keep)
     read = read_osm(file, wanted, counts)
-    cut = cut_roads(read.roads, read.positions, counts)
+    across = ValueCounts()
+    roads = cut_roads_across(read.roads, read.positions, across)
+    across.hand_on(counts.change)
+    cut = cut_roads(roads, read.positions, counts)
     bare = map_of(cut.parts, read.positions, options.keep, counts)
     if not bare.lines:
         counts.report()

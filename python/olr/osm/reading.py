@@ -13,13 +13,22 @@ from olr.importing.roads import GREATEST_ROAD_ID, Road, Source
 from olr.model.box import Box
 from olr.model.road_map import GREATEST_ID, GREATEST_LAT, Position
 from olr.model.sources import NAME
+from olr.osm.format import PBF, format_of, named_for_osmium
 from olr.osm.tags import NoRoad, Tags, TagTable, first_of, folded, several, value_of
+from olr.osm.versions import Deleted, Versions, deleted_in_josm, require_one_time
 from olr.progress import progress
 
 UNREADABLE = (RuntimeError, ValueError, osmium.InvalidLocationError)
 """What pyosmium raises for a malformed file."""
 STEP = 10_000
 """Ways between two moves of the progress bar."""
+UNDEFINED = 2**31 - 1
+"""The coordinates of a node that the file lacks."""
+OFF_EARTH = "nodes of ways that aren't on the earth: beyond latitude 90 or longitude 180"
+NO_RELATION = (
+    "the file has no relation, and so no turn restriction: if it should have some, it may have been cut short, which can't be seen "
+    "where that is between two blocks: compare its size with that of its source"
+)
 ONLY = "only_"
 """Kinds of restrictions that allow one turn alone begin so."""
 
@@ -72,20 +81,27 @@ def read_osm(file: Path, wanted: Wanted, counts: Counts) -> OsmRoads:
     """Reads the roads and turn restrictions of a file, or of a box in it, and counts what is left out.
 
     With a box each step from node to node stays that has an end in the box. The file is read twice: of the many ways that aren't on
-    the map only those are kept which restrictions name. Raises `ToolError` if the file can't be read, or if its ids aren't those of
-    OpenStreetMap's own data.
+    the map only those are kept which restrictions name. Raises `ToolError` if the file can't be read, if it hasn't the objects of one
+    time, or if its ids aren't those of OpenStreetMap's own data.
     """
     if not file.is_file():
         raise ToolError(f"{file} isn't a file")
+    format = format_of(file)
+    deleted = deleted_in_josm(file, format)
     try:
-        with progress(f"turn restrictions of {file.name}") as advance:
-            named = _Restrictions(wanted.table, counts, advance)
-            reader = osmium.io.Reader(str(file), osmium.osm.osm_entity_bits.RELATION)
-            osmium.apply(reader, named)
-            reader.close()
-        with progress(f"ways of {file.name}") as advance:
-            ways = _Ways(wanted, _nodes_by_target(named.found), counts, advance)
-            ways.apply_file(str(file), locations=True)
+        with named_for_osmium(file, format) as name:
+            with progress(f"turn restrictions of {file.name}") as advance:
+                named = _Restrictions(wanted.table, deleted, counts, advance)
+                reader = osmium.io.Reader(name, osmium.osm.osm_entity_bits.RELATION)
+                require_one_time(file, format, reader.header())
+                osmium.apply(reader, named)
+                reader.close()
+                if format == PBF and not named.relations:
+                    counts.hints.append(NO_RELATION)
+            with progress(f"ways of {file.name}") as advance:
+                nodes_by_target = _nodes_by_target(named.found)
+                ways = _Ways(wanted, nodes_by_target, deleted, counts, advance)
+                ways.apply_file(name, locations=True)
     except UNREADABLE as error:
         words = " ".join(str(error).split())
         raise ToolError(f"{file} can't be read as OpenStreetMap data: {words}") from error
@@ -110,12 +126,14 @@ class _Ways(osmium.SimpleHandler):
         self,
         wanted: Wanted,
         nodes_by_target: Mapping[int, Set[int]],
+        deleted: Deleted,
         counts: Counts,
         advance: Callable[[int], None],
     ) -> None:
         super().__init__()
         self.wanted = wanted
         self.nodes_by_target = nodes_by_target
+        self.deleted = deleted.get("way", set())
         self.counts = counts
         self.advance = advance
         self.roads: list[Road] = []
@@ -124,13 +142,14 @@ class _Ways(osmium.SimpleHandler):
         self.values = ValueCounts()
         """The ways that are left out, by a tag."""
         self._ways = 0
-        self._ids: set[int] = set()
+        self._versions = Versions("way")
 
     def way(self, way: osmium.osm.Way) -> None:
         """A way of the file."""
         self._ways += 1
         if self._ways % STEP == 0:
             self.advance(STEP)
+        self._versions.require_one(way.id, way.version)
         if way.id in self.nodes_by_target:
             self._note_target(way)
         if "highway" not in way.tags or not way.visible:
@@ -140,16 +159,18 @@ class _Ways(osmium.SimpleHandler):
             stretches = self._stretches(way)
             if not stretches:
                 return
+        if way.id in self.deleted:
+            self.counts.leave_out("ways that were deleted in JOSM")
+            return
         tags = {tag.k: tag.v for tag in way.tags}
         found = self.wanted.table.meaning_of(tags, self.wanted.service)
         if isinstance(found, NoRoad):
             self._leave_out(found)
             return
-        if way.id in self._ids:
+        if not self._versions.keep(way.id, way.version):
             self.counts.leave_out("ways with the id of an earlier way")
             return
         _require_id("way", way.id, GREATEST_ROAD_ID)
-        self._ids.add(way.id)
         if stretches is None:
             stretches = self._stretches(way)
         if found.doubt and stretches:
@@ -165,7 +186,8 @@ class _Ways(osmium.SimpleHandler):
         nodes = [node.ref for node in way.nodes]
         left = {*(nodes[:-1] if forward else ()), *(nodes[1:] if backward else ())}
         entrances = left.intersection(self.nodes_by_target[way.id])
-        self.targets.setdefault(way.id, Target(way.visible and (forward or backward), entrances))
+        is_there = way.visible and way.id not in self.deleted
+        self.targets.setdefault(way.id, Target(is_there and (forward or backward), entrances))
 
     def _leave_out(self, found: NoRoad) -> None:
         """Counts a way that isn't on the map."""
@@ -181,9 +203,11 @@ class _Ways(osmium.SimpleHandler):
             _require_id("node", node, GREATEST_ID)
         without = sum(position is None for _, position in nodes)
         if without and self.wanted.box is None:
-            lacking = sum(not node.location.valid() for node in way.nodes)
+            invalid = sum(not node.location.valid() for node in way.nodes)
+            lacking = sum(node.location.x == UNDEFINED for node in way.nodes)
             self.counts.leave_out("nodes of ways that the file lacks", lacking)
-            self.counts.leave_out("nodes of ways beyond latitude 80", without - lacking)
+            self.counts.leave_out(OFF_EARTH, invalid - lacking)
+            self.counts.leave_out("nodes of ways beyond latitude 80", without - invalid)
         stretches = [stretch for stretch in _known(nodes) if len(stretch) > 1]
         if self.wanted.box is not None:
             box = self.wanted.box
@@ -199,16 +223,30 @@ class _Ways(osmium.SimpleHandler):
 class _Restrictions(osmium.SimpleHandler):
     """Collects turn restrictions as pyosmium comes upon them."""
 
-    def __init__(self, table: TagTable, counts: Counts, advance: Callable[[int], None]) -> None:
+    def __init__(
+        self, table: TagTable, deleted: Deleted, counts: Counts, advance: Callable[[int], None]
+    ) -> None:
         super().__init__()
         self.table = table
+        self.deleted = deleted.get("relation", set())
         self.counts = counts
         self.advance = advance
         self.found: list[Restriction] = []
+        self.relations = 0
+        """How many there are, of all types."""
+        self._versions = Versions("relation")
 
     def relation(self, relation: osmium.osm.Relation) -> None:
         """A relation of the file."""
+        self.relations += 1
+        self._versions.require_one(relation.id, relation.version)
         if folded(relation.tags.get("type") or "") != "restriction" or not relation.visible:
+            return
+        if relation.id in self.deleted:
+            self.counts.leave_out("turn restrictions that were deleted in JOSM")
+            return
+        if not self._versions.keep(relation.id, relation.version):
+            self.counts.leave_out("turn restrictions with the id of an earlier one")
             return
         tags = {tag.k: tag.v for tag in relation.tags}
         kind = restriction_kind(tags, self.table, self.counts)
@@ -251,7 +289,7 @@ def restriction_kind(tags: Tags, table: TagTable, counts: Counts) -> str | None:
 
 
 def _position(location: osmium.osm.Location) -> Position | None:
-    """A location, given in steps of 1/10 microdegree, or None if the file doesn't have it or it lies beyond latitude 80."""
+    """A location, given in steps of 1/10 microdegree, or None if the file doesn't have it, or it isn't on the earth up to latitude 80."""
     if not location.valid():
         return None
     position = Position((location.x + 5) // 10, (location.y + 5) // 10)

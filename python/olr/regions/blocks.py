@@ -124,6 +124,12 @@ class Blocks:
         """How many there are."""
         return len(self._digests)
 
+    def wider_than(self, width: int) -> list[int]:
+        """The numbers of blocks whose box is wider than so many microdegrees of longitude."""
+        west, _, east, _ = self._levels[0]
+        numbers: list[int] = _places(east - west > width).tolist()
+        return numbers
+
     def read(self, number: int) -> Block:
         """A block by its number, from 0. Raises `sqlite3.Error`, and `Damaged`."""
         if number in self._kept:

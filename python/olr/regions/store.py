@@ -26,7 +26,7 @@ from typing import NamedTuple
 from olr.arrays import Floats, Integers, Integers32
 from olr.errors import ToolError
 from olr.model.map_folder import BANS, BANS_HEADER, LINES, LINES_HEADER, NODES, NODES_HEADER, STORE
-from olr.model.road_map import within_limits
+from olr.model.road_map import GREATEST_LON, within_limits
 from olr.model.sources import Sources
 from olr.regions.blocks import Blocks, Damaged, Directory, digest_of_parts
 from olr.regions.geopackage import damaged, reading
@@ -162,6 +162,17 @@ class Store:
         """The ids of the lines of a block, from 0, sorted. Raises `ToolError` if it isn't what was written there."""
         with _reading(self.file):
             return self._blocks.read(number).lines
+
+    def lines_round_the_earth(self) -> Integers:
+        """The ids, sorted, of lines that go more than half round the earth: those whose box is wider than 180 degrees. Only blocks as wide
+        are read. Raises `ToolError` as `lines_of_block`."""
+        found = [_NONE]
+        with _reading(self.file):
+            for number in self._blocks.wider_than(GREATEST_LON):
+                block = self._blocks.read(number)
+                found.append(block.lines[block.boxes[2] - block.boxes[0] > GREATEST_LON])
+        result: Integers = np.unique(np.concatenate(found))
+        return result
 
     def sources(self) -> Sources:
         """Where its lines came from; none if it was made of a map that doesn't say so. Each is looked up when it is asked for, while the

@@ -9,6 +9,7 @@
 | `isolating` | records at which the program fails: each alone, and the others with their lines |
 | `answering` | what a worker does for a group: region, map, program, part |
 | `cluster`, `settings`, `waiting` | the groups as tasks of Dask; how Dask is set up; what it waits for |
+| `open_files` | how many files may be open |
 | `geometries` | rows with geometries of its lines |
 | `joining` | the parts as one file in the order of the records |
 """

@@ -19,6 +19,7 @@ from olr.errors import ToolError
 from olr.progress import progress
 from olr.running.answering import GroupsFailed, Job, answer_groups, reason_of
 from olr.running.grouping import Grouped
+from olr.running.open_files import require_open_files
 from olr.running.settings import SETTINGS, WithoutPandas, without_pandas
 from olr.running.waiting import limited_workers, what_is_waited_for
 
@@ -50,7 +51,7 @@ def connected(scheduler: str | None, workers: int | None, groups: int) -> Iterat
     """A client of a scheduler; without an address one of a cluster of this machine, which ends with it. `workers` is how many
     processes it has, by default one for each processor; there are no more of them than groups. Meanwhile Dask logs nothing here.
 
-    Raises `ToolError` if there is no scheduler at the address.
+    Raises `ToolError` if there is no scheduler at the address, or if too few files may be open.
     """
     with _quiet():
         if scheduler is None:
@@ -77,8 +78,9 @@ def _connected_to(scheduler: str) -> Iterator[Client]:
 
 @contextmanager
 def _connected_to_own(workers: int | None, groups: int) -> Iterator[Client]:
-    """A client of a cluster of this machine, which ends with it."""
+    """A client of a cluster of this machine, which ends with it. Raises `ToolError` if too few files may be open."""
     processes = min(workers or CPU_COUNT, groups)
+    require_open_files(processes)
     with ExitStack() as opened:
         scratch = opened.enter_context(tempfile.TemporaryDirectory(prefix="olr-run."))
         opened.enter_context(without_pandas())

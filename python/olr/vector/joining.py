@@ -1,7 +1,7 @@
 """Roads joined where their ends meet.
 
-Ends that lie within the tolerance of each other are one vertex. Where an end lies within the tolerance of another road, between its
-ends, that road gets the vertex too. Roads that only cross aren't joined, since one may be a bridge.
+Ends that lie within the tolerance of each other, on one side of longitude 180, are one vertex. Where an end lies within the tolerance
+of another road, between its ends, that road gets the vertex too. Roads that only cross aren't joined, since one may be a bridge.
 """
 
 import numpy as np
@@ -120,6 +120,8 @@ def _nodes_of_ends(roads: Sequence[VectorRoad], tolerance: float) -> tuple[Integ
     if tolerance > 0:
         tree = cKDTree(on_sphere(places[:, 0] / 1e6, places[:, 1] / 1e6))
         pairs = tree.query_pairs(tolerance, output_type="ndarray")
+        # On the two sides of longitude 180 ends are near each other, and no node is on both.
+        pairs = pairs[np.abs(np.diff(places[pairs, 0])[:, 0]) <= 180e6]
     near = coo_matrix(
         (np.ones(len(pairs), dtype=np.int8), (pairs[:, 0], pairs[:, 1])),
         shape=(len(places), len(places)),

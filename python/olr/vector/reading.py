@@ -10,13 +10,16 @@ from pathlib import Path
 from typing import Any, NamedTuple
 
 from olr.arrays import Floats
-from olr.counts import Counts
+from olr.counts import Counts, ValueCounts
 from olr.errors import ToolError
+from olr.importing.antimeridian import CUT, leads_across, pieces
 from olr.importing.roads import GREATEST_ROAD_ID, Kind, Source
 from olr.model.box import Box
+from olr.model.measure import position_of
 from olr.vector.fields import Fields, Meanings, list_of, require_fields
 from olr.vector.options import Options
-from olr.vector.system import ACROSS, Area, Strays, System, why_not_on_map
+from olr.vector.packed import opened_by_gdal
+from olr.vector.system import Area, Strays, System, why_not_on_map
 from olr.vector.table import ValueTable
 from olr.vector.whole import require_whole_shapefile, whole_features
 
@@ -67,18 +70,19 @@ def read_layer(file: Path, options: Options, table: ValueTable, counts: Counts) 
         raise ToolError(f"{file} can't be opened: there is no such file")
     strays = Strays()
     try:
-        name = _layer_name(file, options.layer)
-        with fiona.open(str(file), layer=name) as collection:
-            if collection.driver == "ESRI Shapefile":
-                require_whole_shapefile(file, name)
-            system = System.of(file, collection.crs_wkt, options.crs)
-            properties = list(collection.schema["properties"])
-            require_fields(file, properties, options.fields)
-            area = None if options.box is None else system.area(options.box)
-            meanings = Meanings(options.fields, properties, table, counts)
-            features = whole_features(file, collection)
-            records = list(_records(features, meanings, area, strays, counts))
-            meanings.count_unnamed()
+        with opened_by_gdal(file) as place:
+            name = _layer_name(file, place, options.layer)
+            with fiona.open(place, layer=name) as collection:
+                if collection.driver == "ESRI Shapefile":
+                    require_whole_shapefile(file, name)
+                system = System.of(file, collection.crs_wkt, options.crs)
+                properties = list(collection.schema["properties"])
+                require_fields(file, properties, options.fields)
+                area = None if options.box is None else system.area(options.box)
+                meanings = Meanings(options.fields, properties, table, counts)
+                features = whole_features(file, collection)
+                records = list(_records(features, meanings, area, strays, counts))
+                meanings.count_unnamed()
     except READ_ERRORS as error:
         why = " ".join(str(error).split()) or type(error).__name__
         raise ToolError(f"{file} can't be read: {why}") from error
@@ -88,9 +92,9 @@ def read_layer(file: Path, options: Options, table: ValueTable, counts: Counts) 
     return Layer(with_ids, name, system.name, meanings.name_field, doubt)
 
 
-def _layer_name(file: Path, layer: str | None) -> str:
+def _layer_name(file: Path, place: str, layer: str | None) -> str:
     """The name of the layer to read."""
-    names = fiona.listlayers(str(file))
+    names = fiona.listlayers(place)
     if layer is None:
         if len(names) != 1:
             raise ToolError(
@@ -153,7 +157,7 @@ def _line_strings(geometry: Mapping[str, Any] | None, counts: Counts) -> Sequenc
 def _in_degrees(
     records: Sequence[_Record], system: System, box: Box | None, strays: Strays, counts: Counts
 ) -> Iterator[tuple[_Record, Floats]]:
-    """The line strings of all records in degrees. Those that can't be on a map are counted."""
+    """The line strings of all records in degrees, cut at longitude 180. Those that can't be on a map are counted."""
     parts = [(record, part) for record in records for part in record.parts if len(part) >= 2]
     short = sum(len(record.parts) for record in records) - len(parts)
     counts.leave_out("line strings without two vertices", short)
@@ -161,16 +165,33 @@ def _in_degrees(
     if not len(flat):
         return
     bounds = np.cumsum([len(part) for _, part in parts])[:-1]
+    cuts = ValueCounts()
     for (record, part), rows in zip(parts, np.split(system.in_degrees(flat), bounds)):
         reason = why_not_on_map(rows)
         if reason:
             counts.leave_out(reason)
-            if reason != ACROSS:
-                strays.nowhere = strays.nowhere or part[0]
-        elif box is not None and not _meets(rows * 1e6, box):
+            strays.nowhere = strays.nowhere or part[0]
+            continue
+        in_two = _cut_at_180(rows)
+        taken = [piece for piece in in_two if box is None or _meets(piece * 1e6, box)]
+        if in_two and not taken:
             counts.leave_out(OUTSIDE)
-        else:
-            yield record, rows
+        elif len(in_two) != 1:
+            cuts.add(CUT, record.source.id or str(record.number))
+        yield from ((record, piece) for piece in taken)
+    cuts.hand_on(counts.change)
+
+
+def _cut_at_180(points: Floats) -> Sequence[Floats]:
+    """The pieces of a line string on either side of longitude 180; itself, where it doesn't lead across."""
+    if np.ptp(points[:, 0]) <= 180.0:
+        return [points]
+    vertices = points.tolist()
+    places = [position_of(*vertex) for vertex in vertices]
+    if not leads_across(places):
+        return [points]
+    cut = pieces(vertices, places, lambda _near, _far, place: [place.lon / 1e6, place.lat / 1e6])
+    return [np.array(piece) for piece in cut]
 
 
 def _with_ids(

@@ -17,7 +17,6 @@ Area = tuple[float, float, float, float]
 """West, south, east and north, in the units of the file."""
 Vertex = Sequence[float]
 """In the units of the file."""
-ACROSS = "line strings across longitude 180"
 
 
 @dataclass(frozen=True)
@@ -85,6 +84,4 @@ def why_not_on_map(degrees: Floats) -> str:
         return "line strings beyond latitude 80"
     if np.abs(degrees[:, 0]).max() > 180.0:
         return "line strings beyond longitude 180"
-    if np.abs(np.diff(degrees[:, 0])).max() > 180.0:
-        return ACROSS
     return ""
