@@ -112,4 +112,16 @@ def _run(words: list[str] | None) -> int:
         return left.exit_code
     except SystemExit as left:
         return left.code if isinstance(left.code, int) else 1
+    except RuntimeError as error:
+        if not _is_of_interrupt(error):
+            raise
+        return complain("interrupted")
     return 0
+
+
+def _is_of_interrupt(error: BaseException) -> bool:
+    """Whether an error came of an interrupt, as where that broke off an import, whose lock isn't locked then."""
+    before = error.__context__
+    return before is not None and (
+        isinstance(before, KeyboardInterrupt) or _is_of_interrupt(before)
+    )

@@ -327,3 +327,19 @@ def test_a_command_that_is_ended(sign: signal.Signals, tmp_path: Path) -> None:
         process.wait()
     assert process.returncode == 1 and said[1].strip() == b"olr-tools: interrupted"
     assert os.listdir(out) == []
+
+
+def test_an_import_that_is_ended(
+    monkeypatch: pytest.MonkeyPatch, capsys: pytest.CaptureFixture[str]
+) -> None:
+    """An interrupt leaves its lock unlocked, which is an error of its own."""
+
+    def imported(_: str) -> None:
+        try:
+            raise KeyboardInterrupt
+        finally:
+            raise RuntimeError("release unlocked lock")
+
+    monkeypatch.setattr("olr.tools.importlib.import_module", imported)
+    assert run(["regions", "map"]) == 1
+    assert capsys.readouterr().err.strip() == "olr-tools: interrupted"
