@@ -129,7 +129,7 @@ def test_a_body_that_is_too_long(program: Program, town: Town, tmp_path: Path) -
 def test_a_client_that_stops_reading(program: Program, town: Town, tmp_path: Path) -> None:
     """Its body isn't read on, and the memory of the server stays as it is."""
     texts = [line for line in town.plain.read_bytes().splitlines(keepends=True) if line.isascii()]
-    records = b"".join(texts) * 1500
+    records = b"CwVG\n" * 2_000_000
     with serving(program.path, town.folder, tmp_path / "log", is_new=True) as server:
         rows_of(server, b"".join(texts))
         before = server.memory()
