@@ -29,7 +29,7 @@ What = Literal["nodes", "lines", "bans"]
 Record = Sequence[object]
 """The fields of a record, as texts or as numbers."""
 
-PIECE = 1 << 20
+PIECE = 1 << 18
 """So many bytes of a file are read at a time, and a line."""
 _NUMBER = "(?:0|[1-9][0-9]{0,15})"
 _SIGNED = "(?:0|-?[1-9][0-9]{0,15})"

@@ -10,7 +10,7 @@ from contextlib import contextmanager
 from functools import cache
 from pathlib import Path
 
-from olr.arrays import Floats, Integers
+from olr.arrays import Floats, Integers, Integers32
 from olr.errors import ToolError
 
 APPLICATION = 0x47504B47
@@ -33,7 +33,9 @@ def make_tables(connection: sqlite3.Connection) -> None:
 
 
 def insert(
-    connection: sqlite3.Connection, table: str, *columns: Sequence[object] | Integers | Floats
+    connection: sqlite3.Connection,
+    table: str,
+    *columns: Sequence[object] | Integers | Integers32 | Floats,
 ) -> None:
     """Adds rows to a table, of which all columns are given. A statement adds many of them: one by one they would take thrice the time.
     Raises `sqlite3.Error`."""

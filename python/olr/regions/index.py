@@ -17,7 +17,7 @@ ROOT = 1
 """The number of the root."""
 HEAD = 4
 """Bytes before the cells of a node: the levels below it, if it is the root, and how many cells it has."""
-NODES = 1000
+NODES = 250
 """So many nodes are made at a time."""
 CELL = np.dtype([("member", ">i8"), ("edges", ">f4", 4)])
 """Of a node: a row, or a node of the level below, and its western, eastern, southern and northern edge."""
@@ -37,7 +37,9 @@ def fill_index(connection: sqlite3.Connection, table: str, ids: Integers, edges:
         behind += len(firsts)
         order = np.argsort(members)
         known = "parent" if levels else "rowid"
-        insert(connection, f"{table}_{known}", members[order], nodes[order // fan])
+        for first in range(0, len(order), NODES * fan):
+            one = order[first : first + NODES * fan]
+            insert(connection, f"{table}_{known}", members[one], nodes[one // fan])
         for first in range(0, len(nodes), NODES):
             some = slice(fan * first, fan * (first + NODES))
             blobs = _nodes(members[some], edges[:, some], fan, size, levels if is_root else 0)

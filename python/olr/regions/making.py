@@ -1,7 +1,7 @@
 """How a store is made: of the files of a map, or of a map in memory.
 
 Records are read one after the other, and kept as arrays where all of them are needed at once: a map of ten million lines takes
-about a gigabyte of memory. The file is written beside where it shall be, and moved there when it is whole.
+about one and a half gigabytes of memory. The file is written beside where it shall be, and moved there when it is whole.
 """
 
 import numpy as np
@@ -12,7 +12,7 @@ from contextlib import closing
 from pathlib import Path
 from typing import IO
 
-from olr.arrays import Floats, Integers, with_ends
+from olr.arrays import Floats, Integers, Integers32, with_ends
 from olr.errors import ToolError
 from olr.model.columns import Columns, What, batched_columns, read_columns, require
 from olr.model.map_folder import STORE, files_read, line_row
@@ -24,13 +24,26 @@ from olr.regions import geopackage
 from olr.regions.blocks import Directory, digest_of_parts
 from olr.regions.geopackage import insert, os_error
 from olr.regions.index import fill_index, outwards
-from olr.regions.packing import Bans, Lines, Nodes, blocks_of, write_blocks
+from olr.regions.packing import (
+    AT_ONCE,
+    BAN,
+    LINE,
+    NODE,
+    Bans,
+    Lines,
+    Nodes,
+    Rows,
+    blocks_of,
+    columns_by_id,
+    joined_rows,
+    write_blocks,
+)
 from olr.regions.plane import scales_at
 from olr.regions.shortness import Shortness
 from olr.regions.store import VERSION, Facts, Sizes
 from olr.regions.table_of_sources import add_sources
 
-CACHE_KILOBYTES = 250_000
+CACHE_KILOBYTES = 200_000
 """Of the file while it is made: ids and places come in any order."""
 UNUSUAL = 0.01
 """The share of lines that may be beyond the usual stretch."""
@@ -149,22 +162,21 @@ class _Making:
 
     def _add_nodes(self, parts: Iterator[Columns]) -> Nodes:
         """Adds the nodes."""
-        id, lon, lat = self._numbers("nodes", 3, parts)
-        order = np.argsort(id)
-        return Nodes(id[order], lon[order], lat[order])
+        return Nodes(*columns_by_id(self._rows("nodes", NODE, parts)))
 
     def _add_lines(self, parts: Iterator[Columns], nodes: Nodes) -> Lines:
         """Adds the lines, and writes their records to the spool."""
-        all_parts = [Lines.none()]
+        return Lines(*columns_by_id(joined_rows(self._batches(parts, nodes), LINE)))
+
+    def _batches(self, parts: Iterator[Columns], nodes: Nodes) -> Iterator[Rows]:
+        """Adds the lines of each part, and answers their numbers."""
         number = 0
         for columns in parts:
-            all_parts.append(self._add_batch(columns, nodes, number))
+            yield self._add_batch(columns, nodes, number)
             number += len(columns.sizes)
-        return Lines.joined(all_parts)
 
-    def _add_batch(self, columns: Columns, nodes: Nodes, number: int) -> Lines:
+    def _add_batch(self, columns: Columns, nodes: Nodes, number: int) -> Rows:
         """Adds lines, of which the first is that many records behind the first of all."""
-        id, start, end, _, _, length = columns.numbers
         ends, there = nodes.index_of(columns.numbers[1:3])
         require(there.all(axis=0), "lines", number)
         sizes = columns.sizes + 2
@@ -178,22 +190,22 @@ class _Making:
         require(~np.logical_or.reduceat(equal, first), "lines", number)
         blobs = geopackage.blobs(points / 1e6, first, sizes)
         self._insert("lines", *columns.numbers, blobs)
+        record_ends = np.flatnonzero(np.frombuffer(columns.text, np.uint8) == ord("\n")) + 1
+        rows = np.empty(len(sizes), LINE)
+        rows["id"], rows["length"] = columns.numbers[0], columns.numbers[5]
+        rows["ends"] = ends.T
+        rows["boxes"][:, :2] = np.minimum.reduceat(points, first)
+        rows["boxes"][:, 2:] = np.maximum.reduceat(points, first)
+        rows["measured"] = measured_lengths(points, first)
+        rows["bytes"] = np.diff(record_ends, prepend=0)
+        rows["begin"] = self._spool.tell() + record_ends - rows["bytes"]
         self._spool.write(columns.text)
-        low, high = np.minimum.reduceat(points, first), np.maximum.reduceat(points, first)
-        boxes = np.concatenate([low, high], axis=1).T
-        record_ends = np.flatnonzero(np.frombuffer(columns.text, np.uint8) == ord("\n"))
-        return Lines(
-            id,
-            ends.astype(np.int32),
-            boxes.astype(np.int32),
-            length.astype(np.int32),
-            measured_lengths(points, first),
-            np.diff(record_ends, prepend=-1).astype(np.int32),
-        )
+        return rows
 
     def _add_bans(self, parts: Iterator[Columns], lines: Lines) -> Bans:
         """Adds the bans. Raises `ToolError` if not all of them have both lines, the second one from where the first one ends."""
-        ids = self._numbers("bans", 2, parts)
+        rows = self._rows("bans", BAN, parts)
+        ids = np.stack([rows["first"], rows["second"]])
         index, there = lines.index_of(ids)
         first, second = index
         right = there.all(axis=0)
@@ -204,13 +216,14 @@ class _Making:
             raise ToolError(f"{about}: run olr-tools check")
         return Bans(first, ids[1])
 
-    def _numbers(self, what: What, count: int, parts: Iterator[Columns]) -> Integers:
-        """Adds all parts of nodes or bans, and answers their numbers, of which each has so many: a row for each of these."""
-        all_parts = [np.zeros((count, 0), dtype=np.int64)]
-        for columns in parts:
+    def _rows(self, what: What, kind: "np.dtype[np.void]", parts: Iterator[Columns]) -> Rows:
+        """Adds all parts of nodes or bans, and answers their numbers."""
+
+        def add(columns: Columns) -> Rows:
             self._insert(what, *columns.numbers)
-            all_parts.append(columns.numbers)
-        return np.concatenate(all_parts, axis=1)
+            return np.rec.fromarrays(columns.numbers, kind)
+
+        return joined_rows(map(add, parts), kind)
 
     def _insert(self, what: What, *columns: Sequence[object] | Integers) -> None:
         """Adds rows to the table of the nodes, lines or bans. Raises `ToolError` for an id that is there."""
@@ -220,11 +233,13 @@ class _Making:
             about = f"two records of the {what} have one id"
             raise ToolError(f"{about}: run olr-tools check") from error
 
-    def _add_index(self, lines: Lines, order: Integers) -> None:
+    def _add_index(self, lines: Lines, order: Integers32) -> None:
         """Adds the index of the lines, which it has in an order."""
         edges = np.empty((4, len(order)), dtype=np.float32)
-        for row, (edge, side) in enumerate(((0, -1), (2, 1), (1, -1), (3, 1))):
-            edges[row] = outwards(lines.boxes[edge, order] / 1e6, side)
+        for first in range(0, len(order), AT_ONCE):
+            some = slice(first, first + AT_ONCE)
+            for row, (edge, side) in enumerate(((0, -1), (2, 1), (1, -1), (3, 1))):
+                edges[row, some] = outwards(lines.boxes[edge, order[some]] / 1e6, side)
         fill_index(self._connection, "rtree_lines_geom", lines.id[order], edges)
         if len(order):
             box = [*lines.boxes[:2].min(axis=1).tolist(), *lines.boxes[2:].max(axis=1).tolist()]
@@ -240,7 +255,7 @@ class _Making:
         self._connection.executemany(
             "INSERT INTO olr_shorter VALUES (?, ?, ?, ?, ?, ?, ?, ?)", rows
         )
-        known = digest_of_parts([column.astype("<i8").tobytes() for column in nodes])
+        known = digest_of_parts([np.asarray(column, "<i8").tobytes() for column in nodes])
         facts = Facts(*sizes, shortness.usual, shortness.greatest, known)
         row = (VERSION, facts.digest(shortness, directory), *facts)
         self._connection.execute("INSERT INTO olr_store VALUES (?, ?, ?, ?, ?, ?, ?, ?)", row)
@@ -254,7 +269,6 @@ def shortness_of(nodes: Nodes, lines: Lines) -> Shortness:
     most = float(np.quantile(stretch, 1 - UNUSUAL, method="higher")) if len(stretch) else 1.0
     usual = min(max(float(np.ceil(most * STEPS)) / STEPS, 1.0), greatest)
     beyond = np.flatnonzero(stretch > usual)
-    beyond = beyond[np.argsort(lines.id[beyond])]
     excess = np.maximum(lines.measured[beyond] * (1 + 1e-9) - metres[beyond] * usual, 0.0)
     start = lines.ends[0, beyond]
     west, south, east, north = lines.boxes[:, beyond].astype(np.float64)
