@@ -79,6 +79,9 @@ async def _feed(
     assert process.stdin is not None
     try:
         async for records in body:
+            if process.stdin.is_closing():
+                # It reads no more, and uvloop takes a write then for a mistake.
+                return
             waiting.extend(records)
             process.stdin.write(exchange.ask(record.text() for record in records))
             await process.stdin.drain()
