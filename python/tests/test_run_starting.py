@@ -14,6 +14,7 @@ from olr.__main__ import main
 from olr.errors import ToolError
 from olr.running import own_cluster
 from olr.running.cluster import connected
+from olr.running.own_cluster import Workers
 from olr.running.signals import kept_signals
 from runs import Runs, assert_resumes
 
@@ -89,6 +90,27 @@ def test_no_worker_starts(tmp_path: Path, monkeypatch: pytest.MonkeyPatch) -> No
     with pytest.raises(ToolError, match=f"^{said}$"):
         with connected(None, 2, 9):
             pass
+
+
+def test_an_interrupt_while_workers_start(monkeypatch: pytest.MonkeyPatch) -> None:
+    """Nobody would end them, if it weren't kept."""
+    enter, ended = Workers.__enter__, list[Workers]()
+    end = Workers.__exit__
+
+    def interrupted(workers: Workers) -> Workers:
+        enter(workers)
+        signal.raise_signal(signal.SIGINT)
+        return workers
+
+    def ending(workers: Workers, *error: object) -> None:
+        end(workers, *error)
+        ended.append(workers)
+
+    monkeypatch.setattr(Workers, "__enter__", interrupted)
+    monkeypatch.setattr(Workers, "__exit__", ending)
+    with pytest.raises(KeyboardInterrupt), connected(None, 1, 1):
+        pass
+    assert len(ended) == 1
 
 
 def test_signals_are_kept() -> None:

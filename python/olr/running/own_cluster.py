@@ -86,7 +86,7 @@ class Workers:
         self._count, self._said = count, scratch / "said.txt"
         self._processes: dict[int, subprocess.Popen[bytes]] = {}
         self._ended = threading.Event()
-        self._thread = threading.Thread(target=self._keep)
+        self._thread = threading.Thread(target=self._keep, daemon=True)
 
     def __enter__(self) -> "Workers":
         self._thread.start()
