@@ -10,6 +10,7 @@ from collections.abc import Callable
 from pathlib import Path
 
 from forked import Forked
+from olr import progress
 from olr.__main__ import main
 from olr.errors import ToolError
 from olr.running import own_cluster
@@ -79,17 +80,22 @@ def test_workers_are_killed_while_they_start(
     assert len(list(tmp_path.glob("kill-*"))) == KILLS
 
 
-def test_no_worker_starts(tmp_path: Path, monkeypatch: pytest.MonkeyPatch) -> None:
-    """That is an error, with what the last one said."""
+def test_no_worker_starts(
+    tmp_path: Path, monkeypatch: pytest.MonkeyPatch, capsys: pytest.CaptureFixture[str]
+) -> None:
+    """That is an error, with what the last one said. It is said before what is waited for."""
     failing = tmp_path / "failing"
     failing.write_text("#!/bin/sh\necho 'no memory' >&2\nexit 1\n")
     failing.chmod(0o755)
     monkeypatch.setattr(sys, "executable", str(failing))
-    monkeypatch.setattr(own_cluster, "SECONDS_TO_START", 1.0)
-    said = "no worker has started in 1 seconds, and the last one said: no memory: go on by --resume"
+    monkeypatch.setattr(own_cluster, "SECONDS_TO_START", 2.0)
+    monkeypatch.setattr(progress, "SECONDS_OF_LOOKS", 0.1)
+    monkeypatch.setattr(progress, "SECONDS_OF_WAITING", 0.3)
+    said = "no worker has started in 2 seconds, and the last one said: no memory: go on by --resume"
     with pytest.raises(ToolError, match=f"^{said}$"):
         with connected(None, 2, 9):
             pass
+    assert " seconds: 2 workers are starting\n" in capsys.readouterr().err
 
 
 def test_an_interrupt_while_workers_start(monkeypatch: pytest.MonkeyPatch) -> None:
@@ -166,3 +172,17 @@ def test_a_run_that_starts_is_ended(runs: Runs) -> None:
         runs.await_end()
         assert os.listdir(runs.scratch) == []
     assert_resumes(runs, "--per-group", 60)
+
+
+def test_a_signal_when_all_is_done(monkeypatch: pytest.MonkeyPatch) -> None:
+    """It ends the process without a word: no exception is raised in what Python does at its end."""
+    ending = signal.SIGINT, signal.SIGTERM, signal.SIGHUP
+    before = {one: signal.getsignal(one) for one in ending}
+    monkeypatch.setattr("olr.tools.run", lambda: 0)
+    try:
+        with pytest.raises(SystemExit):
+            main()
+        assert [signal.getsignal(one) for one in ending[:2]] == [signal.SIG_DFL] * 2
+    finally:
+        for one, handler in before.items():
+            signal.signal(one, handler)
