@@ -162,7 +162,8 @@ class _Making:
 
     def _add_nodes(self, parts: Iterator[Columns]) -> Nodes:
         """Adds the nodes."""
-        return Nodes(*columns_by_id(self._rows("nodes", NODE, parts)))
+        # Their ids are looked up for each line: that takes two thirds of the time where they stand together.
+        return Nodes(*[one.copy() for one in columns_by_id(self._rows("nodes", NODE, parts))])
 
     def _add_lines(self, parts: Iterator[Columns], nodes: Nodes) -> Lines:
         """Adds the lines, and writes their records to the spool."""
