@@ -1,11 +1,13 @@
 """Where few files may be open a command says so in one line, or does without."""
 
+import os
 import pytest
 import resource
-import subprocess
 from pathlib import Path
 
 from conftest import TOP, Program
+from forked import Forked
+from olr.__main__ import main
 from olr.errors import ToolError
 from olr.running.open_files import require_open_files
 from runs import Town
@@ -14,13 +16,19 @@ EXAMPLES = TOP / "examples"
 MESSAGES = EXAMPLES / "messages.tsv"
 
 
-def ended(files: int, *words: object) -> subprocess.CompletedProcess[str]:
-    """How a command ends that may open so many files."""
-    tools = ["/usr/bin/python3", "-m", "olr", *map(str, words)]
-    command = ["sh", "-c", f'ulimit -n {files}; exec "$@"', "sh", *tools]
-    return subprocess.run(
-        command, capture_output=True, text=True, timeout=60, cwd=TOP / "python", check=False
-    )
+def ended(folder: Path, files: int, *words: object) -> tuple[int, str]:
+    """The status of a command that may open so many files, and what it says. What it says is in the folder meanwhile."""
+    errors = folder / "stderr"
+
+    def command() -> None:
+        resource.setrlimit(resource.RLIMIT_NOFILE, (files, files))
+        main()
+
+    with Forked([*map(str, words)], os.environ, errors, command) as process:
+        status = process.wait()
+    said = errors.read_text()
+    errors.unlink()
+    return status, said
 
 
 @pytest.mark.parametrize(
@@ -33,9 +41,9 @@ def ended(files: int, *words: object) -> subprocess.CompletedProcess[str]:
 )
 def test_one_line(program: Program, tmp_path: Path, files: int, words: list[object]) -> None:
     out = tmp_path / "out.gpkg"
-    found = ended(files, *(out if word == "OUT" else word for word in words))
-    assert found.returncode == 1 and found.stderr.count("\n") == 1
-    assert found.stderr.startswith("olr-tools: ") and "open" in found.stderr
+    status, said = ended(tmp_path, files, *(out if word == "OUT" else word for word in words))
+    assert status == 1 and said.count("\n") == 1
+    assert said.startswith("olr-tools: ") and "open" in said
     assert list(tmp_path.iterdir()) == []
 
 
@@ -43,11 +51,8 @@ def test_one_line(program: Program, tmp_path: Path, files: int, words: list[obje
 def test_a_run(program: Program, town: Town, tmp_path: Path, files: int) -> None:
     """Dask would write tracebacks, or wait for ever."""
     words = ["--store", town.store, "--out", tmp_path / "run", "--workers", 1]
-    found = ended(files, "run", town.plain, *words)
-    assert found.returncode == 1
-    assert found.stderr == (
-        f"olr-tools: it may open {files} files (ulimit -n), and needs 64 with --workers 1\n"
-    )
+    said = f"olr-tools: it may open {files} files (ulimit -n), and needs 64 with --workers 1\n"
+    assert ended(tmp_path, files, "run", town.plain, *words) == (1, said)
 
 
 @pytest.mark.parametrize(
