@@ -42,7 +42,7 @@ def peak_of(process):
         status = pathlib.Path(f"/proc/{process}/status").read_text()
     except OSError:
         return "", 0, 0
-    kind = "worker" if b"olr.running.worker" in words else "olr" if b"batch" in words else "other"
+    kind = "worker" if any(b"spawn_main" in word for word in words) else "olr" if b"batch" in words else "other"
     sizes = {line.split()[0]: int(line.split()[1]) / 1024 for line in status.splitlines() if line.endswith(" kB")}
     return kind, sizes.get("VmHWM:", 0), sizes.get("RssAnon:", 0)
 

@@ -56,8 +56,8 @@ def count(event, _):
 if "olr.running.worker" in sys.orig_argv:
     folder, mine = os.path.dirname(__file__), str(os.getpid())
     draw = random.Random(claimed("start", 1000))
-    what, most = draw.choice([*[("open", 600)] * 8, ("socket", 9)])
-    left = 1 + int(most * draw.random() ** 4)
+    what, most = draw.choice([*[("open", 600)] * 6, ("socket", 9)])
+    left = 1 + int(most * draw.random() ** 3)
     open(f"{folder}/{mine}", "w").close()
     sys.addaudithook(count)
 '''
@@ -162,7 +162,7 @@ def test_a_run_that_starts_is_ended(runs: Runs) -> None:
     draw = random.Random(9)
     words = runs.words("--workers", 2, "--per-group", 60, "--resume")[1:]
     errors = runs.folder / "stderr"
-    for sign in (signal.SIGTERM, signal.SIGINT) * 3:
+    for sign in (signal.SIGTERM, signal.SIGINT) * 4:
         first = draw.choice(["open", "socket.bind", "socket.bind"])
         command = ended_at(first, draw.randint(1, 45), sign)
         with Forked(words, runs.environment(), errors, command) as run:

@@ -1,6 +1,5 @@
 """The groups of a run as tasks of Dask: it hands them to workers, runs again what failed, and shows how far it is."""
 
-import atexit
 import logging
 import sys
 import uuid
@@ -72,8 +71,6 @@ def _quiet() -> Iterator[None]:
     """Keeps what Dask logs from standard error: of a scheduler that ends it has tracebacks, and a run one message."""
     loggers = [logging.getLogger(name) for name in LOGGERS]
     levels = [logger.level for logger in loggers]
-    # What Dask hadn't finished says so when it is deleted, which may be when Python ends.
-    atexit.register(logging.disable)
     for logger in loggers:
         logger.setLevel(logging.CRITICAL + 1)
     try:
