@@ -17,8 +17,8 @@ from schedulers import Scheduler, Shared
 
 
 def test_all_answers(runs: Runs) -> None:
-    """By the command as a new process. While its workers ask, nothing listens but for this machine: the scheduler, two workers and
-    their pages."""
+    """By the command as a new process. While its workers ask, nothing listens but for this machine: the scheduler, two workers and what watches
+    over each, and their pages."""
     words = runs.words("--workers", 2, "--per-group", 20, "--join", runs.joined)
     environment, pipe = runs.environment(runs.waiting()), subprocess.PIPE
     with subprocess.Popen(words, env=environment, stdout=pipe, stderr=pipe, text=True) as run:

@@ -3,7 +3,6 @@
 import os
 import pytest
 import re
-import signal
 import sys
 import time
 from collections.abc import Iterator
@@ -14,7 +13,6 @@ from pathlib import Path
 from forked import Forked
 from olr.running import waiting
 from olr.running.cluster import connected
-from olr.running.own_cluster import Workers
 from olr.running.waiting import limited_workers, what_is_waited_for
 from runs import Runs
 from schedulers import Scheduler
@@ -104,9 +102,7 @@ def test_what_is_waited_for(tmp_path: Path, monkeypatch: pytest.MonkeyPatch) -> 
         assert "0 groups are left, and no worker has one; paused" in what_is_waited_for(
             client, groups
         )
-        monkeypatch.setattr(Workers, "_start", lambda *_: None)
-        for process in client.run(os.getpid).values():
-            os.kill(process, signal.SIGKILL)
+        client.cluster.scale(0)
         while client.scheduler_info()["workers"]:
             time.sleep(0.1)
         # Their results were with the workers, so they are left again as soon as the client knows.

@@ -161,7 +161,7 @@ def command(
         if rows is not None:
             sure = judging_for(confidence, asking.tolerances, asking.numbers)
             rows = rows._replace(judging=sure.judging)
-    _require_numbers(asking, patience)
+    _require_numbers(asking)
     if rows is None and not OF_ROWS.keys().isdisjoint(asking.numbers):
         raise click.UsageError(
             "--within and --most are for --geometries and --pieces: the lines of --places have all places"
@@ -228,13 +228,12 @@ def _rows(
     return rows
 
 
-def _require_numbers(asking: Asking, patience: float) -> None:
-    """Raises `Fault` where the program refuses a number, `ProgramNotFound`, and `TimedOut` where it answers nothing for so many seconds: before
-    anything is written."""
+def _require_numbers(asking: Asking) -> None:
+    """Raises `Fault` where the program refuses a number, and `ProgramNotFound`: before anything is written."""
     with _scratch_files(), tempfile.TemporaryDirectory(prefix="olr-run.") as folder:
         write_rows(Path(folder, NODES), NODES_HEADER, [])
         write_rows(Path(folder, LINES), LINES_HEADER, [])
-        with Map.of_folder(folder, patience=patience, **asking.tolerances) as asked:
+        with Map.of_folder(folder, **asking.tolerances) as asked:
             list(asked.answers(asking.question, [""], **asking.numbers))
 
 

@@ -8,8 +8,7 @@
 | `run_folder`, `parts` | the folder of a run: what was asked, the groups, the parts with what shows them whole |
 | `isolating` | records at which the program fails: each alone, and the others with their lines |
 | `answering` | what a worker does for a group: region, map, program, part |
-| `cluster`, `waiting` | the groups as tasks of Dask; what it waits for |
-| `own_cluster`, `worker`, `settings`, `signals` | the scheduler and the workers of this machine; how Dask is set up; what ends a run waits while they open or close |
+| `cluster`, `settings`, `waiting` | the groups as tasks of Dask; how Dask is set up; what it waits for |
 | `open_files` | how many files may be open |
 | `geometries` | rows with geometries of its lines |
 | `joining` | the parts as one file in the order of the records |

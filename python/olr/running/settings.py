@@ -2,10 +2,8 @@
 
 from collections.abc import Iterator
 from contextlib import contextmanager
-from distributed import versions
+from distributed import WorkerPlugin, versions
 
-THIS_MACHINE = "127.0.0.1"
-"""What the scheduler and the workers of a run listen on."""
 SETTINGS = {
     "distributed.scheduler.http.routes": [],
     "distributed.worker.http.routes": [],
@@ -24,3 +22,11 @@ def without_pandas() -> Iterator[None]:
         yield
     finally:
         versions.optional_packages.extend(kept)
+
+
+class WithoutPandas(WorkerPlugin):  # type: ignore[misc]
+    """Keeps a worker from loading pandas."""
+
+    def setup(self, worker: object) -> None:
+        """Is called before the worker tells its versions."""
+        versions.optional_packages.clear()
