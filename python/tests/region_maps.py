@@ -169,14 +169,14 @@ def known(text: str) -> Reference:
     return read
 
 
-def hostile_map(draw: random.Random, lat: int) -> Drawing:
-    """A net of roads whose lengths have little to do with their shapes, at a latitude."""
+def hostile_map(draw: random.Random, lat: int, lon: int = 0) -> Drawing:
+    """A net of roads whose lengths have little to do with their shapes, from a latitude and a longitude on."""
     drawing = Drawing()
     side, step = draw.randint(5, 12), draw.choice([300, 1500, 5000, 15000])
     worth, odd = draw.choice([0.3, 0.7, 0.95, 1.0, 1.0, 1.3]), draw.choice([0.0, 0.005, 0.1])
     spots = {
         (x, y): (
-            x * step + draw.randint(-step // 3, step // 3),
+            lon + x * step + draw.randint(-step // 3, step // 3),
             lat + y * step + draw.randint(-step // 3, step // 3),
         )
         for x in range(side)

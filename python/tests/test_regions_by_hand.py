@@ -12,6 +12,7 @@ from olr.regions.index import outwards
 from olr.regions.making import make_store_of_folder
 from olr.regions.options import Options
 from olr.regions.plane import Disc, Discs, scale_at
+from olr.regions.records import RecordFile, Records, copy_pieces
 from olr.regions.store import Store
 from stores import folder_of
 
@@ -45,7 +46,8 @@ def block_of(boxes: Sequence[tuple[int, int, int, int]]) -> Block:
     ids = np.arange(1, len(boxes) + 1)
     none = np.zeros((2, 0), dtype=np.int64)
     ends = np.zeros((2, len(boxes)), dtype=np.int64)
-    return Block(ids, edges, ends, np.array([1]), none, [b"1,0,0\n"], [b"x\n"] * len(boxes))
+    records = Records.of([b"1,0,0\n"]), Records.of([b"x\n"] * len(boxes))
+    return Block(ids, edges, ends, np.array([1]), none, *records)
 
 
 @pytest.mark.parametrize(
@@ -88,6 +90,49 @@ def test_digests_of_parts() -> None:
         digest_of_parts(parts) for parts in ([b"ab", b"c"], [b"a", b"bc"], [b"abc"], [b"abc", b""])
     }
     assert len(found) == 4
+
+
+def test_a_block_comes_back() -> None:
+    """From what a store has of it, whatever the sizes of its columns are."""
+    edges = np.arange(12, dtype=np.int32).reshape(4, 3) - 5
+    ends, bans = np.array([[0, 1, 0], [1, 0, 0]]), np.array([[7, 8], [8, 7 << 40]])
+    records = Records.of([b"1,0,0\n", b"22,0,0\n"]), Records.of([b"7\n", b"88\n", b"999\n"])
+    block = Block(np.array([7, 8, 9]), edges, ends, np.array([1, 22]), bans, *records)
+    again = Block.of_content(block.content())
+    for found, wanted in zip(again[:5], block[:5]):
+        assert np.array_equal(np.asarray(found), np.asarray(wanted))
+    for one, other in zip(again[5:], records):
+        assert bytes(one.text) == other.text and one.sizes.tolist() == other.sizes.tolist()
+    assert again.content() == block.content()
+
+
+def test_pieces_of_all_sizes() -> None:
+    """Beside slices: around each power of two, and at both ends."""
+    draw = np.random.default_rng(1)
+    sizes = draw.permutation([*range(1, 70), 127, 128, 129, 1023, 1024, 5000])
+    source = draw.bytes(int(sizes.sum()))
+    behind = np.cumsum(sizes)
+    begins = behind - sizes
+    order = draw.permutation(len(sizes))
+    places = np.cumsum(sizes[order]) - sizes[order]
+    target = bytearray(len(source))
+    copy_pieces(source, begins[order], sizes[order], target, places)
+    pieces = [source[begin:end] for begin, end in zip(begins.tolist(), behind.tolist())]
+    assert bytes(target) == b"".join(pieces[one] for one in order.tolist())
+    with pytest.raises(IndexError):
+        copy_pieces(source, np.array([len(source) - 3]), np.array([4]), target, np.array([0]))
+
+
+def test_a_file_of_records_from_several_texts() -> None:
+    """One that is in two texts is taken once, and one that isn't asked for isn't."""
+    first = Records.of([b"5,x\n", b"7\n", b"8\n", b"9,yyy\n"])
+    second = Records.of([b"1,zz\n", b"7\n"])
+    file = RecordFile(("id", "it"), np.array([4, 2, 6, 5, 2]), np.array([3, 0, 1, 2]))
+    file.add([first], [np.array([0, 1, 3])])
+    file.add([second], [np.array([0, 1])])
+    assert file.content == b"id,it\n1,zz\n5,x\n7\n9,yyy\n"
+    none = np.zeros(0, dtype=np.int64)
+    assert RecordFile(("id",), none, none).content == b"id\n"
 
 
 def test_lines_in_one_place(tmp_path: Path) -> None:

@@ -131,6 +131,27 @@ def test_few_blocks_are_kept(tmp_path: Path, file: Path, monkeypatch: pytest.Mon
     assert texts(tmp_path / "all") == texts(tmp_path / "few")
 
 
+def test_no_more_lines_than_a_map_may_have(
+    tmp_path: Path, file: Path, monkeypatch: pytest.MonkeyPatch
+) -> None:
+    """Once there are too many, the other blocks aren't read."""
+    monkeypatch.setattr(packing, "LINES", 20)
+    make_store_of_folder(map_with_bans(tmp_path / "map"), file)
+    earth = Discs.of([Disc(0.0, 0.0, 1e8, 1752)])
+    for limit, most, blocks in (
+        ("MOST_LINES", 50, 3),
+        ("MOST_LINES", 399, 20),
+        ("MOST_BANS", 19, 20),
+    ):
+        with monkeypatch.context() as patch, Store.open(file) as store:
+            patch.setattr(f"olr.model.road_map.{limit}", most)
+            assert store.lines_within_limits(earth) is None
+            assert len(store._blocks._kept) == blocks
+    with Store.open(file) as store:
+        found = store.lines_within_limits(earth)
+        assert found is not None and np.array_equal(found, all_lines(store))
+
+
 @pytest.mark.parametrize("count", [0, 1, 51, 52, 3000])
 def test_the_index_of_the_layer(count: int) -> None:
     """Beside one into which SQLite put the same boxes one by one."""

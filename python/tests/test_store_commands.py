@@ -141,9 +141,7 @@ def test_no_room_for_scratch_files(store: Path, scratch: Path) -> None:
 
 def test_check_of_a_damaged_store(store: Path, capsys: pytest.CaptureFixture[str]) -> None:
     with sqlite3.connect(store) as connection:
-        connection.execute(
-            "UPDATE olr_contents SET line_records = CAST(line_records || x'00' AS BLOB)"
-        )
+        connection.execute("UPDATE olr_contents SET content = CAST(content || x'00' AS BLOB)")
     assert run(["check", str(store)]) == 1
     found = capsys.readouterr().out.splitlines()[4:]
     assert found == [

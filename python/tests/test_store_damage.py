@@ -14,6 +14,7 @@ from pathlib import Path
 from asking import draw_map
 from conftest import TOP, Tools
 from olr.errors import ToolError
+from olr.regions.blocks import Block
 from olr.regions.making import make_store_of_folder
 from olr.regions.store import Store
 from stores import all_lines, folder_of, map_with_bans, texts
@@ -42,7 +43,7 @@ def test_what_isnt_a_store(tmp_path: Path, file: Path) -> None:
         changed.execute("UPDATE olr_store SET version = 0")
     changed.close()
     with pytest.raises(
-        ToolError, match="store of version 0, not 2: make it again by olr-tools regions"
+        ToolError, match="store of version 0, not 3: make it again by olr-tools regions"
     ):
         Store.open(file)
 
@@ -62,15 +63,15 @@ def test_a_damaged_row_is_noticed(what: str, tmp_path: Path, file: Path) -> None
     rows = {name: text.splitlines() for name, text in texts(whole).items()}
     ban = np.array([int(row.split(",")[0]) for row in rows["bans.csv"][1:]], dtype="<i8")
     with sqlite3.connect(file) as reading:
-        query = "SELECT boxes, ends FROM olr_contents WHERE block = 1"
-        boxes, ends = reading.execute(query).fetchone()
+        query = "SELECT content FROM olr_contents WHERE block = 1"
+        block = Block.of_content(*reading.execute(query).fetchone())
     reading.close()
     needles = {
         "line": rows["lines.csv"][7].encode(),
         "node": rows["nodes.csv"][7].encode() + b"\n",
         "ban": np.sort(ban)[:3].tobytes(),
-        "box": boxes[:64],
-        "end": ends[:64],
+        "box": block.boxes.tobytes()[:64],
+        "end": block.ends.tobytes()[:64],
     }
     data = file.read_bytes()
     assert data.count(needles[what]) >= 1

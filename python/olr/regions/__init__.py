@@ -6,6 +6,7 @@
 | `geopackage` | the tables and blobs of a GeoPackage |
 | `index` | the index of its layer of lines |
 | `blocks` | lines that are neighbours, in pieces that are read and checked at once |
+| `records` | records of files, put from such pieces into a file |
 | `store` | a store: a map of any size as one file, and maps of some of its lines |
 | `table_of_sources` | where the lines of a store came from |
 | `making` | how a store is made of a map's files |

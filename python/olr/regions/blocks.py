@@ -2,7 +2,7 @@
 
 The lines of a store are put in the order in which a space-filling curve passes their middles, and cut into blocks. A block has all that
 maps of its lines need, so a reader takes a region from a store in few pieces. What is read is compared with the block's digest: another
-content than what was written is never used.
+content than what was written is never used. What a block hands out are views of its content, so whoever keeps one keeps the whole block.
 """
 
 import hashlib
@@ -13,6 +13,7 @@ from collections.abc import Iterator, Sequence
 from typing import NamedTuple
 
 from olr.arrays import Booleans, Integers, Integers32
+from olr.regions.records import Records
 
 LINES = 256
 """Of a block, at most."""
@@ -20,10 +21,11 @@ FAN = 32
 """So many neighbouring blocks, or groups of them, have one box around them in the next level."""
 CACHE_BYTES = 64 << 20
 """Of the blocks that were read last so many bytes are kept, as the store has them: regions one after the other have mostly the same ones."""
-COLUMNS = "lines, boxes, ends, nodes, bans, node_records, line_records"
-"""Of a block's content."""
-KINDS = (("<i8", (-1,)), ("<i4", (4, -1)), ("<u2", (2, -1)), ("<i8", (-1,)), ("<i8", (2, -1)))
-"""Of the columns that are numbers: their size, the least byte first, and their rows."""
+COLUMNS = (("<i8", 1), ("<i8", 1), ("<i8", 2), ("<i4", 4), ("<u2", 2), ("<u2", 1), ("<u2", 1))
+"""Of numbers: their size, the least byte first, and their rows. They are the lines, nodes, bans, boxes and ends of a block, and the sizes of
+its records of lines and of nodes."""
+HEAD = 4
+"""Numbers of 8 bytes before them: how many lines, nodes and bans there are, and how many bytes the records of the lines have."""
 
 
 class Damaged(Exception):
@@ -43,27 +45,41 @@ class Block(NamedTuple):
     """Ids, sorted."""
     bans: Integers
     """A row with the first line of each ban, one of the block, and a row with the second line: ids, sorted by both."""
-    node_records: Sequence[bytes]
-    """The records of the nodes in `nodes.csv`, each with its line feed, in their order."""
-    line_records: Sequence[bytes]
+    node_records: Records
+    """The records of the nodes in `nodes.csv`, in their order."""
+    line_records: Records
     """The records of the lines in `lines.csv`, likewise."""
 
-    def columns(self) -> list[bytes]:
-        """How a store has it."""
+    def content(self) -> bytes:
+        """How a store has it: the numbers of the head, the columns, and the records of its lines and of its nodes."""
+        records = self.line_records, self.node_records
         numbers: list[Integers | Integers32]
-        numbers = [self.lines, self.boxes, self.ends, self.nodes, self.bans]
-        bytes_of = [one.astype(kind).tobytes() for one, (kind, _) in zip(numbers, KINDS)]
-        return [*bytes_of, b"".join(self.node_records), b"".join(self.line_records)]
+        numbers = [self.lines, self.nodes, self.bans, self.boxes, self.ends]
+        numbers += [one.sizes for one in records]
+        head = [len(self.lines), len(self.nodes), self.bans.shape[1], len(self.line_records.text)]
+        columns = [one.astype(kind).tobytes() for one, (kind, _) in zip(numbers, COLUMNS)]
+        texts = [one.text for one in records]
+        return b"".join([np.array(head, "<i8").tobytes(), *columns, *texts])
 
     @classmethod
-    def of_columns(cls, columns: Sequence[bytes]) -> "Block":
+    def of_content(cls, content: bytes) -> "Block":
         """What a store has."""
-        *numbers, node_records, line_records = columns
-        lines, boxes, ends, nodes, bans = (
-            np.frombuffer(one, kind).reshape(shape) for one, (kind, shape) in zip(numbers, KINDS)
+        lines, nodes, bans, size = np.frombuffer(content, "<i8", HEAD).tolist()
+        columns, begin = [], 8 * HEAD
+        for (kind, rows), count in zip(COLUMNS, (lines, nodes, bans, lines, lines, lines, nodes)):
+            columns.append(np.frombuffer(content, kind, rows * count, begin))
+            begin += columns[-1].nbytes
+        ids, node_ids, both, boxes, ends, sizes, node_sizes = columns
+        text = memoryview(content)[begin:]
+        return cls(
+            ids,
+            boxes.reshape(4, lines),
+            ends.reshape(2, lines),
+            node_ids,
+            both.reshape(2, bans),
+            Records(text[size:], node_sizes),
+            Records(text[:size], sizes),
         )
-        records = node_records.splitlines(True), line_records.splitlines(True)
-        return cls(lines, boxes, ends, nodes, bans, *records)
 
     def meeting(self, boxes: Integers32) -> Integers:
         """The places of its lines whose box meets one of some boxes."""
@@ -71,9 +87,16 @@ class Block(NamedTuple):
 
     def nodes_of(self, places: Integers) -> Integers:
         """The places of the nodes of lines at some places."""
+        if len(places) == len(self.lines):
+            return np.arange(len(self.nodes))
         used = np.zeros(len(self.nodes), dtype=np.bool_)
         used[self.ends[:, places]] = True
         return _places(used)
+
+
+def digest_of_block(content: bytes) -> bytes:
+    """The SHA-256 digest of what a store has of a block."""
+    return hashlib.sha256(content).digest()
 
 
 def digest_of_parts(parts: Sequence[bytes]) -> bytes:
@@ -91,7 +114,7 @@ class Directory(NamedTuple):
     boxes: Integers32
     """The box around the lines of each, as the boxes of a block."""
     digests: Sequence[bytes]
-    """Of their columns."""
+    """Of their contents."""
 
     @classmethod
     def of_tables(cls, connection: sqlite3.Connection) -> "Directory":
@@ -117,7 +140,7 @@ class Blocks:
         while self._levels[-1].shape[1] > FAN:
             self._levels.append(_around(self._levels[-1]))
         self._kept: OrderedDict[int, tuple[Block, int]] = OrderedDict()
-        """With the sizes of their columns, in bytes."""
+        """With the sizes of their contents, in bytes."""
         self._bytes = 0
 
     def count(self) -> int:
@@ -135,11 +158,11 @@ class Blocks:
         if number in self._kept:
             self._kept.move_to_end(number)
             return self._kept[number][0]
-        query = f"SELECT {COLUMNS} FROM olr_contents WHERE block = ?"
-        columns = self._connection.execute(query, (number,)).fetchone()
-        if columns is None or digest_of_parts(columns) != self._digests[number]:
+        query = "SELECT content FROM olr_contents WHERE block = ?"
+        found = self._connection.execute(query, (number,)).fetchone()
+        if found is None or digest_of_block(found[0]) != self._digests[number]:
             raise Damaged(f"block {number} isn't what was written")
-        self._kept[number] = Block.of_columns(columns), sum(map(len, columns))
+        self._kept[number] = Block.of_content(found[0]), len(found[0])
         self._bytes += self._kept[number][1]
         while self._bytes > CACHE_BYTES and len(self._kept) > 1:
             self._bytes -= self._kept.popitem(last=False)[1][1]

@@ -9,8 +9,9 @@ from typing import IO, Any, NamedTuple
 
 from olr.arrays import Booleans, Floats, Integers, Integers32
 from olr.curve import places_on_curve
-from olr.regions.blocks import COLUMNS, LINES, Block, Directory, digest_of_parts
+from olr.regions.blocks import LINES, Block, Directory, digest_of_block
 from olr.regions.geopackage import insert
+from olr.regions.records import Records
 
 AT_ONCE = 100_000
 """So many lines are put along the curve, or their boxes are rounded, at a time."""
@@ -113,13 +114,11 @@ def write_blocks(
 ) -> Directory:
     """Writes the blocks of a store, and where each line is. `order` is that of the lines. Raises `sqlite3.Error`."""
     boxes, digests = [], []
-    marks = ", ".join("?" * len(COLUMNS.split(",")))
     for number, block in enumerate(blocks):
-        columns = block.columns()
-        digests.append(digest_of_parts(columns))
+        content = block.content()
+        digests.append(digest_of_block(content))
         boxes.append([*block.boxes[:2].min(axis=1).tolist(), *block.boxes[2:].max(axis=1).tolist()])
-        query = f"INSERT INTO olr_contents (block, {COLUMNS}) VALUES (?, {marks})"
-        connection.execute(query, (number, *columns))
+        connection.execute("INSERT INTO olr_contents VALUES (?, ?)", (number, content))
         row = (number, *boxes[-1], digests[-1])
         connection.execute("INSERT INTO olr_blocks VALUES (?, ?, ?, ?, ?, ?)", row)
     insert(connection, "olr_places", lines.id, _blocks_of_lines(order))
@@ -151,8 +150,8 @@ def blocks_of(
                 np.searchsorted(used, lines.ends[:, here]),
                 nodes.id[used],
                 both[:, begins[number] : begins[number + 1]],
-                (b"%d,%d,%d\n" * len(rows) % tuple(rows.reshape(-1).tolist())).splitlines(True),
-                [data[begin : begin + size] for begin, size in spans],
+                Records.of(b"%d,%d,%d\n" % tuple(row) for row in rows.tolist()),
+                Records.of(data[begin : begin + size] for begin, size in spans),
             )
 
 

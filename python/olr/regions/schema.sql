@@ -90,14 +90,5 @@ CREATE TABLE olr_blocks (
     north INTEGER NOT NULL,
     digest BLOB NOT NULL
 );
-CREATE TABLE olr_contents (
-    block INTEGER PRIMARY KEY,
-    lines BLOB NOT NULL,
-    boxes BLOB NOT NULL,
-    ends BLOB NOT NULL,
-    nodes BLOB NOT NULL,
-    bans BLOB NOT NULL,
-    node_records BLOB NOT NULL,
-    line_records BLOB NOT NULL
-);
+CREATE TABLE olr_contents (block INTEGER PRIMARY KEY, content BLOB NOT NULL);
 CREATE TABLE olr_places (line INTEGER PRIMARY KEY, block INTEGER NOT NULL);

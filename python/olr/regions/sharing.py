@@ -13,7 +13,7 @@ from olr.curve import places_on_curve
 from olr.errors import ToolError
 from olr.model.questions import What
 from olr.model.reference import Point
-from olr.model.road_map import Position, within_limits
+from olr.model.road_map import Position
 from olr.regions.options import Options
 from olr.regions.plane import Discs
 from olr.regions.region import discs_of_each
@@ -58,8 +58,8 @@ def shared_regions(references: Sequence[Located], store: Store) -> Iterator[Shar
     `ToolError` if the store can't be read."""
     if not references:
         return
-    lines = store.lines_meeting(Discs.joined(one.discs for one in references))
-    if within_limits(0, len(lines), 0) and store.sizes_of(lines).within_limits():
+    lines = store.lines_within_limits(Discs.joined(one.discs for one in references))
+    if lines is not None:
         yield Shared(references, lines)
     elif len(references) == 1:
         yield Shared(references, None)

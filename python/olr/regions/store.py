@@ -7,6 +7,7 @@ What others build on is `Store.open`, `Store.lines_meeting`, `Store.sizes_of` an
         if store.sizes_of(lines).within_limits():
             store.write_map(lines, folder)
 
+`Store.lines_within_limits` does the first two steps, and stops where there are too many lines.
 Lines are named by their ids, in sorted arrays without repeats: `numpy.union1d` joins those of two references. On a map of these
 lines, or of more lines of the store, the reference has the answer that it has on the whole map. For many references hand over the discs
 of all of them at once, as `region.discs_of_each` has them: places that they share are looked up once. `olr.model.reference.read_reference` reads
@@ -18,7 +19,7 @@ index, aren't looked at. `Store.sources` says where lines came from.
 
 import numpy as np
 import sqlite3
-from collections.abc import Iterable, Iterator, Sequence
+from collections.abc import Iterable, Iterator
 from contextlib import contextmanager
 from pathlib import Path
 from typing import NamedTuple
@@ -28,20 +29,25 @@ from olr.errors import ToolError
 from olr.model.map_folder import BANS, BANS_HEADER, LINES, LINES_HEADER, NODES, NODES_HEADER, STORE
 from olr.model.road_map import GREATEST_LON, within_limits
 from olr.model.sources import Sources
-from olr.regions.blocks import Blocks, Damaged, Directory, digest_of_parts
+from olr.regions.blocks import Block, Blocks, Damaged, Directory, digest_of_parts
 from olr.regions.geopackage import damaged, reading
 from olr.regions.plane import Disc, Discs
+from olr.regions.records import RecordFile
 from olr.regions.shortness import Shortness
 from olr.regions.table_of_sources import sources_in
 
-VERSION = 2
+VERSION = 3
 """Of what a store holds. A store of another version has to be made again."""
 
 NONSENSE = (TypeError, ValueError, LookupError, ArithmeticError)
 """What reading a damaged file may raise besides an error of SQLite: a number in place of a text, a place beyond the end."""
+AT_ONCE = 64
+"""The records of so many blocks are put into a map's files at a time."""
 _NONE = np.zeros(0, dtype=np.int64)
 Boxes = tuple[Floats, Floats, Floats, Floats]
 """The boxes around some lines: west, south, east and north, in microdegrees."""
+_Met = tuple[int, Block, Integers]
+"""Lines of a block: its number, the block, and their places there."""
 
 
 class Sizes(NamedTuple):
@@ -87,17 +93,38 @@ class _Piece(NamedTuple):
     """The places of their ends."""
 
 
-class _Part(NamedTuple):
-    """Some lines of a store, with what a map of them has: ids, sorted."""
+class _Sorted(NamedTuple):
+    """The lines or nodes of all pieces."""
 
-    lines: Integers
-    nodes: Integers
+    ids: Integers
+    """Sorted, each once."""
+    order: Integers
+    """Where each is among those of all pieces, one piece behind the other."""
+    sizes: Integers
+    """Of the records of all pieces, in bytes."""
+
+    @classmethod
+    def of(cls, ids: Integers, sizes: Integers) -> "_Sorted":
+        """Those of all pieces, with the sizes of their records."""
+        return cls(*np.unique(ids, return_index=True), sizes)
+
+
+class _Part(NamedTuple):
+    """Some lines of a store, with what a map of them has."""
+
+    pieces: list[_Piece]
+    lines: _Sorted
+    nodes: _Sorted
     bans: Integers
     """As those of a block."""
-    pieces: list[_Piece]
-    line_order: Integers
-    """Where each line is among those of all pieces, one piece behind the other."""
-    node_order: Integers
+
+    def sizes(self) -> Sizes:
+        """Of its map."""
+        return Sizes(len(self.nodes.ids), len(self.lines.ids), self.bans.shape[1])
+
+
+class _TooMany(Exception):
+    """There are more lines than a map for the program may have."""
 
 
 class Store:
@@ -106,7 +133,7 @@ class Store:
     digest: str
     """Of all that a store says of its map, in 64 hexadecimal digits: stores of one map have the same one, however the map's files were
     ordered, and stores of two maps never. It is the SHA-256 digest of four parts, by `digest_of_parts` of `blocks`: the facts, the nodes,
-    the lines that are far shorter than their shapes, and the blocks in their order, each by its box and the digest of its columns."""
+    the lines that are far shorter than their shapes, and the blocks in their order, each by its box and the digest of its content."""
 
     def __init__(self, file: Path, connection: sqlite3.Connection) -> None:
         """A store that is open. Use `open`."""
@@ -161,7 +188,7 @@ class Store:
     def lines_of_block(self, number: int) -> Integers:
         """The ids of the lines of a block, from 0, sorted. Raises `ToolError` if it isn't what was written there."""
         with _reading(self.file):
-            return self._blocks.read(number).lines
+            return self._blocks.read(number).lines.copy()
 
     def lines_round_the_earth(self) -> Integers:
         """The ids, sorted, of lines that go more than half round the earth: those whose box is wider than 180 degrees. Only blocks as wide
@@ -184,13 +211,19 @@ class Store:
         """The ids, sorted, of all lines that meet one of the discs, which may be those of many references. Some lines that only come
         near may be among them, none is left out: what counts are boxes around lines and discs. Raises `ToolError` if the file
         can't be read, or doesn't have what was written there."""
-        given = discs if isinstance(discs, Discs) else Discs.of(discs)
         with _reading(self.file):
-            met = self._blocks.meeting(_whole(given.boxes()))
-            self._last = self._part(
-                (number, self._blocks.read(number).meeting(boxes)) for number, boxes in met
-            )
-        return self._last.lines
+            self._last = self._part(self._meeting(discs))
+        return self._last.lines.ids
+
+    def lines_within_limits(self, discs: Discs) -> Integers | None:
+        """The same if the program reads the map of these lines, and else None. No more blocks are read than it takes to know that there
+        are too many lines. Raises `ToolError` as `lines_meeting`."""
+        try:
+            with _reading(self.file):
+                self._last = self._part(_not_too_many(self._meeting(discs)))
+        except _TooMany:
+            return None
+        return self._last.lines.ids if self._last.sizes().within_limits() else None
 
     def boxes_near(self, disc: Disc) -> tuple[Integers, Boxes]:
         """The ids of lines whose box meets that of a disc, and their boxes. All lines that meet the disc are among them. Raises
@@ -208,8 +241,7 @@ class Store:
     def sizes_of(self, lines: Integers) -> Sizes:
         """How many nodes, lines and bans the map of some lines has, as `write_map` writes it. Raises `ToolError` as `lines_meeting`."""
         with _reading(self.file):
-            part = self._part_of(lines)
-        return Sizes(len(part.nodes), len(part.lines), part.bans.shape[1])
+            return self._part_of(lines).sizes()
 
     def write_map(self, lines: Integers, folder: Path) -> None:
         """Writes the map of some lines into a folder, which is made if it isn't there: `nodes.csv`, `lines.csv` and `bans.csv`, by
@@ -223,28 +255,37 @@ class Store:
         try:
             folder.mkdir(parents=True, exist_ok=True)
             (folder / NODES).unlink(missing_ok=True)
-            for name, header, records in files:
-                (folder / name).write_bytes(",".join(header).encode() + b"\n" + b"".join(records))
+            for name, content in files:
+                (folder / name).write_bytes(content)
         except OSError as error:
             raise ToolError(f"{folder} can't be written: {error.strerror}") from error
 
-    def _part(self, blocks: Iterable[tuple[int, Integers]]) -> _Part:
-        """The lines at some places of blocks."""
-        lines, nodes, bans, pieces = [_NONE], [_NONE], [np.stack([_NONE, _NONE])], []
-        for number, places in blocks:
+    def _meeting(self, discs: Discs | Iterable[Disc]) -> Iterator[_Met]:
+        """The lines that meet one of some discs."""
+        given = discs if isinstance(discs, Discs) else Discs.of(discs)
+        for number, boxes in self._blocks.meeting(_whole(given.boxes())):
             block = self._blocks.read(number)
-            pieces.append(_Piece(number, places, block.nodes_of(places)))
-            lines.append(block.lines[places])
-            nodes.append(block.nodes[pieces[-1].nodes])
-            bans.append(block.bans)
-        line_ids, line_order = np.unique(np.concatenate(lines), return_index=True)
-        node_ids, node_order = np.unique(np.concatenate(nodes), return_index=True)
-        between = _between(line_ids, np.concatenate(bans, axis=1))
-        return _Part(line_ids, node_ids, between, pieces, line_order, node_order)
+            yield number, block, block.meeting(boxes)
+
+    def _part(self, met: Iterable[_Met]) -> _Part:
+        """The lines at some places of blocks. Blocks themselves aren't kept: there may be more of them than memory is for."""
+        pieces, bans = list[_Piece](), [np.stack([_NONE, _NONE])]
+        columns = [(_NONE, _NONE, _NONE, _NONE)]
+        for number, block, places in met:
+            ends = block.nodes_of(places)
+            pieces.append(_Piece(number, places, ends))
+            bans.append(block.bans.copy())  # A view would keep the block.
+            of_lines = block.lines[places], block.line_records.sizes[places]
+            columns.append((*of_lines, block.nodes[ends], block.node_records.sizes[ends]))
+        joined: list[Integers] = [np.concatenate(one) for one in zip(*columns)]
+        ids, sizes, node_ids, node_sizes = joined
+        lines = _Sorted.of(ids, sizes)
+        between = _between(lines.ids, np.concatenate(bans, axis=1))
+        return _Part(pieces, lines, _Sorted.of(node_ids, node_sizes), between)
 
     def _part_of(self, lines: Integers) -> _Part:
         """Lines by their ids: those that were looked up last, or others. Raises `ToolError` if the store hasn't them."""
-        if not np.array_equal(self._last.lines, lines):
+        if not np.array_equal(self._last.lines.ids, lines):
             query = "SELECT block, line FROM json_each(?) JOIN olr_places ON line = value ORDER BY block, line"
             rows = self._connection.execute(query, (str(lines.tolist()),)).fetchall()
             if len(rows) != len(lines):
@@ -252,30 +293,38 @@ class Store:
                 raise ToolError(f"{self.file} hasn't {missing:,} of {len(lines):,} lines")
             number, ids = np.array(rows, dtype=np.int64).reshape(-1, 2).T
             numbers, first = np.unique(number, return_index=True)
+            blocks = ((one, self._blocks.read(one)) for one in numbers.tolist())
             self._last = self._part(
-                [
-                    (one, np.searchsorted(self._blocks.read(one).lines, those))
-                    for one, those in zip(numbers.tolist(), np.split(ids, first)[1:])
-                ]
+                (one, block, np.searchsorted(block.lines, those))
+                for (one, block), those in zip(blocks, np.split(ids, first)[1:])
             )
-            if not np.array_equal(self._last.lines, lines):
+            if not np.array_equal(self._last.lines.ids, lines):
                 raise Damaged("its table of places isn't what was written")
         return self._last
 
-    def _files(self, part: _Part) -> list[tuple[str, Sequence[str], Iterable[bytes]]]:
-        """The names, headers and records of the files of a map of some lines: the nodes come last."""
-        lines: list[bytes] = []
-        nodes: list[bytes] = []
-        for piece in part.pieces:
-            block = self._blocks.read(piece.block)
-            lines += map(block.line_records.__getitem__, piece.lines.tolist())
-            nodes += map(block.node_records.__getitem__, piece.nodes.tolist())
-        bans = [b"%d,%d\n" % (first, second) for first, second in part.bans.T.tolist()]
-        return [
-            (BANS, BANS_HEADER, bans),
-            (LINES, LINES_HEADER, map(lines.__getitem__, part.line_order.tolist())),
-            (NODES, NODES_HEADER, map(nodes.__getitem__, part.node_order.tolist())),
-        ]
+    def _files(self, part: _Part) -> list[tuple[str, bytes | bytearray]]:
+        """The names and contents of the files of a map of some lines: the nodes come last."""
+        lines = RecordFile(LINES_HEADER, part.lines.sizes, part.lines.order)
+        nodes = RecordFile(NODES_HEADER, part.nodes.sizes, part.nodes.order)
+        for first in range(0, len(part.pieces), AT_ONCE):
+            pieces = part.pieces[first : first + AT_ONCE]
+            blocks = [self._blocks.read(piece.block) for piece in pieces]
+            lines.add([one.line_records for one in blocks], [piece.lines for piece in pieces])
+            nodes.add([one.node_records for one in blocks], [piece.nodes for piece in pieces])
+        count = part.bans.shape[1]
+        bans = b"%s\n" % ",".join(BANS_HEADER).encode()
+        bans += b"%d,%d\n" * count % tuple(part.bans.T.ravel().tolist())
+        return [(BANS, bans), (LINES, lines.content), (NODES, nodes.content)]
+
+
+def _not_too_many(met: Iterable[_Met]) -> Iterator[_Met]:
+    """Passes lines on, as long as one map may have all of them. Raises `_TooMany`."""
+    count = 0
+    for one in met:
+        count += len(one[2])
+        if not within_limits(0, count, 0):
+            raise _TooMany
+        yield one
 
 
 def _between(lines: Integers, bans: Integers) -> Integers:
