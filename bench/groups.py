@@ -20,7 +20,7 @@ from olr.regions.plane import Discs  # noqa: E402
 from olr.model.reference import read_points  # noqa: E402
 from olr.regions.region import discs_of_each  # noqa: E402
 from olr.regions.store import Store  # noqa: E402
-from olr.running.grouping import read_group, write_groups  # noqa: E402
+from olr.running.grouping import digests_of, read_group, write_groups  # noqa: E402
 from olr.running.records import read_records, reference_of  # noqa: E402
 
 GROUPS = {1: 200, 20: 100, 200: 20, 4000: 4}
@@ -49,7 +49,8 @@ def main():
         for size, count in GROUPS.items():
             found = write_groups(read_records(chosen.messages, Reading()), Path(place), size)
             numbers = [found.groups * (2 * number + 1) // (2 * count) for number in range(count)]
-            groups = [read_group(Path(place), number) for number in numbers]
+            digests = digests_of(Path(place), found.sha256)
+            groups = [read_group(Path(place), number, digests).records() for number in numbers]
             lines, seconds = zip(*(measure(store, group, Path(place, "map")) for group in groups))
             mean = 1000 * sum(seconds) / count
             print(f"| {size:,} | {count} | {sum(lines) / count:,.0f} | {mean:.2f} | {mean / size:.3f} |", flush=True)

@@ -2,9 +2,11 @@
 """Times `olr-tools run` with several numbers of workers, and beside one `olr batch` where the map is within the limits.
 
     bench/run.py --store STORE --messages FILE [--workers 1 2 4] [--map FOLDER] [-- OPTIONS]
+    bench/run.py --map FOLDER --messages FILE [--workers 1 2 4] [-- OPTIONS]
 
 OPTIONS are those of `olr-tools run`, such as --page 1. With --map the answers of all runs are compared with those of `olr batch match` on
-the map of the folder, and else with each other. Memory is the greatest resident size of a process: of a worker, and of an `olr` that it runs.
+the map of the folder, and else with each other; without --store the runs are on that map too. The row `reading` is what `batch` takes for one record.
+Runs don't join their lines, but in one more run, which isn't timed. Memory is the greatest resident size of a process: of a worker, and of an `olr` that it runs.
 A worker's own is what isn't a page of a file, such as the store, which the system can take back: the most that was seen, every 0.05 s.
 It needs what ./olr-tools setup installs, and the program that the variable OLR_PROGRAM names, else the built one.
 """
@@ -42,7 +44,7 @@ def peak_of(process):
         status = pathlib.Path(f"/proc/{process}/status").read_text()
     except OSError:
         return "", 0, 0
-    kind = "worker" if any(b"spawn_main" in word for word in words) else "olr" if b"batch" in words else "other"
+    kind = "worker" if b"run" in words else "olr" if b"batch" in words else "other"
     sizes = {line.split()[0]: int(line.split()[1]) / 1024 for line in status.splitlines() if line.endswith(" kB")}
     return kind, sizes.get("VmHWM:", 0), sizes.get("RssAnon:", 0)
 
@@ -59,6 +61,8 @@ def watched(command):
             break
         for one in [process.pid, *children_of(process.pid)]:
             kind, *found = peak_of(one)
+            if one == process.pid and kind == "worker":
+                continue
             for what, size in zip((kind, f"own of {kind}"), found):
                 peaks[what] = max(peaks.get(what, 0), size)
         time.sleep(0.05)
@@ -75,7 +79,7 @@ def digest(file):
 
 def main():
     parser = argparse.ArgumentParser(description=__doc__, formatter_class=argparse.RawDescriptionHelpFormatter)
-    parser.add_argument("--store", required=True)
+    parser.add_argument("--store")
     parser.add_argument("--messages", required=True)
     parser.add_argument("--workers", type=int, nargs="+", default=[1, 2, 4])
     parser.add_argument("--map")
@@ -91,14 +95,21 @@ def main():
         if chosen.map:
             shell = 'exec "$0" batch match --map "$1" "${@:4}" <"$2" >"$3"'
             commands["batch"] = ["bash", "-c", shell, PROGRAM, chosen.map, chosen.messages, joined, *words]
+            one = pathlib.Path(folder, "one")
+            with open(chosen.messages, "rb") as file:
+                one.write_bytes(file.readline())
+            commands["reading"] = ["bash", "-c", shell, PROGRAM, chosen.map, one, os.devnull, *words]
         for workers in chosen.workers:
-            run = [TOP / "olr-tools", "run", chosen.messages, "--store", chosen.store, "--workers", workers, "--join", joined]
-            run += ["--profile", "program"]
+            where = ["--store", chosen.store] if chosen.store else ["--map", chosen.map]
+            run = [TOP / "olr-tools", "run", chosen.messages, *where, "--workers", workers, "--profile", "program"]
             commands[f"workers {workers}"] = [*run, "--out", f"{folder}/{workers}", *words]
         for name, command in commands.items():
             wall, processor, peaks = watched(command)
-            digests.add(digest(joined))
-            joined.unlink()
+            if name.startswith("workers"):
+                watched([*command, "--resume", "--join", joined])
+            if name != "reading":
+                digests.add(digest(joined))
+                joined.unlink()
             print(f"{name}: {wall:.1f} s", file=sys.stderr)
             peak = [f"{peaks.get(kind, 0):.0f}" for kind in ("worker", "own of worker", "olr")]
             rows.append([name, f"{wall:.1f}", f"{processor:.1f}", f"{count / wall:.0f}", f"{1000 * processor / count:.2f}", *peak])

@@ -7,6 +7,8 @@ from collections.abc import Callable, Iterable, Iterator
 from contextlib import contextmanager
 from typing import NamedTuple, TypeVar
 
+from olr.signals import kept_signals
+
 SECONDS_OF_BAR = 0.1
 """The bar moves no more often."""
 SECONDS_OF_LINES = 10.0
@@ -108,7 +110,8 @@ class _Pace:
         self._thread = threading.Thread(target=self._look, daemon=True)
 
     def __enter__(self) -> Advance:
-        self._thread.start()
+        with kept_signals():
+            self._thread.start()
         return self._advance
 
     def __exit__(self, *_: object) -> None:

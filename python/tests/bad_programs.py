@@ -59,6 +59,7 @@ def put(data):
 
 for record in sys.stdin.buffer:
     asked.write(record)
+    if not record.rstrip(b"\\r\\n"): continue
     line = answered.readline()
     way = WAYS.get(record.rstrip(b"\\r\\n").rpartition(b"\\t")[2].decode("latin-1"))
     if way is None: put(line)

@@ -6,10 +6,10 @@ import pytest
 import signal
 import subprocess
 import time
-from collections import Counter
 from collections.abc import Iterable, Iterator, Mapping, Sequence
-from contextlib import contextmanager, nullcontext, suppress
+from contextlib import contextmanager, suppress
 from dataclasses import replace
+from functools import partial
 from io import BytesIO, TextIOWrapper
 from ipaddress import IPv4Address, IPv6Address, ip_address
 from pathlib import Path
@@ -23,13 +23,14 @@ from olr.messages.message import Reading
 from olr.regions.making import make_store_of_folder
 from olr.regions.store import Store
 from olr.running.answering import GroupsFailed, Job, answer_groups
-from olr.running.cluster import Outcome
+from olr.running.asked_map import AskedMap
 from olr.running.grouping import Grouped
 from olr.running.identity import Build
 from olr.running.joining import join
 from olr.running.question import Question, all_numbers
 from olr.running.records import read_records
 from olr.running.run_folder import RunFolder
+from olr.running.tasks import Done, Outcome, outcome_of
 
 if TYPE_CHECKING:
     from schedulers import Shared
@@ -88,37 +89,47 @@ def question_about(
     return Question(Content.of(messages), digest, build, "match", all_numbers("match", options))
 
 
-def answer_here(patch: pytest.MonkeyPatch, scratch: Path, program: Path) -> None:
-    """Groups are answered in this process, without Dask, also by the command `run`."""
+def answer_in_this_process(patch: pytest.MonkeyPatch, scratch: Path, program: Path) -> None:
+    """Groups are answered in this process, without workers, also by the command `run`."""
     scratch.mkdir(exist_ok=True)
-    patch.setattr("olr.running.answering._local_folder", lambda: os.fspath(scratch))
-    patch.setattr("olr.commands.run.connected", lambda *words: nullcontext())
-    patch.setattr("olr.commands.run.answer_all", answer_all_here)
+    patch.setattr("olr.commands.run.answer_here", partial(answer_all, scratch=scratch))
     patch.setenv("OLR_PROGRAM", os.fspath(program))
 
 
-def answer_all_here(_client: object, job: Job, grouped: Grouped) -> Outcome:
+def answer_all(
+    _workers: object, job: Job, grouped: Grouped, scratch: Path | None = None
+) -> Outcome:
     """Answers all groups in this process, each alone and once. What a worker raises is the reason of a group that failed."""
-    counts, failed = Counter[str](), dict[int, str]()
-    for group in range(grouped.groups):
-        try:
-            counts += answer_groups(job, [group])
-        except GroupsFailed as error:
-            failed |= error.reasons
-    return Outcome(counts, failed)
+
+    def done() -> Iterator[Done]:
+        for group in range(grouped.groups):
+            task = range(group, group + 1)
+            try:
+                yield task, answer_groups(job, task, scratch)
+            except GroupsFailed as error:
+                yield task, error
+
+    return outcome_of(done())
 
 
 class Begun:
     """A run on a town whose groups are answered in this process, one by one."""
 
     def __init__(
-        self, town: Town, program: Program, folder: Path, messages: Path, per_group: int = 30
+        self,
+        town: Town,
+        program: Program,
+        folder: Path,
+        messages: Path,
+        per_group: int = 30,
+        along_curve: bool = True,
     ) -> None:
-        self.folder = RunFolder(folder)
+        self.folder = RunFolder(folder, along_curve)
         self.question = replace(question_about(town, program, messages), per_group=per_group)
         records = read_records(messages, Reading())
         with self.folder.begun(self.question, records, False) as self.grouped:
-            self.job = Job(folder, town.store, self.question, self.grouped.sha256)
+            asked = AskedMap.of(town.store)
+            self.job = Job(folder, asked, self.question, self.grouped.sha256)
 
     def groups(self) -> range:
         """The numbers of all groups."""
@@ -165,9 +176,9 @@ class Runs:
         self.scratch = folder / "scratch"
 
     def words(self, *words: object, messages: Path | None = None) -> list[str]:
-        """The words of a run."""
-        given = ["run", messages or self.town.messages, "--store", self.town.store]
-        given += ["--out", self.out, *OF_PROGRAM, *words]
+        """The words of a run. By default its map is the store."""
+        given = ["run", messages or self.town.messages, "--out", self.out, *OF_PROGRAM]
+        given += words if "--map" in words else ["--store", self.town.store, *words]
         return [str(TOP / "olr-tools"), *map(str, given)]
 
     def run(self, *words: object, program: Path | None = None, workers: int = 2) -> Ended:
@@ -202,9 +213,9 @@ class Runs:
         program: Path | None = None,
         given: bytes = b"",
     ) -> Ended:
-        """A run in this process, without Dask: what becomes of folders and files is the same."""
+        """A run in this process, without workers: what becomes of folders and files is the same."""
         with pytest.MonkeyPatch.context() as patch:
-            answer_here(patch, self.scratch, program or self.program.path)
+            answer_in_this_process(patch, self.scratch, program or self.program.path)
             patch.setattr("sys.stdin", TextIOWrapper(BytesIO(given)))
             patch.setenv("TMPDIR", os.fspath(self.scratch))
             patch.setattr("tempfile.tempdir", None)
@@ -343,7 +354,7 @@ def assert_resumes(
     messages: Path | None = None,
     program: Path | None = None,
 ) -> None:
-    """A run goes on, keeps the parts that are there, and has all answers. It goes on in this process: how Dask answers groups is
+    """A run goes on, keeps the parts that are there, and has all answers. It goes on in this process: how workers answer groups is
     tested by the runs before."""
     before = {
         name: file

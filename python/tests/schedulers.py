@@ -12,11 +12,16 @@ from pathlib import Path
 from typing import NamedTuple
 
 from forked import Forked
-from olr.running.settings import SETTINGS
 from runs import Runs
 
 # They tell its version, and forks have it then.
 importlib.import_module("pandas")
+SETTINGS = {
+    "distributed.scheduler.http.routes": [],
+    "distributed.worker.http.routes": [],
+    "distributed.worker.profile.enabled": False,
+}
+"""Without pages, and without a thread that looks every 10 ms what a worker does."""
 HIDDEN = ["--no-dashboard", "--dashboard-address", "127.0.0.1:0"]
 
 

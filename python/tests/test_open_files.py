@@ -8,8 +8,6 @@ from pathlib import Path
 from conftest import TOP, Program
 from forked import Forked
 from olr.__main__ import main
-from olr.errors import ToolError
-from olr.running.open_files import require_open_files
 from runs import Town
 
 EXAMPLES = TOP / "examples"
@@ -47,30 +45,12 @@ def test_one_line(program: Program, tmp_path: Path, files: int, words: list[obje
     assert list(tmp_path.iterdir()) == []
 
 
-@pytest.mark.parametrize("files", [32, 63])
+@pytest.mark.parametrize("files", [8, 12, 16, 20, 32])
 def test_a_run(program: Program, town: Town, tmp_path: Path, files: int) -> None:
-    """Dask would write tracebacks, or wait for ever."""
+    """It needs less than that, or says so."""
     words = ["--store", town.store, "--out", tmp_path / "run", "--workers", 1]
-    said = f"olr-tools: it may open {files} files (ulimit -n), and needs 64 with --workers 1\n"
-    assert ended(tmp_path, files, "run", town.plain, *words) == (1, said)
-
-
-@pytest.mark.parametrize(
-    "soft, hard, needed",
-    [(20, 4096, 80), (80, 80, None), (20, resource.RLIM_INFINITY, 80), (100, 4096, None)],
-)
-def test_a_run_takes_what_it_may(
-    monkeypatch: pytest.MonkeyPatch, soft: int, hard: int, needed: int | None
-) -> None:
-    """48 files, and 16 for each worker."""
-    taken: list[tuple[int, int]] = []
-    monkeypatch.setattr(resource, "getrlimit", lambda _: (soft, hard))
-    monkeypatch.setattr(resource, "setrlimit", lambda _, limits: taken.append(limits))
-    require_open_files(2)
-    assert taken == ([] if needed is None else [(needed, hard)])
-
-
-def test_a_run_that_may_open_too_few(monkeypatch: pytest.MonkeyPatch) -> None:
-    monkeypatch.setattr(resource, "getrlimit", lambda _: (20, 79))
-    with pytest.raises(ToolError, match="may open 79 files .* needs 80 with --workers 2"):
-        require_open_files(2)
+    status, said = ended(tmp_path, files, "run", town.plain, *words)
+    if status:
+        assert said.startswith("olr-tools: ") and said.count("\n") == 1
+        assert "Too many open files" in said
+    assert (status, said) == (0, "") if files == 32 else status == 1 or files > 8

@@ -15,6 +15,7 @@ from olr.model.road_map import Ban, Line, Node, Position, RoadMap
 from olr.progress import progress, watched
 from olr.regions.making import make_store_of_map
 from olr.running.joining import join, lines_of
+from olr.signals import ENDING
 from olr.tools import run
 from vector_files import road, write
 
@@ -36,6 +37,16 @@ def test_a_line_every_ten_seconds(capsys: pytest.CaptureFixture[str]) -> None:
             clock.seconds = seconds
             advance(1000)
     assert capsys.readouterr().err == "records: 3,000 of 12,000\nrecords: 5,000 of 12,000\n"
+
+
+def test_its_thread_gets_no_signal() -> None:
+    """An interrupt that it got while the main thread keeps interrupts could be lost."""
+    before = set(os.listdir("/proc/self/task"))
+    with progress("records"):
+        (thread,) = set(os.listdir("/proc/self/task")) - before
+        status = Path(f"/proc/self/task/{thread}/status").read_text()
+    blocked = int(status.partition("SigBlk:")[2].split()[0], 16)
+    assert all(blocked >> (one - 1) & 1 for one in ENDING)
 
 
 def test_short_work_has_no_line(capsys: pytest.CaptureFixture[str]) -> None:

@@ -17,19 +17,17 @@ from schedulers import Scheduler, Shared
 
 
 def test_all_answers(runs: Runs) -> None:
-    """By the command as a new process. While its workers ask, nothing listens but for this machine: the scheduler, two workers and what watches
-    over each, and their pages."""
+    """By the command as a new process. While its workers ask, nobody listens."""
     words = runs.words("--workers", 2, "--per-group", 20, "--join", runs.joined)
     environment, pipe = runs.environment(runs.waiting()), subprocess.PIPE
     with subprocess.Popen(words, env=environment, stdout=pipe, stderr=pipe, text=True) as run:
         try:
             runs.await_asked(run)
-            addresses = listened_on(runs.left())
+            assert len(runs.left()) >= 3 and not listened_on(runs.left())
         finally:
             (runs.folder / "go").touch()
         stdout, stderr = run.communicate()
     runs.await_end()
-    assert len(addresses) >= 5 and {str(address) for address in addresses} == {"127.0.0.1"}
     expected = runs.expected()
     assert (run.returncode, stderr) == (0, "")
     assert runs.joined.read_bytes() == expected

@@ -5,11 +5,12 @@ import pytest
 import subprocess
 import tempfile
 from collections.abc import Iterator
+from functools import partial
 from pathlib import Path
 
 from conftest import OF_PROGRAM, Program
 from olr.tools import run as olr_tools
-from runs import Runs, Town, lines_of_batch
+from runs import Runs, Town, answer_all, lines_of_batch
 
 FULL = "No space left on device"
 
@@ -118,10 +119,12 @@ def test_no_room_for_scratch_files(
     """Those of the command; then those of its workers, where each group fails; then nothing is left there."""
     commands = Commands(town, tmp_path / "out", capsys)
     monkeypatch.setattr(tempfile, "tempdir", os.fspath(disk.folder))
-    monkeypatch.setattr("olr.running.answering._local_folder", lambda: os.fspath(disk.folder))
+    monkeypatch.setattr("olr.commands.run.answer_here", partial(answer_all, scratch=disk.folder))
     said = f"olr-tools: scratch files can't be written: {FULL}: name another folder by TMPDIR\n"
+    disk.resize("8k,nr_inodes=2")
     assert commands.run() == (1, said)
     assert disk.names() == [] and not commands.out.exists()
+    disk.resize("8k,nr_inodes=1000")
     monkeypatch.setattr(tempfile, "tempdir", None)
     status, text = commands.run()
     assert status == 1 and text.count("\n") == 1
@@ -134,15 +137,10 @@ def test_no_room_for_scratch_files(
     assert commands.joined.read_bytes() == expected and disk.names() == []
 
 
-def test_no_room_for_scratch_files_of_dask(runs: Runs, disk: Disk) -> None:
-    """Without room for them, for their bytes or their names, there is one message; with little room the run begins."""
+def test_no_room_for_scratch_files_of_workers(runs: Runs, disk: Disk) -> None:
+    """With little room the run begins, and there is one message."""
     runs.scratch = disk.folder
-    said = f"olr-tools: scratch files can't be written: {FULL}: name another folder by TMPDIR\n"
-    for size in ("100k", "1m,nr_inodes=9"):
-        disk.resize(size)
-        assert runs.run_here("--per-group", 150) == (1, "", said)
-        assert disk.names() == [] and not runs.out.exists()
-    disk.resize("320k,nr_inodes=1000")
+    disk.resize("100k")
     ended = runs.run("--per-group", 150)
     assert ended.status == 1 and ended.stderr.count("\n") == 1
     assert ": the scratch folder of a worker on " in ended.stderr and FULL in ended.stderr

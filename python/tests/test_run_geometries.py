@@ -45,20 +45,28 @@ def assert_same(found: list[tuple[Any, ...]], expected: list[tuple[Any, ...]]) -
         assert one is other is None or one.equals_exact(other, ROUNDED)
 
 
+@pytest.mark.parametrize("map_option", ["--store", "--map"])
 @pytest.mark.parametrize("places", [[], ["--places", "--most", 3]])
 def test_the_rows_of_match(
-    places: list[object], here: None, town: Town, tmp_path: Path, monkeypatch: pytest.MonkeyPatch
+    places: list[object],
+    map_option: str,
+    here: None,
+    town: Town,
+    tmp_path: Path,
+    monkeypatch: pytest.MonkeyPatch,
 ) -> None:
-    """Of which part whatever, with the lines of some rows at a time."""
+    """Of which part whatever, of a store with the lines of some rows at a time."""
     monkeypatch.setattr("olr.matching.chunks.ROWS", 40)
     read: list[int] = []
     files = [tmp_path / "run.gpkg", tmp_path / "run-pieces.gpkg"]
-    words = ["run", town.plain, "--store", town.store, "--out", tmp_path / "out", *places]
+    of_store = map_option == "--store"
+    asked = town.store if of_store else town.folder
+    words = ["run", town.plain, map_option, asked, "--out", tmp_path / "out", *places]
     words += ["--per-group", 60, "--geometries", files[0], "--pieces", files[1]]
     with monkeypatch.context() as patched:
         patched.setattr(store_network.PartOfNetwork, "__init__", _counting(read))
         assert olr_tools(*words) == 0
-    assert len(read) > 5 and max(read) < 1000
+    assert (len(read) > 5 and max(read) < 1000) if of_store else not read
     whole = [tmp_path / "match.gpkg", tmp_path / "match-pieces.gpkg"]
     words = ["match", town.plain, "--map", town.folder, *places]
     assert olr_tools(*words, "--out", whole[0], "--pieces", whole[1]) == 0
@@ -141,5 +149,5 @@ def test_another_store(
     store.unlink()
     make_store_of_folder(Path(__file__).parents[2] / "examples", store)
     assert olr_tools(*words, "--resume", "--geometries", tmp_path / "rows.gpkg") == 1
-    assert "holds a run with other store" in capsys.readouterr().err
+    assert "holds a run with other map (" in capsys.readouterr().err
     assert not (tmp_path / "rows.gpkg").exists()

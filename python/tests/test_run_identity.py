@@ -13,11 +13,13 @@ from typing import Any
 from conftest import OF_PROGRAM, Program
 from olr import content
 from olr.asking.records import Record
+from olr.content import Stamp
 from olr.errors import ProgramEnded, ProgramNotFound, ToolError
 from olr.model import road_map
 from olr.regions.making import make_store_of_folder
 from olr.regions.store import Store
 from olr.running import identity
+from olr.running.asked_map import AskedMap
 from olr.running.identity import Build
 from olr.running.records import read_records
 from olr.tools import run as olr_tools
@@ -160,9 +162,9 @@ def test_workers_with_two_stores(editions: Editions, program: Program, tmp_path:
         (no_store, "text.gpkg isn't a store of olr-tools regions"),
     ):
         with pytest.raises(ToolError, match=f"^on {gethostname()}: .*{said}"):
-            begun.answer([0, 1], replace(begun.job, store=path))
+            begun.answer([0, 1], replace(begun.job, map=AskedMap(path)))
     assert os.listdir(tmp_path / "run/parts") == []
-    begun.answer(begun.groups()[::2], replace(begun.job, store=again))
+    begun.answer(begun.groups()[::2], replace(begun.job, map=AskedMap(again)))
     begun.answer(begun.groups())
     assert begun.joined() == lines_of_batch(program, town.folder, "match", town.messages)
 
@@ -274,19 +276,19 @@ def test_resume_with_others(
         status = olr_tools([*map(str, words), "--store", os.fspath(store)])
         return status, capsys.readouterr().err
 
-    before = {file: file.stat() for file in (out / "parts").iterdir()}
+    before = {file: Stamp.of(file) for file in (out / "parts").iterdir()}
     monkeypatch.setenv("OLR_PROGRAM", os.fspath(other_program))
     build = f"({begun.question.program}, and not {Build.of(other_program)})"
     refused = "olr-tools: {} holds a run with other {}: name another folder\n"
     assert resumed() == (1, refused.format(out, f"program {build}"))
     monkeypatch.setenv("OLR_PROGRAM", os.fspath(program.path))
     with Store.open(editions.other) as other:
-        which = f"store ({begun.question.store[:12]}.., and not {other.digest[:12]}..)"
+        which = f"map ({begun.question.store[:12]}.., and not {other.digest[:12]}..)"
     assert resumed(editions.other) == (1, refused.format(out, which))
-    assert {file: file.stat() for file in (out / "parts").iterdir()} == before
+    assert {file: Stamp.of(file) for file in (out / "parts").iterdir()} == before
     assert resumed() == (0, "")
     assert joined.read_bytes() == lines_of_batch(program, town.folder, "match", town.messages)
-    assert all(file.stat() == status for file, status in before.items())
+    assert all(Stamp.of(file) == stamp for file, stamp in before.items())
 
 
 def test_resume_with_options_at_their_defaults(
@@ -299,14 +301,14 @@ def test_resume_with_options_at_their_defaults(
     table.write_text("key,ref\n" + "\n".join(row.replace("\t", ",") for row in rows) + "\n")
     words = ["run", str(table), *OF_PROGRAM, "--store", str(town.store), "--out", str(out)]
     assert olr_tools([*words, "--bearing", "4"]) == 0
-    before = {file: file.stat() for file in (out / "parts").iterdir()}
+    before = {file: Stamp.of(file) for file in (out / "parts").iterdir()}
     capsys.readouterr()
     given = ["--radius", "100", "--class", "7", "--lowest", "0", "--percent", "30", "--slack"]
     given += ["300", "--page", "10", "--per-group", "50", "--format", "csv", "--ref", "ref"]
     assert olr_tools([*words, *given, "--key", "key", "--resume"]) == 0
     assert olr_tools([*words, "--resume", "--join", str(joined)]) == 0
     assert capsys.readouterr().err == ""
-    assert {file: file.stat() for file in (out / "parts").iterdir()} == before
+    assert {file: Stamp.of(file) for file in (out / "parts").iterdir()} == before
     plain = tmp_path / "plain"
     plain.write_text("\n".join(rows) + "\n")
     assert joined.read_bytes() == lines_of_batch(program, town.folder, "match", plain)

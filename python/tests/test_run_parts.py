@@ -12,12 +12,12 @@ from pathlib import Path
 from conftest import OF_PROGRAM, Program
 from olr.errors import ToolError
 from olr.running.answering import Job
-from olr.running.cluster import Outcome
+from olr.running.tasks import Outcome
 from olr.running.grouping import Grouped, digests_of
 from olr.running.joining import join, number_of
 from olr.running.parts import NotWhole, Part
 from olr.tools import run as olr_tools
-from runs import Begun, Town, answer_all_here, lines_of_batch
+from runs import Begun, Town, answer_all, lines_of_batch
 
 Damage = Callable[[Path], object]
 """What is done to a run's folder, whose part 3 is damaged, or to a file."""
@@ -131,7 +131,6 @@ def whole(town: Town, program: Program, tmp_path_factory: pytest.TempPathFactory
     """The folder of a run that is done."""
     folder = tmp_path_factory.mktemp("whole")
     with pytest.MonkeyPatch.context() as patch:
-        patch.setattr("olr.running.answering._local_folder", lambda: os.fspath(folder))
         patch.setenv("OLR_PROGRAM", os.fspath(program.path))
         begun = Begun(town, program, folder / "run", town.messages)
         begun.answer(begun.groups())
@@ -194,12 +193,12 @@ def test_join_refuses_a_part(
     """Here it is damaged after all groups were done. The next run joins them."""
     damage, why = DAMAGES[kind]
 
-    def answer_and_damage(client: object, job: Job, groups: Grouped) -> Outcome:
-        outcome = answer_all_here(client, job, groups)
+    def answer_and_damage(workers: object, job: Job, groups: Grouped) -> Outcome:
+        outcome = answer_all(workers, job, groups)
         damage(copied.out)
         return outcome
 
-    monkeypatch.setattr("olr.commands.run.answer_all", answer_and_damage)
+    monkeypatch.setattr("olr.commands.run.answer_here", answer_and_damage)
     copied.joined.write_text("old")
     assert olr_tools([*copied.words, "--force"]) == 1
     said = capsys.readouterr().err
@@ -259,13 +258,13 @@ def test_groups_that_are_damaged(
         part(copied.out, group).unlink()
     before = copied.stamps()
 
-    def damage_and_answer(client: object, job: Job, groups: Grouped) -> Outcome:
+    def damage_and_answer(workers: object, job: Job, groups: Grouped) -> Outcome:
         GROUPS[kind](copied.out / "groups", town, program)
-        return answer_all_here(client, job, groups)
+        return answer_all(workers, job, groups)
 
     with monkeypatch.context() as patch:
         patch.setattr("olr.running.run_folder._digests_kept", digests_of)
-        patch.setattr("olr.commands.run.answer_all", damage_and_answer)
+        patch.setattr("olr.commands.run.answer_here", damage_and_answer)
         assert olr_tools(copied.words) == 1
     said = capsys.readouterr().err
     assert re.search("olr-tools: [0-9]+ of 11 groups failed, listed in .*/failed.txt: ", said)

@@ -43,7 +43,8 @@ class Group:
     def write(self, program: Path, patience: float | None = None) -> list[bytes]:
         """The lines of another one."""
         with self.file.open("wb") as stream:
-            Isolating(self.asked(program), self.files, patience, stream).write(self.records)
+            folder = self.file.parent
+            Isolating(self.asked(program), self.files, patience, stream, folder).write(self.records)
         return self.file.read_bytes().splitlines(keepends=True)
 
     def bad(self, ways: dict[int, str]) -> Path:
@@ -216,3 +217,14 @@ def test_a_run(runs: Runs) -> None:
     good = runs.expected().splitlines(keepends=True)
     good[40] = expected[40]
     assert runs.joined.read_bytes() == b"".join(good)
+
+
+def test_a_program_that_answers_nothing_at_all(runs: Runs) -> None:
+    """The first question waits no longer than asked for either, and nothing is written."""
+    script = runs.folder / "hanging"
+    script.write_text("#!/bin/sh\nexec sleep 600\n")
+    script.chmod(0o755)
+    ended = runs.run_here("--patience", 0.5, program=script)
+    assert (ended.status, ended.stdout) == (1, "")
+    assert " for 0.5 seconds" in ended.stderr and ended.stderr.count("\n") == 1
+    assert not runs.out.exists()

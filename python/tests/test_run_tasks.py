@@ -9,8 +9,9 @@ from pathlib import Path
 from bad_programs import bad_program, starts
 from conftest import Program
 from olr.running.answering import ANSWERED, GroupsFailed, Job, answer_groups
-from olr.running.cluster import answer_all, tasks_of
+from olr.running.cluster import answer_all
 from olr.running.grouping import Grouped
+from olr.running.tasks import tasks_of
 from runs import Begun, Town, lines_of_batch
 
 
@@ -106,7 +107,7 @@ def failing_twice(_job: Job, groups: Sequence[int]) -> "Counter[str]":
 
 
 def test_a_task_that_fails_is_tried_again(begun: Begun, monkeypatch: pytest.MonkeyPatch) -> None:
-    monkeypatch.setattr("olr.running.cluster.answer_groups", failing_twice)
+    monkeypatch.setattr("olr.running.cluster._answer", failing_twice)
     with Client(
         processes=False, n_workers=1, threads_per_worker=1, dashboard_address=None
     ) as client:

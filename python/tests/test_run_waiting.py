@@ -1,18 +1,14 @@
 """`olr-tools run` whose workers or scheduler end, wait or are limited: what is said of it."""
 
-import os
 import pytest
 import re
-import sys
 import time
 from collections.abc import Iterator
 from contextlib import contextmanager
 from distributed import Client, Event, Status
-from pathlib import Path
 
 from forked import Forked
 from olr.running import waiting
-from olr.running.cluster import connected
 from olr.running.waiting import limited_workers, what_is_waited_for
 from runs import Runs
 from schedulers import Scheduler
@@ -70,45 +66,47 @@ def test_all_workers_and_then_the_scheduler_are_killed(runs: Runs) -> None:
     assert runs.joined.read_bytes() == runs.expected()
 
 
-def test_what_is_waited_for(tmp_path: Path, monkeypatch: pytest.MonkeyPatch) -> None:
-    """With workers of its own, without a limit of their memory: busy ones with a task of three groups each, one that is paused, and
-    none."""
-    monkeypatch.setenv("TMPDIR", os.fspath(tmp_path))
+def test_what_is_waited_for(runs: Runs, monkeypatch: pytest.MonkeyPatch) -> None:
+    """With workers without a limit of their memory: busy ones with a task of three groups each, one that is paused, and none."""
     monkeypatch.setattr(waiting, "SECONDS_TO_ANSWER", 60)
-    with connected(None, 2, 9) as client:
-        assert limited_workers(client) is None
-        assert list(client.run(lambda: "pandas" in sys.modules).values()) == [False, False]
-        event = Event("end", client=client)
-        futures = client.map(lambda _: event.wait(), range(2), pure=False)
-        groups = dict.fromkeys(futures, 3)
-        addresses = sorted(client.scheduler_info()["workers"])
-        while "2 workers" not in what_is_waited_for(client, groups):
-            time.sleep(0.1)
-        said = what_is_waited_for(client, groups)
-        one, two = addresses
-        assert said in {
-            f"6 groups are left, 6 of them with 2 workers: {first} has 3, {second} has 3"
-            for first, second in ((one, two), (two, one))
-        }
-        client.run(pause, workers=[one])
-        while "paused" not in what_is_waited_for(client, groups):
-            time.sleep(0.1)
-        assert what_is_waited_for(client, groups) == (
-            f"{said}; paused by Dask near the limit of their memory: {one}: "
-            "start dask-worker with --memory-limit 0"
-        )
-        event.set()
-        client.gather(futures)
-        assert "0 groups are left, and no worker has one; paused" in what_is_waited_for(
-            client, groups
-        )
-        client.cluster.scale(0)
-        while client.scheduler_info()["workers"]:
-            time.sleep(0.1)
-        # Their results were with the workers, so they are left again as soon as the client knows.
-        assert what_is_waited_for(client, groups).endswith(
-            " groups are left, and the scheduler has no workers: interrupt the run, and go on by --resume"
-        )
+    with Scheduler(runs) as scheduler:
+        for _ in range(2):
+            scheduler.add_worker()
+        with Client(scheduler.address) as client:
+            client.wait_for_workers(2, timeout=60)
+            assert limited_workers(client) is None
+            event = Event("end", client=client)
+            futures = client.map(lambda _: event.wait(), range(2), pure=False)
+            groups = dict.fromkeys(futures, 3)
+            addresses = sorted(client.scheduler_info()["workers"])
+            while "2 workers" not in what_is_waited_for(client, groups):
+                time.sleep(0.1)
+            said = what_is_waited_for(client, groups)
+            one, two = addresses
+            assert said in {
+                f"6 groups are left, 6 of them with 2 workers: {first} has 3, {second} has 3"
+                for first, second in ((one, two), (two, one))
+            }
+            client.run(pause, workers=[one])
+            while "paused" not in what_is_waited_for(client, groups):
+                time.sleep(0.1)
+            assert what_is_waited_for(client, groups) == (
+                f"{said}; paused by Dask near the limit of their memory: {one}: "
+                "start dask-worker with --memory-limit 0"
+            )
+            event.set()
+            client.gather(futures)
+            assert "0 groups are left, and no worker has one; paused" in what_is_waited_for(
+                client, groups
+            )
+            for process in scheduler.processes[1:]:
+                process.kill()
+            while client.scheduler_info()["workers"]:
+                time.sleep(0.1)
+            # Their results were with the workers, so they are left again as soon as the client knows.
+            assert what_is_waited_for(client, groups).endswith(
+                " groups are left, and the scheduler has no workers: start dask-worker"
+            )
     assert what_is_waited_for(client, {}) == "0 groups are left, and the scheduler doesn't answer"
 
 

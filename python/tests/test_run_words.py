@@ -18,3 +18,16 @@ def test_one_file_of_two_options(second: str, name: str, tmp_path: Path) -> None
     ended = CliRunner().invoke(command, words)
     assert ended.exit_code == 2
     assert "--join, --geometries and --pieces name one file: name several" in ended.output
+
+
+@pytest.mark.parametrize(
+    ("words", "said"),
+    [
+        ([], "name the map: --map DIR, or --store STORE for a store"),
+        (["--map", ".", "--store", "store"], "--map and --store name two maps: name one"),
+        (["--map", ".", "--scheduler", "tcp://x:1"], "--scheduler is for a store, of which each"),
+    ],
+)
+def test_a_map_that_isnt_named(words: list[str], said: str, tmp_path: Path) -> None:
+    ended = CliRunner().invoke(command, ["messages", "--out", f"{tmp_path}/run", *words])
+    assert ended.exit_code == 2 and said in ended.output

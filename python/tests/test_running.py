@@ -25,6 +25,7 @@ from olr.model.reference import first_position, read_reference
 from olr.outputs import PREFIX
 from olr.running import answering
 from olr.running.answering import ANSWERED, Job, answer_groups
+from olr.running.asked_map import AskedMap
 from olr.running.grouping import Grouped, digests_of, read_group, usual_size, write_groups
 from olr.running.identity import Build
 from olr.running.joining import MOST_OPEN, Lines, join, lines_of, number_of
@@ -137,7 +138,7 @@ def answer_all(run: RunFolder, town: Town, program: Program, messages: Path) -> 
     records = read_records(messages, Reading())
     question = question_about(town, program, messages, {"page": 2})
     with run.begun(question, records, False) as grouped:
-        job = Job(run.path, town.store, question, grouped.sha256)
+        job = Job(run.path, AskedMap.of(town.store), question, grouped.sha256)
         for group in range(grouped.groups):
             counts += answer_groups(job, [group])
     lines = [run.lines(question, grouped, group) for group in range(grouped.groups)]
@@ -233,7 +234,7 @@ def test_folders_of_runs(town: Town, program: Program, tmp_path: Path) -> None:
     question = question_about(town, program, town.plain, {"page": 3})
     changes: dict[str, dict[str, Any]] = {
         "messages": {"messages": Content(1, "a")},
-        "store [(].*[.][.], and not aa[.][.][)]": {"store": "aa"},
+        "map [(].*[.][.], and not aa[.][.][)]": {"store": "aa"},
         "program [(].*, and not olr 7, SHA-256 bb[.][.][)]": {"program": Build("olr 7", "bb")},
         "what": {"what": "why"},
         "options": {"options": {**question.options, "page": 4}},

@@ -70,18 +70,18 @@ def _require_all(exchange: Exchange, program: Path, status: int, said: IO[bytes]
 def _lines(
     exchange: Exchange, process: "subprocess.Popen[bytes]", patience: float | None
 ) -> Iterator[RawLine]:
-    """The lines that a process writes. SQLite reads their JSON, two to four times as fast as `json`, which makes objects."""
+    """The lines that a process writes."""
     assert process.stdout is not None
     with closing(sqlite3.connect(":memory:")) as reader:
         for data in _pieces(process.stdout.fileno(), patience):
             for line in exchange.receive(data):
-                if line.fault is None and not _is_json(line.answer, reader):
+                if line.fault is None and not is_json(line.answer, reader):
                     raise exchange.no_answer(ValueError("it isn't JSON"))
                 yield line
 
 
-def _is_json(answer: bytes, reader: sqlite3.Connection) -> bool:
-    """Whether an answer is an object of JSON."""
+def is_json(answer: bytes, reader: sqlite3.Connection) -> bool:
+    """Whether an answer is an object of JSON. SQLite reads it, two to four times as fast as `json`, which makes objects."""
     try:
         text = answer.decode()
     except UnicodeDecodeError:

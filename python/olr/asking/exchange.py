@@ -88,9 +88,7 @@ class Exchange:
 
     def no_answer(self, error: ValueError) -> ProgramEnded:
         """The error of what the program wrote in place of an answer."""
-        return ProgramEnded(
-            f"{self._program} wrote what is no answer to what it was asked: is it the program olr? ({error})"
-        )
+        return no_answer(self._program, error)
 
     def why_ended(self, status: int, said: bytes) -> ToolError:
         """The error of a process that ended though more was asked, from its status and what it said on standard error."""
@@ -103,6 +101,13 @@ def _as_expected(line: bytes, number: int) -> RawLine | None:
     if not (line.startswith(head) and line.endswith(end)):
         return None
     return RawLine(line[len(head) - 1 : -len(end)], None, str(number), number)
+
+
+def no_answer(program: Path, error: ValueError) -> ProgramEnded:
+    """The error of what the program wrote in place of an answer."""
+    return ProgramEnded(
+        f"{program} wrote what is no answer to what it was asked: is it the program olr? ({error})"
+    )
 
 
 def how_ended(status: int) -> str:

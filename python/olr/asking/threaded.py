@@ -1,6 +1,5 @@
 """One process `olr batch` for threads: records to it, and their lines back, each to the one who asked."""
 
-import fcntl
 import os
 import queue
 import select
@@ -14,14 +13,12 @@ from contextlib import suppress
 from olr.asking.exchange import Asked, Exchange
 from olr.asking.files import MapFiles
 from olr.asking.patience import PATIENCE
-from olr.asking.starting import kill_group, start
+from olr.asking.starting import PIPE_BYTES, kill_group, start, widen
 from olr.errors import ProgramEnded, TimedOut, ToolError, closed_error
 from olr.model.answers import AnswerOrFault
 from olr.model.fault import Fault
 from olr.model.objects import RawLine, read_answer
 
-PIPE_BYTES = 1 << 20
-"""What the pipe of answers holds, if the system admits it: so the process goes on while nobody reads."""
 SECONDS_TO_END = 10.0
 
 
@@ -62,7 +59,7 @@ class Batch:
             raise
         assert self._process.stdout is not None
         self._answers = self._process.stdout.fileno()
-        _widen(self._answers)
+        widen(self._answers)
         self._poll = select.poll()
         self._poll.register(self._answers, select.POLLIN)
 
@@ -217,9 +214,3 @@ class Batch:
             kill_group(self._process)
             status = self._process.wait()
         return self._exchange.why_ended(status, self._process.stderr.read())
-
-
-def _widen(pipe: int) -> None:
-    """Lets a pipe hold more, where the system admits it."""
-    with suppress(OSError, AttributeError):
-        fcntl.fcntl(pipe, fcntl.F_SETPIPE_SZ, PIPE_BYTES)

@@ -26,7 +26,7 @@ from olr.model.questions import NUMBERS, What
 from olr.outputs import require_free_file
 from olr.regions.store import Store
 from olr.running.answering import ANSWERED, Job
-from olr.running.cluster import Outcome, answer_all, connected
+from olr.running.asked_map import AskedMap
 from olr.running.grouping import Grouped
 from olr.running.identity import Build
 from olr.running.isolating import FAILURES
@@ -34,6 +34,8 @@ from olr.running.joining import join
 from olr.running.question import Question, all_numbers
 from olr.running.records import of_one_edition, read_records
 from olr.running.run_folder import FAILED, RUN, RunFolder
+from olr.running.tasks import Outcome
+from olr.running.workers import answer_here
 
 if TYPE_CHECKING:
     from olr.running.geometries import Geometries
@@ -45,19 +47,21 @@ OF_ROWS, OF_LINES = (
     for are_of_rows in (True, False)
 )
 """The numbers of `places` that say which places rows show, and those on which lines depend: these have all places."""
-SCRATCH_FILES, SCRATCH_BYTES = 64, 4096
-"""So many scratch files of so many bytes are written before a run begins, and deleted. Where they can't be, Dask couldn't start either, and
-wouldn't say why."""
 
 
 @click.command()
 @click.argument("messages", type=options.FILE)
 @options.reading_options
 @options.file_option(
+    "--map",
+    "DIR|STORE",
+    f"The map: {options.OR_STORE}. By default --store names it.",
+    "map_path",
+)
+@options.file_option(
     "--store",
     "STORE",
-    "The map: a store, made by olr-tools regions, or the folder to which an import wrote one.",
-    required=True,
+    "A map that is a store, made by olr-tools regions, or the folder to which an import wrote one. By default --map names the map.",
 )
 @options.out_option("DIR", "The folder of the run: a new or an empty one.", "out")
 @click.option(
@@ -113,7 +117,8 @@ wouldn't say why."""
 def command(
     messages: Path,
     reading: Reading,
-    store: Path,
+    map_path: Path | None,
+    store: Path | None,
     out: Path,
     scheduler: str | None,
     workers: int | None,
@@ -130,7 +135,7 @@ def command(
 ) -> None:
     """Match any number of references on a map of any size, on many processors or machines.
 
-    MESSAGES has a key, a tab and a reference on each line, or is CSV or JSON; - is standard input. DIR gets files with the lines of
+    MESSAGES has a key, a tab and a reference on each line, or is CSV, JSON, XML or a table of a GIS; - is standard input. DIR gets files with the lines of
     olr batch, parts/000000.jsonl and so on; with --places those of olr batch places --within 14620 --most 100. A part is complete or absent:
     whatever happens, --resume goes on after what is written.
     """
@@ -145,9 +150,10 @@ def command(
         raise click.UsageError("--force is for --join, --geometries and --pieces")
     if len({os.path.realpath(one) for one in others}) < len(others):
         raise click.UsageError("--join, --geometries and --pieces name one file: name several")
-    with Store.open(store) as opened:
-        file, digest = opened.file.absolute(), opened.digest
-    inputs = [messages, file, out / RUN, *([] if confidence is None else [confidence])]
+    asked_map = _map_of(map_path, store, scheduler)
+    digest = asked_map.digest()
+    inputs = [messages, *asked_map.inputs(), out / RUN]
+    inputs += [] if confidence is None else [confidence]
     if joined is not None:
         require_free_file(joined, force, inputs)
         if joined.suffix.lower() in ROWS:
@@ -161,7 +167,7 @@ def command(
         if rows is not None:
             sure = judging_for(confidence, asking.tolerances, asking.numbers)
             rows = rows._replace(judging=sure.judging)
-    _require_numbers(asking)
+    _require_numbers(asking, asked_map, patience)
     if rows is None and not OF_ROWS.keys().isdisjoint(asking.numbers):
         raise click.UsageError(
             "--within and --most are for --geometries and --pieces: the lines of --places have all places"
@@ -179,14 +185,11 @@ def command(
         ref=reading.ref or REF,
         key=reading.key or KEY,
     )
-    run = RunFolder(out)
+    run = RunFolder(out, along_curve=asked_map.is_store)
     records = of_one_edition(read_records(copy, reading, name), copy, stamp, name)
     with run.begun(asked, records, resume) as grouped:
-        job = Job(out.absolute(), file, asked, grouped.sha256, patience)
-        outcome = Outcome(Counter(), {})
-        if grouped.groups:
-            with _scratch_files(), connected(scheduler, workers, grouped.groups) as client:
-                outcome = answer_all(client, job, grouped)
+        job = Job(out.absolute(), asked_map, asked, grouped.sha256, patience)
+        outcome = _answer(job, grouped, scheduler, workers)
         run.sync()
         _report(run, grouped, outcome, asking)
         if joined is not None:
@@ -199,13 +202,30 @@ def command(
 
             numbered = range(grouped.groups)
             asked_lines = [run.asked_lines(asked, grouped, group) for group in numbered]
-            written = write_geometries(rows, asked, file, asked_lines)
+            written = write_geometries(rows, asked, asked_map, asked_lines)
             for made, count in written.files:
                 click.echo(f"{made}: {count:,} rows")
             for more in (cut_off_line(written.cut_off), sure and sure.note):
                 if more:
                     click.echo(more)
         _require_answers(run, outcome.counts)
+
+
+def _map_of(path: Path | None, store: Path | None, scheduler: str | None) -> AskedMap:
+    """The map. Raises `UsageError` if none is named, or two, or a folder for a scheduler, and `ToolError`."""
+    if path is None and store is None:
+        raise click.UsageError("name the map: --map DIR, or --store STORE for a store")
+    if path is not None and store is not None:
+        raise click.UsageError("--map and --store name two maps: name one")
+    if path is None:
+        with Store.open(store or Path()) as opened:
+            return AskedMap(opened.file.absolute())
+    named = AskedMap.of(path)
+    if scheduler is not None and not named.is_store:
+        raise click.UsageError(
+            "--scheduler is for a store, of which each worker reads what it needs: make one by olr-tools regions"
+        )
+    return named
 
 
 def _rows(
@@ -228,23 +248,34 @@ def _rows(
     return rows
 
 
-def _require_numbers(asking: Asking) -> None:
-    """Raises `Fault` where the program refuses a number, and `ProgramNotFound`: before anything is written."""
-    with _scratch_files(), tempfile.TemporaryDirectory(prefix="olr-run.") as folder:
-        write_rows(Path(folder, NODES), NODES_HEADER, [])
-        write_rows(Path(folder, LINES), LINES_HEADER, [])
-        with Map.of_folder(folder, **asking.tolerances) as asked:
+def _require_numbers(asking: Asking, asked_map: AskedMap, patience: float) -> None:
+    """Raises `Fault` where the program refuses a number, `MapRefused` where it refuses the map of a folder, `ProgramNotFound`, and `TimedOut`
+    where it answers nothing for so many seconds: before anything is written."""
+    with _scratch_files(), tempfile.TemporaryDirectory(prefix="olr-run.") as scratch:
+        folder = Path(scratch) if asked_map.is_store else asked_map.path
+        if asked_map.is_store:
+            write_rows(folder / NODES, NODES_HEADER, [])
+            write_rows(folder / LINES, LINES_HEADER, [])
+        with Map.of_folder(folder, patience=patience, **asking.tolerances) as asked:
             list(asked.answers(asking.question, [""], **asking.numbers))
+
+
+def _answer(job: Job, grouped: Grouped, scheduler: str | None, workers: int | None) -> Outcome:
+    """Answers all groups, by a scheduler or on this machine. Raises `ToolError`."""
+    if not grouped.groups:
+        return Outcome(Counter(), {})
+    if scheduler is None:
+        with _scratch_files():
+            return answer_here(workers, job, grouped)
+    with needed_by("olr-tools run --scheduler", "scale"):
+        from olr.running.cluster import answer_by
+    return answer_by(scheduler, job, grouped)
 
 
 @contextmanager
 def _scratch_files() -> Iterator[None]:
-    """Raises `ToolError` for each error of the system's files: scratch files of the command, or what Dask needs before the first group, can't
-    be written."""
+    """Raises `ToolError` for each error of the system's files: scratch files of the command can't be written."""
     try:
-        with tempfile.TemporaryDirectory(prefix="olr-run.") as folder:
-            for number in range(SCRATCH_FILES):
-                Path(folder, str(number)).write_bytes(bytes(SCRATCH_BYTES))
         yield
     except OSError as error:
         if error.errno is None:

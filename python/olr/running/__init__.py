@@ -1,4 +1,4 @@
-"""`olr-tools run`: any number of references on a store, by Dask, on as many machines as there are.
+"""`olr-tools run`: any number of references on a store, by processes of this machine, or by Dask on as many machines as there are.
 
 | module | subject |
 |---|---|
@@ -8,8 +8,9 @@
 | `run_folder`, `parts` | the folder of a run: what was asked, the groups, the parts with what shows them whole |
 | `isolating` | records at which the program fails: each alone, and the others with their lines |
 | `answering` | what a worker does for a group: region, map, program, part |
-| `cluster`, `settings`, `waiting` | the groups as tasks of Dask; how Dask is set up; what it waits for |
-| `open_files` | how many files may be open |
+| `tasks` | groups that are answered together, and what became of them |
+| `workers` | the processes of this machine |
+| `cluster`, `waiting` | tasks of Dask, and what it waits for |
 | `geometries` | rows with geometries of its lines |
 | `joining` | the parts as one file in the order of the records |
 """

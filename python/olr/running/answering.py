@@ -4,9 +4,8 @@ import shutil
 import tempfile
 from collections import Counter
 from collections.abc import Iterable, Iterator, Mapping, Sequence
-from contextlib import contextmanager
+from contextlib import contextmanager, suppress
 from dataclasses import dataclass
-from distributed import get_worker
 from pathlib import Path
 from socket import gethostname
 from typing import IO
@@ -16,23 +15,27 @@ from olr.asking.files import MapFiles
 from olr.asking.patience import PATIENCE
 from olr.asking.program import find_program
 from olr.asking.records import Record
-from olr.errors import ToolError
+from olr.errors import ProgramEnded, TimedOut, ToolError
 from olr.model.fault import TOO_LARGE
 from olr.model.questions import What, all_words
 from olr.model.reference import read_points
 from olr.regions.options import Options
 from olr.regions.sharing import groups_of
 from olr.regions.store import Store
+from olr.running.asked_map import AskedMap
 from olr.running.grouping import Group
-from olr.running.identity import same_program, same_store
+from olr.running.identity import same_files, same_program, same_store
 from olr.running.isolating import Isolating
-from olr.running.joining import fault_of
+from olr.running.joining import fault_of, lines_of
+from olr.running.kept import Kept
 from olr.running.parts import NotWhole, Part
 from olr.running.question import Question
 from olr.running.run_folder import RunFolder
 
 ANSWERED = "answered"
 """What lines without a fault are counted as."""
+LINES = "lines.jsonl"
+"""A scratch file."""
 
 
 @dataclass(frozen=True)
@@ -41,8 +44,7 @@ class Job:
 
     folder: Path
     """Of the run."""
-    store: Path
-    """Under the same path on each machine."""
+    map: AskedMap
     question: Question
     groups: str
     """The digest of all groups."""
@@ -59,9 +61,13 @@ class Job:
         """Its tolerances and other numbers, by their names."""
         return self.question.options
 
-    def words(self) -> list[str]:
-        """The options of the program."""
-        return all_words(self.numbers)
+    def asked(self) -> Asked:
+        """What the program is asked. Raises `ProgramNotFound`."""
+        return Asked(find_program(), self.what, all_words(self.numbers))
+
+
+Missing = tuple[Part, Group]
+"""A part that isn't there, and its group."""
 
 
 class GroupsFailed(ToolError):
@@ -76,23 +82,26 @@ class GroupsFailed(ToolError):
         return "; ".join(self.reasons.values())
 
 
-def answer_groups(job: Job, groups: Sequence[int]) -> Counter[str]:
+def answer_groups(
+    job: Job, groups: Sequence[int], scratch: Path | None = None, kept: Kept | None = None
+) -> Counter[str]:
     """Writes the lines of neighbouring groups, to a part for each, unless it is there and whole. Answers how many lines have an answer,
     and how many have each fault.
 
     All are answered on one map. Where that fails each is answered alone: none fails because of another one.
 
-    It runs in a process of Dask, and may be run again after it failed or was killed. Raises `GroupsFailed`.
+    It runs in a worker, whose files are in a scratch folder, and may be run again after it failed or was killed. On the map of a folder a
+    process is asked that is `kept`, or a new one for each group. Raises `GroupsFailed`.
     """
     try:
-        return _answer_together(job, groups)
+        return _answer_together(job, groups, scratch, kept)
     except Exception as error:
         if len(groups) == 1:
             raise GroupsFailed(Counter(), {groups[0]: reason_of(error)}) from error
     counts, reasons = Counter[str](), dict[int, str]()
     for group in groups:
         try:
-            counts += answer_groups(job, [group])
+            counts += answer_groups(job, [group], scratch, kept)
         except GroupsFailed as failed:
             reasons |= failed.reasons
     if reasons:
@@ -106,54 +115,93 @@ def reason_of(error: BaseException | None) -> str:
     return text if isinstance(error, ToolError) else f"{type(error).__name__}: {text}"
 
 
-def _answer_together(job: Job, groups: Sequence[int]) -> Counter[str]:
-    """Does what `answer_groups` does, on one map. Raises `ToolError`, also where this machine has another store or another program than
+def _answer_together(
+    job: Job, groups: Sequence[int], folder: Path | None, kept: Kept | None
+) -> Counter[str]:
+    """Does what `answer_groups` does, on one map. Raises `ToolError`, also where this machine has another map or another program than
     the run, or one of them changed meanwhile: then no part is written."""
     run = RunFolder(job.folder)
-    counts, missing = Counter[str](), list[tuple[Part, Group]]()
+    counts, missing = Counter[str](), list[Missing]()
     for number in groups:
         group = run.group(number, job.groups)
         part = run.part(job.question, number, group)
         try:
-            counts += _counts(part)
+            counts += Counter(map(_kind, part.lines()))
         except NotWhole:
             missing.append((part, group))
     if missing:
-        with _scratch_folder() as scratch:
-            with same_store(job.store, job.question.store) as store:
-                with same_program(job.question.program):
-                    answering = _Answering(job, store, scratch)
-                    answering.answer([one for _, group in missing for one in group.records()])
+        with _scratch_folder(folder) as scratch:
+            if job.map.is_store:
+                return counts + _answer_on_regions(job, missing, scratch)
             for part, group in missing:
-                part.write(answering.lines(group.numbers))
-                counts += _counts(part)
+                counts += _answer_on_folder(job, part, group, scratch, kept)
     return counts
 
 
-def _counts(part: Part) -> Counter[str]:
-    """How many lines of a part have an answer, and how many have each fault. Raises `NotWhole` if it isn't there or isn't whole."""
-    return Counter(fault_of(line) or ANSWERED for line in part.lines())
+def _answer_on_regions(job: Job, missing: Sequence[Missing], scratch: Path) -> Counter[str]:
+    """Writes the parts of groups, which are asked together on regions of a store, and counts their lines. Raises `ToolError`."""
+    with same_store(job.map.path, job.question.store) as store:
+        with same_program(job.question.program):
+            answering = _Answering(job, store, scratch)
+            answering.answer([one for _, group in missing for one in group.records()])
+    counts = Counter[str]()
+    for part, group in missing:
+        counts += _written(part, answering.lines(group.numbers))
+    return counts
+
+
+def _answer_on_folder(
+    job: Job, part: Part, group: Group, scratch: Path, kept: Kept | None
+) -> Counter[str]:
+    """Writes the part of a group, which is asked on the whole map of a folder, and counts its lines. Raises `ToolError`."""
+    if kept is not None:
+        with suppress(ProgramEnded, TimedOut):
+            return _written(part, _kept_lines(job, group, kept))
+    file = scratch / LINES
+    with same_files(job.map, job.question.store) as files, same_program(job.question.program):
+        with file.open("wb") as stream:
+            isolating = Isolating(job.asked(), files, job.patience, stream, scratch)
+            isolating.write(group.records())
+    return _written(part, lines_of(file))
+
+
+def _kept_lines(job: Job, group: Group, kept: Kept) -> Iterator[bytes]:
+    """The lines of a group on the map of a folder, by a process that is there. Raises `ToolError`, at the end at the latest."""
+    with same_files(job.map, job.question.store) as files, same_program(job.question.program):
+        yield from kept.lines(job.asked(), files, job.patience, group.records())
+
+
+def _written(part: Part, lines: Iterable[bytes]) -> Counter[str]:
+    """Writes a part, and counts its lines. Raises `ToolError`."""
+    counts = Counter[str]()
+
+    def counted() -> Iterator[bytes]:
+        for line in lines:
+            counts[_kind(line)] += 1
+            yield line
+
+    part.write(counted())
+    return counts
+
+
+def _kind(line: bytes) -> str:
+    """What a line is counted as."""
+    return fault_of(line) or ANSWERED
 
 
 @contextmanager
-def _scratch_folder() -> Iterator[Path]:
-    """A folder where Dask has the files of this worker. It is deleted at the end, and by Dask where the worker was killed. Raises
-    `ToolError` if something can't be written there."""
+def _scratch_folder(folder: Path | None) -> Iterator[Path]:
+    """A folder within the one where this worker has its files. It is deleted at the end, and by whoever made that one where the worker was
+    killed. Raises `ToolError` if something can't be written there."""
     name = f"the scratch folder of a worker on {gethostname()}"
     try:
-        with tempfile.TemporaryDirectory(dir=_local_folder()) as folder:
+        with tempfile.TemporaryDirectory(dir=folder) as made:
             try:
-                yield Path(folder)
+                yield Path(made)
             except ToolError as error:
-                raise ToolError(str(error).replace(folder, name)) from error
+                raise ToolError(str(error).replace(made, name)) from error
     except OSError as error:
         raise ToolError(f"{name} can't be written: {error.strerror}") from error
-
-
-def _local_folder() -> str:
-    """Where Dask has the files of this worker."""
-    folder: str = get_worker().local_directory
-    return folder
 
 
 class _Answering:
@@ -161,7 +209,7 @@ class _Answering:
 
     def __init__(self, job: Job, store: Store, scratch: Path) -> None:
         self._job, self._store = job, store
-        self._map, self._file = scratch / "map", scratch / "lines.jsonl"
+        self._map, self._file = scratch / "map", scratch / LINES
         self._places: dict[int, tuple[int, int]] = {}
         """Where the line of each record begins in the file, and how long it is, in bytes."""
 
@@ -192,9 +240,9 @@ class _Answering:
 
     def _ask(self, records: Sequence[Record], none: set[int], stream: IO[bytes]) -> None:
         """Runs the program on the map, and writes the lines: where it fails at a record, a line that says so."""
-        asked = Asked(find_program(), self._job.what, self._job.words())
         files = MapFiles.of_folder(self._map)
-        Isolating(asked, files, self._job.patience, stream, none).write(records)
+        patience = self._job.patience
+        Isolating(self._job.asked(), files, patience, stream, self._map, none).write(records)
 
     def _note(self, records: Sequence[Record], begin: int, stream: IO[bytes]) -> None:
         """Notes where the lines of records are: behind that place, to the end."""

@@ -6,7 +6,6 @@ from pathlib import Path
 from typing import NamedTuple
 
 from olr.confidence.judged import Judging
-from olr.geometry.store_network import StoreNetwork
 from olr.matching.chunks import Answered, chunks_of
 from olr.matching.columns import ANSWERS, PIECES
 from olr.matching.writing import Output, Where, require_writable, writing_rows
@@ -14,6 +13,7 @@ from olr.messages.message import Message
 from olr.model.objects import line_of
 from olr.model.questions import What
 from olr.progress import watched
+from olr.running.asked_map import AskedMap
 from olr.running.question import Question
 
 Line = tuple[bytes, str]
@@ -53,14 +53,13 @@ class Written(NamedTuple):
 
 
 def write_geometries(
-    asked: Geometries, question: Question, store: Path, parts: Sequence[Iterable[Line]]
+    asked: Geometries, question: Question, map: AskedMap, parts: Sequence[Iterable[Line]]
 ) -> Written:
-    """Writes the rows of the lines of parts, one part behind the other. The lines of the map are read from its store for some hundred rows
-    at a time. Raises `ToolError` if a file can't be written, or reading the parts or
-    the store does, and `MapRefused` if the store isn't that of the question: then all files are as they were.
+    """Writes the rows of the lines of parts, one part behind the other. The lines of a store are read for some hundred rows at a
+    time. Raises `ToolError` if a file can't be written, or reading the parts or
+    the map does, and `MapRefused` if the map isn't that of the question: then all files are as they were.
     """
-    network = StoreNetwork(store)
-    network.require_digest(question.store)
+    network = map.network(question.store)
     outputs = asked.outputs(question.what)
     cut_off = 0
     with ExitStack() as stack:

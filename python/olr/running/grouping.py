@@ -75,10 +75,13 @@ def usual_size(records: int) -> int:
     return min(max(-(-records // GROUPS_AIMED_AT), LEAST_PER_GROUP), MOST_PER_GROUP)
 
 
-def write_groups(records: Iterable[Record], folder: Path, most: int | None = None) -> Grouped:
-    """Writes groups of records to a folder. A group has `most` records at most. Raises `OSError`."""
+def write_groups(
+    records: Iterable[Record], folder: Path, most: int | None = None, along_curve: bool = True
+) -> Grouped:
+    """Writes groups of records to a folder, along the curve, or in the order of the records. A group has `most` records at most. Raises
+    `OSError`."""
     with tempfile.TemporaryFile(dir=folder) as copy:
-        found = _read(records, copy)
+        found = _read(records, copy, along_curve)
         copy.flush()
         count = len(found.numbers)
         size = usual_size(count) if most is None else most
@@ -146,13 +149,13 @@ def _read_group(folder: Path, group: int) -> Group:
     return Group(digest.hexdigest(), numbers.tolist(), data)
 
 
-def _read(records: Iterable[Record], copy: IO[bytes]) -> _Found:
-    """Takes records one after the other, and copies them."""
+def _read(records: Iterable[Record], copy: IO[bytes], along_curve: bool) -> _Found:
+    """Takes records one after the other, and copies them. Without a curve they are all in one place."""
     numbers, begins, lons, lats, placed = (array("q") for _ in range(5))
     begin = 0
     with progress("reading messages") as advance:
         for number, data in records:
-            position = first_position(reference_of(data))
+            position = first_position(reference_of(data)) if along_curve else None
             numbers.append(number)
             begins.append(begin)
             placed.append(position is not None)

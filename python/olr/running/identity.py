@@ -8,17 +8,19 @@ import subprocess
 import threading
 import time
 from collections.abc import Iterator
-from contextlib import contextmanager
+from contextlib import ExitStack, contextmanager
 from dataclasses import dataclass
 from functools import lru_cache
 from pathlib import Path
 from socket import gethostname
 
+from olr.asking.files import MapFiles
 from olr.asking.program import find_program
 from olr.asking.starting import kill_group, start
 from olr.content import Stamp, sha256_of
 from olr.errors import ProgramEnded, ToolError
 from olr.regions.store import Store
+from olr.running.asked_map import AskedMap
 
 SECONDS_TO_SAY_VERSION = 30
 DIGITS = 12
@@ -83,6 +85,22 @@ def same_store(file: Path, digest: str) -> Iterator[Store]:
             raise ToolError(f"{file} {which}: copy the store of the run there")
     with _unchanged(file, stamp):
         yield store
+
+
+@contextmanager
+def same_files(asked: AskedMap, digest: str) -> Iterator[MapFiles]:
+    """Gives the files of a folder, whose map has this digest. Raises `ToolError` if they can't be read, if they are of another map, and at the
+    end if one changed meanwhile."""
+    with ExitStack() as unchanged:
+        with _here():
+            files = asked.files()
+            for file in files.paths():
+                stamp = Stamp.of(file)
+                time.sleep(stamp.unsettled() / 1e9)
+                unchanged.enter_context(_unchanged(file, stamp))
+            if asked.digest() != digest:
+                raise ToolError(f"the map in {asked.path} is another one than that of the run")
+        yield files
 
 
 @contextmanager

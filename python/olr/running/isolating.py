@@ -7,6 +7,7 @@ taken only from runs of the program that ended well.
 
 import random
 from collections.abc import Container, Iterator, Sequence
+from pathlib import Path
 from typing import IO
 
 from olr.asking.blocking import lines_about
@@ -36,11 +37,13 @@ class Isolating:
         files: MapFiles,
         patience: float | None,
         stream: IO[bytes],
+        scratch: Path,
         none: Container[int] = (),
     ) -> None:
-        """They are asked on the map of files. `none` has the numbers of records that aren't references, as far as it is read here."""
+        """They are asked on the map of files. `none` has the numbers of records that aren't references, as far as it is read here. Scratch files
+        are in a folder."""
         self._asked, self._files, self._patience = asked, files, patience
-        self._stream, self._none = stream, none
+        self._stream, self._scratch, self._none = stream, scratch, none
 
     def write(self, records: Sequence[Record]) -> None:
         """Writes the lines. A record at which the program fails has a fault that says so.
@@ -66,9 +69,8 @@ class Isolating:
 
     def _lines(self, records: Sequence[Record]) -> Iterator[bytes]:
         """The lines of a run of the program. Raises as `lines_about`, and `ToolError` where it answers what is no reference."""
-        scratch = self._files.nodes.parent
         texts = (record.text() for record in records)
-        lines = lines_about(self._asked, self._files, texts, self._patience, scratch)
+        lines = lines_about(self._asked, self._files, texts, self._patience, self._scratch)
         for record, line in zip(records, lines, strict=True):
             if line.fault is None and record.number in self._none:
                 raise unread(f"record {record.number}")

@@ -17,7 +17,7 @@ class Question:
 
     messages: Content
     store: str
-    """The digest of the map."""
+    """The digest of the map, which is a store or a folder."""
     program: Build
     what: What
     options: Mapping[str, int]

@@ -18,8 +18,8 @@ NOTHING = b" "
 
 
 def read_records(file: Path, reading: Reading, name: str | None = None) -> Iterator[Record]:
-    """The records of a file of messages. Those of lines have the bytes that `olr batch` would read. It holds one of them at a time, but
-    for a JSON array. Raises `ToolError`, with the `name` of the file: at once if the first record shows what is wrong.
+    """The records of a file of messages. Those of lines have the bytes that `olr batch` would read. It holds one of them at a time.
+    Raises `ToolError`, with the `name` of the file: at once if the first record shows what is wrong.
     """
     called = name or name_of(file)
     messages = messages_of(file, reading, called, errors="surrogateescape")
@@ -39,7 +39,7 @@ def of_one_edition(
 
 def _record(message: Message, name: str) -> Record:
     """A message as a record, in the bytes that it was read from. Raises `ToolError` for a key that no record can have."""
-    number, key, reference = message
+    number, key, reference = message[:3]
     if key is None:
         return Record(number, reference.encode("utf-8", "surrogateescape") or NOTHING)
     if "\t" in key or "\n" in key:

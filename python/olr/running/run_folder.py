@@ -41,6 +41,8 @@ from olr.running.records import reference_of
 
 RUN, GROUPS, PARTS, FACTS, FAILED = "run.json", "groups", "parts", "facts", "failed.txt"
 FOLDERS = GROUPS, PARTS, FACTS
+CALLED = {"per_group": "per-group", "store": "map"}
+"""What parts of a question are called that have other names in the folder."""
 VERSION = 2
 """Of the folder."""
 
@@ -48,8 +50,9 @@ VERSION = 2
 class RunFolder:
     """The folder of a run. Workers use it too, each for its own groups."""
 
-    def __init__(self, path: Path) -> None:
-        self.path = path
+    def __init__(self, path: Path, along_curve: bool = True) -> None:
+        """`along_curve` says how records are put into groups: as neighbours on the map, or in their order."""
+        self.path, self._along_curve = path, along_curve
 
     def file_of(self, group: int) -> Path:
         """The file with the lines of a group. Groups are counted from 0."""
@@ -101,7 +104,9 @@ class RunFolder:
             yield grouped
 
     def sync(self) -> None:
-        """Hands over to the disk which parts there are. Raises `ToolError`."""
+        """Deletes what workers that were killed left half written, and hands over to the disk which parts there are. Raises `ToolError`."""
+        with writing(self.path):
+            self._clear()
         for name in (PARTS, FACTS):
             with writing(self.path / name):
                 sync(self.path / name)
@@ -136,10 +141,11 @@ class RunFolder:
         others = [name for name in wanted if there[name] != wanted[name]]
         if others:
             which = {
-                "store": f" ({shortened(there['store'])}, and not {shortened(question.store)})",
+                "map": f" ({shortened(there['store'])}, and not {shortened(question.store)})",
                 "program": f" ({Build(**there['program'])}, and not {question.program})",
             }
-            named = ", ".join(name.replace("_", "-") + which.get(name, "") for name in others)
+            names = (CALLED.get(name, name) for name in others)
+            named = ", ".join(name + which.get(name, "") for name in names)
             raise ToolError(f"{self.path} holds a run with other {named}: name another folder")
         return grouped
 
@@ -163,7 +169,7 @@ class RunFolder:
         try:
             for name in FOLDERS:
                 self._make_empty(name)
-            grouped = write_groups(records, self.path / GROUPS, question.per_group)
+            grouped = self._write_groups(question, records)
             table = _table(question, grouped.records) | {"grouped": grouped._asdict()}
             write_whole(self.path / RUN, (json.dumps(table, indent=4) + "\n").encode())
         except BaseException:
@@ -183,10 +189,15 @@ class RunFolder:
                 read_group(folder, number, digests)
         except ToolError:
             self._make_empty(GROUPS)
-            if write_groups(records, folder, question.per_group) != grouped:
+            if self._write_groups(question, records) != grouped:
                 raise ToolError(
                     f"{self.path} has groups of another version of olr-tools: name another folder"
                 ) from None
+
+    def _write_groups(self, question: Question, records: Iterable[Record]) -> Grouped:
+        """Writes the groups. Raises `OSError` and `ToolError`."""
+        groups = self.path / GROUPS
+        return write_groups(records, groups, question.per_group, self._along_curve)
 
     def _make_empty(self, name: str) -> None:
         """Makes a folder, instead of what is there. Raises `OSError`."""

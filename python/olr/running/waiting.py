@@ -22,12 +22,7 @@ def what_is_waited_for(client: Client, groups: Mapping[Future, int]) -> str:
     except Exception:
         return f"{left}, and the scheduler doesn't answer"
     if not workers:
-        remedy = (
-            "start dask-worker"
-            if client.cluster is None
-            else "interrupt the run, and go on by --resume"
-        )
-        return f"{left}, and the scheduler has no workers: {remedy}"
+        return f"{left}, and the scheduler has no workers: start dask-worker"
     sizes = {future.key: groups[future] for future in groups}
     said = [f"{left}, {_with_workers(tasks, sizes)}"]
     paused = [address for address, worker in workers.items() if worker["status"] == "paused"]
