@@ -68,10 +68,14 @@ def digest_of(*files: Path) -> str | None:
     twice, as a pipe. Files that haven't changed since, by the system's time of their last change, aren't read again.
     """
     try:
-        digests = [sha256_of(file) for file in files]
+        return require_digest_of(*files)
     except ToolError:
         return None
-    return hashlib.sha256("".join(digests).encode()).hexdigest()
+
+
+def require_digest_of(*files: Path) -> str:
+    """As `digest_of`. Raises `ToolError` if one of the files can't be read."""
+    return hashlib.sha256("".join(map(sha256_of, files)).encode()).hexdigest()
 
 
 def sha256_of(file: Path) -> str:

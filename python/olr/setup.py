@@ -16,11 +16,13 @@ ALWAYS = ("click", "rich")
 """Modules that each command needs, so that each extra brings them."""
 
 EXTRAS = {
-    "maps": ("fiona", "numpy", "osmium", "pyproj", "scipy"),
-    "geo": ("fiona", "geopandas", "jinja2", "numpy", "shapely"),
-    "scale": ("distributed", "numpy"),
+    "feeds": ("fiona", "ijson", "numpy", "openpyxl", "zstandard"),
+    "maps": ("fiona", "ijson", "numpy", "osmium", "pyproj", "scipy"),
+    "geo": ("fiona", "geopandas", "ijson", "jinja2", "numpy", "shapely"),
+    "scale": ("distributed", "ijson", "numpy"),
     "serve": (
         "httptools",
+        "ijson",
         "jinja2",
         "numpy",
         "prometheus_client",

@@ -7,7 +7,6 @@ import pandas
 import pytest
 import random
 from collections.abc import Iterator, Mapping, Sequence
-from contextlib import nullcontext
 from itertools import islice
 from pathlib import Path
 from typing import Any, NamedTuple, TypeGuard
@@ -35,7 +34,7 @@ from olr.trials.encoder import text_of
 from olr.trials.graph import Graph
 from olr.trials.paths import Paths
 from olr.trials.roads import Roads
-from runs import answer_all_here
+from runs import answer_all
 from servers import Server, path_of, serving
 from vector_files import write_tempe
 
@@ -202,11 +201,7 @@ def test_what_match_says(case: Case) -> None:
 
 def test_run_on_a_store(case: Case, tmp_path: Path, monkeypatch: pytest.MonkeyPatch) -> None:
     """Its rows are those of `match`, but for the number of candidates, which isn't asked for."""
-    (tmp_path / "scratch").mkdir()
-    scratch = os.fspath(tmp_path / "scratch")
-    monkeypatch.setattr("olr.running.answering._local_folder", lambda: scratch)
-    monkeypatch.setattr("olr.commands.run.connected", lambda *words: nullcontext())
-    monkeypatch.setattr("olr.commands.run.answer_all", answer_all_here)
+    monkeypatch.setattr("olr.commands.run.answer_here", answer_all)
     rows = tmp_path / "rows.csv"
     words = ["--places", "--store", case.store, "--out", tmp_path / "out", "--geometries", rows]
     assert run(case.words("run", *words)) == 0

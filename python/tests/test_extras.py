@@ -10,6 +10,7 @@ import re
 import subprocess
 import sys
 from collections.abc import Iterator
+from functools import cache
 from pathlib import Path
 
 import olr
@@ -203,14 +204,24 @@ def imported_by(module: str) -> set[str]:
         if name in seen or not path.is_file():
             continue
         seen.add(name)
-        tree = ast.parse(path.read_text(encoding="utf-8"))
-        blocks = [block for block in tree.body if "TYPE_CHECKING" not in ast.dump(block)]
-        for node in blocks + [it for block in blocks for it in getattr(block, "body", [])]:
-            names = [alias.name for alias in node.names] if isinstance(node, ast.Import) else []
-            names += [node.module or ""] if isinstance(node, ast.ImportFrom) else []
-            left += [it for it in names if it.startswith("olr.")]
-            found |= {it.partition(".")[0] for it in names}
+        names = names_of(path)
+        left += [it for it in names if it.startswith("olr.")]
+        found |= {it.partition(".")[0] for it in names}
     return found - sys.stdlib_module_names - {"olr"}
+
+
+@cache
+def names_of(path: Path) -> frozenset[str]:
+    """What a module imports at its head, also under a condition, but for types alone. Most modules are needed by several commands."""
+    names = set[str]()
+    tree = ast.parse(path.read_text(encoding="utf-8"))
+    blocks = [block for block in tree.body if "TYPE_CHECKING" not in ast.dump(block)]
+    for node in blocks + [it for block in blocks for it in getattr(block, "body", [])]:
+        if isinstance(node, ast.Import):
+            names.update(alias.name for alias in node.names)
+        if isinstance(node, ast.ImportFrom):
+            names.add(node.module or "")
+    return frozenset(names)
 
 
 def test_messages_name_no_script_of_the_repository() -> None:

@@ -101,9 +101,9 @@ def test_formats_and_encodings(file: Path, name: str, monkeypatch: pytest.Monkey
         ),
         # What isn't a text is its JSON. Blanks and line ends are no base64, and one record each.
         (
-            f'[{{"ref":" {ONE}\\n"}},{{"ref":["a\\tb"],"key":true}}]',
+            f'[{{"ref":" {ONE}\\n"}},{{"ref":["a\\tb",1],"key":true}}]',
             {},
-            [(1, None, ONE), (2, "true", '["a\\tb"]')],
+            [(1, None, ONE), (2, "true", '["a\\tb", 1]')],
         ),
         (f'key,ref\n1," {ONE}\t"\n2,"a\n\tb"\n', {}, [(1, "1", ONE), (2, "2", "a  b")]),
         # A record is no header, whatever its key is.
@@ -136,7 +136,7 @@ def test_records(
     file: Path, text: str, options: dict[str, Any], expected: list[tuple[int, Any, str]]
 ) -> None:
     file.write_text(text, encoding="utf-8", newline="")
-    assert list(messages_of(file, Reading(**options))) == expected
+    assert [message[:3] for message in messages_of(file, Reading(**options))] == expected
 
 
 @pytest.mark.parametrize(
@@ -221,19 +221,16 @@ def test_records(
         (f"name,key,ref\nA 6, exit,m1,{ONE}\n", {}, "line 2 has 4 cells, and the header 3"),
         (f'ref\n\n{ONE}\n"{ONE}\n', {}, "line 4 isn't understood: unexpected end of data"),
         # What isn't JSON.
+        ('{\n"ref":1}', {}, "has no reference in its first record, but '1': name another member"),
         (
             '{\n"ref":1}',
-            {},
+            {"format": "jsonl"},
             "line 1 isn't JSON, of one object on each line: Expecting property name",
         ),
-        (
-            "[{}",
-            {},
-            "isn't JSON: Expecting ',' delimiter at character 4: repair it, or give another --format",
-        ),
-        ("[" * 100_000, {}, "isn't JSON: maximum recursion depth"),
+        ("[{}", {}, "isn't JSON: parse error: premature EOF in line 1"),
+        ("[" * 100_000, {}, "has more than 200 arrays and objects within each other"),
         ("[1]", {}, "element 1 is no object with members"),
-        ("{}", {"format": "json"}, "is no JSON array"),
+        ("{}", {"format": "json"}, "element 1 has no member ref: name it by --ref"),
         ('{"ref":"\\ud800"}', {}, "line 1 has half a character"),
     ],
 )
@@ -406,5 +403,7 @@ def test_the_client_takes_them(program: Program, file: Path) -> None:
     with olr.Map.of_folder(EXAMPLES, program=program.path) as town:
         answers = list(town.matches(reference for _, reference in messages))
     assert [isinstance(answer, olr.Fault) for answer in answers] == [False, True]
-    with pytest.raises(ValueError, match="no format: give tab, csv, jsonl, json"):
-        list(olr.read_messages(file, format="xml"))  # type: ignore[arg-type]
+    with pytest.raises(
+        ValueError, match="no format: give tab, csv, jsonl, jsonseq, json, xml, gpkg, shp, xlsx"
+    ):
+        list(olr.read_messages(file, format="yaml"))  # type: ignore[arg-type]

@@ -69,3 +69,15 @@ def test_what_a_record_says(data: bytes, fault: str | None, text: bytes, key: st
 def test_a_fault_of_the_program() -> None:
     line = Record(3, b'"\xc3\xa9\tx').line(b"null", "NotBase64")
     assert line == b'{"answer":null,"fault":"NotBase64","key":"\\"\xc3\xa9","record":3}\n'
+
+
+@pytest.mark.parametrize(
+    "key",
+    ["", "7", "A_1 b.c:d/e-f", "x" * 999, "x" * 1000, 'a"b', "a\\b", "a\x7f", "é", "a\x01", "<"],
+)
+def test_keys_in_lines(key: str) -> None:
+    """As `json` writes them, with nothing escaped that needn't be."""
+    data = f"{key}\tCw+/=".encode()
+    about = {"answer": {"a": 1}, "fault": None, "key": key, "record": 12}
+    line = json.dumps(about, ensure_ascii=False, separators=(",", ":")).encode() + b"\n"
+    assert Record(12, data).line(b'{"a":1}', None) == line

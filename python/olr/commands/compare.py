@@ -71,7 +71,7 @@ def command(
     """Say what changes for the references of MESSAGES with another map: where each one has its place on the map OLD and on the map
     NEW, whether that is the same stretch of road, how far both maps agree, and why it has no place any more.
 
-    MESSAGES has a key, a tab and a reference on each line, or is CSV or JSON; - is standard input. OUT has two rows for each
+    MESSAGES has a key, a tab and a reference on each line, or is CSV, JSON, XML or a table of a GIS; - is standard input. OUT has two rows for each
     reference, one for each map, of its likeliest place there. It is written whole or not at all, and so is PAGE. A summary is printed.
     Places are compared by their geometry, whatever the ids of the maps. docs/COLUMNS.md says what is in each column.
     """

@@ -71,7 +71,7 @@ def command(
 ) -> None:
     """Match the references of FILE on a map, and write what they fit as geometries.
 
-    FILE has a key, a tab and a reference on each line, or is CSV or JSON; - is standard input. A summary is printed. A reference
+    FILE has a key, a tab and a reference on each line, or is CSV, JSON, XML or a table of a GIS; - is standard input. A summary is printed. A reference
     that fits nothing has a row without a geometry. `record` is its number in FILE. OUT is written whole or not at all, and so is
     PIECES. docs/COLUMNS.md says what is in each column.
     """

@@ -170,8 +170,8 @@ def reading_options(command: Command) -> Command:
 
 def _member_option(flag: str, what: str, default: str) -> Option:
     text = (
-        f"The column of the file of messages, or the member, that has the {what}, such as a.b for a member within another. "
-        f"By default {default}."
+        f"The column of the file of messages, or the member, that has the {what}, such as a.b for a member within another, or rows[].a "
+        f"for that of each element of an array. By default {default}."
     )
     return click.option(flag, metavar="NAME", help=text)
 

@@ -47,7 +47,7 @@ def command(
     """Say what is wrong with a feed, or with a map: where the references of MESSAGES fit and how well, how many of their places are
     expected to be right, and why others don't fit. The page is one file of HTML that needs no network, written whole or not at all.
 
-    MESSAGES has a key, a tab and a reference on each line, or is CSV or JSON; - is standard input. All are counted; the table of
+    MESSAGES has a key, a tab and a reference on each line, or is CSV, JSON, XML or a table of a GIS; - is standard input. All are counted; the table of
     references and the map have at most --rows of them, with an equal share of each verdict and fault. A summary is printed.
     """
     asking = options.of_question("places", chosen)

@@ -9,6 +9,7 @@ from olr.confidence.choosing import cut_off_line, judging_for
 from olr.messages.finding import message_of_key, message_of_record
 from olr.messages.message import Reading
 from olr.model.asked_with import name_for_program
+from olr.model.fault import Fault
 from olr.model.map_folder import inputs_of
 from olr.outputs import write_whole
 from olr.pages.html import require_page
@@ -79,7 +80,11 @@ def _text(
             raise click.UsageError("give a reference, or a file of them by --messages")
         return reference
     if reference is not None and record is None:
-        return message_of_key(messages, reading, reference).reference
-    if record is not None and reference is None:
-        return message_of_record(messages, reading, record).reference
-    raise click.UsageError("with --messages give a key as REF, or a number by --record")
+        found = message_of_key(messages, reading, reference)
+    elif record is not None and reference is None:
+        found = message_of_record(messages, reading, record)
+    else:
+        raise click.UsageError("with --messages give a key as REF, or a number by --record")
+    if found.fault is not None:
+        raise Fault(found.fault)
+    return found.reference

@@ -72,8 +72,10 @@ class _Asked(NamedTuple):
 
     def places(self, messages: Iterable[Message], numbers: Mapping[str, int]) -> Iterator[Answer]:
         """The places of the references of messages."""
-        texts = (message.reference for message in messages)
-        return cast(Iterator[Answer], self.map.answers("places", texts, **numbers))
+        asked, again = tee(messages)
+        answers = self.map.answers("places", (one.reference for one in again), **numbers)
+        for message, answer in zip(asked, cast(Iterator[Answer], answers), strict=True):
+            yield message.answer(answer)
 
     def located(
         self, texts: Sequence[str], answers: Sequence[Answer]

@@ -28,19 +28,19 @@ class Packing(NamedTuple):
 GZIP = Packing(".gz", b"\x1f\x8b", "gzip -dc {file} > {unpacked}")
 BZIP2 = Packing(".bz2", b"BZh", "bzip2 -dc {file} > {unpacked}")
 ZIP = Packing(".zip", b"PK\3\4", "unzip {file}")
-PACKINGS = (
-    GZIP,
-    BZIP2,
-    ZIP,
-    Packing(".xz", b"\xfd7zXZ\0", "xz -dc {file} > {unpacked}"),
-    Packing(".zst", b"\x28\xb5\x2f\xfd", "zstd -dc {file} > {unpacked}"),
-)
+XZ = Packing(".xz", b"\xfd7zXZ\0", "xz -dc {file} > {unpacked}")
+ZSTD = Packing(".zst", b"\x28\xb5\x2f\xfd", "zstd -dc {file} > {unpacked}")
+PACKINGS = (GZIP, BZIP2, ZIP, XZ, ZSTD)
 
 
 def packing_of(file: Path) -> Packing | None:
     """How a file is packed; None if it isn't. Raises `ToolError` if it can't be read."""
     with readable(file), file.open("rb") as stream:
-        head = stream.read(HEAD)
+        return packing_of_bytes(stream.read(HEAD))
+
+
+def packing_of_bytes(head: bytes) -> Packing | None:
+    """How bytes are packed that begin with these; None if they aren't."""
     return next((one for one in PACKINGS if head.startswith(one.first_bytes)), None)
 
 

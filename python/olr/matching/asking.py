@@ -103,7 +103,8 @@ class Asked:
         texts = (message.reference for message in again)
         answers = self._map.answers(question, texts, **numbers)
         with progress("matching", self._total) as advance:
-            for message, answer in zip(messages, answers, strict=True):
+            for message, found in zip(messages, answers, strict=True):
+                answer = message.answer(found)
                 if isinstance(answer, Places) and self._within is not None:
                     answer = listed_within(answer, self._within)
                 outcome = outcome_of(answer)

@@ -3,13 +3,17 @@
 What isn't clear is an error that names the option to give.
 """
 
+import json
 from collections.abc import Iterator, Sequence
+from contextlib import suppress
 
 from olr.asking.records import MOST_RECORD_BYTES
 from olr.errors import ToolError
 from olr.messages import tables
+from olr.messages.documents import is_collection
 from olr.messages.first import with_one
-from olr.messages.message import REF, Format, Message, Reading
+from olr.messages.looking import SEPARATOR
+from olr.messages.message import JSON, REF, Format, Message, Reading
 from olr.messages.texts import (
     begins_like_a_reference,
     looks_like_a_reference,
@@ -46,9 +50,10 @@ def format_of(line: bytes, reading: Reading, name: str) -> Format:
     text = (behind if tab else before).strip(BLANKS)
     if begins_like_a_reference(text) and not (is_header and reading.names_columns()):
         return "tab"
-    opening = whole.lstrip(BLANKS)[0]
-    if opening in "[{" and "}\r{" not in whole:
-        return "json" if opening == "[" else "jsonl"
+    if whole.lstrip(BLANKS)[:1] == "<":
+        return "xml"
+    if (kind := _json_in(line)) is not None and "}\r{" not in whole:
+        return kind
     if is_header:
         return "csv"
     has_returns = header != whole.strip("\r")
@@ -56,6 +61,19 @@ def format_of(line: bytes, reading: Reading, name: str) -> Format:
         # A record that will be refused: no column has such a name.
         return "tab"
     raise _unclear(header, has_returns, reading, name)
+
+
+def _json_in(line: bytes) -> Format | None:
+    """The format of JSON of which this is the first line, if it is some: an object alone on it is one of many."""
+    opening = line.lstrip(BLANK_BYTES)[:1]
+    if opening == SEPARATOR:
+        return "jsonseq"
+    if opening not in (b"[", b"{"):
+        return None
+    with suppress(ValueError, RecursionError):
+        if isinstance(json.loads(line), dict) and not is_collection(line):
+            return "jsonl"
+    return "json"
 
 
 def _unclear(header: str, has_returns: bool, reading: Reading, name: str) -> ToolError:
@@ -87,8 +105,15 @@ def with_references(messages: Iterator[Message], kind: Format, name: str) -> Ite
             letters = "write + for -, / for _ and = at the end"
             return ToolError(f"{found}: {letters}, or say --format {kind} if this is meant")
         found = f"{name} has no reference in its first {records}, but {text!r}"
-        where = {"tab": "if it has columns, name one", "csv": "name another column"}
-        option = where.get(kind, "name another member")
+        where = dict.fromkeys(JSON, "name another member") | {
+            "tab": "if it has columns, name one",
+            "xml": "name another element",
+        }
+        option = where.get(kind, "name another column")
         return ToolError(f"{found}: {option} by --ref, or say --format {kind} if this is meant")
 
-    return with_one(messages, lambda message: looks_like_a_reference(message.reference), refusal)
+    return with_one(
+        messages,
+        lambda message: message.fault is not None or looks_like_a_reference(message.reference),
+        refusal,
+    )

@@ -1,102 +1,137 @@
-"""Messages in JSON: an object on each line, or one array of objects, with members by their path."""
+"""Records of JSON as messages, with members by their paths."""
 
 import json
-from collections.abc import Iterable, Iterator, Sequence
+from collections.abc import Iterator, Mapping, Sequence
+from decimal import Decimal
+from functools import partial
 from typing import Any, NamedTuple
 
 from olr.errors import ToolError
 from olr.messages.first import with_one
-from olr.messages.message import KEY, REF, Message, Reading
+from olr.messages.message import ALL, KEY, NOTHING_KEPT, Message, Reading
+from olr.messages.paths import PROPERTIES, Path, is_feature, member_of, without
 from olr.messages.texts import one_line
 
 
-class _Object(NamedTuple):
-    """An object, and its number: of its line or of the element."""
+class Element(NamedTuple):
+    """A value that is a record, and its number: of its line or of the element."""
 
     number: int
-    members: dict[str, Any]
+    value: Any
 
 
-def messages_of_objects(text: Iterable[str], reading: Reading, name: str) -> Iterator[Message]:
-    """The messages of JSON lines. It holds one of them at a time. Raises `ToolError`, with the `name` of the file."""
-    return _messages(_on_lines(text, name), reading, f"{name}: line")
-
-
-def messages_of_array(text: Iterable[str], reading: Reading, name: str) -> Iterator[Message]:
-    """The messages of an array, which is held as a whole. Raises `ToolError`, with the `name` of the file."""
-    found = _read("".join(text), f"{name} isn't JSON")
-    if not isinstance(found, list):
-        raise ToolError(f"{name} is no JSON array: leave out --format, or give another one")
-    place = f"{name}: element"
-    return _messages((_object(*pair, place) for pair in enumerate(found, 1)), reading, place)
-
-
-def _on_lines(text: Iterable[str], name: str) -> Iterator[_Object]:
-    """The objects of lines that aren't blank."""
-    for number, line in enumerate(text, 1):
-        if line.strip():
-            place = f"{name}: line"
-            found = _read(line, f"{place} {number} isn't JSON, of one object on each line")
-            yield _object(number, found, place)
-
-
-def _read(text: str, refusal: str) -> Any:
-    """What JSON says. Raises `ToolError`."""
-    try:
-        return json.loads(text)
-    except (ValueError, RecursionError) as error:
-        reason = str(error)
-        if isinstance(error, json.JSONDecodeError):
-            reason = f"{error.msg} at character {error.pos + 1}"
-        raise ToolError(f"{refusal}: {reason}: repair it, or give another --format") from error
-
-
-def _object(number: int, found: Any, place: str) -> _Object:
-    """What was read, if it is an object. Raises `ToolError`."""
-    if not isinstance(found, dict):
-        raise ToolError(f'{place} {number} is no object with members, as {{"key":..,"ref":..}}')
-    return _Object(number, found)
-
-
-def _messages(objects: Iterator[_Object], reading: Reading, place: str) -> Iterator[Message]:
-    """Messages of objects. Raises `ToolError` if none of the first ones has a reference, or a key that was asked for."""
-    ref, key = reading.ref or REF, reading.key or KEY
-    objects = _with_member(objects, ref, "ref", place)
-    if reading.key is not None:
-        objects = _with_member(objects, key, "key", place)
-    for number, members in objects:
+def messages_of_elements(
+    elements: Iterator[Element], path: Path, reading: Reading, place: str
+) -> Iterator[Message]:
+    """Messages of elements, whose errors begin with `place`. Raises `ToolError` if none of the first ones has a reference, or another
+    member that was asked for, and for an element that is no object."""
+    members = _Members(path, reading)
+    if path.member:
+        elements = map(partial(_object, place), elements)
+    for option, name in members.wanted():
+        elements = _with_member(elements, name, option, place)
+    more = 0
+    for number, value in elements:
         try:
-            text, named = _text(_member(members, ref)), _text(_member(members, key))
+            references, key, kept = (
+                members.references(value),
+                members.key(value),
+                members.kept(value),
+            )
         except UnicodeEncodeError as error:
             raise ToolError(f"{place} {number} has half a character: {error.reason}") from error
-        yield Message(number, named, one_line(text or ""))
+        except RecursionError as error:
+            raise ToolError(f"{place} {number} has too many values within each other") from error
+        for at, reference in enumerate(references, number + more):
+            yield Message(at, key, reference, None, kept)
+        more += len(references) - 1
+
+
+class _Members:
+    """What is read of a record."""
+
+    def __init__(self, path: Path, reading: Reading) -> None:
+        self._reference = path.member
+        self._is_key_named = reading.key is not None
+        self._key = path.within(reading.key or KEY)
+        self._kept = {name: path.within(name) for name in reading.keep}
+        self._keeps_all = reading.keep == ALL
+
+    def wanted(self) -> Iterator[tuple[str, str]]:
+        """The members that have to be there, with the options that name them."""
+        if self._reference:
+            yield "ref", self._reference
+        if self._is_key_named:
+            yield "key", self._key
+        if not self._keeps_all:
+            yield from (("keep", name) for name in self._kept.values())
+
+    def references(self, value: Any) -> list[str]:
+        """The references of a record, an empty one where there is none. Raises as `_text` does."""
+        found = member_of(value, self._reference)
+        is_list = isinstance(found, list) and all(isinstance(one, str) for one in found)
+        return [one_line(_text(one) or "") for one in (found if is_list else [found])] or [""]
+
+    def key(self, value: Any) -> str | None:
+        """The key of a record. A feature of GeoJSON may have it as `id`. Raises as `_text` does."""
+        found = member_of(value, self._key)
+        if found is None and not self._is_key_named and is_feature(value):
+            found = value.get("id")
+        return _text(found)
+
+    def kept(self, value: Any) -> Mapping[str, Any]:
+        """What is kept of a record. Raises as `_text` does."""
+        if not self._kept:
+            return NOTHING_KEPT
+        found = {name: member_of(value, path) for name, path in self._kept.items()}
+        if self._keeps_all:
+            found = self._others(value)
+        kept = {name: _plain(one) for name, one in found.items()}
+        _text(kept)
+        return kept
+
+    def _others(self, value: Any) -> dict[str, Any]:
+        """The members of a record, or the properties of a feature, without the reference and the key."""
+        found = value.get(PROPERTIES) if is_feature(value) else value
+        members: dict[str, Any] = found if isinstance(found, dict) else {}
+        inner = f"{PROPERTIES}." if is_feature(value) else ""
+        for path in (self._reference, self._key):
+            members = without(members, path.removeprefix(inner))
+        return members
+
+
+def _object(place: str, element: Element) -> Element:
+    """An element, if it is an object. Raises `ToolError`."""
+    if not isinstance(element.value, dict):
+        members = '{"key":..,"ref":..}'
+        raise ToolError(f"{place} {element.number} is no object with members, as {members}")
+    return element
 
 
 def _with_member(
-    objects: Iterator[_Object], path: str, option: str, place: str
-) -> Iterator[_Object]:
-    """Objects, if one of the first ones has a member."""
+    elements: Iterator[Element], path: str, option: str, place: str
+) -> Iterator[Element]:
+    """Elements, if one of the first ones has a member."""
 
-    def refusal(held: Sequence[_Object]) -> ToolError:
+    def refusal(held: Sequence[Element]) -> ToolError:
         return ToolError(f"{place} {held[0].number} has no member {path}: name it by --{option}")
 
-    return with_one(objects, lambda one: _member(one.members, path) is not None, refusal)
+    return with_one(elements, lambda one: member_of(one.value, path) is not None, refusal)
 
 
-def _member(members: dict[str, Any], path: str) -> Any:
-    """The member of that name, or else the one at the end of a path of names with dots between them. None where there is none."""
-    if path in members:
-        return members[path]
-    found: Any = members
-    for name in path.split("."):
-        found = found.get(name) if isinstance(found, dict) else None
-    return found
+def _plain(value: Any) -> Any:
+    """A value with numbers as `json` reads them."""
+    if isinstance(value, Decimal):
+        return float(value)
+    if isinstance(value, list):
+        return [_plain(one) for one in value]
+    return {name: _plain(one) for name, one in value.items()} if isinstance(value, dict) else value
 
 
 def _text(value: Any) -> str | None:
-    """A value as a text: what is none has that of its JSON. Raises `UnicodeEncodeError` for half a surrogate pair."""
+    """A value as a text: what is none has that of its JSON. Raises `UnicodeEncodeError` for half a surrogate pair, and `RecursionError`."""
     if value is None:
         return None
-    text = value if isinstance(value, str) else json.dumps(value, ensure_ascii=False)
+    text = value if isinstance(value, str) else json.dumps(_plain(value), ensure_ascii=False)
     text.encode()
     return text

@@ -7,19 +7,16 @@ import sys
 import tempfile
 from collections.abc import Iterable, Iterator
 from contextlib import ExitStack, contextmanager
-from functools import partial
 from itertools import chain
 from pathlib import Path
-from typing import TYPE_CHECKING, cast
+from typing import cast
 
 from olr.errors import ToolError
-
-if TYPE_CHECKING:
-    from _typeshed import WriteableBuffer
+from olr.importing.packed import packing_of_bytes
+from olr.messages.packed import MAGIC_BYTES, Unpackable, unpacked
+from olr.messages.pieces import PIECE_BYTES, pieces_as_they_come, stream_of
 
 STANDARD_INPUT = Path("-")
-PIECE_BYTES = 1 << 18
-"""So much is read at once."""
 UTF_16 = codecs.BOM_UTF16_LE, codecs.BOM_UTF16_BE
 
 
@@ -28,26 +25,31 @@ def name_of(file: Path) -> str:
     return "standard input" if file == STANDARD_INPUT else str(file)
 
 
+def is_read_twice(file: Path) -> bool:
+    """Whether a file is there that can be read twice. Standard input and pipes can't."""
+    return file != STANDARD_INPUT and file.is_file()
+
+
 @contextmanager
 def opened(file: Path) -> Iterator[Iterator[bytes]]:
-    """The bytes of a file in pieces, while it is open. What isn't UTF-8 is passed on, but a file that begins with the mark of UTF-16 is
-    made UTF-8. Reading raises `OSError`, and `UnicodeDecodeError` for what isn't UTF-16 then."""
+    """The bytes of a file in pieces, while it is open, unpacked if it is packed. What isn't UTF-8 is passed on, but what begins with the
+    mark of UTF-16 is made UTF-8. Reading raises `OSError`, `Unpackable`, and `UnicodeDecodeError` for what isn't UTF-16 then.
+    """
     with _raw(file) as stream:
         yield pieces_of(stream)
 
 
 def pieces_of(stream: io.BufferedIOBase) -> Iterator[bytes]:
     """The bytes of a stream in pieces, as those of `opened`."""
-    start = stream.read(len(codecs.BOM_UTF8))
-    pieces = iter(partial(stream.read1, PIECE_BYTES), b"")
-    if start.startswith(UTF_16):
-        return _recoded(chain([start], pieces))
-    return pieces if start == codecs.BOM_UTF8 else chain([start], pieces)
-
-
-def stream_of(pieces: Iterable[bytes]) -> io.BufferedReader:
-    """A stream of pieces of bytes."""
-    return io.BufferedReader(_Pieces(iter(pieces)), PIECE_BYTES)
+    start = stream.read(MAGIC_BYTES)
+    if packing := packing_of_bytes(start):
+        stream = stream_of(unpacked(packing, start, stream))
+        start = stream.read(MAGIC_BYTES)
+        if packing_of_bytes(start):
+            raise Unpackable("is packed twice: unpack it first")
+    is_utf_16, start = start.startswith(UTF_16), start.removeprefix(codecs.BOM_UTF8)
+    pieces = chain([start + stream.read1(PIECE_BYTES)], pieces_as_they_come(stream))
+    return _recoded(pieces) if is_utf_16 else pieces
 
 
 def text_lines(stream: io.BufferedReader, newline: str, name: str) -> Iterator[str]:
@@ -103,24 +105,3 @@ def _recoded(pieces: Iterable[bytes]) -> Iterator[bytes]:
     for piece in pieces:
         yield decoder.decode(piece).encode()
     yield decoder.decode(b"", True).encode()
-
-
-class _Pieces(io.RawIOBase):
-    """What an iterator of bytes gives, as a stream."""
-
-    def __init__(self, pieces: Iterator[bytes]) -> None:
-        self._pieces, self._left = pieces, b""
-
-    def readable(self) -> bool:
-        return True
-
-    def readinto(self, buffer: "WriteableBuffer") -> int:
-        while not self._left:
-            piece = next(self._pieces, None)
-            if piece is None:
-                return 0
-            self._left = piece
-        room = memoryview(buffer).cast("B")
-        size = min(len(room), len(self._left))
-        room[:size], self._left = self._left[:size], self._left[size:]
-        return size

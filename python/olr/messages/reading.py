@@ -9,12 +9,23 @@ from typing import Literal
 
 from olr.asking.program import PathLike
 from olr.errors import ToolError, readable
+from olr.content import Stamp
+from olr.messages.binary import BINARY, binary_format_of, refuse_binary
 from olr.messages.detecting import format_of, look_ahead, with_references
+from olr.messages.elements import messages_of_xml
 from olr.messages.lines import messages_of_lines
-from olr.messages.members import messages_of_array, messages_of_objects
-from olr.messages.message import FORMATS, Format, Message, Reading
-from olr.messages.opening import STANDARD_INPUT, name_of, opened, pieces_of, stream_of, text_lines
+from olr.messages.documents import (
+    messages_of_documents,
+    messages_of_objects,
+    messages_of_sequence,
+)
+from olr.messages.looking import found_in_file, found_in_stream, has_usual_member
+from olr.messages.message import FORMATS, JSON, TABLES, Format, Message, Reading
+from olr.messages.opening import is_read_twice, name_of, opened, pieces_of, text_lines
+from olr.messages.packed import Unpackable
+from olr.messages.pieces import stream_of
 from olr.messages.tables import messages_of_table
+from olr.messages.texts import plain_base64
 
 Errors = Literal["strict", "surrogateescape"]
 
@@ -27,8 +38,8 @@ def read_messages(
 ) -> Iterator[tuple[str | None, str]]:
     """The keys and the references of a file, or of standard input for `-`, one after the other. A record without a key has None.
 
-    The file has lines of a key, a tab and a reference, or CSV, or JSON; docs/MESSAGES.md says how its format is detected,
-    unless `format` says it. `ref` and `key` name the columns or members. Raises `ToolError` if the file can't be read, or it isn't clear
+    The file has lines of a key, a tab and a reference, or is CSV, JSON, XML or a table, packed or not; docs/MESSAGES.md says how its format is
+    detected, unless `format` says it. `ref` and `key` name the columns or members. Raises `ToolError` if the file can't be read, or it isn't clear
     what it is, and `ValueError` for what is no format.
 
     >>> import olr
@@ -44,14 +55,18 @@ def read_messages(
 def messages_of(
     file: Path, reading: Reading, name: str | None = None, errors: Errors = "strict"
 ) -> Iterator[Message]:
-    """The messages of a file, empty records left out. It holds one of them at a time, but for a JSON array.
+    """The messages of a file, empty records left out. It holds one of them at a time.
 
     Errors have the `name`, by default that of the file. `errors` says what becomes of bytes of lines that aren't UTF-8, as for
     `bytes.decode`. Raises `ToolError` if the file can't be read, or it isn't clear what it is.
     """
     called = name or name_of(file)
-    with _of_file(called), opened(file) as pieces:
-        yield from _messages(pieces, reading, called, errors)
+    with _of_file(called):
+        if (kind := binary_format_of(file, reading, called)) is not None:
+            yield from _checked(BINARY[kind](file, reading, called), kind, reading, called)
+            return
+        with opened(file) as pieces:
+            yield from _messages(pieces, reading, called, errors, file)
 
 
 def messages_in(stream: io.BufferedIOBase, reading: Reading, name: str) -> Iterator[Message]:
@@ -64,14 +79,17 @@ def format_in(file: Path, reading: Reading, name: str | None = None) -> Format:
     """The format of a file, as it was said or as its first line shows it. Raises `ToolError` if the file can't be read, or it isn't
     clear."""
     called = name or name_of(file)
-    with _of_file(called), opened(file) as pieces:
-        return format_of(look_ahead(pieces)[1], reading, called)
+    with _of_file(called):
+        if (kind := binary_format_of(file, reading, called)) is not None:
+            return kind
+        with opened(file) as pieces:
+            return format_of(look_ahead(pieces)[1], reading, called)
 
 
 def count_of(file: Path, reading: Reading) -> int | None:
     """How many messages a file has: None if it can't be read twice. So what isn't understood is said before the first one is asked.
     Raises `ToolError`."""
-    if file == STANDARD_INPUT or not file.is_file():
+    if not is_read_twice(file):
         return None
     return sum(1 for _ in messages_of(file, reading))
 
@@ -82,21 +100,43 @@ def _of_file(name: str) -> Iterator[None]:
     try:
         with readable(name):
             yield
+    except Unpackable as error:
+        raise ToolError(f"{name} {error}") from error
     except UnicodeDecodeError as error:
         found = f"{name} isn't UTF-16, as its first bytes say"
         raise ToolError(f"{found}: convert it, such as by iconv -f LATIN1 -t UTF-8") from error
 
 
 def _messages(
-    pieces: Iterator[bytes], reading: Reading, name: str, errors: Errors
+    pieces: Iterator[bytes], reading: Reading, name: str, errors: Errors, file: Path | None = None
 ) -> Iterator[Message]:
-    """The messages in pieces of bytes."""
+    """The messages in pieces of bytes: those of a file, or of a stream about which nothing is said."""
     seen, line = look_ahead(pieces)
+    if reading.format is None:
+        refuse_binary(seen, name)
     kind = format_of(line, reading, name)
+    if kind in TABLES:
+        raise ToolError(f"{name} can't be read as {kind}: name the file itself, unpacked")
     if kind == "tab" and reading.names_columns() and line:
         raise ToolError(f"{name} has no names of columns or members: leave out --ref and --key")
-    found = _of_format(kind, stream_of(chain([seen], pieces)), reading, name, errors)
-    yield from found if reading.format is not None else with_references(found, kind, name)
+    pieces = chain([seen], pieces)
+    if kind in JSON and reading.ref is None and not has_usual_member(line):
+        if file is not None and is_read_twice(file):
+            path = found_in_file(file, Stamp.of(file), name)
+        else:
+            path, pieces = found_in_stream(pieces, name, file is not None)
+        reading = reading._replace(ref=path)
+    found = _of_format(kind, stream_of(pieces), reading, name, errors)
+    yield from _checked(found, kind, reading, name)
+
+
+def _checked(
+    messages: Iterator[Message], kind: Format, reading: Reading, name: str
+) -> Iterator[Message]:
+    """Messages with references in plain base64, of which one of the first looks like one, if it wasn't said what the file is."""
+    if reading.base64 == "url":
+        messages = (one._replace(reference=plain_base64(one.reference)) for one in messages)
+    return messages if reading.format is not None else with_references(messages, kind, name)
 
 
 def _of_format(
@@ -105,7 +145,11 @@ def _of_format(
     """The messages of a stream in a format."""
     if kind == "tab":
         return messages_of_lines(stream, errors, name)
+    if kind == "xml":
+        return messages_of_xml(stream, reading, name)
     if kind == "csv":
         return messages_of_table(text_lines(stream, "", name), reading, name)
-    text = text_lines(stream, "\n", name)
-    return (messages_of_objects if kind == "jsonl" else messages_of_array)(text, reading, name)
+    if kind == "jsonl":
+        return messages_of_objects(text_lines(stream, "\n", name), reading, name)
+    of_stream = messages_of_sequence if kind == "jsonseq" else messages_of_documents
+    return of_stream(stream, reading, name)

@@ -5,8 +5,9 @@ from collections.abc import Iterator
 from itertools import chain
 
 from olr.errors import ToolError
-from olr.messages.message import KEY, REF, Message, Reading
-from olr.messages.texts import one_line, shown
+from olr.messages.columns import Columns
+from olr.messages.message import REF, Message, Reading
+from olr.messages.texts import shown
 
 SEPARATORS = {",": "commas", ";": "semicolons", "\t": "tabs", "|": "pipes"}
 MOST_CELL = 1 << 24
@@ -36,9 +37,7 @@ def messages_of_table(text: Iterator[str], reading: Reading, name: str) -> Itera
     ref = reading.ref or REF
     separator = _separator(header, ref, name)
     columns = _cells(header, separator)
-    ref_at = _place(columns, ref, "ref", name)
-    named = reading.key or KEY
-    key_at = _place(columns, named, "key", name) if reading.key or named in columns else None
+    places = Columns.of(columns, reading, name)
     rows = csv.reader(chain([header], text), delimiter=separator, strict=True)
     try:
         next(rows)
@@ -48,8 +47,7 @@ def messages_of_table(text: Iterator[str], reading: Reading, name: str) -> Itera
                 cells = f"{len(row)} cells, and the header {len(columns)}"
                 raise ToolError(f"{place} has {cells}: quote a cell that has the separator in it")
             row += [""] * (len(columns) - len(row))
-            key = None if key_at is None else row[key_at]
-            yield Message(number, key, one_line(row[ref_at]))
+            yield places.message(number, row)
     except csv.Error as error:
         line = blank + rows.line_num
         found = f"{name}: line {line} isn't understood: {error}"
@@ -77,12 +75,3 @@ def _separator(header: str, ref: str, name: str) -> str:
         ways = " and by ".join(SEPARATORS[separator] for separator in reversed(fit))
         raise ToolError(f"{name} has a column {ref} by {ways}: name it otherwise, and by --ref")
     return fit[0]
-
-
-def _place(columns: list[str], column: str, option: str, name: str) -> int:
-    """Where a column is."""
-    count = columns.count(column)
-    if count == 1:
-        return columns.index(column)
-    how = "no column" if count == 0 else f"{count} columns"
-    raise ToolError(f"{name} has {how} {column}: name one by --{option}: {shown(columns)}")

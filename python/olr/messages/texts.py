@@ -36,8 +36,13 @@ def names_nothing(text: str) -> bool:
 
 def looks_like_one_of_urls(text: str) -> bool:
     """Whether a text would look like a reference if it weren't in base64 for URLs, which has `-` and `_` and needs no `=` at its end."""
+    return looks_like_a_reference(plain_base64(text))
+
+
+def plain_base64(text: str) -> str:
+    """A text in base64 for URLs as plain base64."""
     plain = text.strip(BLANKS).rstrip("=").translate(_FROM_URLS)
-    return looks_like_a_reference(plain + "=" * (-len(plain) % 4))
+    return plain + "=" * (-len(plain) % 4)
 
 
 def one_line(text: str) -> str:

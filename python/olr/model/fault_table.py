@@ -152,6 +152,22 @@ ROWS: dict[str, tuple[str, str]] = {
         "of `olr-tools run`: the program wrote nothing for `--patience` seconds when it was asked about this record alone",
         "delete the part with the record, and go on by `--resume` with a greater `--patience`; or ask it in another run, with lower tolerances",
     ),
+    "BadElement NAME": (
+        "of a reference in XML: its element NAME is missing, is there twice, or has no value of its kind",
+        "compare with the message, or report it to the sender",
+    ),
+    "LegTooLong P": (
+        "of a reference in XML: the path from point P to the next one has 15 km or more",
+        "ask the sender for points that are less than 15 km apart",
+    ),
+    "TooFar P": (
+        "of a reference in XML: point P is more than 0.3276 degrees of longitude or latitude from the one before it",
+        "ask the sender for points that are nearer to each other",
+    ),
+    "OffsetTooLong NAME": (
+        "of a reference in XML: the offset NAME isn't shorter than the first leg, or the last one",
+        "ask the sender to leave out points that the location doesn't reach",
+    ),
     "NoMemory": (
         "the allocator refused memory",
         "raise the limit, or cut the map",

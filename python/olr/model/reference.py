@@ -36,7 +36,7 @@ def read_reference(text: str) -> Reference | None:
     one, last = values[-2:]
     lon, lat, _ = places[-1]
     points.append(ReferencePoint(one >> 3 & 7, one & 7, lat, lon, last & 31))
-    offsets = iter(content[_layout(len(places) - 2).size :])
+    offsets = iter(content[layout(len(places) - 2).size :])
     if content[0] & 0x7F == LINE:
         shares = [next(offsets) if last & bit else None for bit in (POSITIVE, NEGATIVE)]
         return Reference("line", tuple(points), *shares)
@@ -72,12 +72,12 @@ def _read(text: str) -> tuple[bytes, tuple[int, ...], list[Point]] | None:
         return None
     if flags > 2 or more + 2 > MOST_POINTS:
         return None
-    values = _layout(more).unpack_from(content)
+    values = layout(more).unpack_from(content)
     last = values[-1]
     if bool(last & POSITIVE) + (bool(last & NEGATIVE) and kind == LINE) != flags:
         return None
     points = []
-    lon, lat = _absolute(values[1] << 16 | values[2]), _absolute(values[3] << 16 | values[4])
+    lon, lat = absolute(values[1] << 16 | values[2]), absolute(values[3] << 16 | values[4])
     legs = zip(values[7::5], values[8::5], values[9::5])
     """Of each leg its interval, and how far its second point is from the first one in steps of 10 microdegrees."""
     for interval, east, north in (*legs, (-1, 0, 0)):
@@ -95,7 +95,7 @@ def first_position(text: str) -> Position | None:
     if len(content) < 1 + FIRST + LAST:
         return None
     _, lon_high, lon_low, lat_high, lat_low = _POSITION.unpack_from(content)
-    return Position(_absolute(lon_high << 16 | lon_low), _absolute(lat_high << 16 | lat_low))
+    return Position(absolute(lon_high << 16 | lon_low), absolute(lat_high << 16 | lat_low))
 
 
 def bytes_of(text: str) -> bytes:
@@ -116,13 +116,13 @@ _POSITION = struct.Struct(">BbHbH")
 
 
 @cache
-def _layout(more: int) -> struct.Struct:
+def layout(more: int) -> struct.Struct:
     """The fields of a reference up to its last attribute, with so many points between the first and the last one: those of `_POSITION`,
     then for each point three attributes and the way to the next one, and two attributes."""
     return struct.Struct(_POSITION.format + "BBBhh" * (more + 1) + "BB")
 
 
-def _absolute(number: int) -> int:
+def absolute(number: int) -> int:
     """A coordinate of the first point, in microdegrees: the nearest whole number, of which there is always one."""
     sign = (number > 0) - (number < 0)
     return ((2 * number - sign) * 90_000_000 + (1 << 22)) >> 23

@@ -1,0 +1,37 @@
+"""Coordinates in the steps of the binary form (docs/specification/reference.md): each is the nearest one within a limit.
+
+Coordinates that are given are in units of `numbers`, limits in microdegrees.
+"""
+
+from olr.model.reference import absolute
+from olr.physical.numbers import ONE
+
+MICRODEGREE = ONE // 1_000_000
+"""Units."""
+_STEPS = 1 << 24
+_CIRCLE = 360 * ONE
+STEP = 10
+"""Microdegrees between the relative coordinates of neighbours."""
+MOST_STEPS = (1 << 15) - 1
+"""The greatest number of 16 bits. The lowest one is one lower."""
+
+
+def absolute_number(value: int, limit: int) -> int:
+    """The number of 24 bits of a coordinate."""
+    steps = abs(value) * _STEPS
+    if 4 * steps < _CIRCLE:
+        return 0
+    sign = 1 if value > 0 else -1
+    number = sign * (steps // _CIRCLE + 1)
+    number = min(max(number, -_STEPS // 2), _STEPS // 2 - 1)
+    return number if abs(absolute(number)) <= limit else number - sign
+
+
+def relative_number(value: int, before: int, limit: int) -> int:
+    """The number of steps to a coordinate from another one, which is in microdegrees. It may have more than 16 bits."""
+    step = STEP * MICRODEGREE
+    number = (value - before * MICRODEGREE + step // 2) // step
+    reached = before + STEP * number
+    if -limit <= reached <= limit:
+        return number
+    return number - 1 if reached > 0 else number + 1

@@ -1,0 +1,44 @@
+"""Numbers of fields as whole numbers of a small unit, so that no step of the binary form is missed by a rounding."""
+
+import re
+from decimal import ROUND_FLOOR, Context, Decimal, InvalidOperation
+from functools import lru_cache
+
+from olr.physical.fields import Number
+
+DIGITS = 12
+ONE: int = 10**DIGITS
+"""So many units are 1: what is smaller than a unit is left off, downwards."""
+_PLAIN = re.compile(rf"(-?[0-9]{{1,20}})(?:\.([0-9]{{0,{DIGITS}}}))?")
+_NUMBER = re.compile(r"[+-]?(?:[0-9]+\.?[0-9]*|\.[0-9]+)(?:[eE][+-]?[0-9]{1,9})?")
+_EXACT = Context(prec=40, rounding=ROUND_FLOOR, traps=[InvalidOperation])
+_SHORT = 24
+_UNIT = Decimal(1).scaleb(-DIGITS)
+
+
+def units_of(value: Number) -> int | None:
+    """A number in units; None for what is none, or is beyond any field. A text is a number as XML has it, and blanks at its ends."""
+    if isinstance(value, str):
+        return _of_short(value) if len(value) <= _SHORT else _of_text(value)
+    return value * ONE if isinstance(value, int) else _of_decimal(value)
+
+
+def _of_text(value: str) -> int | None:
+    text = value.strip()
+    if plain := _PLAIN.fullmatch(text):
+        whole, part = plain.groups("")
+        return int(whole + part.ljust(DIGITS, "0"))
+    return None if _NUMBER.fullmatch(text) is None else _of_decimal(Decimal(text))
+
+
+_of_short = lru_cache(maxsize=1 << 14)(_of_text)
+"""Bearings, distances and often places are the same in many references."""
+
+
+def _of_decimal(value: Decimal | None) -> int | None:
+    if value is None:
+        return None
+    try:
+        return int(_EXACT.scaleb(_EXACT.quantize(value, _UNIT), DIGITS))
+    except (InvalidOperation, ValueError):
+        return None
