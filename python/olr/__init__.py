@@ -22,6 +22,7 @@ run` wrote, and `olr.Confidence` says how probable places are. All names are imp
 |---|---|
 | `model` | what the tools speak of: maps and their files, references, questions, answers |
 | `asking` | how the program is asked |
+| `physical` | references in degrees and metres, and their binary form |
 | `client` | `olr.Map`: the program as objects |
 | `regions` | maps of any size, and the part of one that a reference needs |
 | `geometry` | `olr.Network`: maps and answers as geometries |
@@ -34,7 +35,7 @@ run` wrote, and `olr.Confidence` says how probable places are. All names are imp
 | `near_paths` | other paths of a matching, nearly as short or on worse roads |
 | `matching` | answers as rows, tables and files with geometries |
 | `comparing` | what changes for references with another map |
-| `running` | any number of references on a map of any size, by Dask |
+| `running` | any number of references on a map of any size, by many processes |
 | `pages` | the pages of `view`, `report` and `compare`, and what all pages share |
 | `serving` | answers by HTTP, and their page |
 | `commands` | the commands of `olr-tools`; `tools` has their names |

@@ -27,7 +27,11 @@ def main() -> None:
     if signal.getsignal(signal.SIGHUP) == signal.SIG_DFL:
         # A terminal was closed: nohup has it ignored.
         signal.signal(signal.SIGHUP, signal.default_int_handler)
-    sys.exit(run())
+    status = run()
+    for one in (signal.SIGINT, signal.SIGTERM):
+        # All is done, and Python would say by a traceback what it was doing at its end.
+        signal.signal(one, signal.SIG_DFL)
+    sys.exit(status)
 
 
 def _without_click(words: list[str], missing: ModuleNotFoundError) -> int:

@@ -20,6 +20,8 @@ WORDS = ["--no-sandbox", "--disable-gpu", "--hide-scrollbars", "--no-first-run"]
 WORDS += ["--disable-dev-shm-usage", "--window-size=1280,800", "--remote-debugging-pipe"]
 # No process is held ready for another page, or kept for the one before: all pages are drawn by one, and shown by the browser's own.
 WORDS += ["--disable-features=BackForwardCache,SpareRendererForSitePerProcess", "--in-process-gpu"]
+# Nor are there threads that work ahead or side by side: one alone takes a tenth less.
+WORDS += ["--num-raster-threads=1", "--js-flags=--single-threaded"]
 WORDS += ["--process-per-site", "--disable-site-isolation-trials", "--renderer-process-limit=1"]
 ONE_THREAD = "--disable-threaded-compositing"
 """One thread draws, which takes less, and there are no frames but those that something new needs. No screenshot is made then."""

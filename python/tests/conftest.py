@@ -178,7 +178,7 @@ def runs(town: "Town", program: Program, tmp_path: Path) -> Iterator["Runs"]:
 
 @pytest.fixture
 def here(tmp_path: Path, program: Program, monkeypatch: pytest.MonkeyPatch) -> None:
-    """Groups are answered in this process, without Dask, also by the command `run`."""
-    from runs import answer_here
+    """Groups are answered in this process, without workers, also by the command `run`."""
+    from runs import answer_in_this_process
 
-    answer_here(monkeypatch, tmp_path / "scratch", program.path)
+    answer_in_this_process(monkeypatch, tmp_path / "scratch", program.path)

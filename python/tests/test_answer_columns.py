@@ -183,7 +183,8 @@ def test_pieces_sum_to_the_lengths(folder: Path, texts: list[str], program: Prog
         pieces = olr.to_pieces(answers, asked.network())
         network = asked.network()
     pieces["metres"] = pieces["to_m"] - pieces["from_m"]
-    of_parts = pieces.groupby(["key", "rank", "part"])
+    # Without geometries a group is made sooner.
+    of_parts = pandas.DataFrame(pieces.drop(columns="geometry")).groupby(["key", "rank", "part"])
     sums = of_parts["metres"].sum()
     for row in rows_of(table[table["rank"].notna()]):
         where = (row["key"], row["rank"])

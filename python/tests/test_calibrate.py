@@ -165,14 +165,15 @@ def feed_of(sender: Path, folder: Path) -> Feed:
     ("sender", "name"),
     [
         ("tempe", "tempe"),
-        ("tempe", "vendors_tempe"),
+        ("vendors_tempe", "tempe"),
         ("vendors_town", "vendors_town"),
         ("town", "vendors_town"),
     ],
 )
 def test_what_is_told_is_seen(sender: str, name: str, request: pytest.FixtureRequest) -> None:
     """Of references on the map itself and on that of another vendor, by a recipe that no trial has. The margins are wide: 150 references,
-    and a tenth of the trials that the command has by default."""
+    and a tenth of the trials that the command has by default. Both kinds of references are asked of one map, whose trials are drawn
+    once: whose of the two maps the sender has doesn't matter."""
     feed = feed_of(request.getfixturevalue(sender), request.getfixturevalue(name))
     told, seen = float(np.mean(feed.told)), float(np.mean(feed.right))
     print(f"{sender} on {name}: told {told:.3f}, seen {seen:.3f} of {len(feed.told)}")

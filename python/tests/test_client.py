@@ -13,7 +13,7 @@ from asking import as_json, batch_of, draw_map, draw_references, said
 from conftest import REFERENCE, TOP, Program
 from olr.asking.processes import AHEAD
 from olr.asking.program import find_program
-from olr.asking.threaded import PIPE_BYTES
+from olr.asking.starting import PIPE_BYTES
 from olr.model.questions import NUMBERS, TOLERANCES, What
 
 DATA = TOP / "crates/olr_conformance/data"

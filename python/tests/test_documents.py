@@ -6,7 +6,9 @@ import pytest
 import re
 import shlex
 import subprocess
+from collections.abc import Callable
 from contextlib import redirect_stderr, redirect_stdout
+from functools import partial
 from io import StringIO
 from pathlib import Path
 
@@ -45,6 +47,13 @@ NOT_RUN = {
 """Commands on the pages that no test runs, by their beginnings, with the reason. The pages show no output of them."""
 
 
+TOOLS = re.compile(r"(\./olr-tools (?!run )[^|<>$&;*?~#(){}`!\n]*)(?:\| ((?:head|grep) .*))?")
+"""A command of `olr-tools` that needs no shell, and what reads it."""
+
+SCRIPT = re.compile(r"(?s)/usr/bin/python3 -c '([^']*)'")
+"""A command that runs a script of Python. What either imports is there already: it takes half a second of a new process."""
+
+
 class Shell:
     """A folder that looks like the top of the repository with a built program, and what commands printed there."""
 
@@ -62,19 +71,26 @@ class Shell:
         """What a command prints on both outputs. One that stands on several pages is run once: it may write a file."""
         if command not in self._printed:
             plain = command.replace("\\\n", " ")
-            is_plain = re.fullmatch(r"\./olr-tools (?!run )[^|<>$&;*?~#(){}`!\n]*", plain)
-            status, text = self._ran_here(plain) if is_plain else self._ran(command)
+            script = SCRIPT.fullmatch(command)
+            tools = TOOLS.fullmatch(plain)
+            if script is not None:
+                status, text = self._ran_here(partial(_run_script, script[1]))
+            elif tools is not None:
+                words = shlex.split(tools[1])[1:]
+                status, text = self._ran_here(lambda: run(words), tools[2])
+            else:
+                status, text = self._ran(command)
             fault = re.search(r"(?m)^olr: \w+", text)
             assert (status == 0) != bool(fault), (command, text)
             self._printed[command] = text
         return self._printed[command]
 
-    def _ran(self, command: str) -> tuple[int, str]:
-        """The status of a command, and what it printed."""
+    def _ran(self, command: str, given: str = "") -> tuple[int, str]:
+        """The status of a command that is given a text, and what it printed."""
         ended = subprocess.run(
             ["bash", "-c", command],
             cwd=self.folder,
-            stdin=subprocess.DEVNULL,
+            input=given,
             stdout=subprocess.PIPE,
             stderr=subprocess.STDOUT,
             text=True,
@@ -84,14 +100,23 @@ class Shell:
         )
         return ended.returncode, ended.stdout
 
-    def _ran_here(self, command: str) -> tuple[int, str]:
-        """The same of a command of `olr-tools` that needs no shell."""
-        with pytest.MonkeyPatch.context() as patch, StringIO() as text:
+    def _ran_here(self, work: Callable[[], int], reader: str | None = None) -> tuple[int, str]:
+        """The same of what needs no shell, and of the command that reads it, if there is one."""
+        with pytest.MonkeyPatch.context() as patch, StringIO() as text, StringIO() as read:
             patch.chdir(self.folder)
             patch.setenv("OLR_PROGRAM", os.fspath(self._program.path))
-            with redirect_stdout(text), redirect_stderr(text):
-                status = run(shlex.split(command)[1:])
-            return status, text.getvalue()
+            with redirect_stdout(read if reader else text), redirect_stderr(text):
+                status = work()
+            if reader is None:
+                return status, text.getvalue()
+            status, found = self._ran(reader, read.getvalue())
+            return status, text.getvalue() + found
+
+
+def _run_script(script: str) -> int:
+    """Runs a script of Python. Its status is always 0: an error fails the test."""
+    exec(compile(script, "script", "exec"), {"__name__": "__main__"})
+    return 0
 
 
 @pytest.fixture(scope="module")

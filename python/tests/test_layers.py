@@ -3,13 +3,14 @@
 import ast
 import pytest
 from collections.abc import Iterator
+from functools import cache
 from graphlib import CycleError, TopologicalSorter
 from pathlib import Path
 
 PACKAGE = Path(__file__).resolve().parents[1] / "olr"
 LAYERS = (
-    "arrays content counts curve errors extras outputs progress setup sphere streams version model",
-    "asking",
+    "arrays content counts curve errors extras outputs processors progress setup signals sphere streams version model",
+    "asking physical",
     "checking client comparing confidence geometry importing likely matching messages near_paths osm regions running trials vector",
     "pages commands serving tools",
 )
@@ -25,8 +26,14 @@ def modules() -> list[tuple[str, ...]]:
     return sorted(path.parts for path in paths if path.parts[0] not in FACES)
 
 
-def imported(module: tuple[str, ...]) -> Iterator[tuple[str, ...]]:
+@cache
+def imported(module: tuple[str, ...]) -> frozenset[tuple[str, ...]]:
     """What a module imports of `olr`, at its head or within, by the names below `olr`."""
+    return frozenset(_imported(module))
+
+
+def _imported(module: tuple[str, ...]) -> Iterator[tuple[str, ...]]:
+    """The same, one by one."""
     for node in ast.walk(ast.parse(PACKAGE.joinpath(*module).with_suffix(".py").read_text())):
         names = [alias.name for alias in node.names] if isinstance(node, ast.Import) else []
         if isinstance(node, ast.ImportFrom):

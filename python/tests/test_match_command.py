@@ -176,7 +176,7 @@ def test_help_has_units_ranges_and_defaults(
     [
         ("a.csv", b"key,text\n1,x\n", "has no column ref: name it by --ref: key, text"),
         ("a.jsonl", b"{}\n", "line 1 has no member ref: name it by --ref"),
-        ("a.jsonl", b"{\n", "line 1 isn't JSON"),
+        ("a.jsonl", b"{\n", "isn't JSON: parse error"),
         ("a.tsv", b"\xff\n", "isn't UTF-8: convert it"),
         ("none", None, "can't be read: No such file"),
     ],

@@ -47,6 +47,14 @@ def server(
         yield found
 
 
+@pytest.fixture(scope="module")
+def of_examples(program: Program, tmp_path_factory: pytest.TempPathFactory) -> Iterator[Server]:
+    """A server on the map of the examples, which is small."""
+    log = tmp_path_factory.mktemp("log") / "log"
+    with serving(program.path, TOP / "examples", log) as found:
+        yield found
+
+
 @pytest.mark.parametrize("what", NUMBERS)
 def test_one_at_a_time(
     what: str, server: Server, program: Program, drawn: Path, texts: list[str]
@@ -165,7 +173,8 @@ def test_geojson(
     what: str,
     on: str,
     drawn: Path,
-    program: Program,
+    server: Server,
+    of_examples: Server,
     texts: list[str],
     tools: Tools,
     tmp_path: Path,
@@ -187,15 +196,15 @@ def test_geojson(
         if feature["properties"]["fault"] is None:
             expected.setdefault(key, []).append(feature)
     assert len(expected) >= (4 if on == "examples" else 40)
-    with serving(program.path, folder, tmp_path / "log") as server:
-        for key, features in expected.items():
-            path = path_of(what, some[int(key)], radius=80)
-            reply = server.get(path, Accept="application/geo+json")
-            assert reply.headers["content-type"] == "application/geo+json"
-            assert reply.headers["vary"] == "Accept, Accept-Encoding"
-            assert json.loads(reply.body)["features"] == features
-        refused = server.get(path_of(what, "CwVG"), Accept="application/geo+json")
-        assert refused.problem()[:2] == (422, "BadLength")
+    asked = server if on == "drawn" else of_examples
+    for key, features in expected.items():
+        path = path_of(what, some[int(key)], radius=80)
+        reply = asked.get(path, Accept="application/geo+json")
+        assert reply.headers["content-type"] == "application/geo+json"
+        assert reply.headers["vary"] == "Accept, Accept-Encoding"
+        assert json.loads(reply.body)["features"] == features
+    refused = asked.get(path_of(what, "CwVG"), Accept="application/geo+json")
+    assert refused.problem()[:2] == (422, "BadLength")
 
 
 @pytest.fixture(scope="module")
@@ -261,18 +270,18 @@ def test_options_that_arent_understood(query: str, said: str, server: Server) ->
     assert (status, title) == (400, "BadRequest") and detail.startswith(said)
 
 
-def test_limits_of_options(program: Program, tmp_path: Path) -> None:
+def test_limits_of_options(of_examples: Server) -> None:
     """Each has its least and its greatest value, and not one more. The map is small, since each value has it read."""
-    with serving(program.path, TOP / "examples", tmp_path / "log") as server:
-        for what, numbers in NUMBERS.items():
-            for name, number in {**TOLERANCES, **numbers}.items():
-                most = 10_000 if name == "look" else number.greatest
-                for value in (number.least, most):
-                    assert server.get(path_of(what, "CwVG", **{name: value})).status == 422, name
-                for value in (number.least - 1, most + 1):
-                    assert server.get(path_of(what, "CwVG", **{name: value})).status == 400, name
-        too_many = server.get("/places?ref=x&look=10001").problem()[2]
-        assert "10,000 at most on this server" in too_many
+    server = of_examples
+    for what, numbers in NUMBERS.items():
+        for name, number in {**TOLERANCES, **numbers}.items():
+            most = 10_000 if name == "look" else number.greatest
+            for value in (number.least, most):
+                assert server.get(path_of(what, "CwVG", **{name: value})).status == 422, name
+            for value in (number.least - 1, most + 1):
+                assert server.get(path_of(what, "CwVG", **{name: value})).status == 400, name
+    too_many = server.get("/places?ref=x&look=10001").problem()[2]
+    assert "10,000 at most on this server" in too_many
 
 
 def test_a_plus_sign_stands_for_itself(server: Server) -> None:

@@ -3,6 +3,7 @@
 import http.client
 import pytest
 import socket
+from collections.abc import Iterator
 from pathlib import Path
 
 from asking import draw_map
@@ -34,22 +35,26 @@ for number, record in enumerate(sys.stdin.buffer, 1):
     return file
 
 
-def test_an_answer_that_is_too_large(drawn: Path, tmp_path: Path) -> None:
-    """It isn't held: its process is ended, and the next one answers."""
+@pytest.fixture
+def server(drawn: Path, tmp_path: Path) -> Iterator[Server]:
+    """A server with that program, a process of its own for each test: its memory is looked at, and what one test leaves there counts."""
     program = writing_program(tmp_path / "program")
-    with serving(program, drawn, tmp_path / "log", "--workers", 1, is_new=True) as server:
-        assert server.get("/match?ref=40000").problem()[:2] == (422, "AnswerTooLarge")
-        assert server.get("/match?ref=x").problem()[:2] == (422, "Empty")
-        assert len(server.get("/match?ref=20000").body) == (20_000 << 10) + 2
-        one = server.get("/batch/match", "POST", b"40000\n", content_type="text/plain")
-        assert one.problem()[:2] == (422, "AnswerTooLarge")
-        with pytest.raises(http.client.IncompleteRead) as caught:
-            server.get(
-                "/batch/match", "POST", b"x\n" * 50_000 + b"40000", content_type="text/plain"
-            )
-        assert caught.value.partial.count(b"Empty") >= 1
-        assert server.log().count("a stream was cut off: AnswerTooLarge") == 1
-        assert server.memory() < 250_000
+    with serving(program, drawn, tmp_path / "log", "--workers", 1, is_new=True) as found:
+        yield found
+
+
+def test_an_answer_that_is_too_large(server: Server) -> None:
+    """It isn't held: its process is ended, and the next one answers."""
+    assert server.get("/match?ref=40000").problem()[:2] == (422, "AnswerTooLarge")
+    assert server.get("/match?ref=x").problem()[:2] == (422, "Empty")
+    assert len(server.get("/match?ref=20000").body) == (20_000 << 10) + 2
+    one = server.get("/batch/match", "POST", b"40000\n", content_type="text/plain")
+    assert one.problem()[:2] == (422, "AnswerTooLarge")
+    with pytest.raises(http.client.IncompleteRead) as caught:
+        server.get("/batch/match", "POST", b"x\n" * 5_000 + b"40000", content_type="text/plain")
+    assert caught.value.partial.count(b"Empty") >= 1
+    assert server.log().count("a stream was cut off: AnswerTooLarge") == 1
+    assert server.memory() < 250_000
 
 
 def asked(server: Server, path: str) -> tuple[socket.socket, bytes]:
@@ -62,7 +67,7 @@ def asked(server: Server, path: str) -> tuple[socket.socket, bytes]:
 def test_the_system_keeps_nothing_of_an_answer(drawn: Path, tmp_path: Path) -> None:
     """Of one whose client was too slow: it would for as long as the client has the connection open."""
     program, options = writing_program(tmp_path / "program"), ("--workers", 1, "--time-limit", 1)
-    with serving(program, drawn, tmp_path / "log", *options, is_new=True) as server:
+    with serving(program, drawn, tmp_path / "log", *options) as server:
         connection, status = asked(server, "/match?ref=16000")
         assert status == b"200" and is_open(connection)
         wait_until(lambda: not is_open(connection))
@@ -75,21 +80,19 @@ def is_open(connection: socket.socket) -> bool:
 
 
 @pytest.mark.parametrize(("size", "count"), [(1000, 150), (16_000, 8)])
-def test_answers_that_arent_taken(size: int, count: int, drawn: Path, tmp_path: Path) -> None:
+def test_answers_that_arent_taken(size: int, count: int, server: Server) -> None:
     """The server holds some of them, and then closes connections: all of them would take 150 MB. Large ones are in files, of which a client
     has eight."""
-    program = writing_program(tmp_path / "program")
-    with serving(program, drawn, tmp_path / "log", "--workers", 1, is_new=True) as server:
-        connections = []
-        for _ in range(count):
-            connection, status = asked(server, f"/match?ref={size}")
-            assert status == b"200"
-            connections.append(connection)
-        wait_until(lambda: server.memory() < 140_000)
-        assert server.get("/match?ref=x").status == 422
-        if size > 1024:
-            assert server.get(f"/match?ref={size}").problem()[:2] == (503, "Busy")
-            connections.pop().close()
-            wait_until(lambda: server.get(f"/match?ref={size}").status == 200)
-        for connection in connections:
-            connection.close()
+    connections = []
+    for _ in range(count):
+        connection, status = asked(server, f"/match?ref={size}")
+        assert status == b"200"
+        connections.append(connection)
+    wait_until(lambda: server.memory() < 140_000)
+    assert server.get("/match?ref=x").status == 422
+    if size > 1024:
+        assert server.get(f"/match?ref={size}").problem()[:2] == (503, "Busy")
+        connections.pop().close()
+        wait_until(lambda: server.get(f"/match?ref={size}").status == 200)
+    for connection in connections:
+        connection.close()

@@ -91,13 +91,13 @@ def test_messages_of_a_list() -> None:
 
 def test_a_list_of_too_many_values() -> None:
     """It takes no more memory than it may: four times as much as its bytes."""
-    status, text, said = read_list(b"[" + b"[]," * 5_500_000 + b"[]]", "json")
+    status, text, said = read_list(b'{"ref":[' + b"[]," * 5_500_000 + b"[]]}", "jsonl")
     assert (status, text) == (1, b"") and said.startswith(b"the list has more values than are read")
 
 
 def test_options_of_a_list() -> None:
     assert reading_of({"format": "csv", "ref": "a"})[:2] == ("csv", "a")
-    for options in ({"format": "xml"}, {"column": "a"}):
+    for options in ({"format": "gpkg"}, {"column": "a"}):
         with pytest.raises(Problem) as caught:
             reading_of(options)
         assert caught.value.status == 400

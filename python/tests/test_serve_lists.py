@@ -327,7 +327,11 @@ def test_lists_are_read_as_files(server: Server, text: str, end: str, tmp_path: 
     "query, body, problem",
     [
         ("", b"id,code\n1,x\n", (422, "UnreadableList", "the list has no column ref")),
-        ("?format=xml", b"", (400, "BadRequest", "format is one of tab, csv, jsonl, json")),
+        (
+            "?format=yaml",
+            b"",
+            (400, "BadRequest", "format is one of tab, csv, jsonl, jsonseq, json, xml"),
+        ),
         ("?radius=5", b"", (400, "BadRequest", "'radius' is no option of this address")),
         ("", b"a\t\xff", (422, "UnreadableList", "isn't UTF-8")),
         ("", b"x" * (16 * 1024 * 1024 + 1), (413, "BodyTooLarge", "16,777,216 bytes at most")),

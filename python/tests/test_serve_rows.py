@@ -4,9 +4,10 @@ import json
 import pytest
 import socket
 import time
-from collections.abc import Iterator
+from collections.abc import Callable, Iterator
+from functools import cache
 from pathlib import Path
-from typing import Any
+from typing import Any, NamedTuple
 
 from asking import likeliest_of
 from bad_programs import bad_program
@@ -54,17 +55,30 @@ def rows_of(server: Server, body: Any, query: str = "") -> list[dict[str, Any]]:
     return rows
 
 
+Wanted = Callable[[str], list[dict[str, str]]]
+
+
+@pytest.fixture(scope="module")
+def sixty(town: Town) -> bytes:
+    """Sixty messages."""
+    return b"".join(town.plain.read_bytes().splitlines(keepends=True)[:60])
+
+
+@pytest.fixture(scope="module")
+def wanted_of(
+    sixty: bytes, town: Town, tools: Tools, tmp_path_factory: pytest.TempPathFactory
+) -> Wanted:
+    """What `olr-tools match` says of them by a profile: once for both servers."""
+    file = tmp_path_factory.mktemp("messages") / "messages.tsv"
+    file.write_bytes(sixty)
+    return cache(lambda profile: likeliest_of(tools, file, town.folder, "--profile", profile))
+
+
 @pytest.mark.parametrize("profile", ["feed", "program"])
-def test_rows_of_match(
-    profile: str, server: Server, town: Town, tools: Tools, tmp_path: Path
-) -> None:
+def test_rows_of_match(profile: str, server: Server, sixty: bytes, wanted_of: Wanted) -> None:
     """Without options they are those of the profile `feed`."""
-    file = tmp_path / "messages.tsv"
-    lines = town.plain.read_bytes().splitlines(keepends=True)[:60]
-    file.write_bytes(b"".join(lines))
-    expected = likeliest_of(tools, file, town.folder, "--profile", profile)
-    rows = rows_of(server, file.read_bytes(), "?profile=program" if profile == "program" else "")
-    for row, wanted in zip(rows, expected, strict=True):
+    rows = rows_of(server, sixty, "?profile=program" if profile == "program" else "")
+    for row, wanted in zip(rows, wanted_of(profile), strict=True):
         for name in ("record", "key", "verdict", "reasons", "fault"):
             assert str(row[name] or "") == wanted[name], wanted
         for name in NUMBERS:
@@ -72,8 +86,9 @@ def test_rows_of_match(
     has_probabilities = any(row["probability"] is not None for row in rows)
     assert has_probabilities == (profile == "feed")
     assert {row["no_probabilities"] is None for row in rows} == {profile == "feed"}
-    pieces = (file.read_bytes()[at : at + 1000] for at in range(0, file.stat().st_size, 1000))
-    assert rows_of(server, pieces, f"?profile={profile}") == rows
+    some = b"".join(sixty.splitlines(keepends=True)[:20])
+    pieces = (some[at : at + 300] for at in range(0, len(some), 300))
+    assert rows_of(server, pieces, f"?profile={profile}") == rows[:20]
 
 
 def test_records_of_each_kind(server: Server, program: Program, town: Town) -> None:
@@ -155,30 +170,56 @@ def test_a_client_that_stops_reading(program: Program, town: Town, tmp_path: Pat
         wait_until(lambda: server.figure('olr_processes{state="apart"}') == 0)
 
 
-@pytest.mark.parametrize(
-    "way",
-    ["exits", "ends", "no line", "two lines", "another number", "another key", "an empty line"],
-)
-def test_a_program_that_fails(way: str, program: Program, town: Town, tmp_path: Path) -> None:
-    """Nothing is sent that isn't right, and the answer has no end."""
-    texts = [line.split("\t")[1] for line in town.plain.read_text().splitlines()[1:5]]
-    bad = bad_program(tmp_path / "bad", program, {texts[2]: way})
-    body = "".join(f"{number}\t{text}\n" for number, text in enumerate(texts)).encode()
-    with serving(bad, town.folder, tmp_path / "log") as server:
+WAYS = ("exits", "ends", "no line", "two lines", "another number", "another key", "an empty line")
+"""What the program does at a reference."""
+
+
+class Failing(NamedTuple):
+    """A server whose program fails at a reference of each way."""
+
+    server: Server
+    bodies: dict[str, bytes]
+    """Four records for each way, of which it is the third one's."""
+    good: dict[str, list[dict[str, Any]]]
+    """The rows of a program that doesn't fail."""
+
+
+@pytest.fixture(scope="module")
+def failing(
+    program: Program, town: Town, tmp_path_factory: pytest.TempPathFactory
+) -> Iterator[Failing]:
+    """It starts another process for each list, so one server is enough for all ways."""
+    folder = tmp_path_factory.mktemp("failing")
+    lines = town.plain.read_text().splitlines()[1 : 1 + 4 * len(WAYS)]
+    texts = {
+        way: [line.split("\t")[1] for line in lines[at :: len(WAYS)]] for at, way in enumerate(WAYS)
+    }
+    bad = bad_program(folder / "bad", program, {texts[way][2]: way for way in WAYS})
+    bodies = {
+        way: "".join(f"{number}\t{text}\n" for number, text in enumerate(texts[way])).encode()
+        for way in WAYS
+    }
+    with serving(bad, town.folder, folder / "log") as server:
         Path(f"{bad}.good").touch()
-        good = rows_of(server, body)
+        good = {way: rows_of(server, body) for way, body in bodies.items()}
         Path(f"{bad}.good").unlink()
-        head = (
-            f"POST /rows HTTP/1.1\r\nHost: localhost:{server.port}\r\nContent-Type: text/plain\r\n"
-        )
-        with socket.create_connection(("127.0.0.1", server.port), timeout=30) as connection:
-            connection.sendall(f"{head}Content-Length: {len(body)}\r\n\r\n".encode() + body)
-            said = b"".join(iter(lambda: connection.recv(65_536), b""))
-        rows = [json.loads(line) for line in said.splitlines() if line.startswith(b'{"record"')]
-        assert rows == good[: len(rows)] and len(rows) < 4
-        assert len(rows) == 2 or way not in ("exits", "ends")
-        assert not said.endswith(b"0\r\n\r\n")
-        assert "Traceback" not in server.log() and str(tmp_path).encode() not in said
+        yield Failing(server, bodies, good)
+        assert "Traceback" not in server.log()
+
+
+@pytest.mark.parametrize("way", WAYS)
+def test_a_program_that_fails(way: str, failing: Failing, town: Town) -> None:
+    """Nothing is sent that isn't right, and the answer has no end."""
+    server, body, good = failing.server, failing.bodies[way], failing.good[way]
+    head = f"POST /rows HTTP/1.1\r\nHost: localhost:{server.port}\r\nContent-Type: text/plain\r\n"
+    with socket.create_connection(("127.0.0.1", server.port), timeout=30) as connection:
+        connection.sendall(f"{head}Content-Length: {len(body)}\r\n\r\n".encode() + body)
+        said = b"".join(iter(lambda: connection.recv(65_536), b""))
+    rows = [json.loads(line) for line in said.splitlines() if line.startswith(b'{"record"')]
+    assert rows == good[: len(rows)] and len(rows) < 4
+    assert len(rows) == 2 or way not in ("exits", "ends")
+    assert not said.endswith(b"0\r\n\r\n")
+    assert str(town.folder.parent).encode() not in said and b"failing" not in said
 
 
 def test_a_program_that_hangs(program: Program, town: Town, tmp_path: Path) -> None:

@@ -11,7 +11,7 @@ from starlette.responses import Response
 from tempfile import SpooledTemporaryFile
 from typing import IO
 
-from olr.messages.message import FORMATS, Reading
+from olr.messages.message import FORMATS, TABLES, Reading
 from olr.serving.limits import MIB, Limits
 from olr.serving.peers import Shares, client_of
 from olr.serving.problems import Problem, bad_request, busy
@@ -30,6 +30,9 @@ ABREAST = 2
 """Lists that are read at once."""
 LARGE = MIB
 """Of longer ones one is read at a time."""
+FORMATS_OF_LISTS = [name for name in FORMATS if name not in TABLES]
+OPTIONS = ("format", "ref", "key")
+"""Of the address."""
 log = logging.getLogger("olr.serving")
 
 
@@ -98,11 +101,11 @@ async def _read(file: IO[bytes], reading: Reading, seconds: float) -> tuple[int,
 def reading_of(options: Options) -> Reading:
     """What the options of the address say of a list. Raises `Problem`."""
     for name in options:
-        if name not in Reading._fields:
-            known = ", ".join(Reading._fields)
+        if name not in OPTIONS:
+            known = ", ".join(OPTIONS)
             raise bad_request(f"{name!r} is no option of this address: it has {known}")
     given = options.get("format")
-    format = next((known for known in FORMATS if known == given), None)
+    format = next((known for known in FORMATS_OF_LISTS if known == given), None)
     if format != given:
-        raise bad_request(f"format is one of {', '.join(FORMATS)}")
+        raise bad_request(f"format is one of {', '.join(FORMATS_OF_LISTS)}")
     return Reading(format, options.get("ref"), options.get("key"))

@@ -2,12 +2,10 @@
 killed, and gives all of its memory back. `tasks.py` says what is asked of it.
 """
 
-import fcntl
 import gc
 import os
 import pickle
 import resource
-import select
 import signal
 import socket
 import sys
@@ -15,6 +13,7 @@ import traceback
 from io import BufferedRandom
 from typing import NoReturn
 
+from olr.asking.ending import end_with
 from olr.confidence.confidence import Confidence
 from olr.errors import ToolError
 from olr.serving import feature_texts, row_texts, scene_texts
@@ -58,7 +57,7 @@ def _fork(control: socket.socket, asked: socket.socket, grounds: Grounds, map: M
 def _work(asked: socket.socket, ground: Ground | ToolError) -> NoReturn:
     """Makes what is asked for, until the server has closed the socket."""
     try:
-        _end_with(asked)
+        end_with(asked.fileno())
         _limit(MOST_OF_STORE if isinstance(ground, StoreGround) else MOST_MEMORY, MOST_MADE)
         while descriptors := socket.recv_fds(asked, 1, 1)[1]:
             asked.send(pickle.dumps(_made(descriptors[0], ground)))
@@ -69,21 +68,6 @@ def _work(asked: socket.socket, ground: Ground | ToolError) -> NoReturn:
     finally:
         sys.stderr.flush()
         os._exit(0)
-
-
-def _end_with(asked: socket.socket) -> None:
-    """Ends this process once the other end of a socket is closed: what it has begun in files is deleted."""
-    watched = select.poll()
-    watched.register(asked, 0)
-
-    def look(*_: object) -> None:
-        if watched.poll(0):
-            sys.exit()
-
-    signal.signal(signal.SIGIO, look)
-    fcntl.fcntl(asked, fcntl.F_SETOWN, os.getpid())
-    fcntl.fcntl(asked, fcntl.F_SETFL, fcntl.fcntl(asked, fcntl.F_GETFL) | os.O_ASYNC)
-    look()
 
 
 def _limit(memory: int, size: int) -> None:

@@ -5,7 +5,6 @@ never ask with another profile.
 
 from collections.abc import Collection, Iterable, Mapping
 
-from olr.messages.message import FORMATS
 from olr.model.answers import Reference
 from olr.model.profiles import FEED, PROFILE, PROFILES, PROGRAM, about_text, tolerances_of
 from olr.model.questions import NUMBERS, TOLERANCES, Number, What
@@ -217,7 +216,7 @@ def _body(text: str, media_types: Iterable[str]) -> Json:
 
 
 def _messages(limits: Limits) -> Json:
-    formats = TEXT | {"enum": list(FORMATS)}
+    formats = TEXT | {"enum": list(lists.FORMATS_OF_LISTS)}
     parameters = [
         _parameter("format", formats, "by default the first line shows it"),
         _parameter("ref", TEXT, "the column or member of references, by default ref"),
@@ -227,7 +226,7 @@ def _messages(limits: Limits) -> Json:
     too_large = f"A list of more than {lists.most_bytes(limits):,} bytes"
     refusals = OF_BODIES | {"413": too_large, "422": "A list that isn't understood"}
     taken = (
-        f"Lines of a key, a tab and a reference, CSV or JSON. The first {listing.MOST_ROWS:,} messages are answered, and one more "
+        f"Lines of a key, a tab and a reference, CSV, JSON or XML. The first {listing.MOST_ROWS:,} messages are answered, and one more "
         "if there are more"
     )
     found = _address(summary, parameters, _lines_of("Message"), refusals)

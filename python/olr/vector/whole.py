@@ -27,18 +27,27 @@ NO_GEOMETRY = "Pointer 'hGeom' is NULL"
 def whole_features(file: Path, collection: Any) -> Iterator[Any]:
     """The features of a collection, while it is shown how far they are read. Raises `ToolError` where one can't be read."""
     total = _total(collection)
+    number = 0
+    with progress(f"records of {file.name}", total) as advance:
+        for number, feature in enumerate(without_errors(file, collection), 1):
+            yield feature
+            advance(1)
+    if collection.driver == EXACT and total is not None and number < total:
+        raise ToolError(_lacking(file, number, total))
+
+
+def without_errors(file: Path, collection: Any) -> Iterator[Any]:
+    """The features of a collection. Raises `ToolError` where GDAL reports an error."""
+    total = _total(collection)
     of_total = "" if total is None else f" of {total:,}"
     number = 0
-    with _errors_of_gdal() as errors, progress(f"records of {file.name}", total) as advance:
+    with _errors_of_gdal() as errors:
         for number, feature in enumerate(collection, 1):
             if errors:
                 raise ToolError(f"{file} can't be read: record {number:,}{of_total}: {errors[0]}")
             yield feature
-            advance(1)
     if errors:
         raise ToolError(f"{file} can't be read: record {number + 1:,}{of_total}: {errors[0]}")
-    if collection.driver == EXACT and total is not None and number < total:
-        raise ToolError(_lacking(file, number, total))
 
 
 def _total(collection: Any) -> int | None:
