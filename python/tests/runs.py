@@ -280,8 +280,11 @@ class Runs:
             f"""#!/usr/bin/python3 -IS
 import os, sys, time
 
+def parts():
+    return [name for name in os.listdir({str(self.out / 'parts')!r}) if name[0] != "."]
+
 run = os.getsid(0)
-if os.getppid() != run and len(os.listdir({str(self.out / 'parts')!r})) >= 2:
+if os.getppid() != run and len(parts()) >= 2:
     try:
         os.mkdir({str(self.flag(sign))!r})
         os.kill({whom}, {signal.Signals[f"SIG{sign}"].value})

@@ -37,7 +37,8 @@ def test_the_run_is_interrupted(runs: Runs, whom: str, sign: str) -> None:
     ended = runs.run(*GROUPS, program=runs.killing(whom, sign))
     assert runs.flag(sign).exists()
     assert (ended.status, ended.stderr.strip()) == (1, "olr-tools: interrupted")
-    assert 2 <= len(runs.parts()) < 31 and all(name[0] != "." for name in runs.parts())
+    parts = runs.parts()
+    assert 2 <= len(parts) < 31 and all(name[0] != "." for name in parts), parts
     assert os.listdir(runs.folder / "scratch") == []
 
 

@@ -163,14 +163,15 @@ def test_a_process_that_fails(
     begun: Begun, town: Town, program: Program, tmp_path: Path, way: str, error: type[Exception]
 ) -> None:
     """In each way, at the third of five records or right behind it. It isn't kept."""
+    patience = 0.5 if error is TimedOut else 60
     group = begun.folder.group(4, begun.grouped.sha256).records()[:5]
     bad = bad_program(tmp_path / "bad", program, {group[2].text().decode(): way})
     asked, files, kept = begun.job.asked()._replace(program=bad), begun.job.map.files(), Kept()
     found = list[bytes]()
     with pytest.raises(error):
-        for line in kept.lines(asked, files, 0.5, group):
+        for line in kept.lines(asked, files, patience, group):
             found.append(line)
-        for line in kept.lines(asked, files, 0.5, [Record(9999, group[0].data)]):
+        for line in kept.lines(asked, files, patience, [Record(9999, group[0].data)]):
             found.append(line)
     assert kept._process is None
     expected = lines_of_batch(program, town.folder, "match", town.messages)

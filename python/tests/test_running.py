@@ -254,6 +254,12 @@ def test_folders_of_runs(town: Town, program: Program, tmp_path: Path) -> None:
             with run.begun(question, records, True):
                 pass
         assert left.exists()
+    assert not left.exists()
+    with pytest.raises(KeyboardInterrupt):
+        with run.begun(question, records, True):
+            left.mkdir()
+            raise KeyboardInterrupt
+    assert not left.exists()
     with pytest.raises(ToolError, match="holds a run: go on with it by --resume"):
         with run.begun(question, records, False):
             pass
@@ -261,10 +267,10 @@ def test_folders_of_runs(town: Town, program: Program, tmp_path: Path) -> None:
         with pytest.raises(ToolError, match=f"holds a run with other {name}: name another"):
             with run.begun(replace(question, **change), records, True):
                 pass
+    left.mkdir()
     for asked in (question, replace(question, per_group=50)):
         with run.begun(asked, records, True) as again:
-            assert again == grouped
-    assert not left.exists()
+            assert again == grouped and not left.exists()
     table = json.loads((run.path / "run.json").read_text())
     table["grouped"]["sha256"] = "0" * 64
     for text, said in (

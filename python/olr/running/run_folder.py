@@ -101,12 +101,15 @@ class RunFolder:
                 locked.enter_context(self._locked())
                 grouped = self._open(question, records, resume)
                 self._clear()
-            yield grouped
+            try:
+                yield grouped
+            finally:
+                # A worker may have been ended, or killed, while it wrote.
+                with suppress(OSError):
+                    self._clear()
 
     def sync(self) -> None:
-        """Deletes what workers that were killed left half written, and hands over to the disk which parts there are. Raises `ToolError`."""
-        with writing(self.path):
-            self._clear()
+        """Hands over to the disk which parts there are. Raises `ToolError`."""
         for name in (PARTS, FACTS):
             with writing(self.path / name):
                 sync(self.path / name)
