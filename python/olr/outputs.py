@@ -10,12 +10,12 @@ GDAL doesn't tell of each write that failed: let it write into memory, and hand 
 import errno
 import os
 import shutil
-import tempfile
 from collections.abc import Iterable, Iterator
 from contextlib import contextmanager, suppress
 from pathlib import Path
 
 from olr.errors import ToolError
+from olr.temporary import temporary_folder
 
 PREFIX = ".olr-tools."
 """Of the names of folders in which something is made."""
@@ -74,8 +74,8 @@ def folder_beside(place: Path) -> Iterator[Path]:
     """Gives a new folder beside a place, for what shall be moved there, and deletes it at the end. Folders above are made as needed;
     they are deleted too if an error is raised. Raises `OSError`."""
     with folders_made(place.parent):
-        with tempfile.TemporaryDirectory(prefix=PREFIX, dir=place.parent) as beside:
-            yield Path(beside)
+        with temporary_folder(PREFIX, place.parent) as beside:
+            yield beside
 
 
 @contextmanager

@@ -15,6 +15,7 @@ from typing import TYPE_CHECKING, NamedTuple
 
 from browser import ONE_THREAD, Browser
 from drawing import Drawing
+from forked import template
 from olr.counts import Counts
 from olr.model.map_folder import write_map
 from olr.model.road_map import Line, RoadMap
@@ -37,6 +38,16 @@ OF_PROGRAM = ("--profile", "program")
 """Words of `olr-tools` for the program's own tolerances: where what it writes is compared with what the program says, or was drawn for them."""
 ASKED_WITH_PROGRAM = "asked with: radius 100 m, bearing 4 sectors, class 7, lowest 0, percent 30 %, slack 300 dm, profile program"
 """What a summary says then."""
+
+
+def pytest_configure() -> None:
+    """Nothing was collected yet, so it is small."""
+    template.start()
+
+
+def pytest_unconfigure() -> None:
+    """It ends before this process does."""
+    template.end()
 
 
 def pytest_collection() -> None:

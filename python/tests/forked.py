@@ -1,11 +1,13 @@
-"""The command `olr-tools`, or one of Dask, as a process that starts at once: a fork of this one, which has the modules already. Their imports
-take a second of a new one. How much memory a fork has says nothing."""
+"""The command `olr-tools`, or one of Dask, as a process that starts at once: a fork of one that has the modules already. Their imports take a
+second of a new one. How much memory a fork has says nothing."""
 
 import gc
 import importlib
 import logging
 import os
+import pickle
 import signal
+import socket
 import subprocess
 import sys
 import tempfile
@@ -19,6 +21,11 @@ from typing import NoReturn
 
 from olr.__main__ import main
 
+COMMANDS = ("olr.commands.run", "olr.commands.serve")
+"""Modules that the template has."""
+MOST_MESSAGE = 1 << 16
+"""Bytes of what the template is told."""
+
 
 class Forked:
     """A process, with what is asked of one of `subprocess`."""
@@ -28,23 +35,26 @@ class Forked:
         words: Sequence[str],
         environment: Mapping[str, str],
         errors: Path,
-        command: Callable[[], object] = main,
+        command: Callable[[], object] | None = None,
     ) -> None:
+        """A fork of the template that runs `olr-tools`; or one of this process that runs a command, and has what tests changed."""
         read, write = os.pipe()
         self.words, self.errors = words, errors
         self.returncode: int | None = None
-        self.pid = os.fork()
-        if self.pid == 0:
-            _run(command, words, environment, write, errors)
+        self._wait = template.wait if command is None else _wait
+        if command is None:
+            self.pid = template.fork(words, environment, errors, write)
+        else:
+            self.pid = os.fork()
+            if self.pid == 0:
+                _run(command, words, environment, write, errors)
         os.close(write)
         self.stdout = os.fdopen(read)
 
     def poll(self) -> int | None:
         """Its status, if it has ended."""
         if self.returncode is None:
-            ended, status = os.waitpid(self.pid, os.WNOHANG)
-            if ended:
-                self.returncode = os.waitstatus_to_exitcode(status)
+            self.returncode = self._wait(self.pid)
         return self.returncode
 
     def wait(self, seconds: float = 60) -> int:
@@ -71,6 +81,71 @@ class Forked:
     def __exit__(self, *_: object) -> None:
         self.stdout.close()
         self.wait()
+
+
+class Template:
+    """A process that has little but the modules of commands, and is forked in place of this one: each page of memory to which either process
+    writes behind a fork is copied, and this one writes to most of what it has."""
+
+    def start(self) -> None:
+        """Forks it, while this process is small. It ends with it."""
+        self._asked, theirs = socket.socketpair(socket.AF_UNIX, socket.SOCK_SEQPACKET)
+        self._pid = os.fork()
+        if self._pid == 0:
+            self._asked.close()
+            _fork_for(theirs)
+        theirs.close()
+
+    def end(self) -> None:
+        """Ends it."""
+        self._asked.close()
+        os.waitpid(self._pid, 0)
+
+    def fork(
+        self, words: Sequence[str], environment: Mapping[str, str], errors: Path, output: int
+    ) -> int:
+        """Forks a process that runs `olr-tools` here. Answers its id."""
+        message = pickle.dumps((os.getcwd(), words, dict(environment), errors))
+        socket.send_fds(self._asked, [message], [output])
+        return int(self._asked.recv(MOST_MESSAGE))
+
+    def wait(self, pid: int) -> int | None:
+        """The status of a process that it forked, if that has ended."""
+        self._asked.send(str(pid).encode())
+        status = self._asked.recv(MOST_MESSAGE).decode()
+        return int(status) if status != "None" else None
+
+
+template = Template()
+"""Of all tests."""
+
+
+def _wait(pid: int) -> int | None:
+    """The status of a process that this one has forked, if it has ended."""
+    ended, status = os.waitpid(pid, os.WNOHANG)
+    return os.waitstatus_to_exitcode(status) if ended else None
+
+
+def _fork_for(asked: socket.socket) -> NoReturn:
+    """What the template does, until the process of the tests has ended."""
+    signal.signal(signal.SIGINT, signal.SIG_IGN)
+    while True:
+        message, descriptors, *_ = socket.recv_fds(asked, MOST_MESSAGE, 1)
+        if not message:
+            os._exit(0)
+        if not descriptors:
+            asked.send(str(_wait(int(message))).encode())
+            continue
+        for name in COMMANDS:
+            importlib.import_module(name)
+        gc.freeze()
+        pid = os.fork()
+        if pid == 0:
+            folder, words, environment, errors = pickle.loads(message)
+            os.chdir(folder)
+            _run(main, words, environment, descriptors[0], errors)
+        os.close(descriptors[0])
+        asked.send(str(pid).encode())
 
 
 def _run(

@@ -3,6 +3,7 @@
 import importlib
 import os
 import pytest
+import re
 import signal
 import subprocess
 import time
@@ -18,6 +19,7 @@ from typing import TYPE_CHECKING, NamedTuple
 from asking import draw_map, draw_references
 from conftest import OF_PROGRAM, TOP, Program, Tools
 from forked import Forked
+from olr.__main__ import main
 from olr.content import Content
 from olr.messages.message import Reading
 from olr.regions.making import make_store_of_folder
@@ -164,6 +166,13 @@ class Ended(NamedTuple):
     status: int
     stdout: str
     stderr: str
+    """Without how far it was, which a slow machine says."""
+
+
+def without_progress(stderr: str) -> str:
+    """What was said but for how far a run was."""
+    lines = stderr.splitlines(keepends=True)
+    return "".join(line for line in lines if not re.match("[a-zA-Z ]+: [0-9,]+( of |$)", line))
 
 
 class Runs:
@@ -186,13 +195,15 @@ class Runs:
         with self.started(*words, "--workers", workers, program=program) as run:
             status = run.wait(120)
             self.await_end()
-            return Ended(status, run.stdout.read(), run.errors.read_text())
+            return Ended(status, run.stdout.read(), without_progress(run.errors.read_text()))
 
     @contextmanager
     def started(self, *words: object, program: Path | None = None) -> Iterator[Forked]:
         """A run as a process of its own, which is the first one of its session. It doesn't outlive this."""
         errors = self.folder / "stderr"
-        with Forked(self.words(*words)[1:], self.environment(program), errors) as process:
+        # Dask takes long to import.
+        command = main if "--scheduler" in words else None
+        with Forked(self.words(*words)[1:], self.environment(program), errors, command) as process:
             try:
                 yield process
             finally:
@@ -204,7 +215,7 @@ class Runs:
         with pytest.MonkeyPatch.context() as patch:
             patch.setenv("OLR_PROGRAM", os.fspath(shared.program))
             ended = Tools().run(*self.words(*words, "--scheduler", shared.address)[1:])
-        return Ended(ended.returncode, ended.stdout, ended.stderr)
+        return Ended(ended.returncode, ended.stdout, without_progress(ended.stderr))
 
     def run_here(
         self,
@@ -220,7 +231,7 @@ class Runs:
             patch.setenv("TMPDIR", os.fspath(self.scratch))
             patch.setattr("tempfile.tempdir", None)
             ended = Tools().run(*self.words(*words, messages=messages)[1:])
-        return Ended(ended.returncode, ended.stdout, ended.stderr)
+        return Ended(ended.returncode, ended.stdout, without_progress(ended.stderr))
 
     def environment(self, program: Path | None = None) -> dict[str, str]:
         """The variables of a run's processes."""

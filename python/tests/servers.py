@@ -2,7 +2,6 @@
 
 import asyncio
 import http.client
-import importlib
 import json
 import os
 import signal
@@ -16,9 +15,6 @@ from urllib.parse import quote
 
 from conftest import TOP, Program
 from forked import Forked
-
-# Forks have it then.
-importlib.import_module("olr.commands.serve")
 
 SECONDS = 30.0
 """So long is waited for what has to come."""
@@ -125,7 +121,7 @@ def started(words: Sequence[str], environment: dict[str, str], errors: Path) -> 
 
 @contextmanager
 def forked(words: Sequence[str], environment: dict[str, str], errors: Path) -> Iterator[Process]:
-    """The same as a fork of this process."""
+    """The same as a fork."""
     with Forked(words, environment, errors) as process:
         yield process
 
@@ -134,7 +130,7 @@ def forked(words: Sequence[str], environment: dict[str, str], errors: Path) -> I
 def serving(
     program: Path, folder: Path | str, errors: Path, *options: object, is_new: bool = False
 ) -> Iterator[Server]:
-    """A server on a map, at a free port. None of its processes outlives this. It is a fork of this one, unless its memory is looked at."""
+    """A server on a map, at a free port. None of its processes outlives this. It is a fork, unless its memory is looked at."""
     words = ["serve", "--map", folder, "--port", 0, "--workers", 2, *options]
     environment = os.environ | {"OLR_PROGRAM": str(program), "PYTHONPATH": str(TOP / "python")}
     begin = started if is_new else forked

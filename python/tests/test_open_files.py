@@ -8,7 +8,7 @@ from pathlib import Path
 from conftest import TOP, Program
 from forked import Forked
 from olr.__main__ import main
-from runs import Town
+from runs import Town, without_progress
 
 EXAMPLES = TOP / "examples"
 MESSAGES = EXAMPLES / "messages.tsv"
@@ -24,7 +24,7 @@ def ended(folder: Path, files: int, *words: object) -> tuple[int, str]:
 
     with Forked([*map(str, words)], os.environ, errors, command) as process:
         status = process.wait()
-    said = errors.read_text()
+    said = without_progress(errors.read_text())
     errors.unlink()
     return status, said
 

@@ -12,7 +12,7 @@ from conftest import ASKED_WITH_PROGRAM, OF_PROGRAM, Program
 from olr.running import cluster
 from olr.tools import run
 from region_maps import Drawing, hostile_map, hostile_text
-from runs import Runs, Town, assert_resumes, identities, listened_on
+from runs import Runs, Town, assert_resumes, identities, listened_on, without_progress
 from schedulers import Scheduler, Shared
 
 
@@ -29,7 +29,7 @@ def test_all_answers(runs: Runs) -> None:
         stdout, stderr = run.communicate()
     runs.await_end()
     expected = runs.expected()
-    assert (run.returncode, stderr) == (0, "")
+    assert (run.returncode, without_progress(stderr)) == (0, "")
     assert runs.joined.read_bytes() == expected
     lines = [json.loads(line) for line in expected.splitlines()]
     head, *counts, tail = stdout.splitlines()

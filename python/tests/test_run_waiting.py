@@ -1,7 +1,6 @@
 """`olr-tools run` whose workers or scheduler end, wait or are limited: what is said of it."""
 
 import pytest
-import re
 import time
 from collections.abc import Iterator
 from contextlib import contextmanager
@@ -10,7 +9,7 @@ from distributed import Client, Event, Status
 from forked import Forked
 from olr.running import waiting
 from olr.running.waiting import limited_workers, what_is_waited_for
-from runs import Runs
+from runs import Runs, without_progress
 from schedulers import Scheduler
 
 pytestmark = pytest.mark.filterwarnings("ignore:make_current is deprecated")
@@ -26,12 +25,6 @@ def asked_run(runs: Runs, scheduler: Scheduler, name: str) -> Iterator[Forked]:
     with runs.started(*words, program=runs.waiting()) as run:
         runs.await_asked(run)
         yield run
-
-
-def without_progress(stderr: str) -> str:
-    """What was said but for how far the run was, which a slow machine says."""
-    lines = stderr.splitlines(keepends=True)
-    return "".join(line for line in lines if not re.match("[a-zA-Z ]+: [0-9,]+( of |$)", line))
 
 
 def test_all_workers_and_then_the_scheduler_are_killed(runs: Runs) -> None:
@@ -62,7 +55,7 @@ def test_all_workers_and_then_the_scheduler_are_killed(runs: Runs) -> None:
     runs.await_end()
     words = ["--per-group", 60, "--resume", "--join", runs.joined]
     ended = runs.run_here(*words, program=runs.folder / "waiting")
-    assert (ended.status, without_progress(ended.stderr)) == (0, "")
+    assert (ended.status, ended.stderr) == (0, "")
     assert runs.joined.read_bytes() == runs.expected()
 
 

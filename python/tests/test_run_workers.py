@@ -20,7 +20,7 @@ from olr.errors import ToolError
 from olr.running import workers
 from olr.running.answering import GroupsFailed, answer_groups
 from olr.running.workers import Workers, answer_here
-from runs import Begun, Runs, Town, assert_resumes
+from runs import Begun, Runs, Town, assert_resumes, without_progress
 
 KILLS = 20
 USES = {"open", "os.mkdir", "os.remove", "os.rmdir", "os.rename", "subprocess.Popen"}
@@ -86,7 +86,7 @@ def test_workers_are_killed(runs: Runs, tmp_path: Path) -> None:
         status = run.wait(120)
     runs.await_end()
     assert len(os.listdir(claims)) == KILLS and os.listdir(runs.scratch) == []
-    said = errors.read_text()
+    said = without_progress(errors.read_text())
     if status:
         assert "groups failed" in said and "was ended by signal 9" in said
     assert said.count("\n") == status
@@ -277,7 +277,7 @@ def test_a_run_that_starts_is_ended(runs: Runs) -> None:
         with Forked(words, runs.environment(), errors, ended_at(moment, sign)) as run:
             assert run.wait(120) == 1, moment
             assert run.stdout.read() == ""
-        assert errors.read_text().strip() == "olr-tools: interrupted"
+        assert without_progress(errors.read_text()).strip() == "olr-tools: interrupted"
         runs.await_end()
         assert os.listdir(runs.scratch) == []
         assert all(name[0] != "." for name in runs.parts())

@@ -2,7 +2,6 @@
 
 import click
 import os
-import tempfile
 from collections import Counter
 from collections.abc import Iterator, Sequence
 from contextlib import contextmanager
@@ -36,6 +35,7 @@ from olr.running.records import of_one_edition, read_records
 from olr.running.run_folder import FAILED, RUN, RunFolder
 from olr.running.tasks import Outcome
 from olr.running.workers import answer_here
+from olr.temporary import temporary_folder
 
 if TYPE_CHECKING:
     from olr.running.geometries import Geometries
@@ -251,8 +251,8 @@ def _rows(
 def _require_numbers(asking: Asking, asked_map: AskedMap, patience: float) -> None:
     """Raises `Fault` where the program refuses a number, `MapRefused` where it refuses the map of a folder, `ProgramNotFound`, and `TimedOut`
     where it answers nothing for so many seconds: before anything is written."""
-    with _scratch_files(), tempfile.TemporaryDirectory(prefix="olr-run.") as scratch:
-        folder = Path(scratch) if asked_map.is_store else asked_map.path
+    with _scratch_files(), temporary_folder("olr-run.") as scratch:
+        folder = scratch if asked_map.is_store else asked_map.path
         if asked_map.is_store:
             write_rows(folder / NODES, NODES_HEADER, [])
             write_rows(folder / LINES, LINES_HEADER, [])

@@ -4,7 +4,6 @@ import codecs
 import io
 import shutil
 import sys
-import tempfile
 from collections.abc import Iterable, Iterator
 from contextlib import ExitStack, contextmanager
 from itertools import chain
@@ -15,6 +14,7 @@ from olr.errors import ToolError
 from olr.importing.packed import packing_of_bytes
 from olr.messages.packed import MAGIC_BYTES, Unpackable, unpacked
 from olr.messages.pieces import PIECE_BYTES, pieces_as_they_come, stream_of
+from olr.temporary import temporary_folder
 
 STANDARD_INPUT = Path("-")
 UTF_16 = codecs.BOM_UTF16_LE, codecs.BOM_UTF16_BE
@@ -78,8 +78,7 @@ def as_file(file: Path) -> Iterator[Path]:
         return
     with ExitStack() as stack:
         try:
-            folder = stack.enter_context(tempfile.TemporaryDirectory(prefix="olr-run."))
-            copy = Path(folder, "messages")
+            copy = stack.enter_context(temporary_folder("olr-run.")) / "messages"
             with _raw(file) as stream, copy.open("wb") as made:
                 shutil.copyfileobj(stream, made)
         except OSError as error:

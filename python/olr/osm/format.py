@@ -1,12 +1,12 @@
 """Of what format an OpenStreetMap file is, by its first bytes. pyosmium goes by the suffix of a name alone."""
 
-import tempfile
 from collections.abc import Iterator
 from contextlib import contextmanager
 from pathlib import Path
 from typing import NamedTuple
 
 from olr.importing.packed import BZIP2, GZIP, head_of, packed_error, packing_of
+from olr.temporary import temporary_folder
 
 CHANGES = b"<osmChange"
 """The root of a change file."""
@@ -59,7 +59,7 @@ def named_for_osmium(file: Path, format: Format) -> Iterator[str]:
     if file.name.endswith(format.suffix):
         yield str(file)
         return
-    with tempfile.TemporaryDirectory(prefix="olr-tools-") as folder:
-        link = Path(folder, f"file{format.suffix}")
+    with temporary_folder("olr-tools-") as folder:
+        link = folder / f"file{format.suffix}"
         link.symlink_to(file.resolve())
         yield str(link)

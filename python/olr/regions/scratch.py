@@ -3,12 +3,13 @@
 import shutil
 import tempfile
 from collections.abc import Iterator
-from contextlib import contextmanager
+from contextlib import ExitStack, contextmanager
 from pathlib import Path
 
 from olr.arrays import Integers
 from olr.errors import ToolError
 from olr.regions.store import Store
+from olr.temporary import temporary_folder
 
 PREFIX = "olr-map."
 """Of the names of scratch folders."""
@@ -17,8 +18,15 @@ ADVICE = "name another folder for scratch files by TMPDIR"
 
 def new_scratch_folder() -> Path:
     """A new folder. Raises `ToolError` if it can't be made."""
-    try:
+    with _made():
         return Path(tempfile.mkdtemp(prefix=PREFIX))
+
+
+@contextmanager
+def _made() -> Iterator[None]:
+    """Raises `ToolError` where a folder can't be made."""
+    try:
+        yield
     except OSError as error:
         raise ToolError(f"scratch files can't be written: {error.strerror}: {ADVICE}") from error
 
@@ -38,11 +46,10 @@ def write_scratch_map(store: Store, lines: Integers, folder: Path) -> None:
 @contextmanager
 def scratch_folder() -> Iterator[Path]:
     """Gives a new folder, and deletes it at the end. Raises `ToolError` if it can't be made."""
-    scratch = new_scratch_folder()
-    try:
+    with ExitStack() as stack:
+        with _made():
+            scratch = stack.enter_context(temporary_folder(PREFIX))
         yield scratch
-    finally:
-        shutil.rmtree(scratch, ignore_errors=True)
 
 
 @contextmanager

@@ -1,7 +1,6 @@
 """What a worker does: the lines of neighbouring groups, for each group as a file that is complete or absent."""
 
 import shutil
-import tempfile
 from collections import Counter
 from collections.abc import Iterable, Iterator, Mapping, Sequence
 from contextlib import contextmanager, suppress
@@ -31,6 +30,7 @@ from olr.running.kept import Kept
 from olr.running.parts import NotWhole, Part
 from olr.running.question import Question
 from olr.running.run_folder import RunFolder
+from olr.temporary import temporary_folder
 
 ANSWERED = "answered"
 """What lines without a fault are counted as."""
@@ -195,11 +195,11 @@ def _scratch_folder(folder: Path | None) -> Iterator[Path]:
     killed. Raises `ToolError` if something can't be written there."""
     name = f"the scratch folder of a worker on {gethostname()}"
     try:
-        with tempfile.TemporaryDirectory(dir=folder) as made:
+        with temporary_folder("olr-run.", folder) as made:
             try:
-                yield Path(made)
+                yield made
             except ToolError as error:
-                raise ToolError(str(error).replace(made, name)) from error
+                raise ToolError(str(error).replace(str(made), name)) from error
     except OSError as error:
         raise ToolError(f"{name} can't be written: {error.strerror}") from error
 

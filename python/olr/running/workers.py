@@ -4,7 +4,6 @@ however, is forked again."""
 import gc
 import os
 import signal
-import tempfile
 import traceback
 from collections import Counter, deque
 from collections.abc import Iterator, Sequence
@@ -25,6 +24,7 @@ from olr.running.grouping import Grouped
 from olr.running.kept import Kept
 from olr.running.tasks import RETRIES, Done, Outcome, Task, outcome_of, tasks_of
 from olr.signals import ENDING, kept_signals
+from olr.temporary import temporary_folder
 
 SECONDS_TO_END = 10.0
 """A worker that hasn't ended by then is killed."""
@@ -38,14 +38,13 @@ def answer_here(workers: int | None, job: Job, grouped: Grouped) -> Outcome:
     `OSError` where scratch files can't be written."""
     most = min(workers or processors(), grouped.groups)
     tasks = tasks_of(grouped, most)
-    scratch = tempfile.TemporaryDirectory(prefix="olr-run.")
-    started = Workers(job, min(most, len(tasks)), Path(scratch.name))
-    try:
-        return outcome_of(_shown(started, tasks))
-    finally:
-        with kept_signals():
-            started.end()
-            scratch.cleanup()
+    with temporary_folder("olr-run.") as scratch:
+        started = Workers(job, min(most, len(tasks)), scratch)
+        try:
+            return outcome_of(_shown(started, tasks))
+        finally:
+            with kept_signals():
+                started.end()
 
 
 def _shown(workers: "Workers", tasks: Sequence[Task]) -> Iterator[Done]:
