@@ -8,19 +8,22 @@ import signal
 import subprocess
 import time
 from collections.abc import Callable, Iterator, Sequence
-from contextlib import contextmanager
+from contextlib import AbstractContextManager, contextmanager
 from pathlib import Path
 from typing import Any, NamedTuple, Union
 from urllib.parse import quote
 
 from conftest import TOP, Program
 from forked import Forked
+from olr.__main__ import main
 
 SECONDS = 30.0
 """So long is waited for what has to come."""
 
 
 Process = Union[Forked, "subprocess.Popen[str]"]
+Begin = Callable[[Sequence[str], dict[str, str], Path], AbstractContextManager[Process]]
+"""Starts `olr-tools` with words and variables, and its standard error in a file."""
 
 
 class Reply(NamedTuple):
@@ -127,13 +130,21 @@ def forked(words: Sequence[str], environment: dict[str, str], errors: Path) -> I
 
 
 @contextmanager
+def forked_here(
+    words: Sequence[str], environment: dict[str, str], errors: Path
+) -> Iterator[Process]:
+    """The same as a fork of this process, with what a test changed in it."""
+    with Forked(words, environment, errors, main) as process:
+        yield process
+
+
+@contextmanager
 def serving(
-    program: Path, folder: Path | str, errors: Path, *options: object, is_new: bool = False
+    program: Path, folder: Path | str, errors: Path, *options: object, begin: Begin = forked
 ) -> Iterator[Server]:
-    """A server on a map, at a free port. None of its processes outlives this. It is a fork, unless its memory is looked at."""
+    """A server on a map, at a free port. None of its processes outlives this. It is new where its memory is looked at."""
     words = ["serve", "--map", folder, "--port", 0, "--workers", 2, *options]
     environment = os.environ | {"OLR_PROGRAM": str(program), "PYTHONPATH": str(TOP / "python")}
-    begin = started if is_new else forked
     with begin(list(map(str, words)), environment, errors) as process:
         assert process.stdout is not None
         programs: list[int] = []

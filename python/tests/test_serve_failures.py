@@ -28,6 +28,7 @@ from servers import (
     path_of,
     reply_on,
     serving,
+    started,
     wait_until,
 )
 
@@ -84,7 +85,7 @@ def test_a_client_that_stops_reading(
 ) -> None:
     """Its body isn't read on, the memory of the server stays as it is, and others are answered."""
     records = "".join(f"{text}\n" for text in whole(texts)).encode() * 2000
-    with serving(program.path, drawn, tmp_path / "log", is_new=True) as server:
+    with serving(program.path, drawn, tmp_path / "log", begin=started) as server:
         before = server.memory()
         with stream_of(server, len(records)) as connection:
             connection.setblocking(False)

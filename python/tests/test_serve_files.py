@@ -6,7 +6,7 @@ import socket
 from pathlib import Path
 
 from conftest import REFERENCE, TOP, Program
-from servers import path_of, serving
+from servers import forked_here, path_of, serving
 
 EXAMPLES = TOP / "examples"
 
@@ -17,7 +17,14 @@ def test_few_files_for_several_maps(
     """Each has as many processes."""
     monkeypatch.setattr(resource, "getrlimit", lambda _: (208, 208))
     with pytest.raises(AssertionError, match="needs 232 with 16 processes"):
-        with serving(program.path, f"a={EXAMPLES}", tmp_path / "log", "--map", f"b={EXAMPLES}"):
+        with serving(
+            program.path,
+            f"a={EXAMPLES}",
+            tmp_path / "log",
+            "--map",
+            f"b={EXAMPLES}",
+            begin=forked_here,
+        ):
             pass
 
 
@@ -29,11 +36,11 @@ def test_few_files(
     monkeypatch.setattr(resource, "getrlimit", lambda _: (files, files))
     if files < 188:
         with pytest.raises(AssertionError, match=said):
-            with serving(program.path, EXAMPLES, tmp_path / "log"):
+            with serving(program.path, EXAMPLES, tmp_path / "log", begin=forked_here):
                 pass
         assert (tmp_path / "log").read_text().count("\n") == 1
         return
-    with serving(program.path, EXAMPLES, tmp_path / "log") as server:
+    with serving(program.path, EXAMPLES, tmp_path / "log", begin=forked_here) as server:
         assert said in server.log() and server.log().count("\n") == 1
         silent = list[socket.socket]()
         stream = b"CwVG\n" * 100

@@ -14,7 +14,7 @@ from pathlib import Path
 from typing import NamedTuple
 
 from conftest import REFERENCE, TOP, Program
-from servers import Server, path_of, reply_on, serving, wait_until
+from servers import Server, path_of, reply_on, serving, started, wait_until
 
 EXAMPLES = TOP / "examples"
 SILENT = 5_000
@@ -25,7 +25,7 @@ SILENT = 5_000
 def server(program: Program, tmp_path_factory: pytest.TempPathFactory) -> Iterator[Server]:
     """A server on the example's town."""
     errors = tmp_path_factory.mktemp("log") / "log"
-    with serving(program.path, EXAMPLES, errors, "--body-limit", 1, is_new=True) as found:
+    with serving(program.path, EXAMPLES, errors, "--body-limit", 1, begin=started) as found:
         yield found
         assert "Traceback" not in found.log()
 

@@ -8,7 +8,7 @@ from pathlib import Path
 
 from asking import draw_map
 from olr.serving.connections import ESTABLISHED
-from servers import Server, serving, wait_until
+from servers import Server, serving, started, wait_until
 
 
 @pytest.fixture(scope="module")
@@ -39,7 +39,7 @@ for number, record in enumerate(sys.stdin.buffer, 1):
 def server(drawn: Path, tmp_path: Path) -> Iterator[Server]:
     """A server with that program, a process of its own for each test: its memory is looked at, and what one test leaves there counts."""
     program = writing_program(tmp_path / "program")
-    with serving(program, drawn, tmp_path / "log", "--workers", 1, is_new=True) as found:
+    with serving(program, drawn, tmp_path / "log", "--workers", 1, begin=started) as found:
         yield found
 
 

@@ -33,7 +33,7 @@ from olr.serving.makers import Makers
 from olr.serving.problems import Problem
 from olr.serving.queries import kind_of
 from olr.serving.tasks import FeaturesTask, JudgedBy, MapVersion
-from servers import children_of, is_running, path_of, serving, wait_until
+from servers import children_of, is_running, path_of, serving, started, wait_until
 from test_run_disks import Disk, disk
 
 __all__ = ["disk"]
@@ -385,7 +385,7 @@ def test_worst_requests(drawn: Path, program: Program, tmp_path: Path) -> None:
     path = path_of("match", text, radius=400, percent=100, slack=10_000, page=1000)
     values = b"[" + b",".join([b"[]"] * ((1 << 24) // 3 - 1)) + b"]"
     lists = [values, *[values[:1].ljust(len(values))] * 3]
-    with serving(program.path, drawn, tmp_path / "log", is_new=True) as server:
+    with serving(program.path, drawn, tmp_path / "log", begin=started) as server:
 
         def ask(number: int) -> int:
             if number < 4:

@@ -13,7 +13,7 @@ from asking import likeliest_of
 from bad_programs import bad_program
 from conftest import REFERENCE, Program, Tools
 from runs import Town
-from servers import Server, serving, wait_until
+from servers import Server, serving, started, wait_until
 
 LINES = {"Content_Type": "text/plain"}
 COLUMNS = [
@@ -145,7 +145,7 @@ def test_a_client_that_stops_reading(program: Program, town: Town, tmp_path: Pat
     """Its body isn't read on, and the memory of the server stays as it is."""
     texts = [line for line in town.plain.read_bytes().splitlines(keepends=True) if line.isascii()]
     records = b"CwVG\n" * 2_000_000
-    with serving(program.path, town.folder, tmp_path / "log", is_new=True) as server:
+    with serving(program.path, town.folder, tmp_path / "log", begin=started) as server:
         rows_of(server, b"".join(texts))
         before = server.memory()
         head = (
