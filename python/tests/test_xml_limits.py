@@ -96,13 +96,13 @@ def test_many_names(monkeypatch: pytest.MonkeyPatch) -> None:
 )
 def test_one_record_is_held(options: dict[str, Any]) -> None:
     """6 MB of records take no more than the pieces that are read at once."""
-    inner = f"<k>1</k><x>{'y' * 4000}</x><openlrBinary>{ONE}</openlrBinary>"
+    inner = f"<k>1</k><x>{'y' * 30_000}</x><openlrBinary>{ONE}</openlrBinary>"
     row = f"<situation id='s'><situationRecord id='1'>{inner}</situationRecord></situation>\n"
-    given = pieces("<d2LogicalModel id='f'>", row, 1500)
+    given = pieces("<d2LogicalModel id='f'>", row, 200)
     tracemalloc.start()
     try:
         stream = stream_of(chain(given, [b"</d2LogicalModel>"]))
         found = sum(it.key == "1" for it in messages_of_xml(stream, Reading(**options), "feed"))
-        assert found == 1500 and tracemalloc.get_traced_memory()[1] < 2_000_000
+        assert found == 200 and tracemalloc.get_traced_memory()[1] < 2_000_000
     finally:
         tracemalloc.stop()
