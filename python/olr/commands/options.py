@@ -8,7 +8,7 @@ from pathlib import Path
 from typing import Any
 
 from olr.asking.patience import PATIENCE, require_patience
-from olr.messages.message import FORMATS, KEY, REF, Format, Reading
+from olr.messages.message import BASE64, FORMATS, KEY, REF, Base64, Format, Reading
 from olr.model.asked_with import Asking
 from olr.model.profiles import FEED, PROFILE, PROFILES, about_text
 from olr.model.questions import NUMBERS, TOLERANCES, Number, What, argument
@@ -159,11 +159,23 @@ def reading_options(command: Command) -> Command:
     )
     @_member_option("--ref", "reference", REF)
     @_member_option("--key", "key", f"{KEY}, if there is one")
+    @click.option(
+        "--base64",
+        type=click.Choice(BASE64),
+        default=BASE64[0],
+        show_default=True,
+        help="The base64 of the references in the file of messages: url has - and _ in place of + and /, and needs no = at the end.",
+    )
     @functools.wraps(command)
     def reading(
-        *words: Any, kind: Format | None, ref: str | None, key: str | None, **others: Any
+        *words: Any,
+        kind: Format | None,
+        ref: str | None,
+        key: str | None,
+        base64: Base64,
+        **others: Any,
     ) -> None:
-        command(*words, reading=Reading(kind, ref, key), **others)
+        command(*words, reading=Reading(kind, ref, key, base64=base64), **others)
 
     return reading
 

@@ -184,6 +184,7 @@ def command(
         format=format_in(copy, reading, name),
         ref=reading.ref or REF,
         key=reading.key or KEY,
+        base64=reading.base64,
     )
     run = RunFolder(out, along_curve=asked_map.is_store)
     records = of_one_edition(read_records(copy, reading, name), copy, stamp, name)

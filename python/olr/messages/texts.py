@@ -3,6 +3,7 @@
 import re
 from collections.abc import Iterable
 
+from olr.messages.message import Base64
 from olr.model.questions import BLANKS
 from olr.model.reference import bytes_of
 
@@ -24,9 +25,10 @@ def begins_like_a_reference(text: str) -> bool:
     return MEANT.fullmatch(text.strip(BLANKS)) is not None
 
 
-def looks_like_a_reference(text: str) -> bool:
-    """Whether a text begins like a reference, and is base64."""
-    return begins_like_a_reference(text) and len(bytes_of(text)) >= LEAST_BYTES
+def looks_like_a_reference(text: str, base64: Base64 = "plain") -> bool:
+    """Whether a text begins like a reference, and is such base64."""
+    plain = plain_base64(text) if base64 == "url" else text
+    return begins_like_a_reference(plain) and len(bytes_of(plain)) >= LEAST_BYTES
 
 
 def names_nothing(text: str) -> bool:
@@ -34,15 +36,10 @@ def names_nothing(text: str) -> bool:
     return NO_NAME.fullmatch(text.strip(BLANKS)) is not None
 
 
-def looks_like_one_of_urls(text: str) -> bool:
-    """Whether a text would look like a reference if it weren't in base64 for URLs, which has `-` and `_` and needs no `=` at its end."""
-    return looks_like_a_reference(plain_base64(text))
-
-
 def plain_base64(text: str) -> str:
-    """A text in base64 for URLs as plain base64."""
-    plain = text.strip(BLANKS).rstrip("=").translate(_FROM_URLS)
-    return plain + "=" * (-len(plain) % 4)
+    """A text in base64 for URLs as plain base64. One with `=` at its end has to have all of them."""
+    plain = text.strip(BLANKS).translate(_FROM_URLS)
+    return plain if plain.endswith("=") else plain + "=" * (-len(plain) % 4)
 
 
 def one_line(text: str) -> str:
