@@ -84,9 +84,17 @@ def force_option(
 
 
 def question_option(what: What, done: str, text: str) -> Option:
-    """A flag that asks another question, as the parameter `what`. Matchings are what is `done` without it."""
-    about = f"{text}. By default its matchings are {done}."
-    return click.option(f"--{what}", "what", flag_value=what, help=about)
+    """A flag that asks another question, as a parameter of its name. Matchings are what is `done` without it."""
+    return flag_option(f"--{what}", f"{text}. By default its matchings are {done}.")
+
+
+def one_question(flags: Mapping[What, bool]) -> What:
+    """The question whose flag is given, or else `match`. Raises `UsageError` for several."""
+    given = [what for what, is_given in flags.items() if is_given]
+    if len(given) > 1:
+        named = " and ".join(f"--{what}" for what in given)
+        raise click.UsageError(f"{named} are several questions: give one of them")
+    return given[0] if given else "match"
 
 
 def number_options(numbers: Mapping[str, Number], before: str = "") -> Option:

@@ -127,7 +127,9 @@ def command(
     geometries: Path | None,
     pieces: Path | None,
     force: bool,
-    what: What | None,
+    places: bool,
+    why: bool,
+    candidates: bool,
     confidence: Path | None,
     patience: float,
     per_group: int | None,
@@ -139,7 +141,7 @@ def command(
     olr batch, parts/000000.jsonl and so on; with --places those of olr batch places --within 14620 --most 100. A part is complete or absent:
     whatever happens, --resume goes on after what is written.
     """
-    question: What = what or "match"
+    question = options.one_question({"places": places, "why": why, "candidates": candidates})
     asking = options.of_question(question, chosen)
     numbers = asking.tolerances | asking.numbers
     given = {name.removesuffix("_"): value for name, value in numbers.items()}
