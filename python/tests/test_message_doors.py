@@ -215,10 +215,8 @@ def test_element_form_stays(tmp_path: Path) -> None:
     """What is written here in binary, beside references in base64 for URLs."""
     file = tmp_path / "feed.xml"
     file.write_text(FAULTY.read_text().replace(ONE, OF_URLS[0]))
-    plain, of_urls = (
-        list(messages_of(path, Reading(base64=base64)))
-        for path, base64 in ((FAULTY, "plain"), (file, "url"))
-    )
+    plain = list(messages_of(FAULTY, Reading()))
+    of_urls = list(messages_of(file, Reading(base64="url")))
     assert plain == of_urls and plain[0].reference.startswith("C") and plain[1].reference == ONE
 
 
