@@ -21,7 +21,6 @@ from olr.messages.documents import (
 )
 from olr.messages.looking import found_in_file, found_in_stream, has_usual_member
 from olr.messages.message import (
-    BASE64,
     FORMATS,
     JSON,
     TABLES,
@@ -34,7 +33,7 @@ from olr.messages.opening import is_read_twice, name_of, opened, pieces_of, text
 from olr.messages.packed import Unpackable
 from olr.messages.pieces import stream_of
 from olr.messages.tables import messages_of_table
-from olr.messages.texts import plain_base64
+from olr.messages.texts import plain_base64, require_base64
 
 Errors = Literal["strict", "surrogateescape"]
 
@@ -81,8 +80,7 @@ def read_feed(
     """
     if format is not None and format not in FORMATS:
         raise ValueError(f"{format!r} is no format: give {', '.join(FORMATS)}")
-    if base64 not in BASE64:
-        raise ValueError(f"{base64!r} is no base64: give {', '.join(BASE64)}")
+    require_base64(base64)
     kept = (keep,) if isinstance(keep, str) else tuple(keep)
     yield from messages_of(Path(file), Reading(format, ref, key, kept, base64))
 
@@ -169,8 +167,9 @@ def _checked(
     messages: Iterator[Message], kind: Format, reading: Reading, name: str
 ) -> Iterator[Message]:
     """Messages with references in plain base64, of which one of the first looks like one, if it wasn't said what the file is."""
-    if reading.base64 == "url":
-        messages = (one._replace(reference=plain_base64(one.reference)) for one in messages)
+    base64 = reading.base64
+    if base64 != "plain":
+        messages = (one._replace(reference=plain_base64(one.reference, base64)) for one in messages)
     return messages if reading.format is not None else with_references(messages, kind, name)
 
 

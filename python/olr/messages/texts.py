@@ -3,7 +3,7 @@
 import re
 from collections.abc import Iterable
 
-from olr.messages.message import Base64
+from olr.messages.message import BASE64, Base64
 from olr.model.questions import BLANKS
 from olr.model.reference import bytes_of
 
@@ -27,7 +27,7 @@ def begins_like_a_reference(text: str) -> bool:
 
 def looks_like_a_reference(text: str, base64: Base64 = "plain") -> bool:
     """Whether a text begins like a reference, and is such base64."""
-    plain = plain_base64(text) if base64 == "url" else text
+    plain = plain_base64(text, base64)
     return begins_like_a_reference(plain) and len(bytes_of(plain)) >= LEAST_BYTES
 
 
@@ -36,8 +36,16 @@ def names_nothing(text: str) -> bool:
     return NO_NAME.fullmatch(text.strip(BLANKS)) is not None
 
 
-def plain_base64(text: str) -> str:
-    """A text in base64 for URLs as plain base64. One with `=` at its end has to have all of them."""
+def require_base64(base64: str) -> None:
+    """Raises `ValueError` for what is no `Base64`."""
+    if base64 not in BASE64:
+        raise ValueError(f"{base64!r} is no base64: give {', '.join(BASE64)}")
+
+
+def plain_base64(text: str, base64: Base64) -> str:
+    """A text in such base64 as plain base64. Of one for URLs that has `=` at its end none may be missing."""
+    if base64 == "plain":
+        return text
     plain = text.strip(BLANKS).translate(_FROM_URLS)
     return plain if plain.endswith("=") else plain + "=" * (-len(plain) % 4)
 
