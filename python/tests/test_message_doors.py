@@ -63,6 +63,11 @@ def make(folder: Path, name: str) -> Feed:
         jams = "".join(f'<jam name="{key}"><at>{ref}</at></jam>' for key, ref in rows)
         file.write_text(f"<feed>{jams}</feed>")
         return Feed(file, {"ref": "at", "key": "@name"})
+    if name == "datex":
+        element = '<situationRecord id="{}"><openlrBinary>{}</openlrBinary></situationRecord>'
+        records = "".join(element.format(*row) for row in rows)
+        file.write_text(f"<d2LogicalModel>{records}</d2LogicalModel>")
+        return Feed(file, {})
     write_layer(file, rows)
     return Feed(file, {"ref": "olr", "key": "id", "format": "gpkg"})
 
@@ -166,16 +171,18 @@ def test_python(feed: Feed) -> None:
     assert found == [(1, "a", ONE, None), (2, "b", TWO, None)]
 
 
-@pytest.mark.parametrize("name", ["packed", "json", "xml", "table"])
-def test_the_option_is_named(tools: Tools, name: str, tmp_path: Path) -> None:
+@pytest.mark.parametrize("name", ["packed", "json", "xml", "datex", "table"])
+def test_the_option_is_named(name: str, tmp_path: Path) -> None:
     """Where the references would be refused because they are in base64 for URLs."""
     feed = make(tmp_path, name)
-    options = {key: value for key, value in feed.options.items() if key != "format"}
+    options: Any = {key: value for key, value in feed.options.items() if key != "format"}
+    found = list(olr.read_messages(feed.file, **options, base64="url"))
+    assert found == list(zip(KEYS, (ONE, TWO)))
     with pytest.raises(olr.ToolError) as raised:
-        list(olr.read_messages(feed.file, **options))  # type: ignore[arg-type]
-    found = f"{feed.file} has base64 for URLs in its first 2 records, as '{OF_URLS[0]}'"
-    kind = {"packed": "tab", "table": "gpkg"}.get(name, name)
-    assert str(raised.value) == f"{found}: say --base64 url, or --format {kind} if this is meant"
+        list(olr.read_messages(feed.file, **options))
+    begin = f"{feed.file} has base64 for URLs in its first 2 records, as '{OF_URLS[0]}'"
+    kind = {"packed": "tab", "datex": "xml", "table": "gpkg"}.get(name, name)
+    assert str(raised.value) == f"{begin}: say --base64 url, or --format {kind} if this is meant"
 
 
 @pytest.mark.parametrize(
