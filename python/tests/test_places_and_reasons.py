@@ -17,6 +17,8 @@ from olr.matching.columns import ANSWERS, NO_PLACE
 EXAMPLES = TOP / "examples"
 FAULTY = TOP / "python/tests/feeds_xml/openlr.xml"
 UNMATCHED = "CwVGnSN2zhtnBgEB/2IjAQ=="
+ROADWORKS = "CwVGnSN2zhvHCgDX/tIzAw=="
+"""It has two places on the map of the examples without its bans."""
 
 
 @pytest.fixture(autouse=True)
@@ -27,7 +29,7 @@ def environment(program: Program, monkeypatch: pytest.MonkeyPatch) -> None:
 
 @pytest.fixture(scope="module")
 def feed(tmp_path_factory: pytest.TempPathFactory) -> Feed:
-    """Messages with one place, with several and with none, one whose points have too many candidates, and some that are refused."""
+    """Messages with a place and with none, one whose points have too many candidates, and some that are refused."""
     made = make_feed(tmp_path_factory.mktemp("feed"), 60)
     with made.messages.open("a") as stream:
         stream.write("bad\tbad\nshort\tCwVGnSN2zhvHCgDX\nempty\t\n")
@@ -117,6 +119,24 @@ def test_many_without_a_place(tools: Tools, tmp_path: Path, asked: list[list[str
     assert [len(some) for some in asked] == [ROWS, ROWS, 7]
     assert [(row["record"], row["why"], row["at"]) for row in rows] == [
         (str(number), "leg", "1") for number in range(1, count + 1)
+    ]
+
+
+def test_messages_with_several_places(tools: Tools, tmp_path: Path) -> None:
+    """A reason stands in the row of its own message, wherever that is."""
+    for name in ("nodes.csv", "lines.csv"):
+        (tmp_path / name).symlink_to(EXAMPLES / name)
+    file = tmp_path / "messages"
+    file.write_text(f"{ROADWORKS}\n{UNMATCHED}\n{ROADWORKS}\n{UNMATCHED}\n")
+    words = ["--places", "--why", *OF_PROGRAM]
+    _, rows = matched(tools, Feed(tmp_path, file), tmp_path / "out.csv", *words)
+    assert [(row["record"], row["rank"], row["why"]) for row in rows] == [
+        ("1", "2", ""),
+        ("1", "1", ""),
+        ("2", "", "leg"),
+        ("3", "2", ""),
+        ("3", "1", ""),
+        ("4", "", "leg"),
     ]
 
 
