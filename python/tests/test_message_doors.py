@@ -41,11 +41,13 @@ class Feed(NamedTuple):
 
 
 def write_layer(file: Path, rows: Sequence[tuple[str, str]]) -> None:
-    """A table of a GeoPackage, with the columns `id` and `olr`."""
-    schema = {"geometry": "None", "properties": {"id": "str", "olr": "str"}}
-    with fiona.open(file, "w", driver="GPKG", schema=schema, layer="messages") as made:
+    """A GeoPackage, or a Shapefile by its name, with the columns `id` and `olr`."""
+    schema = {"geometry": "Point", "properties": {"id": "str", "olr": "str"}}
+    point = {"type": "Point", "coordinates": (0, 0)}
+    driver = "ESRI Shapefile" if file.suffix == ".shp" else "GPKG"
+    with fiona.open(file, "w", driver=driver, schema=schema, crs="EPSG:4326") as made:
         for row in rows:
-            made.write({"geometry": None, "properties": dict(zip(("id", "olr"), row))})
+            made.write({"geometry": point, "properties": dict(zip(("id", "olr"), row))})
 
 
 def make(folder: Path, name: str) -> Feed:
@@ -137,6 +139,21 @@ def test_run(tools: Tools, feed: Feed, here: None, tmp_path: Path) -> None:
         words += ["--format", {"packed": "tab"}.get(feed.file.name, feed.file.name)]
     ended = tools.run(*words)
     said = f"olr-tools: {out} holds a run with other base64: name another folder\n"
+    assert (ended.returncode, ended.stderr) == (1, said)
+
+
+def test_a_run_of_a_table_that_was_changed(tools: Tools, here: None, tmp_path: Path) -> None:
+    """The references of a Shapefile are in its table, the `.dbf`: a run doesn't go on with another one."""
+    file, out = tmp_path / "feed.shp", tmp_path / "run"
+    words = ["run", file, "--map", EXAMPLES, "--out", out, "--ref", "olr", "--key", "id"]
+    write_layer(file, list(zip(KEYS, (ONE, TWO))))
+    shapes = file.read_bytes()
+    answered(tools, *words)
+    answered(tools, *words, "--resume")
+    write_layer(file, list(zip(KEYS, (TWO, ONE))))
+    file.write_bytes(shapes)
+    ended = tools.run(*words, "--resume")
+    said = f"olr-tools: {out} holds a run with other messages: name another folder\n"
     assert (ended.returncode, ended.stderr) == (1, said)
 
 

@@ -13,7 +13,7 @@ from olr.asking.program import find_program
 from olr.client.map_client import Map
 from olr.commands import options
 from olr.confidence.choosing import cut_off_line, judging_for
-from olr.content import Content, Stamp
+from olr.content import Stamp
 from olr.errors import ToolError
 from olr.extras import needed_by
 from olr.likely.long_list import LIST
@@ -32,7 +32,7 @@ from olr.running.identity import Build
 from olr.running.isolating import FAILURES
 from olr.running.joining import join
 from olr.running.question import Question, all_numbers
-from olr.running.records import of_one_edition, read_records
+from olr.running.records import content_of, of_one_edition, read_records
 from olr.running.run_folder import FAILED, RUN, RunFolder
 from olr.running.tasks import Outcome
 from olr.running.workers import answer_here
@@ -177,7 +177,7 @@ def command(
     copy, name = click.get_current_context().with_resource(as_file(messages)), name_of(messages)
     stamp = Stamp.of(copy)
     asked = Question(
-        messages=Content.of(copy),
+        messages=content_of(copy),
         store=digest,
         program=Build.of(find_program()),
         what=question,
