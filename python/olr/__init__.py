@@ -11,12 +11,12 @@ To begin, install the modules of others by `olr-tools setup` on Debian, or `pip 
 
 and for a table of pandas `olr.locate(frame, "ref", "examples")`. From here go on with `help(olr.Map)`, whose answers are `Places`, `Page`,
 `Candidates` and `Why`; `help(olr.locate)`; `olr.view(reference, "examples")`, which is a page on the map; `olr.decode`, what a reference says
-without a map; `olr.read_messages`, a file of references; and `help(olr.ToolError)`, what may go wrong. In the repository
+without a map; `olr.read_messages` and `olr.read_feed`, a file of references; and `help(olr.ToolError)`, what may go wrong. In the repository
 python/examples/first.md is a first session, notebook.md one with tables, and docs/GUIDE.md has all tasks.
 
 `olr.Network` has a map as geometries, `olr.to_geodataframe` and `olr.to_pieces` make tables of answers, `olr.answers` reads what `olr-tools
 run` wrote, and `olr.Confidence` says how probable places are. All names are imported when they are first used. `olr.Map`, `olr.decode`,
-`olr.read_messages` and answers need Python alone.
+`olr.read_messages`, `olr.read_feed` and answers need Python alone.
 
 | package | subject |
 |---|---|
@@ -26,7 +26,7 @@ run` wrote, and `olr.Confidence` says how probable places are. All names are imp
 | `client` | `olr.Map`: the program as objects |
 | `regions` | maps of any size, and the part of one that a reference needs |
 | `geometry` | `olr.Network`: maps and answers as geometries |
-| `messages` | `olr.read_messages`: files of messages, in all formats |
+| `messages` | `olr.read_messages` and `olr.read_feed`: files of messages, in all formats |
 | `osm`, `vector`, `importing` | maps from OpenStreetMap files and from other vector files; what both have in common |
 | `checking` | what is wrong with a map's files, and what a map should be looked at for |
 | `likely` | which place of an answer the sender meant, as far as that can be said without trials: the likely order |
@@ -58,7 +58,8 @@ if TYPE_CHECKING:
     from olr.geometry.network import Network
     from olr.matching.geodataframe import to_geodataframe, to_pieces
     from olr.matching.locating import locate
-    from olr.messages.reading import read_messages
+    from olr.messages.message import Message
+    from olr.messages.reading import read_feed, read_messages
     from olr.model.answers import Candidates, Matching, Page, Places, Reference, Why
     from olr.model.fault import Fault
     from olr.model.pieces import Piece, Place
@@ -73,6 +74,7 @@ __all__ = [
     "Map",
     "MapRefused",
     "Matching",
+    "Message",
     "Network",
     "Page",
     "Piece",
@@ -87,6 +89,7 @@ __all__ = [
     "answers",
     "decode",
     "locate",
+    "read_feed",
     "read_messages",
     "to_geodataframe",
     "to_pieces",
@@ -97,7 +100,8 @@ _MODULES = {
     "olr.client.map_client": ("Map",),
     "olr.client.written": ("answers",),
     "olr.errors": ("MapRefused", "ProgramEnded", "ProgramNotFound", "TimedOut", "ToolError"),
-    "olr.messages.reading": ("read_messages",),
+    "olr.messages.message": ("Message",),
+    "olr.messages.reading": ("read_feed", "read_messages"),
     "olr.model.answers": ("Candidates", "Matching", "Page", "Places", "Reference", "Why"),
     "olr.model.fault": ("Fault",),
     "olr.model.pieces": ("Piece", "Place"),

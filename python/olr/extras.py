@@ -1,6 +1,6 @@
 """What is said where a module is missing: by the commands and public names that need it. It needs Python alone.
 
-`olr.Map`, `olr.decode`, `olr.read_messages` and answers need no module of others. What needs a module that isn't there says so by `lacking`, with
+`olr.Map`, `olr.decode`, `olr.read_messages`, `olr.read_feed` and answers need no module of others. What needs a module that isn't there says so by `lacking`, with
 Debian's package and the extra that have it.
 """
 

@@ -18,7 +18,16 @@ import olr
 from asking import batch_of, draw_map, draw_references
 from conftest import REFERENCE, TOP, Program
 from olr.comparing.columns import CHANGES, Changes
-from olr.matching.columns import ANSWERS, PIECES, REASONS, Answers, Pieces, WhyNot
+from olr.matching.columns import (
+    ANSWERS,
+    NO_PLACE,
+    PIECES,
+    REASONS,
+    Answers,
+    Pieces,
+    WhyNoPlace,
+    WhyNot,
+)
 from olr.matching.tables import Columns, sentences_of
 from olr.model.map_folder import read_map
 
@@ -236,6 +245,7 @@ def test_types_never_change(program: Program) -> None:
         ("Answers", Answers, ANSWERS),
         ("Pieces", Pieces, PIECES),
         ("Reasons", WhyNot, REASONS),
+        ("Places and reasons", WhyNoPlace, NO_PLACE),
         ("Changes", Changes, CHANGES),
     ],
 )

@@ -19,7 +19,7 @@ from olr.confidence import calibrating
 from olr.confidence.calibrating import Wanted, calibrated
 from olr.confidence.confidence import Confidence
 from olr.confidence.contents import text_of as text_of_file
-from olr.confidence.messages import read_feed
+from olr.confidence.messages import read_line_references
 from olr.confidence.parts import (
     Asking,
     Drawing,
@@ -327,21 +327,23 @@ def test_two_messages_with_a_checked_key(messages: Path, tmp_path: Path) -> None
     feed, reading = tmp_path / "feed.csv", Reading(ref="code", key="id")
     feed.write_text("id,code\n" + "".join(f"k{at},{codes[at // 2]}\n" for at in (0, 0, 1, 2)))
     keys = {"k0": True, "k1": True, "k2": False}
-    assert {key: one.text for key, one in read_feed(feed, reading, keys, 1).by_key.items()} == {
+    assert {
+        key: one.text for key, one in read_line_references(feed, reading, keys, 1).by_key.items()
+    } == {
         "k0": codes[0],
         "k1": codes[0],
         "k2": codes[1],
     }
     feed.write_text(f"id,code\nk0,{codes[0]}\nk0,{codes[1]}\n")
-    assert read_feed(feed, reading, {}, 1).total == 2
+    assert read_line_references(feed, reading, {}, 1).total == 2
     with pytest.raises(ToolError, match="two messages have the key 'k0'"):
-        read_feed(feed, reading, keys, 1)
+        read_line_references(feed, reading, keys, 1)
 
 
 @pytest.mark.parametrize(
     ("words", "status", "error"),
     [
-        (["--ref", "code"], 2, "--format, --ref and --key are for --for"),
+        (["--ref", "code"], 2, "--format, --ref, --key and --base64 are for --for"),
         (["--checked", "none"], 2, "--checked is for --for"),
         (["--for", "none"], 1, "none can't be read"),
         (["--pair", "none"], 1, "none"),

@@ -186,7 +186,7 @@ def test_records(
         (
             f"1\t{ONE[:-1]}\n2\tCwVF_yN2yRpnBAFUAAgbpwYBAf9kK0Fa\n",
             {},
-            "has base64 for URLs in its first 2 records, as 'CwVF_yN2yRpnBAFUAAgbpwYBAf9kK0Fa': write + for -, / for _",
+            "has base64 for URLs in its first 2 records, as 'CwVF_yN2yRpnBAFUAAgbpwYBAf9kK0Fa': say --base64 url, or --format tab if",
         ),
         ("ref\nCwVF-yN2yhpnBAFdAAsaFg\n", {}, "base64 for URLs in its first record, as 'CwVF-yN2y"),
         # Lines that a carriage return alone ends.

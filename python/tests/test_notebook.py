@@ -119,6 +119,19 @@ def test_cells_that_are_no_references(town: olr.Map) -> None:
     assert len(empty) == 0 and (empty.dtypes[list(ANSWERS)] == found.dtypes[list(ANSWERS)]).all()
 
 
+def test_references_for_urls(town: olr.Map) -> None:
+    """They are located as the plain ones, and stay in the table as they are."""
+    of_urls = [SLOW.replace("/", "_"), "CwVF-yN2yhpnBAFdAAsaFg", None, "x"]
+    plain = [SLOW, "CwVF+yN2yhpnBAFdAAsaFg==", None, "x"]
+    found = olr.locate(table_of(*of_urls), "ref", town, base64="url")
+    expected = olr.locate(table_of(*plain), "ref", town)
+    assert found["ref"].tolist() == of_urls
+    assert found.drop(columns="ref").equals(expected.drop(columns="ref"))
+    assert found["fault"].tolist() == [None, None, "Empty", "NotBase64"]
+    with pytest.raises(ValueError, match="'URL' is no base64: give plain, url"):
+        olr.locate(table_of(SLOW), "ref", town, base64="URL")  # type: ignore[arg-type]
+
+
 def test_the_likeliest_place_and_the_first_matching() -> None:
     """They are the first rows of `to_geodataframe` with the long list, with probabilities and candidates."""
     texts = [SLOW, BREAKDOWN, ROADWORKS, UNMATCHED, KIOSK]

@@ -241,6 +241,7 @@ def test_folders_of_runs(town: Town, program: Program, tmp_path: Path) -> None:
         "per-group": {"per_group": 9},
         "format": {"format": "csv"},
         "ref, key": {"ref": "a", "key": "b"},
+        "base64": {"base64": "url"},
     }
     records = list(read_records(town.plain, Reading()))
     run = RunFolder(tmp_path / "new" / "run")
@@ -276,8 +277,8 @@ def test_folders_of_runs(town: Town, program: Program, tmp_path: Path) -> None:
     for text, said in (
         (json.dumps(table), "has groups of another version of olr-tools: name another folder"),
         ("{}", "isn't understood"),
-        ('{"version": 2}', "isn't understood"),
-        ('{"version": 1}', "holds a run of another version of olr-tools: name another folder"),
+        ('{"version": 3}', "isn't understood"),
+        ('{"version": 2}', "holds a run of another version of olr-tools: name another folder"),
     ):
         (run.path / "run.json").write_text(text)
         with pytest.raises(ToolError, match=said):

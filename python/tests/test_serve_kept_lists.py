@@ -8,8 +8,8 @@ from pathlib import Path
 from typing import Any
 
 from browser import Browser
-from conftest import Program, Tools
-from page_of_server import KEY, MESSAGES, ROADWORKS, VERDICT, Page
+from conftest import TOP, Program, Tools
+from page_of_server import KEY, MESSAGES, REASONS, REFERENCE, ROADWORKS, VERDICT, Page
 from servers import Server, serving, wait_until
 
 DONE = "document.querySelector('#list').dataset.state === 'done'"
@@ -58,7 +58,7 @@ def test_a_list_that_there_is_no_room_for(page: Page) -> None:
     page.read(MESSAGES)
     before = page.rows()
     small = "((before) => { Storage.prototype.setItem = function (name, text) { if (text.length > %d) throw new Error('full'); before.call(this, name, text); }; })(Storage.prototype.setItem)"
-    page.value(small % 400)
+    page.value(small % 450)
     reload(page)
     page.wait(DONE)
     assert page.rows() == before and times_asked(page) == 1
@@ -171,4 +171,36 @@ def test_geojson_that_is_stopped(page: Page) -> None:
     page.browser.click("#save-geojson")
     page.wait("document.querySelector('#answered').textContent.includes('reached')")
     assert page.text("#save-geojson") == "Save GeoJSON"
+    assert page.is_quiet("status of 422")
+
+
+def test_faults_of_messages_themselves(page: Page, tmp_path: Path) -> None:
+    """What can't be written in binary is said in the row, by that name, and in all that goes out; after a reload and with other options too."""
+    faults = ["Empty", "PoiWithAccess"]
+    page.read((TOP / "python/tests/feeds_xml/openlr.xml").read_text())
+    assert page.column(KEY) == ["first", "second", "third", "fourth"]
+    assert page.column(VERDICT)[2:] == ["refused", "refused"]
+    assert page.column(REASONS)[2:] == faults
+    assert [row["fault"] for row in saved_rows(page, tmp_path)] == ["", "", *faults]
+    made = json.loads(saved(page, tmp_path, "#save-geojson", "places.geojson"))["features"]
+    assert [one["properties"]["fault"] for one in made] == [None, None, *faults]
+    reload(page)
+    assert page.column(REASONS)[2:] == faults and times_asked(page) == 0
+    page.open("?lowest=2")
+    page.wait(DONE)
+    assert page.column(REASONS)[2:] == faults and times_asked(page) == 1
+    assert page.is_quiet("status of 422")
+
+
+def test_base64_of_a_list(page: Page) -> None:
+    """References in base64 for URLs are plain ones in the table. Without the option the list is refused, and the error names it."""
+    text = "m1\tCwVF_yN2yRpnBAFUAAgbpwYBAf9kK0Fa\nm2\tCwVF-yN2yhpnBAFdAAsaFg\n"
+    page.value("document.querySelector('#list-base64').value = 'url'")
+    page.read(text)
+    plain = ["CwVF/yN2yRpnBAFUAAgbpwYBAf9kK0Fa", "CwVF+yN2yhpnBAFdAAsaFg=="]
+    assert page.column(REFERENCE) == plain and set(page.column(REASONS)) != {"NotBase64"}
+    page.value("document.querySelector('#list-base64').value = ''")
+    page.value("document.querySelector('#list-form').requestSubmit()")
+    page.wait("document.body.dataset.list === 'failed'")
+    assert "say --base64 url" in page.text("#list-problem")
     assert page.is_quiet("status of 422")

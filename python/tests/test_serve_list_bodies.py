@@ -86,7 +86,12 @@ def test_messages_of_a_list() -> None:
         status, text, said = read_list(f"k\t{REFERENCE}\n".encode() * count)
         found = text.splitlines()
         assert (status, said, len(found)) == (0, b"", lines)
-        assert json.loads(found[-1]) == {"record": lines, "key": "k", "reference": REFERENCE}
+        assert json.loads(found[-1]) == {
+            "record": lines,
+            "key": "k",
+            "reference": REFERENCE,
+            "fault": None,
+        }
 
 
 def test_a_list_of_too_many_values() -> None:
@@ -97,7 +102,8 @@ def test_a_list_of_too_many_values() -> None:
 
 def test_options_of_a_list() -> None:
     assert reading_of({"format": "csv", "ref": "a"})[:2] == ("csv", "a")
-    for options in ({"format": "gpkg"}, {"column": "a"}):
+    assert reading_of({}).base64 == "plain" and reading_of({"base64": "url"}).base64 == "url"
+    for options in ({"format": "gpkg"}, {"column": "a"}, {"base64": ""}):
         with pytest.raises(Problem) as caught:
             reading_of(options)
         assert caught.value.status == 400

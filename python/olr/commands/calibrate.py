@@ -8,7 +8,7 @@ from olr.commands import options
 from olr.confidence.calibrating import Wanted, calibrated
 from olr.confidence.confidence import Confidence
 from olr.confidence.contents import text_of
-from olr.confidence.messages import Feed, read_checked, read_feed
+from olr.confidence.messages import Feed, read_checked, read_line_references
 from olr.confidence.parts import GREATEST_DIFFERENCE, Asking, Drawing
 from olr.confidence.weights import WEIGHTS
 from olr.errors import ToolError
@@ -91,7 +91,7 @@ def command(
     """
     asking = options.of_question("places", chosen)
     if messages is None and reading != Reading():
-        raise click.UsageError("--format, --ref and --key are for --for")
+        raise click.UsageError("--format, --ref, --key and --base64 are for --for")
     if messages is None and checked_file is not None:
         raise click.UsageError("--checked is for --for: it names its messages by their keys")
     if differ is not None and pair is not None:
@@ -102,7 +102,7 @@ def command(
     inputs = [*inputs_of(folder), *given, *([] if pair is None else inputs_of(pair))]
     require_free_file(file, force, inputs)
     keys = {} if checked_file is None else read_checked(checked_file)
-    feed = None if messages is None else read_feed(messages, reading, keys, seed)
+    feed = None if messages is None else read_line_references(messages, reading, keys, seed)
     wanted = Wanted(
         feed=[] if feed is None else feed.texts(),
         messages=0 if feed is None else feed.total,

@@ -12,8 +12,9 @@ from olr.confidence.choosing import Chosen, cut_off_line, judging_for
 from olr.confidence.judged import Judging
 from olr.likely.long_list import listing
 from olr.matching.asking import Asked
-from olr.matching.columns import OF_QUESTION, PIECES
+from olr.matching.columns import NO_PLACE, OF_QUESTION, PIECES
 from olr.matching.lacking import Lacking, Other
+from olr.matching.reasons import ReasonsBeside
 from olr.matching.writing import Output, Where, require_writable, writing_rows
 from olr.messages.message import Reading
 from olr.model.asked_with import Asking
@@ -27,7 +28,9 @@ from olr.model.questions import NUMBERS, What
 @options.question_option("places", "written", "Write the places of each reference, with a verdict")
 @options.number_options(NUMBERS["places"], "with --places, ")
 @options.question_option(
-    "why", "written", "Write why each reference has no matching, and what helps"
+    "why",
+    "written",
+    "Write why each reference has no matching, and what helps; with --places these are columns behind the places",
 )
 @options.number_options(NUMBERS["match"], "without --places and --why, ")
 @click.option(
@@ -58,7 +61,8 @@ from olr.model.questions import NUMBERS, What
 def command(
     file: Path,
     folder: Path,
-    what: What | None,
+    places: bool,
+    why: bool,
     part: Any,
     confidence: Path | None,
     patience: float,
@@ -75,10 +79,10 @@ def command(
     that fits nothing has a row without a geometry. `record` is its number in FILE. OUT is written whole or not at all, and so is
     PIECES. docs/COLUMNS.md says what is in each column.
     """
-    question: What = what or "match"
+    question: What = "places" if places else "why" if why else "match"
     asking = options.of_question(question, chosen)
     where = _where(force, append)
-    outputs = _outputs(question, out, pieces)
+    outputs = _outputs(question, why, out, pieces)
     sure = _judging(confidence, asking)
     inputs = [file, *inputs_of(folder), *([] if confidence is None else [confidence])]
     for output in outputs:
@@ -89,14 +93,15 @@ def command(
         lacking = maps.enter_context(Lacking(asked, other))
         with ExitStack() as stack:
             within = None if sure.judging.shown is None else sure.judging.shown.within
-            nowhere_to = None if question == "why" else lacking
-            messages = Asked(asked, file, reading, nowhere_to, within)
+            nowhere_to = None if why else lacking
+            beside = ReasonsBeside(asked, lacking) if places and why else None
+            messages = Asked(asked, file, reading, nowhere_to, within, beside)
             written = [stack.enter_context(writing_rows(one, where, inputs)) for one in outputs]
             if question == "why":
                 messages.write_reasons(asking.numbers, written[0])
             else:
                 second = written[1] if len(written) > 1 else None
-                numbers = listing(asking.numbers) if question == "places" else asking.numbers
+                numbers = listing(asking.numbers) if places else asking.numbers
                 messages.write_answers(question, numbers, part, sure.judging, written[0], second)
         nowhere = lacking.line()
     references = sum(messages.outcomes.values())
@@ -127,9 +132,10 @@ def _judging(file: Path | None, asking: Asking) -> Chosen:
     return Chosen(Judging(), "")
 
 
-def _outputs(question: What, out: Path, pieces: Path | None) -> list[Output]:
+def _outputs(question: What, with_reasons: bool, out: Path, pieces: Path | None) -> list[Output]:
     """The files to write. Raises `UsageError` for one file in place of two, and for pieces of what has none."""
-    outputs = [Output(out, question, OF_QUESTION[question])]
+    more = NO_PLACE if question == "places" and with_reasons else {}
+    outputs = [Output(out, question, {**OF_QUESTION[question], **more})]
     if pieces is not None:
         if question == "why":
             raise click.UsageError("--pieces is for matchings and places, not for --why")

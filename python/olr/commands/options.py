@@ -8,7 +8,7 @@ from pathlib import Path
 from typing import Any
 
 from olr.asking.patience import PATIENCE, require_patience
-from olr.messages.message import FORMATS, KEY, REF, Format, Reading
+from olr.messages.message import BASE64, FORMATS, KEY, REF, Base64, Format, Reading
 from olr.model.asked_with import Asking
 from olr.model.profiles import FEED, PROFILE, PROFILES, about_text
 from olr.model.questions import NUMBERS, TOLERANCES, Number, What, argument
@@ -84,9 +84,17 @@ def force_option(
 
 
 def question_option(what: What, done: str, text: str) -> Option:
-    """A flag that asks another question, as the parameter `what`. Matchings are what is `done` without it."""
-    about = f"{text}. By default its matchings are {done}."
-    return click.option(f"--{what}", "what", flag_value=what, help=about)
+    """A flag that asks another question, as a parameter of its name. Matchings are what is `done` without it."""
+    return flag_option(f"--{what}", f"{text}. By default its matchings are {done}.")
+
+
+def one_question(flags: Mapping[What, bool]) -> What:
+    """The question whose flag is given, or else `match`. Raises `UsageError` for several."""
+    given = [what for what, is_given in flags.items() if is_given]
+    if len(given) > 1:
+        named = " and ".join(f"--{what}" for what in given)
+        raise click.UsageError(f"{named} are several questions: give one of them")
+    return given[0] if given else "match"
 
 
 def number_options(numbers: Mapping[str, Number], before: str = "") -> Option:
@@ -159,11 +167,23 @@ def reading_options(command: Command) -> Command:
     )
     @_member_option("--ref", "reference", REF)
     @_member_option("--key", "key", f"{KEY}, if there is one")
+    @click.option(
+        "--base64",
+        type=click.Choice(BASE64),
+        default=BASE64[0],
+        show_default=True,
+        help="The base64 of the references in the file of messages: url has - and _ in place of + and /, and needs no = at the end.",
+    )
     @functools.wraps(command)
     def reading(
-        *words: Any, kind: Format | None, ref: str | None, key: str | None, **others: Any
+        *words: Any,
+        kind: Format | None,
+        ref: str | None,
+        key: str | None,
+        base64: Base64,
+        **others: Any,
     ) -> None:
-        command(*words, reading=Reading(kind, ref, key), **others)
+        command(*words, reading=Reading(kind, ref, key, base64=base64), **others)
 
     return reading
 

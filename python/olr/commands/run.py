@@ -12,7 +12,7 @@ from olr.asking.program import find_program
 from olr.client.map_client import Map
 from olr.commands import options
 from olr.confidence.choosing import cut_off_line, judging_for
-from olr.content import Content, Stamp
+from olr.content import Stamp
 from olr.errors import ToolError
 from olr.extras import needed_by
 from olr.likely.long_list import LIST
@@ -31,7 +31,7 @@ from olr.running.identity import Build
 from olr.running.isolating import FAILURES
 from olr.running.joining import join
 from olr.running.question import Question, all_numbers
-from olr.running.records import of_one_edition, read_records
+from olr.running.records import content_of, of_one_edition, read_records
 from olr.running.run_folder import FAILED, RUN, RunFolder
 from olr.running.tasks import Outcome
 from olr.running.workers import answer_here
@@ -127,7 +127,9 @@ def command(
     geometries: Path | None,
     pieces: Path | None,
     force: bool,
-    what: What | None,
+    places: bool,
+    why: bool,
+    candidates: bool,
     confidence: Path | None,
     patience: float,
     per_group: int | None,
@@ -139,7 +141,7 @@ def command(
     olr batch, parts/000000.jsonl and so on; with --places those of olr batch places --within 14620 --most 100. A part is complete or absent:
     whatever happens, --resume goes on after what is written.
     """
-    question: What = what or "match"
+    question = options.one_question({"places": places, "why": why, "candidates": candidates})
     asking = options.of_question(question, chosen)
     numbers = asking.tolerances | asking.numbers
     given = {name.removesuffix("_"): value for name, value in numbers.items()}
@@ -175,7 +177,7 @@ def command(
     copy, name = click.get_current_context().with_resource(as_file(messages)), name_of(messages)
     stamp = Stamp.of(copy)
     asked = Question(
-        messages=Content.of(copy),
+        messages=content_of(copy),
         store=digest,
         program=Build.of(find_program()),
         what=question,
@@ -184,6 +186,7 @@ def command(
         format=format_in(copy, reading, name),
         ref=reading.ref or REF,
         key=reading.key or KEY,
+        base64=reading.base64,
     )
     run = RunFolder(out, along_curve=asked_map.is_store)
     records = of_one_edition(read_records(copy, reading, name), copy, stamp, name)

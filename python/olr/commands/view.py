@@ -75,7 +75,9 @@ def _text(
     """The reference that was asked for. Raises `UsageError`, and `ToolError` if the file hasn't it."""
     if messages is None:
         if record is not None or reading != Reading():
-            raise click.UsageError("--record, --format, --ref and --key are for --messages")
+            raise click.UsageError(
+                "--record, --format, --ref, --key and --base64 are for --messages"
+            )
         if reference is None:
             raise click.UsageError("give a reference, or a file of them by --messages")
         return reference

@@ -39,7 +39,7 @@ class Feed(NamedTuple):
         return [one.text for one in self.messages]
 
 
-def read_feed(file: Path, reading: Reading, keys: Mapping[str, bool], seed: int) -> Feed:
+def read_line_references(file: Path, reading: Reading, keys: Mapping[str, bool], seed: int) -> Feed:
     """The messages of a file. Raises `ToolError` if it can't be read, has no line reference, or has two references with one of the keys."""
     draws = random.Random(f"{seed} feed")
     kept: list[Message] = []

@@ -13,7 +13,7 @@ from olr.confidence.judged import Judging
 from olr.likely.order import listed_within
 from olr.matching.chunks import Answered, chunks_of
 from olr.matching.lacking import Lacking
-from olr.matching.reasons import rows_of_reasons
+from olr.matching.reasons import ReasonsBeside, rows_of_reasons
 from olr.matching.rows import Extent
 from olr.matching.writing import Sink
 from olr.messages.message import Message, Reading
@@ -39,12 +39,13 @@ class Asked:
         reading: Reading,
         lacking: Lacking | None = None,
         within: int | None = None,
+        beside: ReasonsBeside | None = None,
     ) -> None:
         """The messages of a file that are asked of a map. They are counted, if they can be read twice: so what isn't understood is
-        said before the first one is asked. Those that fit nowhere go to `lacking`. Verdicts on places are those with `within`, where a
-        longer list is asked for. Raises `ToolError`.
+        said before the first one is asked. Those that fit nowhere go to `lacking`; or `beside` says in the rows of their places why. Verdicts
+        on places are those with `within`, where a longer list is asked for. Raises `ToolError`.
         """
-        self._map, self._lacking, self._within = asked, lacking, within
+        self._map, self._lacking, self._within, self._beside = asked, lacking, within, beside
         self._total = count_of(file, reading)
         self._messages = messages_of(file, reading)
         self.outcomes: Counter[str] = Counter()
@@ -71,7 +72,8 @@ class Asked:
         )
         for chunk in chunks_of(answered, network, judging):
             self.cut_off += chunk.cut_off()
-            rows.add(chunk.items, chunk.rows(part))
+            made = chunk.rows(part)
+            rows.add(chunk.items, self._beside.rows(chunk, made) if self._beside else made)
             if pieces is not None:
                 pieces.add(chunk.items, chunk.pieces())
 

@@ -147,9 +147,17 @@ class Pieces:
     """where it ends, in metres from the start of the line"""
 
 
-def of_reasons(value: Callable[[Why], Any]) -> Callable[[Sequence[Reasons]], Values]:
-    """What each row has of its answer to `why`."""
-    return lambda rows: [None if isinstance(one, Fault) else value(one) for one in rows]
+def of_reasons(value: Callable[[Why], Any]) -> Callable[[Sequence[Reasons | None]], Values]:
+    """What each row has of its answer to `why`, if it has one."""
+    return lambda rows: [value(one) if isinstance(one, Why) else None for one in rows]
+
+
+def words_of(rows: Sequence[Reasons | None]) -> Values:
+    """What stands in the way, in a word for each row; None where nothing was asked."""
+    return [
+        None if one is None else "fault" if isinstance(one, Fault) else one.verdict.word
+        for one in rows
+    ]
 
 
 def remedy_words(remedy: Remedy) -> str:
@@ -160,10 +168,7 @@ def remedy_words(remedy: Remedy) -> str:
 class WhyNot:
     """Those of what `why` says, between the key and the geometry."""
 
-    verdict = Column[Sequence[Reasons]](
-        "str",
-        lambda rows: ["fault" if isinstance(one, Fault) else one.verdict.word for one in rows],
-    )
+    verdict = Column[Sequence[Reasons]]("str", words_of)
     """`crowded`, `point`, `leg` or `chain`: what stands in the way; `match` if nothing does; `fault` for a message that is refused"""
     at = Column("int64", of_reasons(lambda it: it.verdict.at))
     """at which point or leg, from 1"""
@@ -175,6 +180,19 @@ class WhyNot:
         "str", lambda rows: [one.text if isinstance(one, Fault) else None for one in rows]
     )
     """why a message is refused, in the program's words"""
+
+
+class WhyNoPlace:
+    """Those of what `why` says of messages without a place, behind the columns of answers."""
+
+    why = Column("str", words_of)
+    """what stands in the way, as the `verdict` of the [reasons](#reasons) says it; `fault` for a message that is refused"""
+    at = WhyNot.at
+    """at which point or leg, from 1"""
+    remedies = WhyNot.remedies
+    """options of the program that help, the first one to be tried first, each in the option's own unit"""
+    remedy_cursor = WhyNot.cursor
+    """of the matching that the first remedy brings"""
 
 
 class InFront:
@@ -189,6 +207,7 @@ class InFront:
 ANSWERS: "Columns[AnswerRows]" = columns_of(Answers)
 PIECES: "Columns[PieceRows]" = columns_of(Pieces)
 REASONS: Columns[Sequence[Reasons]] = columns_of(WhyNot)
+NO_PLACE: Columns[Sequence[Reasons | None]] = columns_of(WhyNoPlace)
 IN_FRONT: Columns[Sequence[Message]] = columns_of(InFront)
 OF_QUESTION: Mapping[What, Columns[Any]] = {"match": ANSWERS, "places": ANSWERS, "why": REASONS}
 """The columns of the table of answers to a question."""

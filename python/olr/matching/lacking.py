@@ -11,12 +11,20 @@ from typing import NamedTuple
 
 from olr.client.map_client import Map
 from olr.errors import ToolError
-from olr.model.answers import Page, Why
+from olr.model.answers import Page, Places, Why
 from olr.model.asked_with import Asking
 from olr.model.fault import Fault
 
 CHUNK = 1024
 """So many references are kept, of which is asked then."""
+CROWDED = "TooManyCandidates"
+
+
+def is_without_place(answer: Page | Places | Fault) -> bool:
+    """Whether a reference has no place or matching, of which `why` says more."""
+    if isinstance(answer, Fault):
+        return answer.name == CROWDED
+    return not (answer.matchings if isinstance(answer, Page) else answer.places)
 
 
 class Other(NamedTuple):

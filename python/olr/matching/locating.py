@@ -5,6 +5,8 @@ from typing import Any
 
 from olr.client.given import MapOrPath, opened
 from olr.extras import needed_by
+from olr.messages.message import Base64
+from olr.messages.texts import plain_base64, require_base64
 from olr.model.fault import Fault
 from olr.progress import watched
 
@@ -29,6 +31,7 @@ def locate(
     part: Extent = "outer",
     confidence: "Confidence | None" = None,
     prefix: str = "",
+    base64: Base64 = "plain",
 ) -> "geopandas.GeoDataFrame":
     """Where each reference of a table is: the rows of `data`, in their order and with their index and columns, and behind them the columns
     of `to_geodataframe` of the likeliest place of each, in metres and degrees (EPSG:4326). docs/COLUMNS.md has these.
@@ -39,6 +42,9 @@ def locate(
 
     A cell that is empty, None or NaN has the fault `Empty`, and one of another type such as a number `BadCell` with the type: each row stays,
     and those without a place have no geometry. `fault` says why there is none.
+
+    With `base64="url"` the references are in base64 for URLs: `-` and `_` in place of `+` and `/`, and perhaps without `=`. The table keeps them
+    as they are.
 
     Probabilities are by the `confidence`, or else by the one that comes with the package, which is for the profile `feed`: with other
     tolerances these columns are empty. `part` is that of the geometry, `outer` or `inner`.
@@ -54,11 +60,12 @@ def locate(
     (['a', 'b'], 'EPSG:4326')
 
     Raises `ValueError` where `data` has a column of these names already (give a `prefix` for those of the answers, or rename yours), or
-    more than one column `ref`, and for another part; `KeyError` where it has none, and `TypeError` for other things than a table and a map. Raises `ToolError` where
+    more than one column `ref`, and for another part or base64; `KeyError` where it has none, and `TypeError` for other things than a table and a map. Raises `ToolError` where
     the `confidence` is for other tolerances, and as `Map.answers` where the map can't be asked: `MapRefused`, `ProgramNotFound`, `ProgramEnded`
     and `TimedOut`, with the number of the row from 1.
     """
     require_extent(part)
+    require_base64(base64)
     if map is None:
         raise TypeError("locate needs a map: give an olr.Map, or the path of one")
     table, cells = _table_of(data, ref)
@@ -68,7 +75,7 @@ def locate(
         raise ValueError(
             f"the table has columns of the answers already, {', '.join(known)}: give a prefix, or rename them"
         )
-    texts = [cell if isinstance(cell, str) else "" for cell in cells]
+    texts = [plain_base64(cell, base64) if isinstance(cell, str) else "" for cell in cells]
     with opened(map) as asked:
         sure = judging_with(confidence, asked.tolerances, {}).judging.confidence
         answers: Iterator[Located] = (

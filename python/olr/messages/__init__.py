@@ -1,4 +1,4 @@
-"""Files of messages: one reader for `match`, `view`, `run` and `olr.read_messages`. docs/MESSAGES.md says what it reads.
+"""Files of messages: one reader for all commands, the lists of `serve`, `olr.read_messages` and `olr.read_feed`. docs/MESSAGES.md says what it reads.
 
 | module | subject |
 |---|---|

@@ -17,7 +17,6 @@ from olr.messages.message import JSON, REF, Format, Message, Reading
 from olr.messages.texts import (
     begins_like_a_reference,
     looks_like_a_reference,
-    looks_like_one_of_urls,
     names_nothing,
     shown,
 )
@@ -85,7 +84,7 @@ def _unclear(header: str, has_returns: bool, reading: Reading, name: str) -> Too
         found = f"{name} has carriage returns alone in its first line"
         return ToolError(f"{found}: if lines end there convert it, such as by tr '\\r' '\\n'")
     columns = tables.columns_of(header)
-    if any(looks_like_a_reference(column) for column in columns):
+    if any(looks_like_a_reference(column, reading.base64) for column in columns):
         return ToolError(f"{name} has no header: write one above its first line, such as key,ref")
     wanted = f"{name} has no column {reading.ref or REF}: name it by --ref: {shown(columns)}"
     if reading.names_columns():
@@ -98,12 +97,11 @@ def with_references(messages: Iterator[Message], kind: Format, name: str) -> Ite
 
     def refusal(held: Sequence[Message]) -> ToolError:
         records = "record" if len(held) == 1 else f"{len(held)} records"
-        of_urls = [one.reference for one in held if looks_like_one_of_urls(one.reference)]
+        of_urls = [one.reference for one in held if looks_like_a_reference(one.reference, "url")]
         text = shown((of_urls or [held[0].reference])[:1])
         if of_urls:
             found = f"{name} has base64 for URLs in its first {records}, as {text!r}"
-            letters = "write + for -, / for _ and = at the end"
-            return ToolError(f"{found}: {letters}, or say --format {kind} if this is meant")
+            return ToolError(f"{found}: say --base64 url, or --format {kind} if this is meant")
         found = f"{name} has no reference in its first {records}, but {text!r}"
         where = dict.fromkeys(JSON, "name another member") | {
             "tab": "if it has columns, name one",

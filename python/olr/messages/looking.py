@@ -14,7 +14,7 @@ from typing import NamedTuple
 
 from olr.content import Stamp
 from olr.errors import MissingModule, ToolError
-from olr.messages.message import REF
+from olr.messages.message import REF, Base64
 from olr.messages.opening import opened
 from olr.messages.paths import member_of
 from olr.messages.pieces import stream_of
@@ -48,16 +48,16 @@ def has_usual_member(line: bytes) -> bool:
 
 
 @lru_cache(maxsize=16)
-def found_in_file(file: Path, stamp: Stamp, name: str) -> str | None:
-    """The path of the references in all of a file, which is said on standard error unless it is the usual one: once for each edition of
-    the file, which the stamp tells. None if there is none. Raises `OSError`, and `ToolError` if there are several, with the `name`.
+def found_in_file(file: Path, stamp: Stamp, name: str, base64: Base64) -> str | None:
+    """The path of the references in all of a file, in such base64, which is said on standard error unless it is the usual one: once for each
+    edition of the file, which the stamp tells. None if there is none. Raises `OSError`, and `ToolError` if there are several, with the `name`.
     """
     with opened(file) as pieces:
-        return _said(_found(pieces, name), name)
+        return _said(_found(pieces, name, base64), name)
 
 
 def found_in_stream(
-    pieces: Iterator[bytes], name: str, is_said: bool
+    pieces: Iterator[bytes], name: str, base64: Base64, is_said: bool
 ) -> tuple[str | None, Iterator[bytes]]:
     """The path of the references in the first bytes of a stream, or None, and the pieces of the stream as before. Says and raises what
     `found_in_file` does."""
@@ -72,7 +72,7 @@ def found_in_stream(
             if size > MOST_BYTES:
                 break
 
-    found = _found(taken(), name)
+    found = _found(taken(), name, base64)
     if is_said:
         _said(found, name)
     return found and found.path, chain(held, pieces)
@@ -85,12 +85,12 @@ def _said(found: Found | None, name: str) -> str | None:
     return found and found.path
 
 
-def _found(pieces: Iterator[bytes], name: str) -> Found | None:
+def _found(pieces: Iterator[bytes], name: str, base64: Base64) -> Found | None:
     """Where references are, or None. What isn't JSON ends the search: whoever reads it then says so. Raises `ToolError`."""
     stream = stream_of(piece.replace(SEPARATOR, b" ") for piece in pieces)
     counts: Counter[str] = Counter()
     try:
-        for place in _places_of_references(stream, name):
+        for place in _places_of_references(stream, name, base64):
             if place in USUAL:
                 return Found(place, True)
             counts[place] += 1
@@ -106,13 +106,13 @@ def _found(pieces: Iterator[bytes], name: str) -> Found | None:
     raise ToolError(f"{name} has references in several members: choose one: {', '.join(listed)}")
 
 
-def _places_of_references(stream: io.BufferedReader, name: str) -> Iterator[str]:
+def _places_of_references(stream: io.BufferedReader, name: str, base64: Base64) -> Iterator[str]:
     """The places of what looks like a reference, and of whatever is where one usually is."""
     places = Places(name)
     for event, value in Documents(stream, name).events():
         place = places.of(event, value)
         if event == "string":
-            if place in USUAL or looks_like_a_reference(value):
+            if place in USUAL or looks_like_a_reference(value, base64):
                 yield place
         elif place in USUAL and event not in ("map_key", "null"):
             yield place

@@ -13,6 +13,9 @@ TABLES: tuple[Format, ...] = ("gpkg", "shp", "xlsx")
 """Formats of files that aren't read as streams."""
 KEY, REF = "key", "ref"
 """The columns or members of a key and a reference if nothing else was said."""
+Base64 = Literal["plain", "url"]
+BASE64: tuple[Base64, ...] = get_args(Base64)
+"""Which base64 references are in: `url` has `-` and `_` in place of `+` and `/`, and needs no `=` at its end."""
 ALL = ("all",)
 """What is kept where all of a record is."""
 
@@ -21,7 +24,13 @@ NOTHING_KEPT: Mapping[str, Any] = MappingProxyType({})
 
 
 class Message(NamedTuple):
-    """A record."""
+    """A record of a file of messages: what `olr.read_feed` gives.
+
+    >>> import olr
+    >>> first, *others = olr.read_feed("examples/messages.tsv")
+    >>> first.record, first.key, first.reference, first.fault, dict(first.kept)
+    (1, 'm1', 'CwVF/yN2yRpnBAFUAAgbpwYBAf9kK0Fa', None, {})
+    """
 
     record: int
     """Its number, from 1: of its line, of the record of a table behind the header, in JSON of the element over the whole file. Each of the
@@ -37,7 +46,12 @@ class Message(NamedTuple):
     """What `Reading.keep` names of the record: texts of CSV and XML, values of JSON and of tables with types."""
 
     def answer(self, found: Answered) -> Answered | Fault:
-        """What was found about its reference, or its own fault."""
+        """What was found about its reference, or its own fault.
+
+        >>> import olr
+        >>> olr.Message(1, "m1", "", "TooFar 1").answer(olr.Fault("Empty")).text
+        'TooFar 1'
+        """
         return found if self.fault is None else Fault(self.fault)
 
 
@@ -49,8 +63,8 @@ class Reading(NamedTuple):
     key: str | None = None
     keep: tuple[str, ...] = ()
     """Columns, members or elements of a record to hand on: `("all",)` for all of them."""
-    base64: Literal["plain", "url"] = "plain"
-    """That of the references: `url` has `-` and `_` in place of `+` and `/`, and needs no `=` at its end."""
+    base64: Base64 = "plain"
+    """That of the references."""
 
     def names_columns(self) -> bool:
         """Whether a column or a member was named, so that the file has some."""

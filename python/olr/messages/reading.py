@@ -1,7 +1,7 @@
 """Files of messages, in all formats, as messages one after the other."""
 
 import io
-from collections.abc import Iterator
+from collections.abc import Iterable, Iterator
 from contextlib import contextmanager
 from itertools import chain
 from pathlib import Path
@@ -20,12 +20,20 @@ from olr.messages.documents import (
     messages_of_sequence,
 )
 from olr.messages.looking import found_in_file, found_in_stream, has_usual_member
-from olr.messages.message import FORMATS, JSON, TABLES, Format, Message, Reading
+from olr.messages.message import (
+    FORMATS,
+    JSON,
+    TABLES,
+    Base64,
+    Format,
+    Message,
+    Reading,
+)
 from olr.messages.opening import is_read_twice, name_of, opened, pieces_of, text_lines
 from olr.messages.packed import Unpackable
 from olr.messages.pieces import stream_of
 from olr.messages.tables import messages_of_table
-from olr.messages.texts import plain_base64
+from olr.messages.texts import plain_base64, require_base64
 
 Errors = Literal["strict", "surrogateescape"]
 
@@ -35,21 +43,46 @@ def read_messages(
     ref: str | None = None,
     key: str | None = None,
     format: Format | None = None,
+    base64: Base64 = "plain",
 ) -> Iterator[tuple[str | None, str]]:
     """The keys and the references of a file, or of standard input for `-`, one after the other. A record without a key has None.
 
     The file has lines of a key, a tab and a reference, or is CSV, JSON, XML or a table, packed or not; docs/MESSAGES.md says how its format is
-    detected, unless `format` says it. `ref` and `key` name the columns or members. Raises `ToolError` if the file can't be read, or it isn't clear
-    what it is, and `ValueError` for what is no format.
+    detected, unless `format` says it. `ref` and `key` name the columns or members. With `base64="url"` the references in the file are in base64
+    for URLs: those that are given are plain. `olr.read_feed` gives all that is read of a record. Raises `ToolError` if the file can't be read, or
+    it isn't clear what it is, and `ValueError` for what is no format or no base64.
 
     >>> import olr
     >>> dict(olr.read_messages("examples/messages.tsv"))["m2"]
     'CwVF+yN2yhpnBAFdAAsaFg=='
     """
+    for message in read_feed(file, ref, key, format, base64):
+        yield message.key, message.reference
+
+
+def read_feed(
+    file: PathLike,
+    ref: str | None = None,
+    key: str | None = None,
+    format: Format | None = None,
+    base64: Base64 = "plain",
+    keep: str | Iterable[str] = (),
+) -> Iterator[Message]:
+    """The messages of a file, or of standard input for `-`, one after the other, as `olr.read_messages` reads them, each with all that was read
+    of it: its number, its key, its reference, a fault of its own, and what is kept of the record.
+
+    `keep` names the columns, members or elements of a record that are kept; `"all"` keeps all but the reference and the key. Raises as
+    `olr.read_messages`, and `ToolError` for a column that isn't there.
+
+    >>> import olr
+    >>> [message.record for message in olr.read_feed("examples/messages.tsv") if message.key == "m2"]
+    [2]
+    """
     if format is not None and format not in FORMATS:
         raise ValueError(f"{format!r} is no format: give {', '.join(FORMATS)}")
-    for message in messages_of(Path(file), Reading(format, ref, key)):
-        yield message.key, message.reference
+    require_base64(base64)
+    kept = (keep,) if isinstance(keep, str) else tuple(keep)
+    yield from messages_of(Path(file), Reading(format, ref, key, kept, base64))
 
 
 def messages_of(
@@ -122,9 +155,9 @@ def _messages(
     pieces = chain([seen], pieces)
     if kind in JSON and reading.ref is None and not has_usual_member(line):
         if file is not None and is_read_twice(file):
-            path = found_in_file(file, Stamp.of(file), name)
+            path = found_in_file(file, Stamp.of(file), name, reading.base64)
         else:
-            path, pieces = found_in_stream(pieces, name, file is not None)
+            path, pieces = found_in_stream(pieces, name, reading.base64, file is not None)
         reading = reading._replace(ref=path)
     found = _of_format(kind, stream_of(pieces), reading, name, errors)
     yield from _checked(found, kind, reading, name)
@@ -134,8 +167,9 @@ def _checked(
     messages: Iterator[Message], kind: Format, reading: Reading, name: str
 ) -> Iterator[Message]:
     """Messages with references in plain base64, of which one of the first looks like one, if it wasn't said what the file is."""
-    if reading.base64 == "url":
-        messages = (one._replace(reference=plain_base64(one.reference)) for one in messages)
+    base64 = reading.base64
+    if base64 != "plain":
+        messages = (one._replace(reference=plain_base64(one.reference, base64)) for one in messages)
     return messages if reading.format is not None else with_references(messages, kind, name)
 
 

@@ -3,6 +3,7 @@
 import re
 from collections.abc import Iterable
 
+from olr.messages.message import BASE64, Base64
 from olr.model.questions import BLANKS
 from olr.model.reference import bytes_of
 
@@ -24,9 +25,10 @@ def begins_like_a_reference(text: str) -> bool:
     return MEANT.fullmatch(text.strip(BLANKS)) is not None
 
 
-def looks_like_a_reference(text: str) -> bool:
-    """Whether a text begins like a reference, and is base64."""
-    return begins_like_a_reference(text) and len(bytes_of(text)) >= LEAST_BYTES
+def looks_like_a_reference(text: str, base64: Base64 = "plain") -> bool:
+    """Whether a text begins like a reference, and is such base64."""
+    plain = plain_base64(text, base64)
+    return begins_like_a_reference(plain) and len(bytes_of(plain)) >= LEAST_BYTES
 
 
 def names_nothing(text: str) -> bool:
@@ -34,15 +36,18 @@ def names_nothing(text: str) -> bool:
     return NO_NAME.fullmatch(text.strip(BLANKS)) is not None
 
 
-def looks_like_one_of_urls(text: str) -> bool:
-    """Whether a text would look like a reference if it weren't in base64 for URLs, which has `-` and `_` and needs no `=` at its end."""
-    return looks_like_a_reference(plain_base64(text))
+def require_base64(base64: str) -> None:
+    """Raises `ValueError` for what is no `Base64`."""
+    if base64 not in BASE64:
+        raise ValueError(f"{base64!r} is no base64: give {', '.join(BASE64)}")
 
 
-def plain_base64(text: str) -> str:
-    """A text in base64 for URLs as plain base64."""
-    plain = text.strip(BLANKS).rstrip("=").translate(_FROM_URLS)
-    return plain + "=" * (-len(plain) % 4)
+def plain_base64(text: str, base64: Base64) -> str:
+    """A text in such base64 as plain base64. Of one for URLs that has `=` at its end none may be missing."""
+    if base64 == "plain":
+        return text
+    plain = text.strip(BLANKS).translate(_FROM_URLS)
+    return plain if plain.endswith("=") else plain + "=" * (-len(plain) % 4)
 
 
 def one_line(text: str) -> str:

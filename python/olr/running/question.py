@@ -5,7 +5,7 @@ from dataclasses import asdict, dataclass
 from typing import Any
 
 from olr.content import Content
-from olr.messages.message import KEY, REF, Format
+from olr.messages.message import KEY, REF, Base64, Format
 from olr.model.questions import NUMBERS, TOLERANCES, What
 from olr.running.identity import Build
 
@@ -25,9 +25,10 @@ class Question:
     per_group: int | None = None
     """The most records of a group, or None for as many as there usually are of so many records."""
     format: Format = "tab"
-    """Of the file of messages, as the next two."""
+    """Of the file of messages, as the next three."""
     ref: str = REF
     key: str = KEY
+    base64: Base64 = "plain"
 
     def of_lines(self) -> dict[str, Any]:
         """What a line depends on besides its record."""

@@ -1,15 +1,17 @@
 """Messages as records of `olr batch` (docs/specification/batch.md): each with its number, and the bytes that it was read from."""
 
+import hashlib
 from collections.abc import Iterable, Iterator
 from itertools import chain, islice
 from pathlib import Path
 
 from olr.asking.records import Record
-from olr.content import Stamp
+from olr.content import Content, Stamp
 from olr.errors import ToolError
 from olr.messages.message import Message, Reading
 from olr.messages.opening import name_of
 from olr.messages.reading import messages_of
+from olr.vector.whole import beside
 
 END = b"\r\n"
 """What is written behind a record: whatever its last byte is, just this is taken off again."""
@@ -25,6 +27,17 @@ def read_records(file: Path, reading: Reading, name: str | None = None) -> Itera
     messages = messages_of(file, reading, called, errors="surrogateescape")
     records = (_record(message, called) for message in messages)
     return chain(list(islice(records, 1)), records)
+
+
+def content_of(file: Path) -> Content:
+    """What a file of messages has in it: of a Shapefile also its table, which has the references. Raises `ToolError`."""
+    found = Content.of(file)
+    table = beside(file, ".dbf") if file.suffix.lower() == ".shp" else None
+    if table is None:
+        return found
+    more = Content.of(table)
+    digest = hashlib.sha256(f"{found.sha256}{more.sha256}".encode()).hexdigest()
+    return Content(found.bytes + more.bytes, digest)
 
 
 def of_one_edition(

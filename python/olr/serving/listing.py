@@ -24,11 +24,12 @@ MOST_MEMORY = 256 << 20
 
 
 def line_of(message: Message) -> bytes:
-    """A message as JSON. A reference that is too long is so whatever it has."""
+    """A message as JSON. A reference that is too long is so whatever it has. `fault` is the message's own: most have none."""
     about = {
         "record": message.record,
         "key": message.key,
         "reference": record_text(message.reference).decode(),
+        "fault": message.fault,
     }
     return json.dumps(about, separators=(",", ":")).encode() + b"\n"
 

@@ -11,7 +11,7 @@ from starlette.responses import Response
 from tempfile import SpooledTemporaryFile
 from typing import IO
 
-from olr.messages.message import FORMATS, TABLES, Reading
+from olr.messages.message import BASE64, FORMATS, TABLES, Reading
 from olr.serving.limits import MIB, Limits
 from olr.serving.peers import Shares, client_of
 from olr.serving.problems import Problem, bad_request, busy
@@ -31,7 +31,7 @@ ABREAST = 2
 LARGE = MIB
 """Of longer ones one is read at a time."""
 FORMATS_OF_LISTS = [name for name in FORMATS if name not in TABLES]
-OPTIONS = ("format", "ref", "key")
+OPTIONS = ("format", "ref", "key", "base64")
 """Of the address."""
 log = logging.getLogger("olr.serving")
 
@@ -108,4 +108,8 @@ def reading_of(options: Options) -> Reading:
     format = next((known for known in FORMATS_OF_LISTS if known == given), None)
     if format != given:
         raise bad_request(f"format is one of {', '.join(FORMATS_OF_LISTS)}")
-    return Reading(format, options.get("ref"), options.get("key"))
+    given = options.get("base64", BASE64[0])
+    base64 = next((known for known in BASE64 if known == given), None)
+    if base64 is None:
+        raise bad_request(f"base64 is one of {', '.join(BASE64)}")
+    return Reading(format, options.get("ref"), options.get("key"), base64=base64)

@@ -5,6 +5,7 @@ never ask with another profile.
 
 from collections.abc import Collection, Iterable, Mapping
 
+from olr.messages.message import BASE64
 from olr.model.answers import Reference
 from olr.model.profiles import FEED, PROFILE, PROFILES, PROGRAM, about_text, tolerances_of
 from olr.model.questions import NUMBERS, TOLERANCES, Number, What
@@ -217,12 +218,14 @@ def _body(text: str, media_types: Iterable[str]) -> Json:
 
 def _messages(limits: Limits) -> Json:
     formats = TEXT | {"enum": list(lists.FORMATS_OF_LISTS)}
+    base64 = TEXT | {"enum": list(BASE64), "default": BASE64[0]}
     parameters = [
         _parameter("format", formats, "by default the first line shows it"),
         _parameter("ref", TEXT, "the column or member of references, by default ref"),
         _parameter("key", TEXT, "the column or member of keys, by default key"),
+        _parameter("base64", base64, "that of the references: url has - and _, and needs no ="),
     ]
-    summary = "What a list of messages has in it, as olr-tools match reads a file: record, key and reference, a line for each"
+    summary = "What a list of messages has in it, as olr-tools match reads a file: record, key, reference and fault, a line for each"
     too_large = f"A list of more than {lists.most_bytes(limits):,} bytes"
     refusals = OF_BODIES | {"413": too_large, "422": "A list that isn't understood"}
     taken = (

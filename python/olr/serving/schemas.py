@@ -212,7 +212,9 @@ def _message_front() -> dict[str, Json]:
 
 def _message() -> Json:
     """A message of a list."""
-    return object_of({**_message_front(), "reference": TEXT}, "A message of a list")
+    fault = "why the message has no reference, where its element form can't be written in binary"
+    own = {"reference": TEXT, "fault": or_null(TEXT | {"description": fault})}
+    return object_of({**_message_front(), **own}, "A message of a list")
 
 
 def _scene() -> Json:

@@ -91,7 +91,7 @@ def require_whole_shapefile(file: Path, layer: str) -> None:
     base = file / f"{layer}.shp" if file.is_dir() else file
     if base.suffix.lower() not in SUFFIXES:
         return
-    shapes, index, table = (_beside(base, suffix) for suffix in SUFFIXES)
+    shapes, index, table = (beside(base, suffix) for suffix in SUFFIXES)
     if shapes is None or index is None:
         return
     with readable(file):
@@ -138,7 +138,7 @@ def _lacking(file: Path, held: int, total: int) -> str:
     return f"{file} was cut short: it has {held:,} of its {total:,} records: copy the file again"
 
 
-def _beside(file: Path, suffix: str) -> Path | None:
+def beside(file: Path, suffix: str) -> Path | None:
     """The file of the same name with another suffix, in small or in capital letters, if it is there."""
     named = (file.with_suffix(suffix), file.with_suffix(suffix.upper()))
     return next((path for path in named if path.is_file()), None)

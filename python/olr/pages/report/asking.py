@@ -8,7 +8,7 @@ from olr.confidence.judged import Judging
 from olr.likely.long_list import listing
 from olr.matching.asking import Asked
 from olr.matching.chunks import Answered, chunks_of
-from olr.matching.lacking import Lacking
+from olr.matching.lacking import Lacking, is_without_place
 from olr.model.answers import Places
 from olr.model.fault import Fault
 from olr.pages.report.counting import PlaceCounts
@@ -17,7 +17,6 @@ from olr.pages.report.sample import Drawn, Sample
 
 CHUNK = 1024
 """So many references are kept, of which `why` is asked then."""
-CROWDED = "TooManyCandidates"
 
 
 class Counted(NamedTuple):
@@ -52,7 +51,7 @@ def count(
             assert isinstance(answer, (Places, Fault))
             places.add(answer, judgement)
             sample.add(message, answer)
-            if _is_without_place(answer):
+            if is_without_place(answer):
                 kept.append(_Kept(message.reference, isinstance(answer, Places)))
             if len(kept) == CHUNK:
                 _count_reasons(kept, asked, reasons, lacking)
@@ -65,13 +64,6 @@ class _Kept(NamedTuple):
 
     text: str
     fits_nowhere: bool
-
-
-def _is_without_place(answer: Places | Fault) -> bool:
-    """Whether `why` says more of a reference."""
-    if isinstance(answer, Fault):
-        return answer.name == CROWDED
-    return answer.verdict == "none"
 
 
 def _count_reasons(kept: list[_Kept], asked: Map, reasons: ReasonCounts, lacking: Lacking) -> None:

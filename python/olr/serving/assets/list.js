@@ -4,7 +4,7 @@
 //   const list = listOf({ place, data, fields, onChoose: (row, event) => ... });
 //
 // `place` is its section, and `fields` are those of options.js. `list.read(body, reading, isWanted)` reads a text or file, of which `reading`
-// says { format, ref, key }, and throws a Trouble if it isn't understood; if it isn't wanted any more then, all stays as it is.
+// says { format, ref, key, base64 }, and throws a Trouble if it isn't understood; if it isn't wanted any more then, all stays as it is.
 // `list.ask(options)` asks for the likeliest places of all rows, some at a time, `list.rowOf(state)` finds the row of a state, and
 // `list.choose(row)` marks one. `list.restore(options)` shows what the tab has kept, and asks for what isn't answered, or was with other
 // options; `list.isOf(map)` says which map is served, so that answers of another one are asked for anew. `say(text)` is told what has
@@ -36,7 +36,7 @@ function listOf({ place, data, fields, say, onChoose }) {
     halt();
     const isCut = found.length > data.rows;
     note = isCut ? `The list is longer: its first ${grouped(data.rows)} references are here. olr-tools match takes any number.` : "";
-    rows = found.slice(0, data.rows).map((row, index) => ({ ...row, index, ...UNASKED }));
+    rows = found.slice(0, data.rows).map((row, index) => ({ ...row, own: row.fault, index, ...UNASKED }));
     show();
     return true;
   };
@@ -111,6 +111,8 @@ function listOf({ place, data, fields, say, onChoose }) {
     const row = rows[Number(answer.key)];
     for (const name of Object.keys(UNASKED)) row[name] = answer[name];
     if (row.verdict === "fault") row.verdict = "refused";
+    // Of a message with a fault of its own an empty reference is asked.
+    if (row.own) row.fault = row.own;
     return row;
   };
   // Rows that have changed are shown together, some times a second.
@@ -204,7 +206,7 @@ function listOf({ place, data, fields, say, onChoose }) {
   saveButton.addEventListener("click", () => (saving ? endSaving(saving) : saveGeojson()));
 
   // ---- through a reload
-  const GIVEN = ["record", "key", "reference"];
+  const GIVEN = ["record", "key", "reference", "own"];
   const textWith = (names) => () => {
     if (!table) return null;
     const { state } = place.dataset;

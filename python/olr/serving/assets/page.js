@@ -174,7 +174,8 @@
     problem.hidden = true;
     document.body.dataset.list = "reading";
     try {
-      const reading = { format: find("list-format").value, ref: find("list-ref").value.trim(), key: find("list-key").value.trim() };
+      const valueIn = (name) => find(`list-${name}`).value.trim();
+      const reading = { format: valueIn("format"), ref: valueIn("ref"), key: valueIn("key"), base64: valueIn("base64") };
       if (!await list.read(body, reading, () => source === body)) return;
     } catch (error) {
       if (source !== body) return;

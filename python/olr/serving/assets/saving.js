@@ -47,10 +47,11 @@ async function featuresOf(rows, options, signal, onStep) {
   return found;
 }
 
-// A feature of a stream, of which nobody has counted candidates, with the record and key of a row.
-function withRow(feature, { record, key }) {
+// A feature of a stream, of which nobody has counted candidates, with the record and key of a row, and its own fault if it has one.
+function withRow(feature, { record, key, own }) {
   const { candidates, ...properties } = feature.properties;
-  return { ...feature, properties: { ...properties, record, key } };
+  const fault = own || properties.fault;
+  return { ...feature, properties: { ...properties, fault, record, key } };
 }
 
 // Has the browser save a text as a file.
