@@ -69,5 +69,9 @@ def numbered(rows: Iterator[Sequence[Any]], columns: Columns) -> Iterator[Messag
 
 
 def _value(value: Any) -> Any:
-    """A value of a cell: a time as its text in ISO 8601."""
-    return value.isoformat() if hasattr(value, "isoformat") else value
+    """A value of a cell, as JSON has some: a time as its text in ISO 8601, bytes as hexadecimal digits, and others as their texts."""
+    if value is None or isinstance(value, (str, int, float, list, dict)):
+        return value
+    if hasattr(value, "isoformat"):
+        return value.isoformat()
+    return value.hex() if isinstance(value, bytes) else str(value)
