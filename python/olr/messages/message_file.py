@@ -2,7 +2,7 @@
 messages there are, and what is kept of them."""
 
 from collections.abc import Iterator, Mapping
-from contextlib import contextmanager
+from contextlib import contextmanager, nullcontext
 from pathlib import Path
 
 from olr.content import Stamp
@@ -16,10 +16,9 @@ from olr.messages.reading import messages_of
 class MessageFile:
     """A file of messages, as often as it is read."""
 
-    def __init__(self, file: Path, reading: Reading, name: str | None = None) -> None:
-        """Errors have the `name`, by default that of the file."""
-        self._file, self._reading, self._name = file, reading, name or name_of(file)
-        self._stamp = Stamp.of(file) if reading.keep and is_read_twice(file) else None
+    def __init__(self, file: Path, reading: Reading, name: str, stamp: Stamp | None = None) -> None:
+        """Errors have the `name`. The `stamp` is that of the edition that is read each time; None where this may be another one."""
+        self._file, self._reading, self._name, self._stamp = file, reading, name, stamp
         self.total: int | None = None
         """How many messages there are: None before it was looked through."""
         self.kept: Mapping[str, MemberKind] = {}
@@ -36,7 +35,7 @@ class MessageFile:
         self.total, self.kept = total, kinds.found()
 
     def messages(self) -> Iterator[Message]:
-        """The messages, one after the other. Raises `ToolError`: behind the last one if something is kept, and the file changed since."""
+        """The messages, one after the other. Raises `ToolError`: behind the last one if the file has another stamp."""
         yield from messages_of(self._file, self._reading, self._name)
         if self._stamp is not None and Stamp.of(self._file) != self._stamp:
             raise ToolError(f"{self._name} changed while it was read: begin again when it is whole")
@@ -46,13 +45,10 @@ class MessageFile:
 def message_file(file: Path, reading: Reading) -> Iterator[MessageFile]:
     """Gives a file of messages, looked through if it can be read twice. What can't, as standard input, is copied first if something is
     kept of it. Raises `ToolError`."""
-    if not reading.keep:
-        found = MessageFile(file, reading)
-        if is_read_twice(file):
+    name = name_of(file)
+    with as_file(file) if reading.keep else nullcontext(file) as there:
+        can_change = not (reading.keep and is_read_twice(there))
+        found = MessageFile(there, reading, name, None if can_change else Stamp.of(there))
+        if reading.keep or is_read_twice(there):
             found.look_through()
-        yield found
-        return
-    with as_file(file) as there:
-        found = MessageFile(there, reading, name_of(file))
-        found.look_through()
         yield found
