@@ -108,7 +108,7 @@ def written(text: str) -> Callable[[Path], Path]:
 
 
 def made_sheet(folder: Path) -> Path:
-    rows = [[*FIELDS, "is"], [*ROWS[0], True], [*ROWS[1], "no"]]
+    rows: list[list[Any]] = [[*FIELDS, "is"], [*ROWS[0], True], [*ROWS[1], "no"]]
     return workbook(folder / "messages", rows)
 
 
@@ -184,8 +184,8 @@ def test_each_kind_of_file(feed: Feed) -> None:
     pieces = feed.folder / "pieces.csv"
     outs = [feed.match(messages, *words, out=f"out.{kind}") for kind in ("gpkg", "geojson")]
     outs.append(feed.match(messages, *words, "--pieces", pieces, out="out.csv"))
-    of_gpkg, of_json = [{**NAMES, "is": True}[name] for name in NAMES], list(NAMES.values())
-    of_gpkg[-1] = '[1.5,{"b":[true,null]}]'
+    of_json = list(NAMES.values())
+    of_gpkg = [*of_json[:-1], '[1.5,{"b":[true,null]}]']
     columns = kept(outs[0])
     assert [name for name, _, _ in columns] == [*COLUMNS, "is"]
     assert [values for _, _, values in columns] == [[one, None] for one in [*of_gpkg, 1]]
@@ -209,11 +209,18 @@ def test_rows_are_added_to_the_same_columns(kind: str, feed: Feed) -> None:
     words = ["--keep", "x", "--keep", "a,b"]
     out = feed.match(messages, *words, out=f"out.{kind}")
     before = out.read_bytes()
-    for others in ([], words[:2], [*words, "--keep", "n"], [*words[2:], *words[:2]]):
-        given = [messages, "--map", EXAMPLES, "--places", "--out", out, "--append", *others]
-        ended = Tools().run("match", *given)
+    cases: list[tuple[list[str], str]] = [
+        ([], "has x, has a,b"),
+        (words[:2], "has a,b"),
+        ([*words, "--keep", "n"], "lacks n"),
+        ([*words[2:], *words[:2]], "has the same in another order"),
+    ]
+    for others, differs in cases:
+        given = [messages, "--map", EXAMPLES, "--places", "--out", out, "--append"]
+        ended = Tools().run("match", *given, *others)
         assert ended.returncode == 1 and ended.stderr.count("\n") == 1
         assert f"{out} has other columns, so rows can't be added: its " in ended.stderr
+        assert kind == "csv" or f"its layer places {differs}: name another file" in ended.stderr
         assert out.read_bytes() == before
     feed.match(messages, *words, "--append", out=f"out.{kind}")
     if kind == "gpkg":
@@ -230,16 +237,13 @@ def test_standard_input(
     scratch = tmp_path_factory.mktemp("scratch")
     monkeypatch.setattr("tempfile.tempdir", os.fspath(scratch))
     text = "".join(json.dumps(one) + "\n" for one in OBJECTS)
-    for words in ([], ["--keep", "sped"]):
+    for is_right in (True, False):
         monkeypatch.setattr("sys.stdin", io.TextIOWrapper(io.BytesIO(text.encode())))
-        if words:
-            said = feed.refused("match", "-", *words)
-            assert (
-                said
-                == "olr-tools: standard input has no sped in any record: name another by --keep"
-            )
-        else:
+        if is_right:
             assert kept(feed.match("-", "--keep", "all")) == OF_JSON
+        else:
+            said = feed.refused("match", "-", "--keep", "sped")
+            assert said.startswith("olr-tools: standard input has no sped in any record: ")
         assert not list(scratch.iterdir())
 
 
@@ -270,7 +274,8 @@ def test_no_messages(feed: Feed) -> None:
 
 def test_words_that_are_refused(feed: Feed) -> None:
     lines = EXAMPLES / "messages.tsv"
-    for command, more in (("match", []), ("compare", ["--with", EXAMPLES])):
+    of_compare: list[object] = ["--with", EXAMPLES]
+    for command, more in (("match", of_compare[:0]), ("compare", of_compare)):
         said = feed.refused(command, lines, *more, "--keep", "speed")
         leave = "leave out --ref, --key and --keep"
         assert said == f"olr-tools: {lines} has no names of columns or members: {leave}"

@@ -117,11 +117,12 @@ def test_what_is_refused(
     """Before anything is begun; and scratch files that can't be written, which leave the rows as they were."""
     rows = tmp_path / "rows.csv"
     asked = ["run", messages, "--store", town.store, "--out", tmp_path / "out", "--page", 1]
-    for more, status, said in (
+    cases: list[tuple[list[object], int, str]] = [
         (["--keep", "n"], 2, "--keep is for --geometries"),
         (["--keep", "n", "--pieces", rows], 2, "--keep is for --geometries"),
         (["--keep", "sped", "--geometries", rows], 1, "has no sped in any record: name another by"),
-    ):
+    ]
+    for more, status, said in cases:
         assert olr_tools(*asked, *more) == status
         assert said in capsys.readouterr().err and not (tmp_path / "out").exists()
     assert olr_tools(*asked) == 0
@@ -138,7 +139,7 @@ def test_what_is_refused(
 def test_notes(tmp_path: Path) -> None:
     """What was noted, as it was, of the records that have something; and a file that changes before it is read again."""
     file = tmp_path / "messages.jsonl"
-    values = [{"a": 1}, {}, {"a": 2.5, "b": ["ä", None]}, {"b": {}}]
+    values: list[dict[str, Any]] = [{"a": 1}, {}, {"a": 2.5, "b": ["ä", None]}, {"b": {}}]
     file.write_text("".join(json.dumps({"ref": "x", **one}) + "\n" for one in values))
     with message_file(file, Reading("jsonl", keep=("all",))) as found:
         with notes_of(found) as notes:

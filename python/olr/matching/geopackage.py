@@ -217,6 +217,7 @@ def _require_schema(
         for name, kind in wanted.items()
         if found.get(name, kind) != kind
     ]
+    differs = ", ".join(wrong) or "has the same in another order"
     raise ToolError(
-        f"{file} has other columns, so rows can't be added: its layer {layer} {', '.join(wrong)}: name another file"
+        f"{file} has other columns, so rows can't be added: its layer {layer} {differs}: name another file"
     )
