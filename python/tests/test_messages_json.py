@@ -312,6 +312,7 @@ KEPT: list[tuple[str, dict[str, Any], list[dict[str, Any]]]] = [
         [{"a": [1, 2.5, None, True, "x"], "b": {"c": 1000.0}}],
     ),
     (f"ref;a;key;b\n{ONE};1;k;\n", {"keep": ("all",)}, [{"a": "1", "b": ""}]),
+    (f"ref;a;;key;\n{ONE};1;2;k;3\n", {"keep": ("all",)}, [{"a": "1"}]),
     (f"ref;a;key;b\n{ONE};1;k\n", {"keep": ("b", "key")}, [{"b": "", "key": "k"}]),
     (f"ref;a\n{ONE};1\n", {}, [{}]),
 ]

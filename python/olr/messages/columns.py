@@ -24,7 +24,7 @@ class Columns(NamedTuple):
         key = place_of(columns, named, "key", name) if is_there else None
         names = reading.keep
         if names == ALL:
-            names = tuple(c for at, c in enumerate(columns) if at not in (reference, key))
+            names = tuple(c for at, c in enumerate(columns) if c and at not in (reference, key))
         kept = {column: place_of(columns, column, "keep", name) for column in names}
         return cls(reference, key, kept)
 

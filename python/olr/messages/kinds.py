@@ -35,12 +35,16 @@ class Kinds:
     def add(self, kept: Mapping[str, Any]) -> None:
         """Adds what is kept of a record. Raises `ToolError` for more names than a table takes, and for too many values within each
         other."""
+        if self._lacking:
+            self._lacking -= kept.keys()
         for member, value in kept.items():
             if member not in self._found:
                 self._require_name(member)
                 self._found[member] = set()
-            self._lacking.discard(member)
-            found = _type_of(value, f"{self._name} has in {shown([member])}")
+            found = _type_of(value)
+            if found == "nested" and _depth_of(value) > MOST_DEPTH:
+                many = f"more than {MOST_DEPTH} lists and objects within each other"
+                raise ToolError(f"{self._name} has in {shown([member])} {many}")
             if found is not None:
                 self._found[member].add(found)
 
@@ -71,21 +75,28 @@ class Kinds:
 def value_as(value: Any, kind: MemberKind) -> Any:
     """A value as all those of its member are; None where it is nothing, or a number that isn't finite. Raises `ToolError` for one of
     another kind."""
-    found = _type_of(value, "a record has")
-    if found is None:
-        return None
+    found = _type_of(value)
+    if found is None or kind == "str" and isinstance(value, str):
+        return value if found else None
+    if found == "nested" and _depth_of(value) > MOST_DEPTH:
+        raise _changed()
     if kind == "str":
-        return value if found == "text" and isinstance(value, str) else json_text(value)
-    if _kind_of({found}) == kind:
-        return _finite(value) if found == "nested" else value
+        return json_text(value)
     if kind == "float" and found == "whole":
         return float(value)
-    raise ToolError("a member that is kept is no more what it was: the file changed meanwhile")
+    if _kind_of({found}) != kind:
+        raise _changed()
+    return _finite(value) if found == "nested" else value
 
 
 def json_text(value: Any) -> str:
     """A value as the text of its JSON."""
     return json.dumps(_finite(value), ensure_ascii=False, separators=(",", ":"))
+
+
+def _changed() -> ToolError:
+    """The error of a value that wasn't there when the file was looked through."""
+    return ToolError("a member that is kept is no more what it was: the file changed meanwhile")
 
 
 def _kind_of(types: set[_Type]) -> MemberKind:
@@ -99,9 +110,8 @@ def _kind_of(types: set[_Type]) -> MemberKind:
     return "bool" if types == {"boolean"} else "json" if types == {"nested"} else "str"
 
 
-def _type_of(value: Any, place: str) -> _Type | None:
-    """The type of a value; None where it is nothing, or no finite number. Raises `ToolError`, which begins with `place`, for too many
-    values within each other."""
+def _type_of(value: Any) -> _Type | None:
+    """The type of a value; None where it is nothing, or no finite number."""
     if value is None or isinstance(value, str):
         return None if value is None else "text"
     if isinstance(value, bool):
@@ -110,8 +120,6 @@ def _type_of(value: Any, place: str) -> _Type | None:
         return "whole" if abs(value) <= _EXACT else "long" if -_WHOLE <= value < _WHOLE else "text"
     if isinstance(value, float):
         return "number" if math.isfinite(value) else None
-    if _depth_of(value) > MOST_DEPTH:
-        raise ToolError(f"{place} more than {MOST_DEPTH} lists and objects within each other")
     return "nested"
 
 

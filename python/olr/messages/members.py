@@ -89,7 +89,7 @@ class _Members:
         if self._keeps_all:
             found = self._others(value)
         kept = {name: _plain(one) for name, one in found.items() if one is not _LACKING}
-        _text(kept)
+        json.dumps(kept, ensure_ascii=False).encode()
         return kept
 
     def _others(self, value: Any) -> dict[str, Any]:

@@ -11,6 +11,7 @@ from olr.messages.kinds import Kinds, MemberKind
 from olr.messages.message import Message, Reading
 from olr.messages.opening import as_file, is_read_twice, name_of
 from olr.messages.reading import messages_of
+from olr.progress import watched
 
 
 class MessageFile:
@@ -27,7 +28,8 @@ class MessageFile:
     def look_through(self) -> None:
         """Counts the messages, and finds what is kept of them. Raises `ToolError`, also if no record has a member that is to be kept."""
         kinds, total = Kinds(self._reading, self._name), 0
-        for message in messages_of(self._file, self._reading, self._name):
+        messages = messages_of(self._file, self._reading, self._name)
+        for message in watched(messages, "messages looked through"):
             total += 1
             kinds.add(message.kept)
         if total:
