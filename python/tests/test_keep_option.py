@@ -167,7 +167,7 @@ NAMES: dict[str, Any] = {
     "FID": 1,
     "key": "own",
     'a"b,c;\'d"': "x",
-    "line\nend": "l1\r\nl2\rl3",
+    "line\nend": "l1\rl2",
     "road": '"A 1", A 2',
     "ROAD": [1.5, {"b": [True, None]}],
 }

@@ -161,7 +161,7 @@ def test_memory(tmp_path: Path) -> None:
 
 
 NESTED = f"""<feed><jam id="0"><note>none</note></jam><jam id="1"><openlrBinary>{REFERENCE}</openlrBinary><note>one</note>
-<jam id="2"><cause>road <kind>works</kind></cause><openlrBinary>{REFERENCE}</openlrBinary></jam>
+<jam id="2"><cause>road <kind>works<kind>now</kind></kind></cause><openlrBinary>{REFERENCE}</openlrBinary></jam>
 <openlrBinary>{REFERENCE}</openlrBinary></jam><jam id="3"/><jam id="4"><openlrBinary>{REFERENCE}</openlrBinary></jam></feed>"""
 
 
@@ -174,6 +174,7 @@ def test_numbers_of_messages_of_xml(options: dict[str, Any]) -> None:
         stream = BytesIO(NESTED.encode())
         messages = list(messages_in(stream, Reading(keep=keep, **options), "x"))
         found.append({message.record: message.key for message in messages})
-    assert all(one == found[0] for one in found) and len(found[0]) > 3
+    assert list(found[0]) == list(range(1, len(messages) + 1)) and len(messages) > 3
+    assert all(one == found[0] for one in found)
     kept = [dict(one.kept) for one in messages if one.kept]
-    assert {"cause": "road works", "kind": "works"} in kept
+    assert {"cause": "road works now", "kind": "works now"} in kept

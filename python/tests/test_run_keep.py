@@ -96,7 +96,10 @@ def test_own_faults(keep: list[str], here: None, town: Town, tmp_path: Path) -> 
     )
     rows, whole = tmp_path / "rows.csv", tmp_path / "match.csv"
     asked = ["run", messages, "--store", town.store, "--out", tmp_path / "out", "--per-group", 9]
-    assert olr_tools(*asked, "--geometries", rows, *keep) == 0
+    joined = tmp_path / "joined.jsonl"
+    assert olr_tools(*asked, "--geometries", rows, *keep, "--join", joined) == 0
+    numbers = [json.loads(line)["record"] for line in joined.open()]
+    assert numbers == list(range(1, 83))
     assert olr_tools("match", messages, "--map", town.folder, "--out", whole, *keep) == 0
     found, expected = (list(csv.DictReader(file.open())) for file in (rows, whole))
     for row in [*found, *expected]:

@@ -98,7 +98,9 @@ class Keeper:
         """An element begins."""
         if self._all:
             self._open.clear()
-        elif name not in self._names or any(name == one.name for one in self._open):
+        elif self._open:
+            self._texts.append(" ")
+        if not self._takes(name):
             return
         if not self._open:
             self._texts.clear()
@@ -117,6 +119,10 @@ class Keeper:
             self._texts.append(" ")
         else:
             self._listen(None)
+
+    def _takes(self, name: str) -> bool:
+        """Whether the text of an element is kept. One within another one of its name isn't taken twice."""
+        return self._all or name in self._names and all(name != one.name for one in self._open)
 
     def take(self, name: str, text: str) -> None:
         """An element that was read for another purpose has this text."""
