@@ -4,7 +4,9 @@ import gzip
 import json
 import math
 import pytest
+import sqlite3
 import tracemalloc
+from contextlib import closing
 from io import BytesIO
 from pathlib import Path
 from typing import Any
@@ -18,6 +20,7 @@ from olr.messages.kinds import Kinds, json_text, value_as
 from olr.messages.message import ALL, Message, Reading
 from olr.messages.message_file import message_file
 from olr.messages.reading import messages_in
+from olr.regions.geopackage import insert
 
 
 def gathered(*values: Any, keep: tuple[str, ...] = ALL) -> Kinds:
@@ -178,3 +181,14 @@ def test_numbers_of_messages_of_xml(options: dict[str, Any]) -> None:
     assert all(one == found[0] for one in found)
     kept = [dict(one.kept) for one in messages if one.kept]
     assert {"cause": "road works now", "kind": "works now"} in kept
+
+
+def test_rows_with_many_columns() -> None:
+    """SQLite takes no more values at once, unless it is built otherwise."""
+    with closing(sqlite3.connect(":memory:")) as base:
+        base.setlimit(sqlite3.SQLITE_LIMIT_VARIABLE_NUMBER, 32_766)
+        base.execute(f"CREATE TABLE wide ({', '.join(f'm{number}' for number in range(500))})")
+        insert(base, "wide", *[range(number, number + 300) for number in range(500)])
+        assert base.execute("SELECT count(*), min(m7), max(m499) FROM wide").fetchall() == [
+            (300, 7, 798)
+        ]

@@ -125,7 +125,9 @@ class Keeper:
         return self._all or name in self._names and all(name != one.name for one in self._open)
 
     def take(self, name: str, text: str) -> None:
-        """An element that was read for another purpose has this text."""
+        """An element that was read for another purpose has this text, and those around it have it too."""
+        if self._open:
+            self._texts.append(f" {text} ")
         if self._all or name in self._names:
             self._take(name, text)
 
