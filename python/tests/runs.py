@@ -282,9 +282,9 @@ class Runs:
             )
         return ended.stdout
 
-    def killing(self, whom: str, sign: str = "KILL") -> Path:
+    def killing(self, whom: str, sign: str = "KILL", parts: int = 2) -> Path:
         """A program that sends a signal to a worker (`os.getppid()`), to the run itself (`run`) or to all of its processes (`-run`), once,
-        when two parts are there and a worker asks, and then neither reads nor writes. Else it is the program `olr`.
+        when so many parts are there and a worker starts it, and then neither reads nor writes. Else it is the program `olr`.
         """
         script = self.folder / f"killing-{sign}"
         script.write_text(
@@ -295,7 +295,7 @@ def parts():
     return [name for name in os.listdir({str(self.out / 'parts')!r}) if name[0] != "."]
 
 run = os.getsid(0)
-if os.getppid() != run and len(parts()) >= 2:
+if os.getppid() != run and len(parts()) >= {parts}:
     try:
         os.mkdir({str(self.flag(sign))!r})
         os.kill({whom}, {signal.Signals[f"SIG{sign}"].value})

@@ -25,7 +25,6 @@ from compared_maps import (
 )
 from conftest import ASKED_WITH_PROGRAM, OF_PROGRAM, REFERENCE, TOP, Program
 from olr.asking.processes import AHEAD
-from olr.commands import compare as compare_command
 from olr.comparing.asking import CHUNK, Comparison
 from olr.comparing.columns import CHANGES
 from olr.comparing.places import Limits
@@ -33,6 +32,7 @@ from olr.comparing.summary import Summary
 from olr.confidence.confidence import DEFAULT
 from olr.confidence.judged import Judging
 from olr.likely.order import Shown
+from olr.messages import message_file
 from olr.messages.message import Message, Reading
 from olr.messages.reading import messages_of
 from olr.regions.making import make_store_of_folder
@@ -201,14 +201,14 @@ def test_a_map_that_changes_meanwhile(
     messages = tmp_path / "messages"
     messages.write_text("bad\n" * 3000 + f"{ALONG}\n{UNMATCHED}\n" * 600)
 
-    def read(file: Path, reading: Reading) -> Iterator[Message]:
-        for message in messages_of(file, reading):
+    def read(file: Path, reading: Reading, name: str) -> Iterator[Message]:
+        for message in messages_of(file, reading, name):
             if message.record == 3001:
                 changed_map(files[which], suffix)
             yield message
 
-    monkeypatch.setattr(compare_command, "messages_of", read)
-    monkeypatch.setattr(compare_command, "count_of", lambda *words: None)
+    monkeypatch.setattr(message_file, "messages_of", read)
+    monkeypatch.setattr(message_file, "is_read_twice", lambda file: False)
     there = sorted(os.listdir(tmp_path))
     words = ["compare", messages, "--format", "tab", "--out", tmp_path / "out.csv"]
     words += ["--map", files["old"].with_suffix(suffix), "--with", files["new"].with_suffix(suffix)]

@@ -215,7 +215,6 @@ def test_names_that_repeat(file: Path) -> None:
             {"ref": "a[].b", "key": "k"},
             "element 1 has no member k: name it by --key",
         ),
-        ('{\n"a": [{"b": 1}]}', {"ref": "a[].b", "keep": ("k",)}, "no member k: name it by --keep"),
         ('{\n"a": [1,\n2}', {"ref": "a[].b"}, "isn't JSON: parse error: "),
         (
             '{\n"a": [NaN]',
@@ -296,7 +295,7 @@ KEPT: list[tuple[str, dict[str, Any], list[dict[str, Any]]]] = [
         },
         [
             {"speed": 50, "location.name": "A", "results[].id": "m1"},
-            {"speed": 3.5, "location.name": None, "results[].id": "0012"},
+            {"speed": 3.5, "results[].id": "0012"},
         ],
     ),
     (
@@ -305,13 +304,15 @@ KEPT: list[tuple[str, dict[str, Any], list[dict[str, Any]]]] = [
         [{"speed": 50, "location": {"name": "A"}}, {"speed": 3.5, "location": {}}],
     ),
     (json.dumps(COLLECTION), {"ref": "olr", "keep": ("all",)}, [{"speed": 50}, {}]),
-    (lines(*FEATURES), {"keep": ("speed",)}, [{"speed": 50}, {"speed": None}]),
+    (lines(*FEATURES), {"keep": ("speed",)}, [{"speed": 50}, {}]),
+    (lines({"ref": ONE, "n": None}), {"keep": ("n", "m")}, [{"n": None}]),
     (
         f'[{{"ref":"{ONE}","a":[1,2.5,null,true,"x"],"b":{{"c":1e3}}}}]',
         {"keep": ("all",)},
         [{"a": [1, 2.5, None, True, "x"], "b": {"c": 1000.0}}],
     ),
     (f"ref;a;key;b\n{ONE};1;k;\n", {"keep": ("all",)}, [{"a": "1", "b": ""}]),
+    (f"ref;a;;key;\n{ONE};1;2;k;3\n", {"keep": ("all",)}, [{"a": "1"}]),
     (f"ref;a;key;b\n{ONE};1;k\n", {"keep": ("b", "key")}, [{"b": "", "key": "k"}]),
     (f"ref;a\n{ONE};1\n", {}, [{}]),
 ]

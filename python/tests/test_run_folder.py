@@ -220,7 +220,8 @@ def test_maps_that_are_refused(runs: Runs, tmp_path: Path) -> None:
 def test_it_goes_on(runs: Runs) -> None:
     """A worker is killed, then the run; the next one goes on, and refuses another map, also a store of the same one."""
     words = ["--map", runs.town.folder, *GROUPS]
-    killing = runs.killing("os.getppid()")
+    # A worker starts one process for all of its parts.
+    killing = runs.killing("os.getppid()", parts=0)
     ended = runs.run(*words, program=killing)
     assert (ended.status, ended.stderr) == (0, "") and runs.flag().exists()
     for part in runs.parts()[::2]:

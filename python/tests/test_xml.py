@@ -353,6 +353,9 @@ def test_what_is_kept() -> None:
     ]
     text = f"<a id='1'><n id='2'>x</n><openlrBinary>{ONE}</openlrBinary></a>"
     assert read(text, keep=("n",))[0].kept == {"n": "x"}
+    text = f"<a><r><n>x<id>1</id>y<z>z</z></n><ref>{ONE}</ref></r></a>"
+    assert read(text, ref="ref", key="id", keep=("n", "z"))[0].kept == {"n": "x 1 y z", "z": "z"}
+    assert read(text, ref="ref", key="id", keep=("all",))[0].kept == {"id": "1", "z": "z"}
 
 
 @pytest.mark.parametrize(

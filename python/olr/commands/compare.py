@@ -15,8 +15,8 @@ from olr.confidence.choosing import cut_off_line, judging_for
 from olr.geometry.agreement import ACROSS
 from olr.matching.writing import Output, Where, require_writable, writing_rows
 from olr.messages.message import Reading
+from olr.messages.message_file import message_file
 from olr.messages.opening import name_of
-from olr.messages.reading import count_of, messages_of
 from olr.model.map_folder import inputs_of
 from olr.outputs import whole_file
 from olr.pages.compare.page import TEMPLATE, About, Changed, page_of
@@ -41,6 +41,7 @@ from olr.progress import progress
 @options.confidence_option
 @options.patience_option()
 @options.reading_options
+@options.keep_option
 @options.out_option(
     "OUT",
     "The file to write: .gpkg, .geojson, or .csv, which has no geometries. Folders above are made as needed.",
@@ -83,11 +84,13 @@ def command(
     require_writable(out, where, inputs)
     if page_file is not None:
         _require_page(page_file, force, inputs)
-    total = count_of(file, reading)
     apart = asking.all_numbers()["apart"]
     more = f", across {across} m"
-    summary, changed = Summary(), Changed(0 if page_file is None else rows)
+    summary = Summary()
     with ExitStack() as stack:
+        given = stack.enter_context(message_file(file, reading))
+        output = Output(out, "changes", CHANGES).keeping(given.kept)
+        changed = Changed(0 if page_file is None else rows, output.kept)
         before, after = (
             stack.enter_context(Map.of_folder(one, **asking.tolerances, patience=patience))
             for one in (old, new)
@@ -95,9 +98,9 @@ def command(
         limits = Limits(across, apart / 10)
         comparison = Comparison(before, after, asking.numbers, limits, sure.judging)
         made = page_file and stack.enter_context(whole_file(page_file, force, inputs))
-        written = stack.enter_context(writing_rows(Output(out, "changes", CHANGES), where, inputs))
-        advance = stack.enter_context(progress("comparing", total))
-        for chunk in comparison.chunks(messages_of(file, reading)):
+        written = stack.enter_context(writing_rows(output, where, inputs))
+        advance = stack.enter_context(progress("comparing", given.total))
+        for chunk in comparison.chunks(given.messages()):
             add_chunk(written, chunk)
             summary.add(chunk.references)
             changed.add(chunk.references)

@@ -17,6 +17,7 @@ from olr.matching.lacking import Lacking, Other
 from olr.matching.reasons import ReasonsBeside
 from olr.matching.writing import Output, Where, require_writable, writing_rows
 from olr.messages.message import Reading
+from olr.messages.message_file import message_file
 from olr.model.asked_with import Asking
 from olr.model.map_folder import inputs_of
 from olr.model.questions import NUMBERS, What
@@ -43,6 +44,7 @@ from olr.model.questions import NUMBERS, What
 @options.confidence_option
 @options.patience_option()
 @options.reading_options
+@options.keep_option
 @options.out_option(
     "OUT",
     "The file to write: .gpkg, .geojson, or .csv, which has no geometries. Folders above are made as needed.",
@@ -95,7 +97,9 @@ def command(
             within = None if sure.judging.shown is None else sure.judging.shown.within
             nowhere_to = None if why else lacking
             beside = ReasonsBeside(asked, lacking) if places and why else None
-            messages = Asked(asked, file, reading, nowhere_to, within, beside)
+            given = stack.enter_context(message_file(file, reading))
+            outputs[0] = outputs[0].keeping(given.kept)
+            messages = Asked(asked, given, nowhere_to, within, beside)
             written = [stack.enter_context(writing_rows(one, where, inputs)) for one in outputs]
             if question == "why":
                 messages.write_reasons(asking.numbers, written[0])

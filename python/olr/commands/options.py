@@ -8,7 +8,7 @@ from pathlib import Path
 from typing import Any
 
 from olr.asking.patience import PATIENCE, require_patience
-from olr.messages.message import BASE64, FORMATS, KEY, REF, Base64, Format, Reading
+from olr.messages.message import ALL, BASE64, FORMATS, KEY, REF, Base64, Format, Reading
 from olr.model.asked_with import Asking
 from olr.model.profiles import FEED, PROFILE, PROFILES, about_text
 from olr.model.questions import NUMBERS, TOLERANCES, Number, What, argument
@@ -186,6 +186,26 @@ def reading_options(command: Command) -> Command:
         command(*words, reading=Reading(kind, ref, key, base64=base64), **others)
 
     return reading
+
+
+def keep_option(command: Command) -> Command:
+    """The option `--keep`. It goes into the parameter `reading`, and so stands below `reading_options`."""
+
+    @click.option(
+        "--keep",
+        metavar="NAME",
+        multiple=True,
+        help="A column of the file of messages, or a member, as of --key, or an element or @attribute of XML, to write behind the columns of "
+        "the answers. Give it once for each, or --keep all for all of them. By default none are written.",
+    )
+    @functools.wraps(command)
+    def keeping(*words: Any, reading: Reading, keep: tuple[str, ...], **others: Any) -> None:
+        names = tuple(dict.fromkeys(keep))
+        if len(names) > 1 and ALL[0] in names:
+            raise click.UsageError("--keep all keeps all: leave out the others")
+        command(*words, reading=reading._replace(keep=names), **others)
+
+    return keeping
 
 
 def _member_option(flag: str, what: str, default: str) -> Option:

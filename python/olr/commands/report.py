@@ -9,13 +9,17 @@ from olr.commands import options
 from olr.confidence.choosing import judging_for
 from olr.likely.order import Shown
 from olr.matching.asking import Asked
+from olr.matching.columns import ANSWERS
+from olr.matching.kept_columns import kept_columns
 from olr.matching.lacking import Lacking, Other
 from olr.messages.message import Reading
+from olr.messages.message_file import message_file
 from olr.messages.opening import name_of
 from olr.model.asked_with import name_for_program
 from olr.model.map_folder import inputs_of
 from olr.outputs import write_whole
 from olr.pages.html import html_of, require_page
+from olr.pages.kept import cells_of
 from olr.pages.report.asking import count
 from olr.pages.report.expectation import about_probabilities, expectations, remarks, sentence
 from olr.pages.report.page import TEMPLATE, About, page_of
@@ -29,6 +33,7 @@ from olr.pages.view.scene import add_command
 @options.places_options
 @options.patience_option()
 @options.reading_options
+@options.keep_option
 @options.confidence_option
 @options.rows_option("the table and the map have")
 @options.page_options
@@ -58,10 +63,13 @@ def command(
     with ExitStack() as stack:
         asked = stack.enter_context(Map.of_folder(folder, **asking.tolerances, patience=patience))
         lacking = stack.enter_context(Lacking(asked, Other.of(asking, folder, patience)))
-        within = Shown.of(asking.numbers).within
-        questions = Asked(asked, messages, reading, within=within)
+        given = stack.enter_context(message_file(messages, reading))
+        questions = Asked(asked, given, within=Shown.of(asking.numbers).within)
         counted = count(questions, asked, asking.numbers, rows, sure.judging, lacking)
         found = rows_of(counted.sample, asked, asking.numbers, sure.judging)
+    kept = kept_columns(given.kept, ANSWERS)
+    for row, drawn in zip(found.rows, counted.sample, strict=True):
+        row["kept"] = cells_of(drawn.message, kept)
     for scene in found.scenes:
         if scene is not None:
             add_command(scene, name_for_program(folder), asking.all_numbers())
@@ -73,7 +81,7 @@ def command(
         [sentence(text) for text in expected or [sure.note] if text],
         about_probabilities(sure, confidence),
     )
-    page = page_of(about, counted, found, tiles)
+    page = page_of(about, counted, found, tiles, list(kept))
     write_whole(file, page.encode(), force, inputs)
     click.echo(f"{file}: {len(found.rows):,} rows of {counted.places.references():,} references")
     more = (asking.line(), lacking.line(), *remarks(counted.places), sure.note)

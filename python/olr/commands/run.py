@@ -17,6 +17,7 @@ from olr.errors import ToolError
 from olr.extras import needed_by
 from olr.likely.long_list import LIST
 from olr.messages.message import KEY, REF, Reading
+from olr.messages.message_file import MessageFile
 from olr.messages.opening import as_file, name_of
 from olr.messages.reading import format_in
 from olr.model.asked_with import Asking
@@ -52,6 +53,7 @@ OF_ROWS, OF_LINES = (
 @click.command()
 @click.argument("messages", type=options.FILE)
 @options.reading_options
+@options.keep_option
 @options.file_option(
     "--map",
     "DIR|STORE",
@@ -160,6 +162,8 @@ def command(
         require_free_file(joined, force, inputs)
         if joined.suffix.lower() in ROWS:
             raise click.UsageError("--join writes lines of JSON: --geometries writes rows")
+    if reading.keep and geometries is None:
+        raise click.UsageError("--keep is for --geometries: lines have no room for more")
     rows = _rows(question, geometries, pieces, force, inputs)
     if confidence is not None and (geometries is None or question != "places"):
         raise click.UsageError("--confidence is for --geometries with --places")
@@ -175,7 +179,13 @@ def command(
             "--within and --most are for --geometries and --pieces: the lines of --places have all places"
         )
     copy, name = click.get_current_context().with_resource(as_file(messages)), name_of(messages)
-    stamp = Stamp.of(copy)
+    stamp, kind = Stamp.of(copy), format_in(copy, reading, name)
+    if rows is not None and geometries is not None and (reading.keep or kind == "xml"):
+        # What lines have no room for: members that are kept, and own faults, which messages of XML may have.
+        file = MessageFile(copy, reading, name, stamp)
+        if reading.keep:
+            file.look_through()
+        rows = rows._replace(messages=file)
     asked = Question(
         messages=content_of(copy),
         store=digest,
@@ -183,13 +193,14 @@ def command(
         what=question,
         options=all_numbers(question, given),
         per_group=per_group,
-        format=format_in(copy, reading, name),
+        format=kind,
         ref=reading.ref or REF,
         key=reading.key or KEY,
         base64=reading.base64,
     )
     run = RunFolder(out, along_curve=asked_map.is_store)
-    records = of_one_edition(read_records(copy, reading, name), copy, stamp, name)
+    records = read_records(copy, reading._replace(keep=()), name)
+    records = of_one_edition(records, copy, stamp, name)
     with run.begun(asked, records, resume) as grouped:
         job = Job(out.absolute(), asked_map, asked, grouped.sha256, patience)
         outcome = _answer(job, grouped, scheduler, workers)

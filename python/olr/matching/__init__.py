@@ -4,6 +4,7 @@
 |---|---|
 | `tables` | what a column is: what it holds, and how it is worked out |
 | `columns` | the columns of each table |
+| `kept_columns` | members of records that are kept, as columns behind these |
 | `rows` | what columns are worked out of: answers and pieces as rows, some hundred at once |
 | `chunks` | answers, judged, and their rows |
 | `reasons` | what `why` says as rows |

@@ -6,7 +6,6 @@ No more of them are held than are being asked, or are rows of one chunk.
 from collections import Counter
 from collections.abc import Iterator, Mapping
 from itertools import islice, tee
-from pathlib import Path
 
 from olr.client.map_client import Map
 from olr.confidence.judged import Judging
@@ -16,8 +15,8 @@ from olr.matching.lacking import Lacking
 from olr.matching.reasons import ReasonsBeside, rows_of_reasons
 from olr.matching.rows import Extent
 from olr.matching.writing import Sink
-from olr.messages.message import Message, Reading
-from olr.messages.reading import count_of, messages_of
+from olr.messages.message import Message
+from olr.messages.message_file import MessageFile
 from olr.model.answers import AnswerOrFault, Page, Places, Why
 from olr.model.fault import Fault
 from olr.model.questions import What
@@ -35,19 +34,17 @@ class Asked:
     def __init__(
         self,
         asked: Map,
-        file: Path,
-        reading: Reading,
+        file: MessageFile,
         lacking: Lacking | None = None,
         within: int | None = None,
         beside: ReasonsBeside | None = None,
     ) -> None:
-        """The messages of a file that are asked of a map. They are counted, if they can be read twice: so what isn't understood is
-        said before the first one is asked. Those that fit nowhere go to `lacking`; or `beside` says in the rows of their places why. Verdicts
-        on places are those with `within`, where a longer list is asked for. Raises `ToolError`.
+        """The messages of a file that are asked of a map. Those that fit nowhere go to `lacking`; or `beside` says in the rows of their places
+        why. Verdicts on places are those with `within`, where a longer list is asked for.
         """
         self._map, self._lacking, self._within, self._beside = asked, lacking, within, beside
-        self._total = count_of(file, reading)
-        self._messages = messages_of(file, reading)
+        self._total = file.total
+        self._messages = file.messages()
         self.outcomes: Counter[str] = Counter()
         """How often an answer was what."""
         self.cut_off = 0

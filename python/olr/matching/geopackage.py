@@ -24,7 +24,13 @@ from olr.regions.geopackage import insert, os_error
 from olr.regions.index import fill_index, outwards
 
 CRS = "EPSG:4326"
-TYPES: Mapping[Kind, str] = {"int64": "INTEGER", "float": "REAL", "str": "TEXT"}
+TYPES: Mapping[Kind, str] = {
+    "int64": "INTEGER",
+    "float": "REAL",
+    "str": "TEXT",
+    "bool": "BOOLEAN",
+    "json": "TEXT",
+}
 """The types of columns, as GDAL writes them."""
 PAGE_BYTES = 16_384
 """A row has 2,000 bytes and more, which fill a page of the usual 4,096 badly."""
@@ -49,7 +55,9 @@ def _empty(layer: str, columns: Columns[Any]) -> bytes:
     """What GDAL makes: in memory, because it doesn't tell of each write to a disk that failed."""
     schema = {
         "geometry": "Unknown",
-        "properties": {name: one.kind for name, one in columns.items()},
+        "properties": {
+            name: "str" if one.kind == "json" else one.kind for name, one in columns.items()
+        },
     }
     with io.BytesIO() as content:
         with fiona.open(content, "w", driver="GPKG", crs=CRS, schema=schema, layer=layer):
@@ -209,6 +217,7 @@ def _require_schema(
         for name, kind in wanted.items()
         if found.get(name, kind) != kind
     ]
+    differs = ", ".join(wrong) or "has the same in another order"
     raise ToolError(
-        f"{file} has other columns, so rows can't be added: its layer {layer} {', '.join(wrong)}: name another file"
+        f"{file} has other columns, so rows can't be added: its layer {layer} {differs}: name another file"
     )

@@ -8,13 +8,17 @@ in points.
 import ast
 import inspect
 from collections.abc import Callable, Mapping, Sequence
-from typing import Any, Generic, Literal, NamedTuple, TypeVar
+from types import MappingProxyType
+from typing import Any, Generic, NamedTuple, TypeVar
+
+from olr.messages.kinds import MemberKind
 
 Rows = TypeVar("Rows", contravariant=True)
-Kind = Literal["int64", "float", "str"]
-"""What is in a column: whole numbers, numbers or texts, by the names of fiona. Each row may lack it."""
+Kind = MemberKind
+"""What is in a column: whole numbers, numbers or texts, by the names of fiona. Each row may lack it. Columns of members that are kept may
+have booleans too, or lists and objects."""
 TYPES: Mapping[Kind, str] = {"int64": "Int64", "float": "float64", "str": "object"}
-"""The types of columns in a table of pandas. A text that isn't there is None, a number that isn't there NaN."""
+"""The types of columns in a table of pandas, which has no members. A text that isn't there is None, a number that isn't there NaN."""
 
 
 class Column(NamedTuple, Generic[Rows]):
@@ -26,6 +30,7 @@ class Column(NamedTuple, Generic[Rows]):
 
 
 Columns = Mapping[str, Column[Rows]]
+NO_COLUMNS: Columns[Any] = MappingProxyType({})
 
 
 def columns_of(table: type) -> dict[str, Column[Any]]:

@@ -1,9 +1,10 @@
 """Rows into a CSV or GeoJSON file, many at a time."""
 
 import csv
+import io
 import json
 import numpy as np
-from collections.abc import Iterator, Mapping, Sequence
+from collections.abc import Iterable, Iterator, Mapping, Sequence
 from contextlib import contextmanager
 from pathlib import Path
 from typing import Any, TextIO
@@ -22,10 +23,14 @@ class Csv:
 
     def __init__(self, stream: TextIO) -> None:
         self._writer = csv.writer(stream, lineterminator="\n")
+        self._quoting = csv.writer(stream, lineterminator="\n", quoting=csv.QUOTE_NONNUMERIC)
+        """For rows with a carriage return, around which the other one writes no quotes."""
 
     def add(self, values: Mapping[str, Sequence[Any]], shapes: Polylines) -> None:
         """Adds rows. Raises `OSError`."""
-        self._writer.writerows(zip(*values.values()))
+        for row in zip(*values.values()):
+            has_return = any(isinstance(value, str) and "\r" in value for value in row)
+            (self._quoting if has_return else self._writer).writerow(row)
 
 
 class GeoJson:
@@ -69,6 +74,13 @@ def _geometry(points: Sequence[Sequence[float]]) -> Mapping[str, Any] | None:
     return {"type": "LineString", "coordinates": points}
 
 
+def _line(cells: Iterable[str]) -> str:
+    """Cells as a line of CSV, without its end."""
+    with io.StringIO() as line:
+        csv.writer(line, lineterminator="").writerow(cells)
+        return line.getvalue()
+
+
 @contextmanager
 def geojson(file: Path, layer: str) -> Iterator[GeoJson]:
     """A new GeoJSON file. Raises `OSError` if it can't be written."""
@@ -82,7 +94,7 @@ def geojson(file: Path, layer: str) -> Iterator[GeoJson]:
 def table(file: Path, columns: Columns[Any], is_new: bool, name: Path) -> Iterator[Csv]:
     """A CSV file, a new one or one to add rows to. Raises `ToolError`, with the `name` that the file will have, if one to add to has
     another header, and `OSError` if it can't be written."""
-    header = ",".join(columns)
+    header = _line(columns)
     if not is_new:
         with file.open("rb") as read:
             first = read.readline()

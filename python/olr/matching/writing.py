@@ -11,9 +11,11 @@ from olr.errors import ToolError
 from olr.geometry.network import Polylines
 from olr.matching.columns import IN_FRONT
 from olr.matching.geopackage import make, opened, require_closed
+from olr.matching.kept_columns import as_texts, kept_columns
 from olr.matching.rows import Rows
-from olr.matching.tables import Columns, values_of
+from olr.matching.tables import NO_COLUMNS, Columns, Kind, values_of
 from olr.matching.texts import geojson, table
+from olr.messages.kinds import MemberKind
 from olr.messages.message import Message
 from olr.outputs import require_free_file, whole_file
 
@@ -24,6 +26,12 @@ SUFFIXES: Mapping[str, Suffix] = {
     ".json": ".geojson",
     ".csv": ".csv",
 }
+AS_TEXTS: Mapping[Suffix, tuple[Kind, ...]] = {
+    ".gpkg": ("json",),
+    ".geojson": (),
+    ".csv": ("json", "bool"),
+}
+"""What stands as a text of JSON in which files."""
 Where = Literal["new", "force", "append"]
 """Where rows go: into a file that isn't there yet, in place of one that is, or behind its rows."""
 
@@ -36,6 +44,12 @@ class Output(NamedTuple):
     """What a GeoPackage and GeoJSON call the rows."""
     columns: Columns[Any]
     """Behind `record` and `key`."""
+    kept: Columns[Sequence[Message]] = NO_COLUMNS
+    """Members of records, behind these."""
+
+    def keeping(self, kinds: Mapping[str, MemberKind]) -> "Output":
+        """The same with a column for each of these members."""
+        return self._replace(kept=kept_columns(kinds, self.columns))
 
 
 class Table(Protocol):
@@ -48,14 +62,16 @@ class Table(Protocol):
 class Sink:
     """What takes rows, and counts them."""
 
-    def __init__(self, table: Table) -> None:
-        self._table = table
+    def __init__(self, table: Table, kept: Columns[Sequence[Message]]) -> None:
+        self._table, self._kept = table, kept
         self.rows = 0
 
     def add(self, messages: Sequence[Message], rows: Rows) -> None:
-        """Adds rows of the answers to messages, with the record and the key of each. Raises `OSError` and `sqlite3.Error`."""
-        front = values_of(IN_FRONT, [messages[number] for number in rows.answers])
-        self._table.add({**front, **rows.values}, rows.shapes)
+        """Adds rows of the answers to messages, with the record, the key and what is kept of each. Raises `OSError` and `sqlite3.Error`,
+        and `ToolError` for what is of another kind than its column."""
+        of_rows = [messages[number] for number in rows.answers]
+        front, behind = values_of(IN_FRONT, of_rows), values_of(self._kept, of_rows)
+        self._table.add({**front, **rows.values, **behind}, rows.shapes)
         self.rows += len(rows.answers)
 
 
@@ -84,7 +100,11 @@ def writing_rows(output: Output, where: Where, inputs: Iterable[Path] = ()) -> I
     """
     others = list(inputs)
     suffix = require_writable(output.file, where, others)
-    columns = {**IN_FRONT, **output.columns}
+    columns = {**IN_FRONT, **output.columns, **output.kept}
+    kept = {
+        name: as_texts(column) if column.kind in AS_TEXTS[suffix] else column
+        for name, column in output.kept.items()
+    }
     is_new = where != "append" or not output.file.exists()
     before = None if is_new else Stamp.of(output.file)
     with whole_file(output.file, where != "new", others) as made:
@@ -94,12 +114,12 @@ def writing_rows(output: Output, where: Where, inputs: Iterable[Path] = ()) -> I
             if is_new:
                 make(made, output.layer, columns)
             with opened(made, output.layer, columns, output.file) as layer:
-                yield Sink(layer)
+                yield Sink(layer, kept)
         elif suffix == ".csv":
             with table(made, columns, is_new, output.file) as rows:
-                yield Sink(rows)
+                yield Sink(rows, kept)
         else:
             with geojson(made, output.layer) as features:
-                yield Sink(features)
+                yield Sink(features, kept)
         if before is not None and Stamp.of(output.file) != before:
             raise ToolError(f"{output.file} was changed while rows were added to it: append again")

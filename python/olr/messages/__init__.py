@@ -16,9 +16,11 @@
 | `openlr_elements`, `named_elements` | messages of DATEX II and of OpenLR's own schema; those of any XML, by names |
 | `openlr_references`, `openlr_forms`, `openlr_words` | references among elements; one in element form; the names and words of both schemas |
 | `keeping` | what is kept of a record of XML |
+| `kinds` | of which kind members are that are kept, and their values by it |
 | `markup` | XML as a stream of elements: what is broken or refused |
 | `binary` | files that are no text, by their first bytes |
 | `layers`, `sheets`, `columns` | GeoPackages and Shapefiles; workbooks; columns of all tables |
 | `reading` | all of these as messages, one after the other |
+| `message_file` | a file that is looked through before anything is asked: how many messages there are, and what is kept of them |
 | `finding` | one of them, by its key or its number |
 """

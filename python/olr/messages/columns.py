@@ -24,7 +24,7 @@ class Columns(NamedTuple):
         key = place_of(columns, named, "key", name) if is_there else None
         names = reading.keep
         if names == ALL:
-            names = tuple(c for at, c in enumerate(columns) if at not in (reference, key))
+            names = tuple(c for at, c in enumerate(columns) if c and at not in (reference, key))
         kept = {column: place_of(columns, column, "keep", name) for column in names}
         return cls(reference, key, kept)
 
@@ -69,5 +69,9 @@ def numbered(rows: Iterator[Sequence[Any]], columns: Columns) -> Iterator[Messag
 
 
 def _value(value: Any) -> Any:
-    """A value of a cell: a time as its text in ISO 8601."""
-    return value.isoformat() if hasattr(value, "isoformat") else value
+    """A value of a cell, as JSON has some: a time as its text in ISO 8601, bytes as hexadecimal digits, and others as their texts."""
+    if value is None or isinstance(value, (str, int, float, list, dict)):
+        return value
+    if hasattr(value, "isoformat"):
+        return value.isoformat()
+    return value.hex() if isinstance(value, bytes) else str(value)

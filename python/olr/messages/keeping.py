@@ -4,6 +4,7 @@ Of several elements of a name the texts are joined, with a semicolon and a blank
 """
 
 from collections.abc import Callable, Mapping
+from typing import NamedTuple
 
 from olr.messages.message import NOTHING_KEPT, Reading
 from olr.messages.texts import one_line
@@ -66,6 +67,15 @@ class Kept:
         return {name: "; ".join(texts) for name, texts in self._texts.items()}
 
 
+class _Taken(NamedTuple):
+    """An element whose text is being taken."""
+
+    depth: int
+    name: str
+    first: int
+    """Where its texts begin among those of all of them."""
+
+
 class Keeper:
     """Takes the texts of elements as they come: it is told of each element that isn't within a reference."""
 
@@ -81,30 +91,43 @@ class Keeper:
         self._names = frozenset(name for name in names if not name.startswith("@"))
         self._attributes = frozenset(name[1:] for name in names if name.startswith("@"))
         self._texts: list[str] = []
-        self._open: tuple[int, str] | None = None
-        """The element whose text is being taken: its depth and its name."""
+        self._open: list[_Taken] = []
+        """The elements whose texts are being taken, each within the one before."""
 
     def start(self, depth: int, name: str) -> None:
         """An element begins."""
-        if self._all or self._open is None and name in self._names:
-            self._open = depth, name
+        if self._all:
+            self._open.clear()
+        elif self._open:
+            self._texts.append(" ")
+        if not self._takes(name):
+            return
+        if not self._open:
             self._texts.clear()
             self._listen(self._texts)
+        self._open.append(_Taken(depth, name, len(self._texts)))
 
     def end(self, depth: int) -> None:
         """An element ends."""
-        if self._open is None:
+        if not self._open:
             return
-        opened, name = self._open
-        if depth > opened:
+        opened, name, first = self._open[-1]
+        if depth == opened:
+            self._open.pop()
+            self._take(name, "".join(self._texts[first:]))
+        if self._open:
             self._texts.append(" ")
-            return
-        self._open = None
-        self._listen(None)
-        self._take(name, "".join(self._texts))
+        else:
+            self._listen(None)
+
+    def _takes(self, name: str) -> bool:
+        """Whether the text of an element is kept. One within another one of its name isn't taken twice."""
+        return self._all or name in self._names and all(name != one.name for one in self._open)
 
     def take(self, name: str, text: str) -> None:
-        """An element that was read for another purpose has this text."""
+        """An element that was read for another purpose has this text, and those around it have it too."""
+        if self._open:
+            self._texts.append(f" {text} ")
         if self._all or name in self._names:
             self._take(name, text)
 
@@ -115,11 +138,11 @@ class Keeper:
     def pause(self) -> None:
         """A reference begins. An element around it is no leaf."""
         if self._all:
-            self._open = None
+            self._open.clear()
 
     def go_on(self) -> None:
         """A reference has ended."""
-        self._listen(None if self._open is None else self._texts)
+        self._listen(self._texts if self._open else None)
 
     def of_element(self, attributes: Mapping[str, str]) -> Kept:
         """What is kept of the attributes of a record's element, which have names without a prefix."""

@@ -13,6 +13,10 @@ from olr.messages.paths import PROPERTIES, Path, is_feature, member_of, without
 from olr.messages.texts import one_line
 
 
+_LACKING = object()
+"""In place of a member that a record hasn't."""
+
+
 class Element(NamedTuple):
     """A value that is a record, and its number: of its line or of the element."""
 
@@ -63,8 +67,6 @@ class _Members:
             yield "ref", self._reference
         if self._is_key_named:
             yield "key", self._key
-        if not self._keeps_all:
-            yield from (("keep", name) for name in self._kept.values())
 
     def references(self, value: Any) -> list[str]:
         """The references of a record, an empty one where there is none. Raises as `_text` does."""
@@ -80,14 +82,14 @@ class _Members:
         return _text(found)
 
     def kept(self, value: Any) -> Mapping[str, Any]:
-        """What is kept of a record. Raises as `_text` does."""
+        """What is kept of a record, without the members that it hasn't. Raises as `_text` does."""
         if not self._kept:
             return NOTHING_KEPT
-        found = {name: member_of(value, path) for name, path in self._kept.items()}
+        found = {name: member_of(value, path, _LACKING) for name, path in self._kept.items()}
         if self._keeps_all:
             found = self._others(value)
-        kept = {name: _plain(one) for name, one in found.items()}
-        _text(kept)
+        kept = {name: _plain(one) for name, one in found.items() if one is not _LACKING}
+        json.dumps(kept, ensure_ascii=False).encode()
         return kept
 
     def _others(self, value: Any) -> dict[str, Any]:

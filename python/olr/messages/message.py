@@ -43,7 +43,8 @@ class Message(NamedTuple):
     """Why there is no reference where the record has one in another form, which can't be written in binary: a name, and perhaps a blank and more.
     Then the reference is empty, and the program isn't asked."""
     kept: Mapping[str, Any] = NOTHING_KEPT
-    """What `Reading.keep` names of the record: texts of CSV and XML, values of JSON and of tables with types."""
+    """What `Reading.keep` names of the record, as far as it has that: texts of CSV and XML, values of JSON and of tables with types, as JSON
+    has some."""
 
     def answer(self, found: Answered) -> Answered | Fault:
         """What was found about its reference, or its own fault.

@@ -22,6 +22,8 @@ class _Reference:
     """A reference, and whether it is a message already."""
 
     text: str
+    number: int | None = None
+    """If it is known before its record ends."""
     is_given: bool = False
 
 
@@ -144,11 +146,15 @@ class NamedElements(Walk):
         if self._key_attribute is not None:
             record = next((one for one in reversed(self._open) if one.key is not None), owner)
             record.is_record = record.has_some = True
-        if self._keeps or self._key_attribute is None:
+            self._make_record(record.name)
+        if self._key_attribute is None:
             record.references.append(_Reference(reference))
             self._require_room(record)
+        elif self._keeps:
+            # It has the number that it would have if nothing were kept.
+            record.references.append(_Reference(reference, self._next_number()))
+            self._require_room(record)
         else:
-            self._make_record(record.name)
             self._message(record.key, reference, record.kept)
 
     def _hand_on(self, ended: _Open, around: _Open) -> None:
@@ -195,11 +201,17 @@ class NamedElements(Walk):
         for reference in record.references:
             if not reference.is_given:
                 reference.is_given = True
-                self._message(record.key, reference.text, record.kept)
+                self._message(record.key, reference.text, record.kept, reference.number)
 
-    def _message(self, key: str | None, reference: str, kept: Kept) -> None:
-        """A message was found."""
+    def _message(
+        self, key: str | None, reference: str, kept: Kept, number: int | None = None
+    ) -> None:
+        """A message was found. It has the next number, unless it has one already."""
         if kept.is_too_long():
             raise self.error(f"ends a record with {TOO_MUCH_KEPT}")
+        number = number or self._next_number()
+        self.found.append(Message(number, key, reference, None, kept.texts()))
+
+    def _next_number(self) -> int:
         self._number += 1
-        self.found.append(Message(self._number, key, reference, None, kept.texts()))
+        return self._number

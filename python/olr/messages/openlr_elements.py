@@ -26,7 +26,8 @@ class _Record:
     kept: Kept
     count: int = 0
     """Its references."""
-    waiting: list[_Pair] = field(default_factory=list)
+    waiting: list[tuple[int | None, _Pair]] = field(default_factory=list)
+    """Pairs that are messages at its end, with their numbers where these are known before."""
 
 
 class KnownElements(References):
@@ -38,6 +39,8 @@ class KnownElements(References):
         """The document, and the records that are open."""
         self._named = Named(reading)
         self._keeps = bool(self._named.names)
+        self._counts_at_once = reading.key is None
+        """Whether references have the numbers that they would have if nothing were kept."""
         self._keeper = Keeper(self._named.names, self._keep, self.listen)
         self._number = self._situations = self._without = 0
         self._is_known = False
@@ -134,8 +137,8 @@ class KnownElements(References):
             if record.kept.is_too_long():
                 raise self.error(f"ends a record with {TOO_MUCH_KEPT}")
             key, kept = self._named.parted(record.key, record.kept.texts())
-            for reference, fault in record.waiting:
-                self._message(key, reference, fault, kept)
+            for number, (reference, fault) in record.waiting:
+                self._message(key, reference, fault, kept, number)
 
     def _of_location(self) -> list[_Pair]:
         """The references of an `OpenLR`: of several binary ones, which have several versions, that of version 3."""
@@ -154,7 +157,9 @@ class KnownElements(References):
         record = self._records[-1]
         record.count += len(pairs)
         if self._keeps and record.depth:
-            record.waiting += pairs
+            record.waiting += [
+                (self._next_number() if self._counts_at_once else None, pair) for pair in pairs
+            ]
             if len(record.waiting) > MOST_WAITING:
                 raise self.error(f"has more than {MOST_WAITING:,} references of one record")
             return
@@ -167,7 +172,12 @@ class KnownElements(References):
         reference: str,
         fault: str | None,
         kept: Mapping[str, str] = NOTHING_KEPT,
+        number: int | None = None,
     ) -> None:
-        """A message was found."""
+        """A message was found. It has the next number, unless it has one already."""
+        number = number or self._next_number()
+        self.found.append(Message(number, key, reference, fault, kept))
+
+    def _next_number(self) -> int:
         self._number += 1
-        self.found.append(Message(self._number, key, reference, fault, kept))
+        return self._number

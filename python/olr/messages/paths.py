@@ -39,13 +39,16 @@ def elements_in(document: Any, elements: str) -> Iterator[Any]:
             yield from elements_in(one, behind)
 
 
-def member_of(value: Any, path: str) -> Any:
+def member_of(value: Any, path: str, lacking: Any = None) -> Any:
     """The member of that name, or else the one at the end of a path of names with dots between them, of a GeoJSON feature also that of its
-    properties; the value itself without a path. None where there is none."""
+    properties; the value itself without a path. Where there is none it is what stands for it: None.
+    """
     if not path:
         return value
-    found = _member(value, path)
-    return _member(value.get(PROPERTIES), path) if found is None and is_feature(value) else found
+    found = _member(value, path, lacking)
+    if (found is None or found is lacking) and is_feature(value):
+        return _member(value.get(PROPERTIES), path, lacking)
+    return found
 
 
 def is_feature(value: Any) -> bool:
@@ -64,9 +67,9 @@ def without(members: Mapping[str, Any], path: str) -> dict[str, Any]:
     return {**members, name: without(within, behind)}
 
 
-def _member(value: Any, path: str) -> Any:
+def _member(value: Any, path: str, lacking: Any) -> Any:
     if isinstance(value, dict) and path in value:
         return value[path]
     for name in path.split("."):
-        value = value.get(name) if isinstance(value, dict) else None
+        value = value.get(name, lacking) if isinstance(value, dict) else lacking
     return value

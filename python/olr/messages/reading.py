@@ -119,14 +119,6 @@ def format_in(file: Path, reading: Reading, name: str | None = None) -> Format:
             return format_of(look_ahead(pieces)[1], reading, called)
 
 
-def count_of(file: Path, reading: Reading) -> int | None:
-    """How many messages a file has: None if it can't be read twice. So what isn't understood is said before the first one is asked.
-    Raises `ToolError`."""
-    if not is_read_twice(file):
-        return None
-    return sum(1 for _ in messages_of(file, reading))
-
-
 @contextmanager
 def _of_file(name: str) -> Iterator[None]:
     """Raises `ToolError`, with the name of a file, for what reading it raises."""
@@ -150,8 +142,9 @@ def _messages(
     kind = format_of(line, reading, name)
     if kind in TABLES:
         raise ToolError(f"{name} can't be read as {kind}: name the file itself, unpacked")
-    if kind == "tab" and reading.names_columns() and line:
-        raise ToolError(f"{name} has no names of columns or members: leave out --ref and --key")
+    if kind == "tab" and (reading.names_columns() or reading.keep) and line:
+        options = "--ref, --key and --keep" if reading.keep else "--ref and --key"
+        raise ToolError(f"{name} has no names of columns or members: leave out {options}")
     pieces = chain([seen], pieces)
     if kind in JSON and reading.ref is None and not has_usual_member(line):
         if file is not None and is_read_twice(file):

@@ -3,6 +3,7 @@
 | file | subject |
 |---|---|
 | `html.py` | a page in one file, which needs no network |
+| `kept.py` | members of records that are kept, as cells |
 | `picture.js` | `pictureOf`: a scene as a map and a panel; it draws one in place of the other |
 | `picture.css` | its styles |
 | `table.js` | `sortedTable`: rows that are sorted, filtered and walked through by keys |

@@ -22,6 +22,8 @@ _OF_SYSTEM = {sqlite3.SQLITE_FULL: errno.ENOSPC, sqlite3.SQLITE_IOERR: errno.EIO
 """Errors of SQLite as the system's."""
 ROWS = 250
 """So many rows are added by a statement."""
+MOST_VALUES = 32_766
+"""No more values may be in a statement of SQLite, unless it is built otherwise."""
 SCHEMA = Path(__file__).with_name("schema.sql")
 
 
@@ -41,8 +43,9 @@ def insert(
     Raises `sqlite3.Error`."""
     count = len(columns)
     row_marks = f"({', '.join('?' * count)})"
-    for first in range(0, len(columns[0]), ROWS):
-        parts = [column[first : first + ROWS] for column in columns]
+    rows = min(ROWS, MOST_VALUES // count)
+    for first in range(0, len(columns[0]), rows):
+        parts = [column[first : first + rows] for column in columns]
         values: list[object] = [None] * (count * len(parts[0]))
         for number, part in enumerate(parts):
             values[number::count] = part.tolist() if isinstance(part, np.ndarray) else part

@@ -11,6 +11,6 @@
 | `tasks` | groups that are answered together, and what became of them |
 | `workers` | the processes of this machine |
 | `cluster`, `waiting` | tasks of Dask, and what it waits for |
-| `geometries` | rows with geometries of its lines |
+| `geometries`, `message_notes` | rows with geometries of its lines; what rows have of messages beside these: members that are kept, own faults |
 | `joining` | the parts as one file in the order of the records |
 """

@@ -10,10 +10,12 @@ from olr.matching.chunks import Answered, chunks_of
 from olr.matching.columns import ANSWERS, PIECES
 from olr.matching.writing import Output, Where, require_writable, writing_rows
 from olr.messages.message import Message
+from olr.messages.message_file import MessageFile
 from olr.model.objects import line_of
 from olr.model.questions import What
 from olr.progress import watched
 from olr.running.asked_map import AskedMap
+from olr.running.message_notes import MessageNotes, notes_of
 from olr.running.question import Question
 
 Line = tuple[bytes, str]
@@ -31,10 +33,13 @@ class Geometries(NamedTuple):
     inputs: Sequence[Path]
     judging: Judging = Judging()
     """By what answers to `places` are judged."""
+    messages: MessageFile | None = None
+    """Those of the run, if they may have more than their lines say: members that are kept, which are known, or own faults."""
 
     def outputs(self, question: What) -> list[Output]:
         """These files with their columns."""
-        answers = [] if self.answers is None else [Output(self.answers, question, ANSWERS)]
+        kept = {} if self.messages is None else self.messages.kept
+        answers = [Output(one, question, ANSWERS).keeping(kept) for one in (self.answers,) if one]
         return answers + ([] if self.pieces is None else [Output(self.pieces, "pieces", PIECES)])
 
     def require_writable(self) -> None:
@@ -63,11 +68,14 @@ def write_geometries(
     outputs = asked.outputs(question.what)
     cut_off = 0
     with ExitStack() as stack:
+        own = asked.messages
+        notes = None if own is None else stack.enter_context(notes_of(own))
         sinks = [
             stack.enter_context(writing_rows(one, asked.where, asked.inputs)) for one in outputs
         ]
         for part in watched(parts, "parts written as rows", len(parts)):
-            for chunk in chunks_of(_answered(part, network.digest), network, asked.judging):
+            answered = _answered(part, network.digest, notes)
+            for chunk in chunks_of(answered, network, asked.judging):
                 cut_off += chunk.cut_off()
                 for output, sink in zip(outputs, sinks):
                     rows = chunk.rows() if output.columns is ANSWERS else chunk.pieces()
@@ -76,8 +84,13 @@ def write_geometries(
     return Written(files, cut_off)
 
 
-def _answered(lines: Iterable[Line], digest: str | None) -> Iterator[Answered[Message]]:
-    """The answers of lines, with the messages of their records."""
+def _answered(
+    lines: Iterable[Line], digest: str | None, notes: MessageNotes | None
+) -> Iterator[Answered[Message]]:
+    """The answers of lines, with the messages of their records, of which some have faults of their own."""
     for line, reference in lines:
         key, record, answer = line_of(line, digest)
-        yield Answered(Message(record, key, reference), reference, answer)
+        message = Message(record, key, reference)
+        if notes is not None:
+            message = notes.noted(message)
+        yield Answered(message, reference, message.answer(answer))

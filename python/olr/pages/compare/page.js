@@ -74,6 +74,7 @@
       { title: "old probability", number: true, value: (row) => row.old_probability, text: share },
       { title: "new verdict", value: (row) => row.new },
       { title: "new probability", number: true, value: (row) => row.new_probability, text: share },
+      ...data.kept.map((name, at) => ({ title: name, value: (row) => row.kept[at], mark: () => "kept" })),
     ],
     rows: data.rows,
     choices: [

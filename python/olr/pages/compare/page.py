@@ -13,9 +13,12 @@ from olr.comparing.summary import Summary
 from olr.geometry.agreement import AGREE
 from olr.geometry.network import Network
 from olr.matching.columns import rounded as probability_shown
+from olr.matching.tables import NO_COLUMNS, Columns
+from olr.messages.message import Message
 from olr.model.asked_with import command_text, is_for_program
 from olr.model.fault import Fault
 from olr.pages.html import Template, html_of
+from olr.pages.kept import cells_of
 from olr.pages.report.sample import equal_shares
 from olr.pages.view.surroundings import DIGITS, Box, Surroundings, around_points, network_around
 
@@ -42,9 +45,9 @@ class Shown(NamedTuple):
 class Changed:
     """The references that change, or the first ones of each change."""
 
-    def __init__(self, most: int) -> None:
-        """A page shows so many of them. No more of each change are held."""
-        self._most = most
+    def __init__(self, most: int, kept: Columns[Sequence[Message]] = NO_COLUMNS) -> None:
+        """A page shows so many of them, each with what is kept of its record. No more of each change are held."""
+        self._most, self.kept = most, kept
         self._kept: dict[str, list[Shown]] = {}
         self.count = 0
         """How many there were."""
@@ -56,7 +59,8 @@ class Changed:
                 self.count += 1
                 kept = self._kept.setdefault(one.words(), [])
                 if len(kept) < self._most:
-                    kept.append(Shown(_row(one), one.message.reference, _shapes(one)))
+                    row = _row(one) | {"kept": cells_of(one.message, self.kept)}
+                    kept.append(Shown(row, one.message.reference, _shapes(one)))
 
     def chosen(self) -> list[Shown]:
         """Those that are shown, as in the file. Each change has an equal share; one of which there are fewer leaves room to the others."""
@@ -106,6 +110,7 @@ def page_of(about: About, summary: Summary, changed: Changed, network: Network) 
         "agreeing": agreeing and AGREEING.format(agreeing.text(), AGREE),
         "moved": moved and MOVED.format(*moved),
         "left_out": LEFT_OUT.format(left, changed.count) if left else "",
+        "kept": list(changed.kept),
         "rows": [one.row | {"commands": about.commands(one.reference)} for one in chosen],
         "shapes": [shape for some in drawn for shape in some],
         "roads": _roads(network, [_box(one) for one in chosen if one.shapes]),

@@ -120,6 +120,7 @@
     { title: "turns back", name: "turns_back", value: (row) => row.turns_back },
     { title: "length, m", number: true, value: (row) => row.length, text: (value) => value.toLocaleString("en", { minimumFractionDigits: 1 }) },
     { title: "fault or reason", value: (row) => row.reason, mark: () => "reason" },
+    ...data.kept.map((name, at) => ({ title: name, value: (row) => row.kept[at], mark: () => "kept" })),
     { title: "page", value: (row) => (row.scene ? "open" : null), act: open, label: (row) => `open the page of ${named(row)}` },
   ];
   const table = sortedTable({

@@ -29,8 +29,14 @@ class About(NamedTuple):
     """What probabilities are of, or why there are none."""
 
 
-def page_of(about: About, counted: Counted, rows: Rows, tiles: str | None = None) -> str:
-    """A page of HTML. Raises `ToolError` as `olr.pages.html.html_of`."""
+def page_of(
+    about: About,
+    counted: Counted,
+    rows: Rows,
+    tiles: str | None = None,
+    kept: Sequence[str] = (),
+) -> str:
+    """A page of HTML, whose rows have a cell for each name of what is kept. Raises `ToolError` as `olr.pages.html.html_of`."""
     shown = Counter(row["verdict"] for row in rows.rows)
     data: dict[str, Any] = {
         "title": f"{about.messages} on {about.map}",
@@ -38,6 +44,7 @@ def page_of(about: About, counted: Counted, rows: Rows, tiles: str | None = None
         "facts": _facts(about),
         "sections": [section.content() for section in sections(counted, about.probabilities)],
         "left_out": left_out(counted.places.verdicts, shown),
+        "kept": kept,
         "rows": rows.rows,
         "scenes": rows.scenes,
         "shapes": rows.shapes,
