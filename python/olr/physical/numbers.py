@@ -31,7 +31,7 @@ def units_of(value: Number) -> int | None:
 
 
 def usual_units_of(value: Number) -> int | None:
-    """The same of a number that is often the same, as bearings and distances are: what was found is kept for a while."""
+    """The same of a number that is often the same, as distances are: what was found is kept for a while."""
     is_short = isinstance(value, str) and len(value) <= _SHORT
     return _kept_units_of(value) if is_short else units_of(value)
 

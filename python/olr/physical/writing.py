@@ -27,6 +27,14 @@ SHARES = 256
 """Of a leg, in which an offset is told."""
 _MOST_LON, _MOST_LAT = GREATEST_LON * MICRODEGREE, GREATEST_LAT * MICRODEGREE
 _CIRCLE = 360 * ONE
+_ROADS: Mapping[tuple[Number, Number], int] = {
+    (class_, form): class_ << 3 | form for class_ in range(8) for form in range(8)
+}
+"""Classes and forms in one byte."""
+_SECTORS: Mapping[Number, int] = {
+    str(degrees): degrees * ONE // SECTOR % 32 for degrees in range(361)
+}
+"""Sectors of bearings of whole degrees, as most senders write them."""
 
 
 def base64_of(reference: PhysicalReference, names: Mapping[str, str] = NAMES) -> str:
@@ -46,12 +54,12 @@ class _Writing:
         points = self._reference.points
         self._require_points(len(points))
         legs = self._legs(points)
-        shares = self._shares(legs[0], legs[-1])
+        flags, shares = self._shares(legs[0], legs[-1])
         roads = self._roads(points)
         status = LINE if self._is_line else POINT_ALONG_LINE
         values = [status, *self._points(points, roads, legs)]
-        values[-1] |= sum(bit for bit, _ in shares)
-        return layout(len(points) - 2).pack(*values) + bytes(share for _, share in shares)
+        values[-1] |= flags
+        return layout(len(points) - 2).pack(*values) + shares
 
     def _require_points(self, count: int) -> None:
         """Raises `Fault` for a number of points that the kind hasn't."""
@@ -72,14 +80,17 @@ class _Writing:
 
     def _roads(self, points: Sequence[PhysicalPoint]) -> list[int]:
         """Class and form of each point; of a point along a line also the orientation and the side."""
-        whole, reference = self._whole, self._reference
-        roads = [
-            whole("class_", point.class_, 7) << 3 | whole("form", point.form, 7) for point in points
-        ]
+        reference = self._reference
+        found = [_ROADS.get((point.class_, point.form)) for point in points]
+        roads = [self._road(point) if road is None else road for point, road in zip(points, found)]
         if not self._is_line:
             roads[0] |= self._known("orientation", reference.orientation) << 6
             roads[1] |= self._known("side", reference.side) << 6
         return roads
+
+    def _road(self, point: PhysicalPoint) -> int:
+        """Class and form."""
+        return self._whole("class_", point.class_, 7) << 3 | self._whole("form", point.form, 7)
 
     def _points(
         self, points: Sequence[PhysicalPoint], roads: Sequence[int], legs: Sequence[int]
@@ -116,21 +127,24 @@ class _Writing:
 
     def _sector(self, point: PhysicalPoint) -> int:
         """The sector of the bearing: 360 degrees are 0."""
-        bearing = usual_units_of(point.bearing)
+        sector = _SECTORS.get(point.bearing)
+        if sector is not None:
+            return sector
+        bearing = units_of(point.bearing)
         if bearing is None or not 0 <= bearing <= _CIRCLE:
             raise faults.bad_element(self._names["bearing"])
         return bearing // SECTOR % 32
 
-    def _shares(self, first: int, last: int) -> list[tuple[int, int]]:
-        """The offsets that there are: the bit of each, and its share of the first or of the last leg."""
-        reference, shares = self._reference, []
+    def _shares(self, first: int, last: int) -> tuple[int, bytes]:
+        """The flags of the offsets that there are, and their shares of the first and of the last leg."""
+        reference, flags, shares = self._reference, 0, b""
         if reference.positive is not None and (offset := self._offset("positive", first)):
-            shares.append((POSITIVE, offset * SHARES // first))
+            flags, shares = POSITIVE, bytes([offset * SHARES // first])
         if reference.negative is not None and (offset := self._offset("negative", last)):
             if not self._is_line:
                 raise faults.bad_element(self._names["negative"])
-            shares.append((NEGATIVE, offset * SHARES // last))
-        return shares
+            flags, shares = flags | NEGATIVE, shares + bytes([offset * SHARES // last])
+        return flags, shares
 
     def _offset(self, field: Literal["positive", "negative"], leg: int) -> int:
         """An offset, which is shorter than its leg or 0, in units."""
