@@ -168,7 +168,7 @@ class KnownElements(References):
         record = self._records[-1]
         record.count += len(pairs)
         if self._keeps and record.depth:
-            record.waiting += pairs
+            record.waiting += map(_written, pairs)
             if len(record.waiting) > MOST_WAITING:
                 raise self.error(f"has more than {MOST_WAITING:,} references of one record")
             return
@@ -188,3 +188,9 @@ class KnownElements(References):
             self._forms.append((len(self.found), reference))
             reference = ""
         self.found.append(Message(self._number, key, reference, fault, kept))
+
+
+def _written(pair: _Pair) -> _Pair:
+    """A reference in binary, which takes little memory while it waits."""
+    reference, _ = pair
+    return reference.written() if isinstance(reference, Form) else pair
