@@ -60,6 +60,9 @@ def test_sectors() -> None:
         begin = sector * Decimal("11.25")
         for bearing in (begin, str(begin + Decimal("11.2499"))):
             assert written(changed(bearing=bearing)).points[0].sector == sector
+    for degrees in range(361):
+        found = written(changed(bearing=str(degrees))).points[0].sector
+        assert found == int(degrees / Decimal("11.25")) % 32
     assert written(changed(bearing=360)).points[0].sector == 0
     for bearing in ("360.01", "-0.01", "NaN", "", None):
         assert fault_of(changed(bearing=bearing)) == "BadElement bearing"

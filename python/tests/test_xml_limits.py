@@ -90,6 +90,21 @@ def test_many_names(monkeypatch: pytest.MonkeyPatch) -> None:
                 read(f"<a>{names}</a>", format="xml")
 
 
+def test_references_that_wait() -> None:
+    """Of those in element form no text is held, however long it is."""
+    point = f"<openlrLocationReferencePoint><openlrLineAttributes><openlrBearing>{'1' * 50_000}"
+    point += "</openlrBearing></openlrLineAttributes></openlrLocationReferencePoint>"
+    row = f"<openlrLinear><firstDirection>{point}</firstDirection></openlrLinear>"
+    given = chain(pieces("<a><situationRecord id='1'>", row, 100), [b"</situationRecord></a>"])
+    tracemalloc.start()
+    try:
+        found = list(messages_of_xml(stream_of(given), Reading(keep=("x",)), "feed"))
+        assert len(found) == 100 and found[0].fault == "BadElement openlrLastLocationReferencePoint"
+        assert tracemalloc.get_traced_memory()[1] < 2_000_000
+    finally:
+        tracemalloc.stop()
+
+
 @pytest.mark.parametrize(
     "options",
     [{}, {"keep": ("all",)}, {"ref": "openlrBinary"}, {"ref": "openlrBinary", "key": "k"}],

@@ -6,7 +6,7 @@ Names are those without a prefix, whatever the namespace is.
 import io
 import re
 import sys
-from collections.abc import Iterator, Mapping
+from collections.abc import Iterator
 from functools import lru_cache
 from xml.parsers import expat
 
@@ -95,12 +95,19 @@ class Walk:
     def finish(self) -> None:
         """The file has ended."""
 
+    def taken(self) -> list[Message]:
+        """The messages that were found, which are no longer held."""
+        found, self.found = self.found, []
+        return found
+
     def open_elements(self) -> int:
         """How many elements are open."""
         return self.depth
 
-    def without_prefixes(self, attributes: Mapping[str, str]) -> dict[str, str]:
+    def without_prefixes(self, attributes: dict[str, str]) -> dict[str, str]:
         """The attributes of an element. Of two with one name it is that without a prefix, or else the first one."""
+        if ":" not in "".join(attributes):
+            return attributes
         plain: dict[str, str] = {}
         for name, value in attributes.items():
             plain.setdefault(self.local[name], value)
@@ -158,8 +165,7 @@ class Walk:
             fault = error
         except (expat.ExpatError, LookupError, ValueError) as error:
             fault = self._broken(error, is_last)
-        found, self.found = self.found, []
-        yield from found
+        yield from self.taken()
         if fault is not None:
             raise fault
 

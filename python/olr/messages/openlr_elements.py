@@ -6,17 +6,20 @@ from dataclasses import dataclass, field
 from olr.errors import ToolError
 from olr.messages.keeping import MOST_WAITING, TOO_MUCH_KEPT, Keeper, Kept, Named
 from olr.messages.message import NOTHING_KEPT, Message, Reading
+from olr.messages.openlr_forms import Form
 from olr.messages.openlr_references import MOST_HELD, References
 from olr.messages.openlr_words import DATEX_ROOTS, KEY, RECORD, SITUATION, begins_reference
 from olr.messages.texts import begins_like_a_reference, one_line
 
 NAMED_RECORDS = frozenset((RECORD, SITUATION))
 """Elements that are records whatever they have: other ones have an id."""
-_Pair = tuple[str, str | None]
-"""A reference, and its fault."""
+_NOTHING = Kept()
+_Pair = tuple[str | Form, str | None]
+"""A reference, and its fault. One in element form is written later: many, one after the other, take a tenth less time than each between
+elements."""
 
 
-@dataclass
+@dataclass(slots=True)
 class _Record:
     """An element with a key."""
 
@@ -43,6 +46,8 @@ class KnownElements(References):
         """Whether references have the numbers that they would have if nothing were kept."""
         self._keeper = Keeper(self._named.names, self._keep, self.listen)
         self._number = self._situations = self._without = 0
+        self._forms: list[tuple[int, Form]] = []
+        """References of messages that are still to be written, with the places of these in `found`."""
         self._is_known = False
         self._key_depth, self._key_texts = 0, list[str]()
         """Where the key of an `OpenLR` is being read."""
@@ -90,7 +95,7 @@ class KnownElements(References):
         """References were found: those of an `OpenLR` are given at its end."""
         if not self._is_in_own():
             binaries: list[_Pair] = [(text, None) for text in self.binaries]
-            self._give(binaries + [form.written() for form in self.forms[len(binaries) :]])
+            self._give(binaries + [(form, None) for form in self.forms[len(binaries) :]])
         elif len(self.forms) + len(self.binaries) >= MOST_HELD:
             raise self.error(f"has more than {MOST_HELD:,} references of one location")
 
@@ -104,6 +109,14 @@ class KnownElements(References):
             found = f"{self._without:,} of {self._situations:,} situation records have no OpenLR"
             self.hint(f"{found}, and so no row")
 
+    def taken(self) -> list[Message]:
+        """The messages that were found, with references in binary."""
+        for at, form in self._forms:
+            record, key, _, _, kept = self.found[at]
+            self.found[at] = Message(record, key, *form.written(), kept)
+        self._forms.clear()
+        return super().taken()
+
     def _is_in_own(self) -> bool:
         """Whether the innermost record is an `OpenLR`."""
         return self._records[-1].name == RECORD
@@ -112,7 +125,7 @@ class KnownElements(References):
         """Keeps a text of the innermost record."""
         self._records[-1].kept.add(name, text)
 
-    def _start_record(self, local: str, attributes: Mapping[str, str]) -> None:
+    def _start_record(self, local: str, attributes: dict[str, str]) -> None:
         """An element begins that may be a record."""
         is_named = local in NAMED_RECORDS
         self._is_known |= is_named or local in DATEX_ROOTS
@@ -121,7 +134,8 @@ class KnownElements(References):
         if not is_named and ("id" not in plain or around.name in NAMED_RECORDS):
             return
         key = plain.get("id", around.key)
-        self._records.append(_Record(self.depth, local, key, self._keeper.of_element(plain)))
+        kept = self._keeper.of_element(plain) if self._keeps else _NOTHING
+        self._records.append(_Record(self.depth, local, key, kept))
         self._situations += local == SITUATION
 
     def _end_record(self, record: _Record) -> None:
@@ -145,7 +159,7 @@ class KnownElements(References):
         binaries = [text for text in self.binaries if begins_like_a_reference(text)]
         chosen = (binaries or self.binaries)[:1]
         found: list[_Pair] = [(text, None) for text in chosen]
-        found += [form.written() for form in self.forms[len(chosen) :]]
+        found += [(form, None) for form in self.forms[len(chosen) :]]
         self.binaries.clear()
         self.forms.clear()
         return found
@@ -158,7 +172,8 @@ class KnownElements(References):
         record.count += len(pairs)
         if self._keeps and record.depth:
             record.waiting += [
-                (self._next_number() if self._counts_at_once else None, pair) for pair in pairs
+                (self._next_number() if self._counts_at_once else None, _written(pair))
+                for pair in pairs
             ]
             if len(record.waiting) > MOST_WAITING:
                 raise self.error(f"has more than {MOST_WAITING:,} references of one record")
@@ -169,15 +184,25 @@ class KnownElements(References):
     def _message(
         self,
         key: str | None,
-        reference: str,
+        reference: str | Form,
         fault: str | None,
         kept: Mapping[str, str] = NOTHING_KEPT,
         number: int | None = None,
     ) -> None:
         """A message was found. It has the next number, unless it has one already."""
         number = number or self._next_number()
+        if isinstance(reference, Form):
+            self._forms.append((len(self.found), reference))
+            reference = ""
         self.found.append(Message(number, key, reference, fault, kept))
 
     def _next_number(self) -> int:
+        """The number of the next message."""
         self._number += 1
         return self._number
+
+
+def _written(pair: _Pair) -> _Pair:
+    """A reference in binary, which takes little memory while it waits."""
+    reference, _ = pair
+    return reference.written() if isinstance(reference, Form) else pair

@@ -154,24 +154,26 @@ class References(Walk):
 
     def _start_within(self, name: str, attributes: dict[str, str]) -> None:
         """An element of a reference begins."""
-        known = self._contexts[-1].get(self.local[name])
-        if known is None:
+        contexts = self._contexts
+        known = contexts[-1].get(self.local[name])
+        if known is POINT or known is LAST:
+            self._fields = self._form.next_point(known is LAST)
+        elif known is None:
             self._unknown(self.local[name])
             known = _PASSED_OVER
-        elif known is POINT or known is LAST:
-            self._fields = self._form.next_point(known is LAST)
-        self._contexts.append(known)
+        contexts.append(known)
         self._texts.clear()
 
     def _end_element(self, name: str) -> None:
         """An element of a reference ends, or the one that has all of them."""
         context = self._contexts.pop()
         if type(context) is Field:
-            text, fields = "".join(self._texts), self._fields
+            texts, fields, field = self._texts, self._fields, context.name
+            text = texts[0] if len(texts) == 1 else "".join(texts)
             if context is BINARY_TEXT:
                 self._add(text)
             else:
-                fields[context.name] = _ODD if context.name in fields else text
+                fields[field] = _ODD if field in fields else text
         elif context is POINT or context is LAST:
             self._fields = self._form.own
         elif context is _PASSED_OVER:

@@ -2,6 +2,7 @@
 
 import re
 from collections.abc import Mapping
+from functools import lru_cache
 
 from olr.errors import MapRefused, ToolError
 from olr.model.fault_table import ROWS
@@ -63,6 +64,7 @@ def _number(text: str) -> int | None:
     return int(last) if last.isdecimal() else None
 
 
+@lru_cache(maxsize=1000)
 def _meaning(text: str) -> tuple[str, str]:
     """What a fault means, and what to do: empty texts if it isn't known."""
     words = text.split(" ")

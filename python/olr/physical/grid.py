@@ -12,6 +12,8 @@ _STEPS = 1 << 24
 _CIRCLE = 360 * ONE
 STEP = 10
 """Microdegrees between the relative coordinates of neighbours."""
+_STEP = STEP * MICRODEGREE
+_HALF = _STEPS // 2
 MOST_STEPS = (1 << 15) - 1
 """The greatest number of 16 bits. The lowest one is one lower."""
 
@@ -21,16 +23,17 @@ def absolute_number(value: int, limit: int) -> int:
     steps = abs(value) * _STEPS
     if 4 * steps < _CIRCLE:
         return 0
-    sign = 1 if value > 0 else -1
-    number = sign * (steps // _CIRCLE + 1)
-    number = min(max(number, -_STEPS // 2), _STEPS // 2 - 1)
-    return number if abs(absolute(number)) <= limit else number - sign
+    most = steps // _CIRCLE + 1
+    if value > 0:
+        sign, number = 1, most if most < _HALF else _HALF - 1
+    else:
+        sign, number = -1, -most if most <= _HALF else -_HALF
+    return number if -limit <= absolute(number) <= limit else number - sign
 
 
 def relative_number(value: int, before: int, limit: int) -> int:
     """The number of steps to a coordinate from another one, which is in microdegrees. It may have more than 16 bits."""
-    step = STEP * MICRODEGREE
-    number = (value - before * MICRODEGREE + step // 2) // step
+    number = (value - before * MICRODEGREE + _STEP // 2) // _STEP
     reached = before + STEP * number
     if -limit <= reached <= limit:
         return number

@@ -14,13 +14,29 @@ _NUMBER = re.compile(r"[+-]?(?:[0-9]+\.?[0-9]*|\.[0-9]+)(?:[eE][+-]?[0-9]{1,9})?
 _EXACT = Context(prec=40, rounding=ROUND_FLOOR, traps=[InvalidOperation])
 _SHORT = 24
 _UNIT = Decimal(1).scaleb(-DIGITS)
+_SCALES: list[int] = [10 ** (DIGITS - count) for count in range(DIGITS + 1)]
+"""Units of the last digit, by how many digits are behind the point."""
 
 
 def units_of(value: Number) -> int | None:
     """A number in units; None for what is none, or is beyond any field. A text is a number as XML has it, and blanks at its ends."""
     if isinstance(value, str):
-        return _of_short(value) if len(value) <= _SHORT else _of_text(value)
+        whole, _, part = value.partition(".")
+        digits = whole + part
+        is_plain = digits.isdecimal() and len(value) <= _SHORT and len(part) <= DIGITS
+        if is_plain and whole and digits.isascii():
+            return int(digits) * _SCALES[len(part)]
+        return _of_text(value)
     return value * ONE if isinstance(value, int) else _of_decimal(value)
+
+
+def usual_units_of(value: Number) -> int | None:
+    """The same of a number that is often the same, as distances are: what was found is kept for a while."""
+    is_short = isinstance(value, str) and len(value) <= _SHORT
+    return _kept_units_of(value) if is_short else units_of(value)
+
+
+_kept_units_of = lru_cache(maxsize=1 << 14)(units_of)
 
 
 def _of_text(value: str) -> int | None:
@@ -29,10 +45,6 @@ def _of_text(value: str) -> int | None:
         whole, part = plain.groups("")
         return int(whole + part.ljust(DIGITS, "0"))
     return None if _NUMBER.fullmatch(text) is None else _of_decimal(Decimal(text))
-
-
-_of_short = lru_cache(maxsize=1 << 14)(_of_text)
-"""Bearings, distances and often places are the same in many references."""
 
 
 def _of_decimal(value: Decimal | None) -> int | None:

@@ -1,7 +1,8 @@
 """A reference in physical units written in binary, version 3 (docs/specification/reference.md)."""
 
 import binascii
-from collections.abc import Iterator, Mapping
+from collections.abc import Mapping, Sequence
+from typing import Literal
 
 from olr.model.reference import (
     LINE,
@@ -16,7 +17,7 @@ from olr.model.road_map import GREATEST_LAT, GREATEST_LON
 from olr.physical import faults
 from olr.physical.fields import NAMES, Number, PhysicalPoint, PhysicalReference
 from olr.physical.grid import MICRODEGREE, MOST_STEPS, STEP, absolute_number, relative_number
-from olr.physical.numbers import ONE, units_of
+from olr.physical.numbers import ONE, units_of, usual_units_of
 
 SECTOR = 11_25 * ONE // 100
 INTERVAL = 58_6 * ONE // 10
@@ -25,6 +26,15 @@ LONGEST_LEG = 15_000 * ONE
 SHARES = 256
 """Of a leg, in which an offset is told."""
 _MOST_LON, _MOST_LAT = GREATEST_LON * MICRODEGREE, GREATEST_LAT * MICRODEGREE
+_CIRCLE = 360 * ONE
+_ROADS: Mapping[tuple[Number, Number], int] = {
+    (class_, form): class_ << 3 | form for class_ in range(8) for form in range(8)
+}
+"""Classes and forms in one byte."""
+_SECTORS: Mapping[Number, int] = {
+    str(degrees): degrees * ONE // SECTOR % 32 for degrees in range(361)
+}
+"""Sectors of bearings of whole degrees, as most senders write them."""
 
 
 def base64_of(reference: PhysicalReference, names: Mapping[str, str] = NAMES) -> str:
@@ -38,27 +48,18 @@ class _Writing:
     def __init__(self, reference: PhysicalReference, names: Mapping[str, str]) -> None:
         self._reference, self._names = reference, names
         self._is_line = reference.kind == "line"
-        self._status = LINE if self._is_line else POINT_ALONG_LINE
 
     def content(self) -> bytes:
         """The bytes."""
         points = self._reference.points
         self._require_points(len(points))
-        places = self._places()
-        legs = [self._leg(number, point) for number, point in enumerate(points[:-1], 1)]
-        offsets = self._offsets(legs[0], legs[-1])
-        roads = [self._road(point) for point in points]
-        if not self._is_line:
-            roads[0] |= self._known("orientation", self._reference.orientation) << 6
-            roads[1] |= self._known("side", self._reference.side) << 6
-        values = [self._status, *next(places)]
-        for point, road, leg, place in zip(points, roads, legs, places):
-            lowest = self._whole("lowest", point.lowest, 7)
-            values += (road, lowest << 5 | self._sector(point), leg // INTERVAL, *place)
-        flags = sum(bit for bit, share in zip((POSITIVE, NEGATIVE), offsets) if share is not None)
-        values += (roads[-1], flags | self._sector(points[-1]))
-        shares = (share for share in offsets if share is not None)
-        return layout(len(points) - 2).pack(*values) + bytes(shares)
+        legs = self._legs(points)
+        flags, shares = self._shares(legs[0], legs[-1])
+        roads = self._roads(points)
+        status = LINE if self._is_line else POINT_ALONG_LINE
+        values = [status, *self._points(points, roads, legs)]
+        values[-1] |= flags
+        return layout(len(points) - 2).pack(*values) + shares
 
     def _require_points(self, count: int) -> None:
         """Raises `Fault` for a number of points that the kind hasn't."""
@@ -67,64 +68,95 @@ class _Writing:
         if count < 2 or count > 2 and not self._is_line:
             raise faults.bad_element(self._names["points"])
 
-    def _places(self) -> Iterator[tuple[int, ...]]:
-        """The fields of each place: high and low bits of the first one, and steps to each other one."""
-        lon = lat = 0
-        for number, point in enumerate(self._reference.points, 1):
-            longitude = self._units("longitude", point.longitude)
-            latitude = self._units("latitude", point.latitude)
-            if abs(longitude) > _MOST_LON or abs(latitude) > _MOST_LAT:
-                raise faults.out_of_range(number)
-            if number == 1:
-                east = absolute_number(longitude, GREATEST_LON)
-                north = absolute_number(latitude, GREATEST_LAT)
-                yield east >> 16, east & 0xFFFF, north >> 16, north & 0xFFFF
-                lon, lat = absolute(east), absolute(north)
-            else:
-                east = relative_number(longitude, lon, GREATEST_LON)
-                north = relative_number(latitude, lat, GREATEST_LAT)
-                if max(east, north) > MOST_STEPS or min(east, north) < -MOST_STEPS - 1:
-                    raise faults.too_far(number)
-                yield east, north
-                lon, lat = lon + STEP * east, lat + STEP * north
+    def _legs(self, points: Sequence[PhysicalPoint]) -> list[int]:
+        """The distance from each point to the next one, in units."""
+        legs = []
+        for number, point in enumerate(points[:-1], 1):
+            distance = self._length("distance", point.distance)
+            if distance >= LONGEST_LEG:
+                raise faults.leg_too_long(number)
+            legs.append(distance)
+        return legs
+
+    def _roads(self, points: Sequence[PhysicalPoint]) -> list[int]:
+        """Class and form of each point; of a point along a line also the orientation and the side."""
+        reference = self._reference
+        found = [_ROADS.get((point.class_, point.form)) for point in points]
+        roads = [self._road(point) if road is None else road for point, road in zip(points, found)]
+        if not self._is_line:
+            roads[0] |= self._known("orientation", reference.orientation) << 6
+            roads[1] |= self._known("side", reference.side) << 6
+        return roads
 
     def _road(self, point: PhysicalPoint) -> int:
         """Class and form."""
         return self._whole("class_", point.class_, 7) << 3 | self._whole("form", point.form, 7)
 
+    def _points(
+        self, points: Sequence[PhysicalPoint], roads: Sequence[int], legs: Sequence[int]
+    ) -> list[int]:
+        """The fields of all points, in their order."""
+        longitude, latitude = self._place(1, points[0])
+        east = absolute_number(longitude, GREATEST_LON)
+        north = absolute_number(latitude, GREATEST_LAT)
+        lon, lat = absolute(east), absolute(north)
+        values = [east >> 16, east & 0xFFFF, north >> 16, north & 0xFFFF]
+        for at, leg in enumerate(legs):
+            point, number = points[at], at + 2
+            longitude, latitude = self._place(number, points[at + 1])
+            east = relative_number(longitude, lon, GREATEST_LON)
+            north = relative_number(latitude, lat, GREATEST_LAT)
+            if max(east, north) > MOST_STEPS or min(east, north) < -MOST_STEPS - 1:
+                raise faults.too_far(number)
+            lon, lat = lon + STEP * east, lat + STEP * north
+            path = self._whole("lowest", point.lowest, 7) << 5 | self._sector(point)
+            values += (roads[at], path, leg // INTERVAL, east, north)
+        values += (roads[-1], self._sector(points[-1]))
+        return values
+
+    def _place(self, number: int, point: PhysicalPoint) -> tuple[int, int]:
+        """Longitude and latitude of the point with that number, in units."""
+        longitude, latitude = units_of(point.longitude), units_of(point.latitude)
+        if longitude is None or latitude is None:
+            raise faults.bad_element(
+                self._names["latitude" if longitude is not None else "longitude"]
+            )
+        if abs(longitude) > _MOST_LON or abs(latitude) > _MOST_LAT:
+            raise faults.out_of_range(number)
+        return longitude, latitude
+
     def _sector(self, point: PhysicalPoint) -> int:
         """The sector of the bearing: 360 degrees are 0."""
-        bearing = self._units("bearing", point.bearing)
-        if not 0 <= bearing <= 360 * ONE:
+        sector = _SECTORS.get(point.bearing)
+        if sector is not None:
+            return sector
+        bearing = units_of(point.bearing)
+        if bearing is None or not 0 <= bearing <= _CIRCLE:
             raise faults.bad_element(self._names["bearing"])
         return bearing // SECTOR % 32
 
-    def _leg(self, number: int, point: PhysicalPoint) -> int:
-        """The distance to the next point, in units."""
-        distance = self._length("distance", point.distance)
-        if distance >= LONGEST_LEG:
-            raise faults.leg_too_long(number)
-        return distance
+    def _shares(self, first: int, last: int) -> tuple[int, bytes]:
+        """The flags of the offsets that there are, and their shares of the first and of the last leg."""
+        reference, flags, shares = self._reference, 0, b""
+        if reference.positive is not None and (offset := self._offset("positive", first)):
+            flags, shares = POSITIVE, bytes([offset * SHARES // first])
+        if reference.negative is not None and (offset := self._offset("negative", last)):
+            if not self._is_line:
+                raise faults.bad_element(self._names["negative"])
+            flags, shares = flags | NEGATIVE, shares + bytes([offset * SHARES // last])
+        return flags, shares
 
-    def _offsets(self, first: int, last: int) -> tuple[int | None, int | None]:
-        """The shares of the first and of the last leg: None for no offset."""
-        positive = self._share("positive", self._reference.positive, first)
-        negative = self._share("negative", self._reference.negative, last)
-        if negative is not None and not self._is_line:
-            raise faults.bad_element(self._names["negative"])
-        return positive, negative
-
-    def _share(self, field: str, value: Number, leg: int) -> int | None:
-        """An offset as a share of its leg."""
-        offset = self._length(field, 0 if value is None else value)
+    def _offset(self, field: Literal["positive", "negative"], leg: int) -> int:
+        """An offset, which is shorter than its leg or 0, in units."""
+        offset = self._length(field, getattr(self._reference, field))
         if offset >= leg and offset:
             raise faults.offset_too_long(self._names[field])
-        return offset * SHARES // leg if offset else None
+        return offset
 
     def _length(self, field: str, value: Number) -> int:
         """Metres, in units."""
-        length = self._units(field, value)
-        if length < 0:
+        length = usual_units_of(value)
+        if length is None or length < 0:
             raise faults.bad_element(self._names[field])
         return length
 
@@ -134,14 +166,13 @@ class _Writing:
 
     def _whole(self, field: str, value: Number, most: int) -> int:
         """A whole number."""
-        number, rest = (value, 0) if type(value) is int else divmod(self._units(field, value), ONE)
-        if rest or not 0 <= number <= most:
+        number = value if type(value) is int else _whole_number(value)
+        if not 0 <= number <= most:
             raise faults.bad_element(self._names[field])
         return number
 
-    def _units(self, field: str, value: Number) -> int:
-        """A number of any kind."""
-        units = units_of(value)
-        if units is None:
-            raise faults.bad_element(self._names[field])
-        return units
+
+def _whole_number(value: Number) -> int:
+    """A number that is whole; -1 for any other one."""
+    units = units_of(value)
+    return -1 if units is None or units % ONE else units // ONE
