@@ -4,6 +4,8 @@ import os
 import pytest
 import signal
 import tempfile
+import threading
+import time
 from collections.abc import Iterator
 from pathlib import Path
 
@@ -29,6 +31,26 @@ def sign(request: pytest.FixtureRequest) -> Iterator[signal.Signals]:
     signal.signal(sign, before)
 
 
+def come(sign: signal.Signals) -> None:
+    """The signal comes, and another thread has time to take it."""
+    os.kill(os.getpid(), sign)
+    time.sleep(0.01)
+
+
+@pytest.fixture(params=[False, True])
+def other_thread(request: pytest.FixtureRequest) -> Iterator[None]:
+    """Perhaps another thread, to which the system gives signals that this one keeps: libraries have some."""
+    ended = threading.Event()
+    thread = threading.Thread(target=ended.wait)
+    if request.param:
+        thread.start()
+    yield
+    ended.set()
+    if request.param:
+        thread.join()
+
+
+@pytest.mark.usefixtures("other_thread")
 def test_a_signal_as_it_is_made(
     sign: signal.Signals, tmp_path: Path, monkeypatch: pytest.MonkeyPatch
 ) -> None:
@@ -36,7 +58,7 @@ def test_a_signal_as_it_is_made(
 
     def make(*given: str) -> str:
         folder = made(*given)
-        os.kill(os.getpid(), sign)
+        come(sign)
         return folder
 
     monkeypatch.setattr(tempfile, "mkdtemp", make)
@@ -50,10 +72,11 @@ def test_a_signal_while_it_is_there(sign: signal.Signals, tmp_path: Path) -> Non
         with temporary_folder("some.", tmp_path) as folder:
             assert folder.parent == tmp_path and folder.name.startswith("some.")
             (folder / "file").touch()
-            os.kill(os.getpid(), sign)
+            come(sign)
     assert os.listdir(tmp_path) == []
 
 
+@pytest.mark.usefixtures("other_thread")
 def test_a_signal_as_it_is_deleted(
     sign: signal.Signals, tmp_path: Path, monkeypatch: pytest.MonkeyPatch
 ) -> None:
@@ -61,7 +84,7 @@ def test_a_signal_as_it_is_deleted(
 
     def delete(*given: str, dir_fd: int | None = None) -> None:
         deleted(*given, dir_fd=dir_fd)
-        os.kill(os.getpid(), sign)
+        come(sign)
 
     with pytest.raises(Ended):
         with temporary_folder("some.", tmp_path) as folder:
