@@ -184,16 +184,22 @@ def test_no_worker_can_be_started(
 
 
 def test_a_worker_ends_in_the_middle_of_a_task(
-    begun: Begun, tmp_path: Path, monkeypatch: pytest.MonkeyPatch
+    begun: Begun,
+    tmp_path: Path,
+    monkeypatch: pytest.MonkeyPatch,
+    capfd: pytest.CaptureFixture[str],
 ) -> None:
-    """What it has begun is deleted."""
+    """What it has begun is deleted. An error that comes by that, as where it imports something, isn't said."""
 
     def endless(_job: object, _task: range, scratch: Path, _kept: object) -> None:
+        # It has closed the file of pytest.
+        sys.stderr = open(2, "w", buffering=1, closefd=False)
         try:
             (scratch / "begun").touch()
             time.sleep(600)
         finally:
             (scratch / "begun").rename(scratch / "ended")
+            raise RuntimeError("release unlocked lock")
 
     def interrupt() -> None:
         while not (tmp_path / "begun").exists():
@@ -212,6 +218,7 @@ def test_a_worker_ends_in_the_middle_of_a_task(
     interrupting.join()
     asked.end()
     assert (tmp_path / "ended").exists() and not (tmp_path / "begun").exists()
+    assert capfd.readouterr().err == ""
 
 
 def test_what_is_waited_for(begun: Begun, runs: Runs, monkeypatch: pytest.MonkeyPatch) -> None:
@@ -277,7 +284,8 @@ def test_a_run_that_starts_is_ended(runs: Runs) -> None:
         with Forked(words, runs.environment(), errors, ended_at(moment, sign)) as run:
             assert run.wait(120) == 1, moment
             assert run.stdout.read() == ""
-        assert without_progress(errors.read_text()).strip() == "olr-tools: interrupted"
+        said = without_progress(errors.read_text()).strip()
+        assert said == "olr-tools: interrupted", said
         runs.await_end()
         assert os.listdir(runs.scratch) == []
         assert all(name[0] != "." for name in runs.parts())

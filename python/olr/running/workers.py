@@ -14,7 +14,7 @@ from pathlib import Path
 from socket import gethostname
 from typing import NoReturn
 
-from olr.asking.ending import end_with
+from olr.asking.ending import end_with, is_left
 from olr.asking.exchange import how_ended
 from olr.errors import ToolError, reason_of
 from olr.processors import processors
@@ -199,7 +199,9 @@ def _work(job: Job, scratch: Path, asked: Connection) -> NoReturn:
     except (SystemExit, EOFError, OSError):
         pass
     except BaseException:
-        traceback.print_exc()
+        # What is ended in the middle of something, such as an import, may raise an error of its own.
+        if not is_left(asked.fileno()):
+            traceback.print_exc()
     finally:
         with suppress(BaseException):
             kept.end()

@@ -13,7 +13,7 @@ import traceback
 from io import BufferedRandom
 from typing import NoReturn
 
-from olr.asking.ending import end_with
+from olr.asking.ending import end_with, is_left
 from olr.confidence.confidence import Confidence
 from olr.errors import ToolError
 from olr.serving import feature_texts, row_texts, scene_texts
@@ -64,7 +64,9 @@ def _work(asked: socket.socket, ground: Ground | ToolError) -> NoReturn:
     except ConnectionError:
         pass
     except Exception:
-        traceback.print_exc()
+        # What is ended in the middle of something, such as an import, may raise an error of its own.
+        if not is_left(asked.fileno()):
+            traceback.print_exc()
     finally:
         sys.stderr.flush()
         os._exit(0)
