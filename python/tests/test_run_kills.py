@@ -1,4 +1,4 @@
-"""Workers and whole runs that are killed at drawn moments, thirty of each: nothing is lost, and nothing is there twice.
+"""Workers and whole runs that are killed at drawn moments, twenty of each: nothing is lost, and nothing is there twice.
 
 They are processes of their own, forked from the test, which end themselves by SIGKILL when they are about to use the system for the
 n-th time: to open, move, make or delete a file, or to start the program. So a seed draws the same moments on each machine.
@@ -21,7 +21,7 @@ from olr.running.parts import NotWhole
 from olr.tools import run as olr_tools
 from runs import Begun, Town, lines_of_batch
 
-KILLS = 30
+KILLS = 20
 USES = {"open", "os.rename", "os.mkdir", "os.remove", "os.rmdir", "subprocess.Popen"}
 """Events of Python's audit: what moments are counted by."""
 

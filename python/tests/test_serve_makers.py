@@ -383,14 +383,13 @@ def test_worst_requests(drawn: Path, program: Program, tmp_path: Path) -> None:
     """Four of each at once: the server itself has little of what is made. `bench/serve.py --large` measures those of the largest map."""
     text = draw_references(drawn, 7)[6]
     path = path_of("match", text, radius=400, percent=100, slack=10_000, page=1000)
-    values = b"[" + b",".join([b"[]"] * ((1 << 24) // 3 - 1)) + b"]"
-    lists = [values, *[values[:1].ljust(len(values))] * 3]
+    values = b"[".ljust(1 << 24)
     with serving(program.path, drawn, tmp_path / "log", begin=started) as server:
 
         def ask(number: int) -> int:
             if number < 4:
                 return len(server.get(path, **GEOJSON).body)
-            reply = server.get("/messages?format=json", "POST", lists[number - 4])
+            reply = server.get("/messages?format=json", "POST", values)
             assert reply.problem()[:2] == (422, "UnreadableList")
             return len(values)
 
