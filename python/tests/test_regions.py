@@ -336,7 +336,7 @@ def growth_of(disc: Disc) -> float:
 
 
 def leg_radius(start: Disc, middle: Disc, radius: int, longest: int, store: Store) -> float:
-    """The radius of a leg's disc, as docs/SCALE.md has it: each line is looked at in each round."""
+    """The radius of a leg's disc, as docs/REGIONS.md has it: each line is looked at in each round."""
     known = store.shortness
     boxes = list(zip(known.west, known.south, known.east, known.north))
     near = start._replace(radius=radius + 1.0)

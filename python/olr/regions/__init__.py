@@ -1,4 +1,4 @@
-"""Maps of any size, and the part of one that a reference needs: docs/SCALE.md says why that part is enough.
+"""Maps of any size, and the part of one that a reference needs: docs/REGIONS.md says why that part is enough.
 
 | module | subject |
 |---|---|

@@ -1,7 +1,7 @@
 """The discs that the lines of a reference meet.
 
 On a map that has all lines that meet them, and more lines of the whole map or none, with all bans between these lines, a reference
-has the answer that it has on the whole map. docs/SCALE.md has the proof.
+has the answer that it has on the whole map. docs/REGIONS.md has the proof.
 
 Discs are computed for many references at once. What rounding in 64-bit numbers changes is less than a millimetre, and the margins have
 that and much more to spare.
