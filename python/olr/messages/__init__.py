@@ -15,6 +15,7 @@
 | `elements` | XML: one of the next two, and whether the key is there |
 | `openlr_elements`, `named_elements` | messages of DATEX II and of OpenLR's own schema; those of any XML, by names |
 | `openlr_references`, `openlr_forms`, `openlr_words` | references among elements; one in element form; the names and words of both schemas |
+| `openlr_shapes` | references whose elements are those of others before them, without the parser |
 | `keeping` | what is kept of a record of XML |
 | `kinds` | of which kind members are that are kept, and their values by it |
 | `markup` | XML as a stream of elements: what is broken or refused |

@@ -135,6 +135,10 @@ class Keeper:
         if line := " ".join(text.split()):
             self._add(name, line)
 
+    def is_taking(self) -> bool:
+        """Whether texts that come are those of an element that is kept."""
+        return bool(self._open)
+
     def pause(self) -> None:
         """A reference begins. An element around it is no leaf."""
         if self._all:

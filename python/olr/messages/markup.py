@@ -65,9 +65,11 @@ class Walk:
         self.local = LocalNames()
         self.depth = 0
         """Of the element that is open, from 1."""
+        self.fed_bytes = self.passed_lines = 0
+        """Bytes that the parser was given, and lines that it wasn't."""
         self._heard: list[str] = []
         self._hints: dict[str, None] = {}
-        self._lines_before = self._fed_bytes = self._names = 0
+        self._names = 0
         self.parser = expat.ParserCreate()
 
     def messages(self, stream: io.BufferedReader) -> Iterator[Message]:
@@ -75,7 +77,7 @@ class Walk:
         head = self._head(stream)
         if not head:
             return
-        self._make_parser("UTF-8" if _RECODED.match(head) else None)
+        self.make_parser("UTF-8" if _RECODED.match(head) else None)
         piece = head
         while piece:
             yield from self._fed(piece, False)
@@ -94,6 +96,15 @@ class Walk:
 
     def finish(self) -> None:
         """The file has ended."""
+
+    def feed(self, piece: bytes) -> None:
+        """Goes through the next bytes of the file."""
+        self.parse(piece)
+
+    def parse(self, part: bytes) -> None:
+        """The parser goes through a part of the file."""
+        self.fed_bytes += len(part)
+        self.parser.Parse(part, False)
 
     def taken(self) -> list[Message]:
         """The messages that were found, which are no longer held."""
@@ -128,9 +139,9 @@ class Walk:
         return ToolError(f"{self.name}: line {self._line(self.parser.CurrentLineNumber)} {what}")
 
     def _line(self, number: int) -> int:
-        return self._lines_before + number
+        return self.passed_lines + number
 
-    def _make_parser(self, encoding: str | None) -> None:
+    def make_parser(self, encoding: str | None) -> None:
         """Makes the parser for an encoding, or for that which the file declares."""
         self.parser = parser = expat.ParserCreate(encoding)
         parser.buffer_text = True
@@ -147,7 +158,7 @@ class Walk:
                 break
             if not head:
                 blank = piece[: len(piece) - len(piece.lstrip(_BLANK))]
-                self._lines_before += blank.count(b"\n")
+                self.passed_lines += blank.count(b"\n")
                 piece = piece[len(blank) :]
             head += piece
         return head
@@ -156,8 +167,9 @@ class Walk:
         """The messages that end in a piece: also those before an error."""
         fault: ToolError | None = None
         try:
-            self._fed_bytes += len(piece)
-            self.parser.Parse(piece, is_last)
+            self.feed(piece)
+            if is_last:
+                self.parser.Parse(b"", True)
             self._require_limits()
             if is_last:
                 self.finish()
@@ -184,7 +196,7 @@ class Walk:
     def _require_limits(self) -> None:
         """Raises `ToolError` for what would take ever more memory."""
         parser = self.parser
-        pending = self._fed_bytes - parser.CurrentByteIndex
+        pending = self.fed_bytes - parser.CurrentByteIndex
         if pending > MOST_TOKEN:
             raise self.error(f"begins a tag or a comment of more than {MOST_TOKEN:,} bytes")
         if self.open_elements() > MOST_DEPTH:

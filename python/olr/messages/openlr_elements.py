@@ -1,22 +1,21 @@
 """Messages of XML whose names are known: DATEX II, versions 2 and 3, and OpenLR's own schema."""
 
-from collections.abc import Mapping
 from dataclasses import dataclass, field
 
 from olr.errors import ToolError
 from olr.messages.keeping import MOST_WAITING, TOO_MUCH_KEPT, Keeper, Kept, Named
-from olr.messages.message import NOTHING_KEPT, Message, Reading
+from olr.messages.message import Message, Reading
 from olr.messages.openlr_forms import Form
-from olr.messages.openlr_references import MOST_HELD, References
+from olr.messages.openlr_references import MOST_HELD
+from olr.messages.openlr_shapes import ShapedReferences
 from olr.messages.openlr_words import DATEX_ROOTS, KEY, RECORD, SITUATION, begins_reference
 from olr.messages.texts import begins_like_a_reference, one_line
 
 NAMED_RECORDS = frozenset((RECORD, SITUATION))
 """Elements that are records whatever they have: other ones have an id."""
 _NOTHING = Kept()
-_Pair = tuple[str | Form, str | None]
-"""A reference, and its fault. One in element form is written later: many, one after the other, take a tenth less time than each between
-elements."""
+_TO_COME = Message(0, None, "")
+"""In place of a message whose reference is still to be written."""
 
 
 @dataclass(slots=True)
@@ -29,11 +28,11 @@ class _Record:
     kept: Kept
     count: int = 0
     """Its references."""
-    waiting: list[tuple[int | None, _Pair]] = field(default_factory=list)
-    """Pairs that are messages at its end, with their numbers where these are known before."""
+    waiting: list[tuple[int | None, str, str | None]] = field(default_factory=list)
+    """References that are messages at its end, each with its number, if that is known before, and with its fault."""
 
 
-class KnownElements(References):
+class KnownElements(ShapedReferences):
     """Reads the messages of a file: each with the key of its situation record or of its `OpenLR`, or with the nearest id."""
 
     def __init__(self, reading: Reading, name: str) -> None:
@@ -46,8 +45,9 @@ class KnownElements(References):
         """Whether references have the numbers that they would have if nothing were kept."""
         self._keeper = Keeper(self._named.names, self._keep, self.listen)
         self._number = self._situations = self._without = 0
-        self._forms: list[tuple[int, Form]] = []
-        """References of messages that are still to be written, with the places of these in `found`."""
+        self._forms: list[tuple[int, int, str | None, Form]] = []
+        """Messages whose references are still to be written: their places in `found`, numbers, keys and references. Many that are written
+        one after the other take a tenth less time than each between elements."""
         self._is_known = False
         self._key_depth, self._key_texts = 0, list[str]()
         """Where the key of an `OpenLR` is being read."""
@@ -85,17 +85,22 @@ class KnownElements(References):
 
     def begin_references(self) -> None:
         """The outermost element that has references begins."""
-        self._keeper.pause()
+        if self._keeps:
+            self._keeper.pause()
 
     def end_references(self) -> None:
         """It has ended."""
-        self._keeper.go_on()
+        if self._keeps or self._key_depth:
+            self._keeper.go_on()
+
+    def hears_texts(self) -> bool:
+        """Whether texts around references are read for another purpose."""
+        return self._key_depth > 0 or self._keeper.is_taking()
 
     def take_references(self) -> None:
         """References were found: those of an `OpenLR` are given at its end."""
         if not self._is_in_own():
-            binaries: list[_Pair] = [(text, None) for text in self.binaries]
-            self._give(binaries + [(form, None) for form in self.forms[len(binaries) :]])
+            self._give([*self.binaries, *self.forms[len(self.binaries) :]])
         elif len(self.forms) + len(self.binaries) >= MOST_HELD:
             raise self.error(f"has more than {MOST_HELD:,} references of one location")
 
@@ -111,9 +116,8 @@ class KnownElements(References):
 
     def taken(self) -> list[Message]:
         """The messages that were found, with references in binary."""
-        for at, form in self._forms:
-            record, key, _, _, kept = self.found[at]
-            self.found[at] = Message(record, key, *form.written(), kept)
+        for at, number, key, form in self._forms:
+            self.found[at] = Message(number, key, *form.written())
         self._forms.clear()
         return super().taken()
 
@@ -141,7 +145,7 @@ class KnownElements(References):
     def _end_record(self, record: _Record) -> None:
         """A record ends."""
         if record.name == RECORD:
-            self._give(self._of_location() or [("", None)])
+            self._give(self._of_location() or [""])
         self._records.pop()
         if record.name == SITUATION:
             self._without += not record.count
@@ -151,50 +155,38 @@ class KnownElements(References):
             if record.kept.is_too_long():
                 raise self.error(f"ends a record with {TOO_MUCH_KEPT}")
             key, kept = self._named.parted(record.key, record.kept.texts())
-            for number, (reference, fault) in record.waiting:
-                self._message(key, reference, fault, kept, number)
+            self.found += [
+                Message(number or self._next_number(), key, reference, fault, kept)
+                for number, reference, fault in record.waiting
+            ]
 
-    def _of_location(self) -> list[_Pair]:
+    def _of_location(self) -> list[str | Form]:
         """The references of an `OpenLR`: of several binary ones, which have several versions, that of version 3."""
         binaries = [text for text in self.binaries if begins_like_a_reference(text)]
         chosen = (binaries or self.binaries)[:1]
-        found: list[_Pair] = [(text, None) for text in chosen]
-        found += [(form, None) for form in self.forms[len(chosen) :]]
-        self.binaries.clear()
-        self.forms.clear()
-        return found
+        return [*chosen, *self.forms[len(chosen) :]]
 
-    def _give(self, pairs: list[_Pair]) -> None:
+    def _give(self, references: list[str | Form]) -> None:
         """References of the innermost record are messages, at once or at its end."""
         self.binaries.clear()
         self.forms.clear()
         record = self._records[-1]
-        record.count += len(pairs)
+        record.count += len(references)
         if self._keeps and record.depth:
             record.waiting += [
-                (self._next_number() if self._counts_at_once else None, _written(pair))
-                for pair in pairs
+                (self._next_number() if self._counts_at_once else None, *_written(reference))
+                for reference in references
             ]
             if len(record.waiting) > MOST_WAITING:
                 raise self.error(f"has more than {MOST_WAITING:,} references of one record")
             return
-        for reference, fault in pairs:
-            self._message(record.key, reference, fault)
-
-    def _message(
-        self,
-        key: str | None,
-        reference: str | Form,
-        fault: str | None,
-        kept: Mapping[str, str] = NOTHING_KEPT,
-        number: int | None = None,
-    ) -> None:
-        """A message was found. It has the next number, unless it has one already."""
-        number = number or self._next_number()
-        if isinstance(reference, Form):
-            self._forms.append((len(self.found), reference))
-            reference = ""
-        self.found.append(Message(number, key, reference, fault, kept))
+        for reference in references:
+            number = self._next_number()
+            if isinstance(reference, Form):
+                self._forms.append((len(self.found), number, record.key, reference))
+                self.found.append(_TO_COME)
+            else:
+                self.found.append(Message(number, record.key, reference))
 
     def _next_number(self) -> int:
         """The number of the next message."""
@@ -202,7 +194,6 @@ class KnownElements(References):
         return self._number
 
 
-def _written(pair: _Pair) -> _Pair:
-    """A reference in binary, which takes little memory while it waits."""
-    reference, _ = pair
-    return reference.written() if isinstance(reference, Form) else pair
+def _written(reference: str | Form) -> tuple[str, str | None]:
+    """A reference in binary, which takes little memory while it waits, and its fault."""
+    return reference.written() if isinstance(reference, Form) else (reference, None)

@@ -1,6 +1,7 @@
-"""A reference in the element form of XML: the texts of its fields as they are read, and its binary form."""
+"""References in the element form of XML: the texts of their fields, and their binary form."""
 
-from collections.abc import Mapping
+from collections.abc import Mapping, Sequence
+from typing import Literal, NamedTuple
 
 from olr.messages.openlr_words import ALONG_LINE, LINE, WORDS
 from olr.model.fault import Fault
@@ -11,16 +12,84 @@ from olr.physical.writing import base64_of
 
 Texts = dict[str, str]
 """The texts of fields, by their names in `physical.fields`."""
+OWN_FIELDS = "positive", "negative", "side", "orientation"
+"""Fields of a reference itself."""
 _NO_WORD = -1
-_CLASSES, _FORMS = WORDS["class_"], WORDS["form"]
+
+
+class _Numbers(dict[str | None, int]):
+    """The numbers of words, which may have blanks around them. What isn't there is no word."""
+
+    def __missing__(self, text: str | None) -> int:
+        return self.get((text or "").strip(), _NO_WORD)
+
+
+_CLASSES, _FORMS = _Numbers(WORDS["class_"]), _Numbers(WORDS["form"])
+_SIDES, _ORIENTATIONS = _Numbers(WORDS["side"]), _Numbers(WORDS["orientation"])
+
+
+class FieldTexts(NamedTuple):
+    """The texts of a reference, None for what isn't there."""
+
+    kind: Literal["line", "point-along-line"]
+    points: Sequence[Sequence[str | None]]
+    """Those of each point, in the order of `PhysicalPoint`."""
+    own: Sequence[str | None]
+    """Those of the reference itself, in the order of `OWN_FIELDS`."""
+
+    def with_numbers(self) -> PhysicalReference:
+        """The reference with its numbers."""
+        points = [
+            PhysicalPoint(
+                longitude,
+                latitude,
+                _CLASSES[class_],
+                _FORMS[form],
+                bearing,
+                _CLASSES[lowest],
+                distance,
+            )
+            for longitude, latitude, class_, form, bearing, lowest, distance in self.points
+        ]
+        positive, negative, side, orientation = self.own
+        if self.kind == LINE:
+            return PhysicalReference(LINE, points, positive, negative)
+        return PhysicalReference(
+            ALONG_LINE,
+            points,
+            positive,
+            negative,
+            None if side is None else _SIDES[side],
+            None if orientation is None else _ORIENTATIONS[orientation],
+        )
 
 
 class Form:
+    """A reference in element form."""
+
+    def __init__(self, names: Mapping[str, str]) -> None:
+        self.names = names
+        """What the fields are called."""
+
+    def texts(self) -> FieldTexts:
+        """The texts of its fields. Raises `Fault` if it has too few elements, or too many."""
+        raise NotImplementedError
+
+    def written(self) -> tuple[str, str | None]:
+        """The reference in base64, or an empty text and its fault."""
+        try:
+            return base64_of(self.texts().with_numbers(), self.names), None
+        except Fault as fault:
+            return "", fault.text
+
+
+class GrowingForm(Form):
     """A reference whose elements come one after the other."""
 
     def __init__(self, kind: str | None, names: Mapping[str, str]) -> None:
-        self.kind, self.names = kind, names
-        """A kind of location, or the fault of one that isn't read. What the fields are called."""
+        super().__init__(names)
+        self._kind = kind
+        """A kind of location, or the fault of one that isn't read."""
         self.own: Texts = {}
         """Fields of the reference itself."""
         self._points: list[Texts] = []
@@ -37,16 +106,9 @@ class Form:
             points.append(texts)
         return texts
 
-    def written(self) -> tuple[str, str | None]:
-        """The reference in base64, or an empty text and its fault."""
-        try:
-            return base64_of(self._physical(), self.names), None
-        except Fault as fault:
-            return "", fault.text
-
-    def _physical(self) -> PhysicalReference:
-        """The reference with its numbers. Raises `Fault`."""
-        kind, own = self.kind, self.own
+    def texts(self) -> FieldTexts:
+        """The texts of its fields. Raises `Fault` if it has too few elements, or too many."""
+        kind, own = self._kind, self.own
         if kind is None:
             kind = ALONG_LINE if "side" in own or "orientation" in own else LINE
         if kind not in (LINE, ALONG_LINE):
@@ -55,31 +117,13 @@ class Form:
             raise faults.bad_element(self.names["last"])
         if kind == LINE and self._count >= MOST_POINTS:
             raise faults.too_many_points(self._count + 1)
-        points = [_point(texts) for texts in (*self._points, self._lasts[0])]
-        offsets = own.get("positive"), own.get("negative")
         if kind == LINE:
             for field in ("side", "orientation"):
                 if field in own:
                     raise faults.bad_element(self.names[field])
-            return PhysicalReference(LINE, points, *offsets)
-        side, orientation = _word(own, "side"), _word(own, "orientation")
-        return PhysicalReference(ALONG_LINE, points, *offsets, side, orientation)
-
-
-def _point(texts: Texts) -> PhysicalPoint:
-    """A point with its numbers."""
-    find = texts.get
-    return PhysicalPoint(
-        find("longitude"),
-        find("latitude"),
-        _CLASSES.get(find("class_", "").strip(), _NO_WORD),
-        _FORMS.get(find("form", "").strip(), _NO_WORD),
-        find("bearing"),
-        _CLASSES.get(find("lowest", "").strip(), _NO_WORD),
-        find("distance"),
-    )
-
-
-def _word(texts: Texts, field: str) -> int | None:
-    """The number of the word of a field that may be left out."""
-    return WORDS[field].get(texts[field].strip(), _NO_WORD) if field in texts else None
+        points = [
+            tuple(map(texts.get, PhysicalPoint._fields)) for texts in (*self._points, *self._lasts)
+        ]
+        return FieldTexts(
+            LINE if kind == LINE else ALONG_LINE, points, tuple(map(own.get, OWN_FIELDS))
+        )

@@ -3,7 +3,7 @@
 from typing import NamedTuple
 
 from olr.messages.markup import Walk, without_blanks
-from olr.messages.openlr_forms import Form, Texts
+from olr.messages.openlr_forms import Form, GrowingForm, Texts
 from olr.messages.openlr_words import (
     BINARIES,
     BINARY,
@@ -57,16 +57,18 @@ class References(Walk):
         self._seen = 0
         self.inside: int | None = None
         """The depth of the outermost element that has references."""
+        self.begun_at = -1
+        """The byte, of those that the parser was given, at which the last such element began that may have others around references."""
         self._wrappers: list[_Wrapper] = []
-        self._contexts: list[Parts] = []
+        self.contexts: list[Parts] = []
         """What elements may be in those that are open, in and below the one that has the fields of a reference."""
-        self._form = Form(None, OWN)
+        self._form = GrowingForm(None, OWN)
         self._fields: Texts = {}
         self._texts: list[str] = []
 
     def open_elements(self) -> int:
         """How many elements are open, also within a reference."""
-        return self.depth + len(self._contexts)
+        return self.depth + len(self.contexts)
 
     def begin_references(self) -> None:
         """The outermost element that has references begins."""
@@ -88,7 +90,7 @@ class References(Walk):
         if is_part:
             self.depth -= 1
             kind = self._wrappers[-1].kind if self._wrappers else None
-            self._begin_form(Form(kind, DATEX if local.startswith("openlr") else OWN))
+            self._begin_form(GrowingForm(kind, DATEX if local.startswith("openlr") else OWN))
             self._start_within(name, attributes)
         elif local == BINARY:
             self._go_within(BINARY_TEXT)
@@ -110,7 +112,7 @@ class References(Walk):
 
     def finish(self) -> None:
         """The file has ended, perhaps with a root that is a part of a reference."""
-        if self._contexts:
+        if self.contexts:
             self._end_within()
             self.end_reference()
 
@@ -121,20 +123,22 @@ class References(Walk):
             if self.local[name] == "type":
                 kind = kind_of(value) or kind
         if kind in OTHER_KINDS:
-            self._add(Form(kind, OWN))
+            self.add(GrowingForm(kind, OWN))
             self._go_within(_PASSED_OVER)
             return
         if kind is None and self._wrappers:
             kind = self._wrappers[-1].kind
+        if not self._wrappers:
+            self.begun_at = self.parser.CurrentByteIndex
         self._wrappers.append(_Wrapper(self.depth, local, kind, self._seen))
 
-    def _begin_form(self, form: Form) -> None:
+    def _begin_form(self, form: GrowingForm) -> None:
         """The open element has the fields of a reference."""
-        self._add(form)
+        self.add(form)
         self._form, self._fields = form, form.own
         self._go_within(REFERENCE)
 
-    def _add(self, found: Form | str) -> None:
+    def add(self, found: Form | str) -> None:
         """A reference was found, in element form or in binary."""
         self._seen += 1
         if len(self.binaries) + len(self.forms) >= MOST_HELD:
@@ -146,7 +150,7 @@ class References(Walk):
 
     def _go_within(self, context: Parts) -> None:
         """From now to the end of the open element, its elements are those of a reference."""
-        self._contexts.append(context)
+        self.contexts.append(context)
         self._texts.clear()
         self.listen(self._texts)
         parser = self.parser
@@ -154,7 +158,7 @@ class References(Walk):
 
     def _start_within(self, name: str, attributes: dict[str, str]) -> None:
         """An element of a reference begins."""
-        contexts = self._contexts
+        contexts = self.contexts
         known = contexts[-1].get(self.local[name])
         if known is POINT or known is LAST:
             self._fields = self._form.next_point(known is LAST)
@@ -166,12 +170,12 @@ class References(Walk):
 
     def _end_element(self, name: str) -> None:
         """An element of a reference ends, or the one that has all of them."""
-        context = self._contexts.pop()
+        context = self.contexts.pop()
         if type(context) is Field:
             texts, fields, field = self._texts, self._fields, context.name
             text = texts[0] if len(texts) == 1 else "".join(texts)
             if context is BINARY_TEXT:
-                self._add(text)
+                self.add(text)
             else:
                 fields[field] = _ODD if field in fields else text
         elif context is POINT or context is LAST:
@@ -179,15 +183,15 @@ class References(Walk):
         elif context is _PASSED_OVER:
             self._texts[:] = [_ODD]
         elif context is _BINARIES and not "".join(self._texts).isspace() and self._texts:
-            self._add("".join(self._texts))
+            self.add("".join(self._texts))
             self._texts.clear()
-        if not self._contexts:
+        if not self.contexts:
             self._end_within()
             self.end(name)
 
     def _end_within(self) -> None:
         """The element that has all of a reference ends."""
-        self._contexts.clear()
+        self.contexts.clear()
         self.listen(None)
         parser = self.parser
         parser.StartElementHandler, parser.EndElementHandler = self.start, self.end

@@ -143,6 +143,7 @@ KINDS: Mapping[str, str] = {
 `openlr` before them."""
 
 
+@lru_cache(maxsize=1000)
 def kind_of(name: str) -> str | None:
     """The kind of an element or a type, or the fault of the kind. None where the name says none."""
     return KINDS.get(name.rpartition(":")[2].lower().removeprefix("openlr"))

@@ -13,9 +13,10 @@ _CIRCLE = 360 * ONE
 STEP = 10
 """Microdegrees between the relative coordinates of neighbours."""
 _STEP = STEP * MICRODEGREE
+_HALF_STEP = _STEP // 2
 _HALF = _STEPS // 2
-MOST_STEPS = (1 << 15) - 1
-"""The greatest number of 16 bits. The lowest one is one lower."""
+LEAST_STEPS, MOST_STEPS = -(1 << 15), (1 << 15) - 1
+"""The numbers of 16 bits."""
 
 
 def absolute_number(value: int, limit: int) -> int:
@@ -33,7 +34,7 @@ def absolute_number(value: int, limit: int) -> int:
 
 def relative_number(value: int, before: int, limit: int) -> int:
     """The number of steps to a coordinate from another one, which is in microdegrees. It may have more than 16 bits."""
-    number = (value - before * MICRODEGREE + _STEP // 2) // _STEP
+    number = (value - before * MICRODEGREE + _HALF_STEP) // _STEP
     reached = before + STEP * number
     if -limit <= reached <= limit:
         return number

@@ -2,7 +2,6 @@
 
 import re
 from decimal import ROUND_FLOOR, Context, Decimal, InvalidOperation
-from functools import lru_cache
 
 from olr.physical.fields import Number
 
@@ -21,22 +20,15 @@ _SCALES: list[int] = [10 ** (DIGITS - count) for count in range(DIGITS + 1)]
 def units_of(value: Number) -> int | None:
     """A number in units; None for what is none, or is beyond any field. A text is a number as XML has it, and blanks at its ends."""
     if isinstance(value, str):
-        whole, _, part = value.partition(".")
-        digits = whole + part
-        is_plain = digits.isdecimal() and len(value) <= _SHORT and len(part) <= DIGITS
-        if is_plain and whole and digits.isascii():
-            return int(digits) * _SCALES[len(part)]
+        if len(value) <= _SHORT and value.isascii():
+            if value.isdecimal():
+                return int(value) * ONE
+            whole, _, part = value.partition(".")
+            digits = whole + part
+            if whole and digits.isdecimal() and len(part) <= DIGITS:
+                return int(digits) * _SCALES[len(part)]
         return _of_text(value)
     return value * ONE if isinstance(value, int) else _of_decimal(value)
-
-
-def usual_units_of(value: Number) -> int | None:
-    """The same of a number that is often the same, as distances are: what was found is kept for a while."""
-    is_short = isinstance(value, str) and len(value) <= _SHORT
-    return _kept_units_of(value) if is_short else units_of(value)
-
-
-_kept_units_of = lru_cache(maxsize=1 << 14)(units_of)
 
 
 def _of_text(value: str) -> int | None:

@@ -16,8 +16,15 @@ from olr.model.reference import (
 from olr.model.road_map import GREATEST_LAT, GREATEST_LON
 from olr.physical import faults
 from olr.physical.fields import NAMES, Number, PhysicalPoint, PhysicalReference
-from olr.physical.grid import MICRODEGREE, MOST_STEPS, STEP, absolute_number, relative_number
-from olr.physical.numbers import ONE, units_of, usual_units_of
+from olr.physical.grid import (
+    LEAST_STEPS,
+    MICRODEGREE,
+    MOST_STEPS,
+    STEP,
+    absolute_number,
+    relative_number,
+)
+from olr.physical.numbers import ONE, units_of
 
 SECTOR = 11_25 * ONE // 100
 INTERVAL = 58_6 * ONE // 10
@@ -35,6 +42,12 @@ _SECTORS: Mapping[Number, int] = {
     str(degrees): degrees * ONE // SECTOR % 32 for degrees in range(361)
 }
 """Sectors of bearings of whole degrees, as most senders write them."""
+_PATHS: Mapping[tuple[Number, Number], int] = {
+    (lowest, bearing): lowest << 5 | sector
+    for lowest in range(8)
+    for bearing, sector in _SECTORS.items()
+}
+"""Lowest classes and such bearings in one byte."""
 
 
 def base64_of(reference: PhysicalReference, names: Mapping[str, str] = NAMES) -> str:
@@ -81,8 +94,7 @@ class _Writing:
     def _roads(self, points: Sequence[PhysicalPoint]) -> list[int]:
         """Class and form of each point; of a point along a line also the orientation and the side."""
         reference = self._reference
-        found = [_ROADS.get((point.class_, point.form)) for point in points]
-        roads = [self._road(point) if road is None else road for point, road in zip(points, found)]
+        roads = [_ROADS.get((point.class_, point.form)) or self._road(point) for point in points]
         if not self._is_line:
             roads[0] |= self._known("orientation", reference.orientation) << 6
             roads[1] |= self._known("side", reference.side) << 6
@@ -96,22 +108,25 @@ class _Writing:
         self, points: Sequence[PhysicalPoint], roads: Sequence[int], legs: Sequence[int]
     ) -> list[int]:
         """The fields of all points, in their order."""
-        longitude, latitude = self._place(1, points[0])
+        point = points[0]
+        longitude, latitude = self._place(1, point)
         east = absolute_number(longitude, GREATEST_LON)
         north = absolute_number(latitude, GREATEST_LAT)
         lon, lat = absolute(east), absolute(north)
         values = [east >> 16, east & 0xFFFF, north >> 16, north & 0xFFFF]
-        for at, leg in enumerate(legs):
-            point, number = points[at], at + 2
-            longitude, latitude = self._place(number, points[at + 1])
+        for number, (following, road, leg) in enumerate(zip(points[1:], roads, legs), 2):
+            longitude, latitude = self._place(number, following)
             east = relative_number(longitude, lon, GREATEST_LON)
             north = relative_number(latitude, lat, GREATEST_LAT)
-            if max(east, north) > MOST_STEPS or min(east, north) < -MOST_STEPS - 1:
+            if not (LEAST_STEPS <= east <= MOST_STEPS and LEAST_STEPS <= north <= MOST_STEPS):
                 raise faults.too_far(number)
             lon, lat = lon + STEP * east, lat + STEP * north
-            path = self._whole("lowest", point.lowest, 7) << 5 | self._sector(point)
-            values += (roads[at], path, leg // INTERVAL, east, north)
-        values += (roads[-1], self._sector(points[-1]))
+            path = _PATHS.get((point.lowest, point.bearing))
+            if path is None:
+                path = self._whole("lowest", point.lowest, 7) << 5 | self._sector(point)
+            values += (road, path, leg // INTERVAL, east, north)
+            point = following
+        values += (roads[-1], self._sector(point))
         return values
 
     def _place(self, number: int, point: PhysicalPoint) -> tuple[int, int]:
@@ -155,7 +170,7 @@ class _Writing:
 
     def _length(self, field: str, value: Number) -> int:
         """Metres, in units."""
-        length = usual_units_of(value)
+        length = units_of(value)
         if length is None or length < 0:
             raise faults.bad_element(self._names[field])
         return length
