@@ -4,7 +4,7 @@ import re
 from importlib import metadata
 from pathlib import Path
 
-SOURCE = Path(__file__).resolve().parents[2] / "crates/olr_command_line/src/command.rt"
+SOURCE = Path(__file__).resolve().parents[2] / "crates/olr_words/src/command.rt"
 """Where the version stands, in the repository that this package lies in, if it lies in one."""
 
 

@@ -14,7 +14,7 @@ from release.state import State
 
 LEAFLET = Path("/usr/share/javascript/leaflet")
 LEAFLET_LICENCE = Path("/usr/share/doc/libjs-leaflet/copyright")
-VERSION_SOURCE = "crates/olr_command_line/src/command.rt"
+VERSION_SOURCE = "crates/olr_words/src/command.rt"
 
 
 def wheel_name(state: State) -> str:

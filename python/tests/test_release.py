@@ -82,6 +82,7 @@ def test_the_man_page_has_all_of_the_help(program: Program) -> None:
         for name in re.findall(r"(?m)^  ([a-z]+)", section(text, "Commands")):
             assert f"\n.B {name}\n" in page
         whole = " ".join(text.split())
+        assert not re.search("[a-z][A-Z][a-z]", whole), "a name of the code in a help"
         for explained, default in re.findall(r"--[a-z]+ <N> ([^<]*?) \[default: (\d+)\]", whole):
             assert f"{explained}. By default {default}.\n" in page
             told += 1

@@ -1,8 +1,5 @@
 -- A request is accepted in one way, or refused with one fault.
-use Rattle.std.proofs.Common.{◌≡◌, ℕ, List, Option, None, Some, Ok, Err, ap, refl, sym, ◌∙◌}
-use Rattle.std.specs.Prelude.{Result}
-use Rattle.olr_app.proofs.Common.{Reference, OneCursor, KeyValue, CursorRead, Mark, Accepts, IsStart, fault_of, OneOutcome, cursor_of, text_of, AndThen, Accepted, Fault, BadCursor, Request}
-use Rattle.olr_app.specs.Accepting.{IsReferenceOf, ReportsRefusal}
+use Rattle.olr_app.proofs.Common.{Reference, OneCursor, KeyValue, CursorRead, Mark, Accepts, IsStart, fault_of, OneOutcome, cursor_of, text_of, AndThen, Accepted, Fault, BadCursor, Request, ◌≡◌, ℕ, List, Option, None, Some, Ok, Err, ap, refl, sym, ◌∙◌, Result, IsReferenceOf, ReportsRefusal}
 use Rattle.olr_app.proofs.Single.{IsSingle, err_of, first_then, no_ok_and_err, ok_of, same_err, same_ok}
 
 -- ---- records by their fields

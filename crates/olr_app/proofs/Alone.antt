@@ -1,17 +1,12 @@
 -- The request that asks a question of a text alone: it speaks of the bytes of the text alone.
-use Rattle.std.proofs.Common.{◌≡◌, ℕ, false, List, None, Bor, Ok, Err, inl, inr, refl}
-use Rattle.std.specs.Prelude.{Result}
-use Rattle.olr_app.proofs.Common.{Reference, RoadMap, Tolerances, Accepts, IsAnswerOn, IsStageFault, Accepted, Fault}
-use Rattle.olr_app.specs.Accepting.{IsReferenceOf}
-use Rattle.olr_app.specs.Answer.{IsAnswerOfMany, IsFaultOfMany}
-use Rattle.olr_app.specs.Question.{asked_alone}
-use Rattle.olr_app.specs.Request.{at_bytes}
-use Rattle.olr_app.specs.declared.fault.Fault.TheVariants as fault
-use Rattle.olr_app.specs.declared.question.What.{What}
-use Rattle.olr_app.specs.declared.question.What.TheVariants.{Candidates, Match, Places, Why}
+use Rattle.olr_app.proofs.Common.{Reference, RoadMap, Tolerances, Accepts, IsAnswerOn, IsStageFault, Accepted, Fault, ◌≡◌, ℕ, false, List, None, Bor, Ok, Err, inl, inr, refl, Result, IsReferenceOf, IsAnswerOfMany, IsFaultOfMany, at_bytes}
+use Rattle.olr_request.specs.Question.{asked_alone}
+use Rattle.olr_request.specs.declared.fault.Fault.TheVariants as fault
+use Rattle.olr_request.specs.declared.question.QuestionKind.{QuestionKind}
+use Rattle.olr_request.specs.declared.question.QuestionKind.TheVariants.{Candidates, Match, Places, Why}
 
 -- a text is answered by its bytes, wherever it lies
-pub anywhere : (what : What) (tolerances : Tolerances) (road : RoadMap) (text : Bor (List ℕ))
+pub anywhere : (what : QuestionKind) (tolerances : Tolerances) (road : RoadMap) (text : Bor (List ℕ))
     (answer : Result (List ℕ) Fault)
     → IsAnswerOfMany road (asked_alone what tolerances text) answer
     ≡ IsAnswerOfMany road (asked_alone what tolerances (at_bytes text.now)) answer
@@ -25,7 +20,7 @@ anywhere (Why nearest) tolerances road text (Ok found) = refl
 anywhere (Why nearest) tolerances road text (Err why) = refl
 
 -- it is accepted with the reference of the text
-accepts : (what : What) (tolerances : Tolerances) (text : Bor (List ℕ)) (reference : Reference)
+accepts : (what : QuestionKind) (tolerances : Tolerances) (text : Bor (List ℕ)) (reference : Reference)
     → IsReferenceOf text.now (Ok reference)
     → Accepts (asked_alone what tolerances (at_bytes text.now))
     (Ok (record { reference = reference; start = None }))
@@ -35,7 +30,7 @@ accepts (Places limits) tolerances text reference is = (is, refl)
 accepts (Why nearest) tolerances text reference is = (is, refl)
 
 -- and refused with its refusal
-refuses : (what : What) (tolerances : Tolerances) (text : Bor (List ℕ)) (why : Fault)
+refuses : (what : QuestionKind) (tolerances : Tolerances) (text : Bor (List ℕ)) (why : Fault)
     → IsReferenceOf text.now (Err why)
     → Accepts (asked_alone what tolerances (at_bytes text.now)) (Err why)
 refuses Candidates tolerances text why is = inl is
@@ -44,7 +39,7 @@ refuses (Places limits) tolerances text why is = inl is
 refuses (Why nearest) tolerances text why is = inl is
 
 -- its answer on the map is the same wherever the text lies
-same_on : (what : What) (tolerances : Tolerances) (text : Bor (List ℕ)) (accepted : Accepted)
+same_on : (what : QuestionKind) (tolerances : Tolerances) (text : Bor (List ℕ)) (accepted : Accepted)
     (road : RoadMap) (answer : Result (List ℕ) Fault)
     → IsAnswerOn false (asked_alone what tolerances text) accepted road answer
     → IsAnswerOn false (asked_alone what tolerances (at_bytes text.now)) accepted road answer
@@ -54,7 +49,7 @@ same_on (Match size) tolerances text accepted road (Err why) is = is
 same_on (Places limits) tolerances text accepted road answer is = is
 same_on (Why nearest) tolerances text accepted road answer is = is
 
-module _ (what : What) (tolerances : Tolerances) (road : RoadMap) (text : Bor (List ℕ))
+module _ (what : QuestionKind) (tolerances : Tolerances) (road : RoadMap) (text : Bor (List ℕ))
     (reference : Reference) (is : IsReferenceOf text.now (Ok reference)) where
   abbrev its : Accepted
   its = record { reference = reference; start = None }
@@ -81,7 +76,7 @@ module _ (what : What) (tolerances : Tolerances) (road : RoadMap) (text : Bor (L
   ))
 
 -- its refusal
-pub of_refusal : (what : What) (tolerances : Tolerances) (road : RoadMap) (text : Bor (List ℕ))
+pub of_refusal : (what : QuestionKind) (tolerances : Tolerances) (road : RoadMap) (text : Bor (List ℕ))
     (why : Fault) → IsReferenceOf text.now (Err why)
     → IsFaultOfMany road (asked_alone what tolerances (at_bytes text.now)) why
 of_refusal what tolerances road text why is = inl (inl (refuses what tolerances text why is))

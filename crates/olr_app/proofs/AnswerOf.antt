@@ -1,21 +1,14 @@
 -- What a request that is accepted is answered with, and what its answer leaves of the sources.
-use Rattle.std.proofs.Common.{◌≡◌, ◌⊎◌, ℕ, ◌+◌, true, List, Option, Ok, Err, refl, subst, inl, inr}
-use Rattle.std.specs.Prelude.{Result, IfErr, IfOk}
 use Rattle.std.specs.Borrow.{Bor}
-use Rattle.olr_metric.specs.declared.failure.Failed.{Failed}
+use Rattle.olr_base.specs.declared.failure.Failed.{Failed}
 use Rattle.olr_binary.specs.declared.refusal.Refused.{Refused}
 use Rattle.olr_binary.specs.declared.refusal.Refused.TheVariants as refused
 use Rattle.olr_records.specs.declared.file.File.{File}
-use Rattle.olr_app.proofs.Common.{Nodes, RoadMap, Accepts, IsAnswer, IsAnswerOf, IsAnswerOn, IsMapOfFiles, IsOutput, fault_of, fault_of_map, cursor_of, AndThen, IsStageFault, Accepted, Fault, BadCursor, TooManyCandidates, Format, Request, Candidates, Match, Places, Show}
+use Rattle.olr_app.proofs.Common.{Nodes, RoadMap, Accepts, IsAnswer, IsAnswerOf, IsAnswerOn, IsMapOfFiles, IsOutput, fault_of, fault_of_map, cursor_of, AndThen, IsStageFault, Accepted, Fault, BadCursor, TooManyCandidates, Format, Request, Candidates, Match, Places, Show, ◌≡◌, ◌⊎◌, ℕ, ◌+◌, true, List, Option, Ok, Err, refl, subst, inl, inr, Result, IfErr, IfOk, IsFault, IsReason, ReadsMap, CursorNotHere, CursorOfOther, NoMemory, WriteFailed}
 use Rattle.olr_map.specs.Files.{IsEffect, IsFaultLeft, IsMapLeft, IsReadWhole, Texts}
 use Rattle.olr_map.specs.declared.fault.MapFault.{MapFault}
 use Rattle.olr_map.specs.declared.fault.MapFault.TheVariants as map
-use Rattle.olr_app.specs.Answer.{IsFault}
-use Rattle.olr_app.specs.Answer.{IsReason}
-use Rattle.olr_app.specs.Request.{ReadsMap}
 use Rattle.olr_app.specs.Sources.{AnswerLeaves, FaultLeaves, IsOfRequest}
-use Rattle.olr_app.specs.declared.fault.Fault.TheVariants.{CursorNotHere, CursorOfOther}
-use Rattle.olr_app.specs.declared.fault.Fault.TheVariants.{NoMemory, WriteFailed}
 use Rattle.olr_app.proofs.Accepts.{start_fault}
 use Rattle.olr_app.proofs.Single.{err_of, ok_of}
 

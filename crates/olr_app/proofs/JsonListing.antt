@@ -1,9 +1,6 @@
 -- The value of the candidates of points.
-use Rattle.std.proofs.Common.{◌≡◌, List, [], ◌∷◌, map, codes, refl, ap}
-use Rattle.olr_app.proofs.Common.{ArrayVec, items_of, lists_of, Candidate, RoadMap}
+use Rattle.olr_app.proofs.Common.{ArrayVec, items_of, lists_of, Candidate, RoadMap, ◌≡◌, List, [], ◌∷◌, map, codes, refl, ap, array_of, candidates_array, listing_object}
 use Rattle.serde_json.specs.Data.{array, member, no_members, object}
-use Rattle.olr_text.specs.JsonValues.{array_of}
-use Rattle.olr_app.specs.Listing.{candidates_array, listing_object}
 
 module _ (road : RoadMap) where
   each_array : (lists : List (ArrayVec Candidate))

@@ -6,13 +6,5 @@ pub mod AnswerOf
 pub mod PagesOf
 pub mod PointsOnMap
 pub mod JsonListing
-pub mod OneAnswer
-pub mod HeadlineTexts
-pub mod HeadlineOutputs
-pub mod HeadlineRests
-pub mod HeadlineRuns
-pub mod HeadlineChain
-pub mod Marks
 pub mod Alone
-pub mod HeadlineCursors
-pub mod HeadlineAll
+pub mod OnePage

@@ -1,24 +1,15 @@
 -- The parts, the keys and the texts of pages, page by page; and why a page isn't there.
-use Rattle.std.proofs.Common.{◌≡◌, ℕ, List, [], ◌∷◌, Option, None, Some, Ok, Err, All, Contains}
-use Rattle.std.proofs.Common.{refl, inl, inr, ◌++◌, map, take, ap, sym, subst, ◌+◌, ◌≤◌, ◌<◌, add-one}
-use Rattle.std.proofs.Common.{length, true, false, ◌∙◌}
 use Rattle.std.proofs.Math.Seq.{take-suc}
-use Rattle.std.proofs.lemmas.List.{append-nil, take_all}
-use Rattle.std.proofs.lemmas.List.Elements.{All-nil, All-cons, All-head, All-tail, All-take}
-use Rattle.std.proofs.lemmas.List.Elements.{All-contains, All-map}
 use Rattle.std.proofs.lemmas.List.Folds.{concat-append}
-use Rattle.std.specs.List.{AllZip, concat}
-use Rattle.std.specs.Prelude.{Result, slice_index_or}
-use Rattle.olr_app.proofs.Common.{RoadMap, AreEntriesAt, Entry, IsMatchedBy, Matched, AreAnswers, IsPosition, KeyValue, IsKey, PageValue, IsPageAfter, IsRestAfter, Penalties, CursorRead, Mark, Page, LayersValue, key_of, ArePages, ArePagesAsked, values_of, AreTextsOfPages, IsTextOfPage, AndThen, IsStageFault, Fault, Format, MatchRequest, Pages, One}
+use Rattle.olr_app.proofs.Common.{RoadMap, AreEntriesAt, Entry, IsMatchedBy, Matched, AreAnswers, IsPosition, KeyValue, IsKey, PageValue, IsPageAfter, IsRestAfter, Penalties, CursorRead, Mark, Page, LayersValue, key_of, ArePages, ArePagesAsked, values_of, AreTextsOfPages, IsTextOfPage, AndThen, IsStageFault, Fault, Format, MatchRequest, Pages, One, ◌≡◌, ℕ, List, [], ◌∷◌, Option, None, Some, Ok, Err, All, Contains, refl, inl, inr, ◌++◌, map, take, ap, sym, subst, ◌+◌, ◌≤◌, ◌<◌, add-one, length, true, false, ◌∙◌, append-nil, take_all, All-nil, All-cons, All-head, All-tail, All-take, All-contains, All-map, AllZip, concat, Result, slice_index_or, AreEntriesOf, IsEntryAt, IsEntryOf, keys_of}
 use Rattle.olr_keys.specs.Headline.{joined}
 use Rattle.olr_keys.specs.Page.{page_of}
 use Rattle.olr_keys.specs.declared.pages.PageFault.{PageFault}
 use Rattle.olr_keys.specs.declared.pages.PageFault.TheVariants.{CursorNotHere, NoMemory}
-use Rattle.olr_map.proofs.Zips.{zip_push}
-use Rattle.olr_report.specs.Entries.{AreEntriesOf, IsEntryAt, IsEntryOf, keys_of}
-use Rattle.olr_app.specs.Fault.{fault_of_page}
-use Rattle.olr_app.specs.declared.request.Pages.TheVariants.{All as AllPages}
-use Rattle.olr_app.specs.declared.fault.Fault.TheVariants as fault
+use Rattle.olr_road.proofs.Zips.{zip_push}
+use Rattle.olr_request.specs.Fault.{fault_of_page}
+use Rattle.olr_request.specs.declared.request.Pages.TheVariants.{All as AllPages}
+use Rattle.olr_request.specs.declared.fault.Fault.TheVariants as fault
 
 -- what a relation to some keys gives holds of all that is related to them
 pub all_related : {A B : Type 0} (K : A → Type 0) (R : A → B → Type 0) (P : B → Type 0)

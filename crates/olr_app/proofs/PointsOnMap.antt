@@ -1,9 +1,6 @@
 -- The candidates of points lie on the map.
-use Rattle.std.proofs.Common.{◌≡◌, List, get_or, Some, ap, ◌∙◌}
-use Rattle.std.specs.Prelude.{slice_get, option_map}
 use Rattle.std.proofs.lemmas.Option.{slice_get-get_or, slice_get-map, slice_get_within}
-use Rattle.olr_app.proofs.Common.{ArrayVec, Reference, RoadMap, Candidate, Tolerances, AreLists, lists_of}
-use Rattle.olr_app.specs.Listing.{AreOnMap}
+use Rattle.olr_app.proofs.Common.{ArrayVec, Reference, RoadMap, Candidate, Tolerances, AreLists, lists_of, ◌≡◌, List, get_or, Some, ap, ◌∙◌, slice_get, option_map, AreOnMap}
 
 pub lists_on_map : (tolerances : Tolerances) (reference : Reference) (road : RoadMap)
     (lists : List (ArrayVec Candidate))

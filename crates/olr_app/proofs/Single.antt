@@ -1,7 +1,5 @@
 -- Stages that have one result at most, and two of them one after the other.
-use Rattle.std.proofs.Common.{◌≡◌, Ok, Err, ap, refl, sym, ◌∙◌, subst, inl, inr}
-use Rattle.std.specs.Prelude.{IsErrAnd, Result}
-use Rattle.olr_app.proofs.Common.{Fault, AndThen}
+use Rattle.olr_app.proofs.Common.{Fault, AndThen, ◌≡◌, Ok, Err, ap, refl, sym, ◌∙◌, subst, inl, inr, IsErrAnd, Result}
 use Rattle.olr_app.specs.Stages.{NoFault}
 pub use Rattle.olr_app.specs.Stages.{IsSingle}
 

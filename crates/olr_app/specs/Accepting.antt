@@ -2,12 +2,12 @@
 use Rattle.std.specs.Prelude.{◌≡◌, ℕ, ◌⊎◌, List, Option, None, Some, Result, Ok, Err}
 use Rattle.olr_app.specs.Common.{IsOutcome, Reference, Refused, KeyValue, CursorRead, Mark}
 use Rattle.olr_keys.specs.Cursor.{IsCursorOf}
-use Rattle.olr_app.specs.Fault.{fault_of}
-use Rattle.olr_app.specs.Request.{cursor_of, text_of}
+use Rattle.olr_request.specs.Fault.{fault_of}
+use Rattle.olr_request.specs.Request.{cursor_of, text_of}
 use Rattle.olr_app.specs.declared.accepting.Accepted.{Accepted}
-use Rattle.olr_app.specs.declared.fault.Fault.{Fault}
-use Rattle.olr_app.specs.declared.fault.Fault.TheVariants.{BadCursor}
-use Rattle.olr_app.specs.declared.request.Request.{Request}
+use Rattle.olr_request.specs.declared.fault.Fault.{Fault}
+use Rattle.olr_request.specs.declared.fault.Fault.TheVariants.{BadCursor}
+use Rattle.olr_request.specs.declared.request.Request.{Request}
 
 -- the reference of a text, or the fault with which the text is refused
 abbrev pub IsReferenceOf : List ℕ → Result Reference Fault → Type 0
@@ -44,3 +44,8 @@ IsAccepted request = (accepted : Accepted) × Accepts request (Ok accepted)
 -- What is refused so is answered by its refusal, whatever memory and devices do.
 pub record ReportsRefusal {T : Type 0} (request : Request) (result : Result T Fault) : Type 0 where
   pub reports : (fault : Fault) → Accepts request (Err fault) → result ≡ Err fault
+
+-- a text has one outcome at most
+abbrev pub OneOutcome : Type 0
+OneOutcome = (text : List ℕ) (one other : Result Reference Refused)
+    → IsOutcome text one → IsOutcome text other → one ≡ other

@@ -7,24 +7,24 @@ use Rattle.olr_binary.specs.Show.{reference_text}
 use Rattle.olr_map.specs.Files.{IsFaultLeft, IsMapLeft, IsOfText, Texts}
 use Rattle.olr_map.specs.declared.fault.MapFault.TheVariants as map
 use Rattle.olr_app.specs.Accepting.{Accepts, IsAccepted}
-use Rattle.olr_app.specs.Fault.{fault_of_map}
+use Rattle.olr_request.specs.Fault.{fault_of_map}
 use Rattle.olr_app.specs.Listing.{IsListed}
 use Rattle.olr_app.specs.Matching.{AreMatchings}
 use Rattle.olr_app.specs.Places.{ArePlaces}
-use Rattle.olr_app.specs.Request.{ReadsMap}
+use Rattle.olr_request.specs.Request.{ReadsMap}
 use Rattle.olr_app.specs.Stages.{AndThen, NoFault}
 use Rattle.olr_app.specs.Why.{AreReasons}
 use Rattle.olr_app.specs.Writing.{HasStopped, IsWritten}
 use Rattle.olr_app.specs.declared.accepting.Accepted.{Accepted}
-use Rattle.olr_app.specs.declared.fault.Fault.{Fault}
-use Rattle.olr_app.specs.declared.fault.Fault.TheVariants.{AfterWithAll, BadNearest, BadNumber, BadPage, BadTolerance}
-use Rattle.olr_app.specs.declared.fault.Fault.TheVariants.{InputNotOpened, InputNotRead}
-use Rattle.olr_app.specs.declared.fault.Fault.TheVariants.{NoMemory, OpenFailed, ReadFailed}
-use Rattle.olr_app.specs.declared.fault.Fault.TheVariants.{WriteFailed}
-use Rattle.olr_app.specs.declared.request.Format.{Format}
-use Rattle.olr_app.specs.declared.request.Format.TheVariants.{Json, Text}
-use Rattle.olr_app.specs.declared.request.Request.{Request}
-use Rattle.olr_app.specs.declared.request.Request.TheVariants.{Candidates, Match, Places, Show, Why}
+use Rattle.olr_request.specs.declared.fault.Fault.{Fault}
+use Rattle.olr_request.specs.declared.fault.Fault.TheVariants.{AfterWithAll, BadNearest, BadNumber, BadPage, BadTolerance}
+use Rattle.olr_request.specs.declared.fault.Fault.TheVariants.{InputNotOpened, InputNotRead}
+use Rattle.olr_request.specs.declared.fault.Fault.TheVariants.{NoMemory, OpenFailed, ReadFailed}
+use Rattle.olr_request.specs.declared.fault.Fault.TheVariants.{WriteFailed}
+use Rattle.olr_request.specs.declared.request.Format.{Format}
+use Rattle.olr_request.specs.declared.request.Format.TheVariants.{Json, Text}
+use Rattle.olr_request.specs.declared.request.Request.{Request}
+use Rattle.olr_request.specs.declared.request.Request.TheVariants.{Candidates, Match, Places, Show, Why}
 
 -- ---- the stages of an answer
 

@@ -8,10 +8,10 @@ pub use Rattle.olr_keys.specs.Answers.{AreAnswers}
 pub use Rattle.olr_keys.specs.Key.{KeyValue}
 pub use Rattle.olr_keys.specs.declared.cursor.CursorRead.{CursorRead}
 pub use Rattle.olr_keys.specs.declared.mark.Mark.{Mark}
-pub use Rattle.olr_map.specs.RoadMap.{RoadMap}
+pub use Rattle.olr_road.specs.RoadMap.{RoadMap}
 pub use Rattle.olr_map.specs.declared.fault.MapFault.{MapFault}
-pub use Rattle.olr_matching.specs.Fingerprint.{IsFingerprint}
+pub use Rattle.olr_fingerprint.specs.Fingerprint.{IsFingerprint}
 pub use Rattle.olr_matching.specs.Layers.{AreLayersOn, LayersValue}
-pub use Rattle.olr_metric.specs.declared.failure.Failed.{Failed}
+pub use Rattle.olr_base.specs.declared.failure.Failed.{Failed}
 pub use Rattle.olr_places.specs.declared.limits.PlaceLimits.{PlaceLimits}
 pub use Rattle.olr_records.specs.declared.file.File.{File}

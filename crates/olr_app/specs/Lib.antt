@@ -1,8 +1,6 @@
 pub mod Common
 pub mod Out
-pub mod Fault
-pub mod Request
-pub mod Question
+pub mod QuestionOnMap
 pub mod Stages
 pub mod Accepting
 pub mod Listing
@@ -11,8 +9,4 @@ pub mod Places
 pub mod Why
 pub mod Writing
 pub mod Answer
-pub mod AnswerLaws
 pub mod Sources
-pub mod HeadlineOutputs
-pub mod Headline
-pub mod Laws

@@ -8,13 +8,13 @@ use Rattle.olr_app.specs.Common.{IsJsonLine, Reference, Tolerances, RoadMap}
 use Rattle.olr_text.specs.JsonValues.{array_of}
 use Rattle.olr_candidates.specs.Points.{AreLists}
 use Rattle.olr_candidates.specs.declared.candidate.Candidate.{Candidate}
-use Rattle.olr_map.specs.Rows.{RoadLine, line_ids}
+use Rattle.olr_road.specs.RoadMap.{RoadLine, line_ids}
 use Rattle.olr_report.specs.Entries.{HasLine}
 use Rattle.olr_report.specs.Json.{candidate_object}
 use Rattle.olr_app.specs.Stages.{OrTooMany}
-use Rattle.olr_app.specs.declared.fault.Fault.{Fault}
-use Rattle.olr_app.specs.declared.request.Format.{Format}
-use Rattle.olr_app.specs.declared.request.Format.TheVariants.{Json, Text}
+use Rattle.olr_request.specs.declared.fault.Fault.{Fault}
+use Rattle.olr_request.specs.declared.request.Format.{Format}
+use Rattle.olr_request.specs.declared.request.Format.TheVariants.{Json, Text}
 
 -- the candidates of all points lie on lines of the map
 abbrev pub AreOnMap : RoadMap → List (ArrayVec Candidate) → Type 0

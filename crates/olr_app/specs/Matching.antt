@@ -13,13 +13,13 @@ use Rattle.olr_report.specs.Json.{page_object}
 use Rattle.olr_report.specs.Text.{next_after, page_text}
 use Rattle.olr_app.specs.Stages.{AndThen, NoFault, OrTooMany}
 use Rattle.olr_app.specs.declared.accepting.Accepted.{Accepted}
-use Rattle.olr_app.specs.declared.fault.Fault.{Fault}
-use Rattle.olr_app.specs.declared.fault.Fault.TheVariants.{CursorNotHere, CursorOfOther}
-use Rattle.olr_app.specs.declared.request.Format.{Format}
-use Rattle.olr_app.specs.declared.request.Format.TheVariants.{Json, Text}
-use Rattle.olr_app.specs.declared.request.MatchRequest.{MatchRequest}
-use Rattle.olr_app.specs.declared.request.Pages.{Pages}
-use Rattle.olr_app.specs.declared.request.Pages.TheVariants.{All, One}
+use Rattle.olr_request.specs.declared.fault.Fault.{Fault}
+use Rattle.olr_request.specs.declared.fault.Fault.TheVariants.{CursorNotHere, CursorOfOther}
+use Rattle.olr_request.specs.declared.request.Format.{Format}
+use Rattle.olr_request.specs.declared.request.Format.TheVariants.{Json, Text}
+use Rattle.olr_request.specs.declared.request.MatchRequest.{MatchRequest}
+use Rattle.olr_request.specs.declared.request.Pages.{Pages}
+use Rattle.olr_request.specs.declared.request.Pages.TheVariants.{All, One}
 
 -- ---- the cursor
 

@@ -7,9 +7,9 @@ use Rattle.olr_places.specs.Looking.{IsLooked, Looked}
 use Rattle.olr_places.specs.Text.{places_text}
 use Rattle.olr_app.specs.Matching.{AreLayers}
 use Rattle.olr_app.specs.Stages.{AndThen, NoFault}
-use Rattle.olr_app.specs.declared.fault.Fault.{Fault}
-use Rattle.olr_app.specs.declared.request.Format.{Format}
-use Rattle.olr_app.specs.declared.request.Format.TheVariants.{Json, Text}
+use Rattle.olr_request.specs.declared.fault.Fault.{Fault}
+use Rattle.olr_request.specs.declared.request.Format.{Format}
+use Rattle.olr_request.specs.declared.request.Format.TheVariants.{Json, Text}
 
 -- the places of the matchings that were looked at, in a format
 abbrev pub IsPlacesIn : Format → RoadMap → PlaceLimits → Looked → List ℕ → Type 0

@@ -2,12 +2,12 @@
 use Rattle.std.specs.Prelude.{◌≡◌, ℕ, ◌⊎◌, ⊤, List, Option, Result, Ok, Err}
 use Rattle.olr_app.specs.Common.{Refused, File, MapFault}
 use Rattle.olr_map.specs.Files.{IsEffect, IsReadWhole}
-use Rattle.olr_app.specs.Fault.{fault_of, fault_of_map}
-use Rattle.olr_app.specs.declared.fault.Fault.{Fault}
-use Rattle.olr_app.specs.declared.fault.Fault.TheVariants.{BadCursor, CursorNotHere, CursorOfOther}
-use Rattle.olr_app.specs.declared.fault.Fault.TheVariants.{InputNotRead, TooManyCandidates, WriteFailed}
-use Rattle.olr_app.specs.declared.request.Request.{Request}
-use Rattle.olr_app.specs.declared.request.Request.TheVariants.{Show}
+use Rattle.olr_request.specs.Fault.{fault_of, fault_of_map}
+use Rattle.olr_request.specs.declared.fault.Fault.{Fault}
+use Rattle.olr_request.specs.declared.fault.Fault.TheVariants.{BadCursor, CursorNotHere, CursorOfOther}
+use Rattle.olr_request.specs.declared.fault.Fault.TheVariants.{InputNotRead, TooManyCandidates, WriteFailed}
+use Rattle.olr_request.specs.declared.request.Request.{Request}
+use Rattle.olr_request.specs.declared.request.Request.TheVariants.{Show}
 
 -- a fault that there is only once the map is read
 abbrev pub IsAfterMap : Fault → Type 0

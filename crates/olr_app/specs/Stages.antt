@@ -2,8 +2,8 @@
 use Rattle.std.specs.Prelude.{◌≡◌, ℕ, ◌+◌, ◌⊎◌, ⊤, Result, Ok, Err}
 use Rattle.olr_app.specs.Common.{Reference, Tolerances, RoadMap}
 use Rattle.olr_candidates.specs.Points.{IsFirstTooMany}
-use Rattle.olr_app.specs.declared.fault.Fault.{Fault}
-use Rattle.olr_app.specs.declared.fault.Fault.TheVariants.{NoMemory, TooManyCandidates}
+use Rattle.olr_request.specs.declared.fault.Fault.{Fault}
+use Rattle.olr_request.specs.declared.fault.Fault.TheVariants.{NoMemory, TooManyCandidates}
 
 -- a stage has one result at most: it finds one thing, or has one fault, and not both
 abbrev pub IsSingle : {A : Type 0} → (Result A Fault → Type 0) → Type 0

@@ -6,9 +6,9 @@ use Rattle.olr_why.specs.Json.{why_object}
 use Rattle.olr_why.specs.Reasons.{IsWhy, WhyValue}
 use Rattle.olr_why.specs.Text.{why_text}
 use Rattle.olr_app.specs.Stages.{NoFault}
-use Rattle.olr_app.specs.declared.fault.Fault.{Fault}
-use Rattle.olr_app.specs.declared.request.Format.{Format}
-use Rattle.olr_app.specs.declared.request.Format.TheVariants.{Json, Text}
+use Rattle.olr_request.specs.declared.fault.Fault.{Fault}
+use Rattle.olr_request.specs.declared.request.Format.{Format}
+use Rattle.olr_request.specs.declared.request.Format.TheVariants.{Json, Text}
 
 -- reasons in a format
 abbrev pub IsWhyIn : Format → RoadMap → WhyValue → List ℕ → Type 0

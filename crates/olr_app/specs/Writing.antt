@@ -3,7 +3,7 @@ use Rattle.std.specs.Prelude.{◌≡◌, ℕ, ◌<◌, ◌⊎◌, List, [], ◌+
 use Rattle.std.specs.Prelude.{Ok, Err}
 use Rattle.std.specs.Io.KnownBytes.{Appends}
 use Rattle.olr_app.specs.Common.{Failed}
-use Rattle.olr_metric.specs.Counting.{one_more}
+use Rattle.olr_base.specs.Counting.{one_more}
 
 -- The calls that hand bytes over, each of which takes some of them: a call is handed all that those
 -- before it left, and the sink and the bytes that are left are then these. No other call was made.

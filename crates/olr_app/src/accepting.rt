@@ -3,14 +3,13 @@
 ghost use Rattle.std.specs.Prelude.{◌≡◌, IfOk, Result};
 ghost use Rattle.olr_binary.specs.Reference.{IsReference};
 ghost use Rattle.olr_app.specs.Accepting.{Accepts, IsStart};
-ghost use Rattle.olr_app.specs.Request.{bytes_of};
-ghost use Rattle.olr_app.specs.declared.fault.Fault.{Fault as AnyFault};
+ghost use Rattle.olr_request.specs.Request.{bytes_of};
+ghost use Rattle.olr_request.specs.declared.fault.Fault.{Fault as AnyFault};
 
-use crate::fault::Fault;
-use crate::request::Request;
 use olr_binary::{Reference, decode, one_outcome};
 use olr_keys::one_cursor;
 use olr_matching::{Cursor, CursorRead};
+use olr_request::{Fault, Request};
 
 /// What a request that is accepted speaks of.
 #[derive(Drop)]

@@ -9,17 +9,17 @@ ghost use Rattle.olr_app.specs.Sources.{AnswerLeaves};
 ghost use Rattle.olr_app.specs.Stages.{IsStageFault};
 
 use crate::accepting::{Accepted, accept};
-use crate::fault::Fault;
 use crate::listing::listing_of;
 use crate::matching::matchings_of;
 use crate::places::places_listing;
-use crate::request::{Format, Request};
 use crate::sink::Sink;
 use crate::why::reasons_of;
 use crate::writing::write_whole;
+use olr_base::NoMemory;
 use olr_binary::{Reference, show_json, show_text};
-use olr_map::{File, Map, Source, read_map_with_bans};
-use olr_metric::NoMemory;
+use olr_map::{File, Source, read_map_with_bans};
+use olr_request::{Fault, Format, Request};
+use olr_road::Map;
 use std::alloc::Global;
 
 /// The text of a reference in a format.

@@ -8,14 +8,13 @@ ghost use Rattle.olr_app.specs.Listing.{candidate_row, candidate_rows};
 ghost use Rattle.olr_app.specs.Listing.{point_listing, point_listings};
 ghost use Rattle.olr_app.specs.Stages.{IsStageFault};
 
-use crate::fault::Fault;
 use crate::listing_json::json_of_lists;
-use crate::request::Format;
 use arrayvec::ArrayVec;
+use olr_base::NoMemory;
 use olr_binary::Reference;
 use olr_candidates::{Candidate, MAX_CANDIDATES, Tolerances, candidates_of_points};
-use olr_map::{Map, Place};
-use olr_metric::NoMemory;
+use olr_request::{Fault, Format};
+use olr_road::{Map, Place};
 use olr_text::Decimal;
 use std::alloc::Global;
 use std::fmt::Write;

@@ -8,10 +8,10 @@ ghost use Rattle.olr_text.specs.Sent.{Sends};
 ghost use Rattle.olr_app.specs.Listing.{candidates_array, listing_object};
 
 use arrayvec::ArrayVec;
+use olr_base::NoMemory;
 use olr_candidates::{Candidate, MAX_CANDIDATES};
-use olr_map::Map;
-use olr_metric::NoMemory;
 use olr_report::OnMap;
+use olr_road::Map;
 use olr_text::{ToJson, send_object, to_json_line};
 use serde::Serializer;
 use std::alloc::Global;

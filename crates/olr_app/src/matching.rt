@@ -1,11 +1,11 @@
 //! The text of the matchings of a reference on a map.
 
-ghost use Rattle.std.specs.Prelude.{◌≡◌, ◌∷◌, All, Contains, Decides, IfErr, IfOk, IfSome, Ok, []};
+ghost use Rattle.std.specs.Prelude.{◌≡◌, All, Contains, Decides, IfErr, IfOk, IfSome, Ok};
 ghost use Rattle.std.specs.Prelude.{false};
 ghost use Rattle.std.specs.List.{AllZip};
 ghost use Rattle.std.specs.Prelude.{length, option_map, string_bytes, true};
 ghost use Rattle.olr_binary.specs.Reference.{IsReference};
-ghost use Rattle.olr_matching.specs.Fingerprint.{IsFingerprint};
+ghost use Rattle.olr_fingerprint.specs.Fingerprint.{IsFingerprint};
 ghost use Rattle.olr_keys.specs.Matching.{IsKey};
 ghost use Rattle.olr_keys.specs.Page.{PageValue, page_of};
 ghost use Rattle.olr_matching.specs.Matched.{IsMatchedBy};
@@ -16,17 +16,17 @@ ghost use Rattle.olr_app.specs.Matching.{IsMarkOf, IsStartHere, IsTextOfPage, ke
 ghost use Rattle.olr_app.specs.Stages.{IsStageFault};
 
 use crate::accepting::Accepted;
-use crate::fault::Fault;
-use crate::request::{Format, MatchRequest, Pages};
+use olr_base::NoMemory;
 use olr_binary::Reference;
 use olr_candidates::Tolerances;
-use olr_map::{Map, sound};
+use olr_fingerprint::fingerprint;
 use olr_matching::{
     CursorRead, Key, Layers, Mark, Matched, Page, Routes, Searches, TotalsFinder, all_pages,
-    fingerprint, matchings_are_sound, page, same_inputs,
+    matchings_are_sound, page, same_inputs,
 };
-use olr_metric::NoMemory;
 use olr_report::{json_page, sound_parts_can_be_shown, text_page};
+use olr_request::{Fault, Format, MatchRequest, Pages};
+use olr_road::{Map, sound};
 use std::alloc::Global;
 
 /// Tests that a cursor is of the inputs of a request: the map, the text of the reference and the

@@ -4,20 +4,18 @@ ghost use Rattle.std.specs.Prelude.{IfErr, IfOk, Ok, false, string_bytes};
 ghost use Rattle.olr_binary.specs.Reference.{IsReference};
 ghost use Rattle.olr_app.specs.Accepting.{IsReferenceOf};
 ghost use Rattle.olr_app.specs.Answer.{IsAnswerOfMany, IsAnswerOn, IsFaultOfMany};
-ghost use Rattle.olr_app.specs.Question.{asked_alone};
-ghost use Rattle.olr_app.specs.Request.{at_bytes};
+ghost use Rattle.olr_request.specs.Question.{asked_alone};
+ghost use Rattle.olr_request.specs.Request.{at_bytes};
 ghost use Rattle.olr_app.specs.Stages.{IsStageFault};
 
 use crate::accepting::Accepted;
-use crate::fault::Fault;
 use crate::listing::listing_of;
 use crate::matching::matchings_of;
 use crate::places::places_listing;
-use crate::question::What;
 use crate::question_on_map::QuestionOnMap;
-use crate::request::{Format, MatchRequest, Pages, PlacesRequest, WhyRequest};
 use crate::why::reasons_with;
 use olr_binary::{Reference, decode};
+use olr_request::{Fault, Format, MatchRequest, Pages, PlacesRequest, QuestionKind, WhyRequest};
 use std::alloc::Global;
 
 /// The reference of a text.
@@ -52,8 +50,8 @@ fn answer_accepted(
     let (map, reference) = (on.map, &accepted.reference);
     let (tolerances, format) = (on.question.tolerances, Format::Json);
     match on.question.what {
-        What::Candidates => listing_of(alloc, map, reference, &tolerances, format),
-        What::Match(size) => {
+        QuestionKind::Candidates => listing_of(alloc, map, reference, &tolerances, format),
+        QuestionKind::Match(size) => {
             let asked = MatchRequest {
                 text,
                 tolerances,
@@ -63,7 +61,7 @@ fn answer_accepted(
             };
             matchings_of(alloc, map, false, &asked, accepted)
         }
-        What::Places(limits) => {
+        QuestionKind::Places(limits) => {
             let asked = PlacesRequest {
                 text,
                 tolerances,
@@ -72,7 +70,7 @@ fn answer_accepted(
             };
             places_listing(alloc, map, &asked, reference)
         }
-        What::Why(nearest) => {
+        QuestionKind::Why(nearest) => {
             let asked = WhyRequest {
                 text,
                 tolerances,

@@ -8,13 +8,12 @@ ghost use Rattle.olr_places.specs.declared.limits.PlaceLimits.{PlaceLimits as Li
 ghost use Rattle.olr_app.specs.Places.{ArePlaces, IsPlacesIn};
 ghost use Rattle.olr_app.specs.Stages.{IsStageFault};
 
-use crate::fault::Fault;
 use crate::matching::layers_of;
-use crate::request::{Format, PlacesRequest};
+use olr_base::NoMemory;
 use olr_binary::Reference;
-use olr_map::Map;
-use olr_metric::NoMemory;
 use olr_places::{Places, places_json, places_of, places_text};
+use olr_request::{Fault, Format, PlacesRequest};
+use olr_road::Map;
 use std::alloc::Global;
 
 /// Places in a format.

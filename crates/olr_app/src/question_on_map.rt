@@ -1,11 +1,11 @@
 //! A question with the map that it is asked on, for many texts.
 
 ghost use Rattle.std.specs.Prelude.{IfOk};
-ghost use Rattle.olr_app.specs.Question.{IsUnbannedWhere, IsUnbannedWhere-prop};
+ghost use Rattle.olr_app.specs.QuestionOnMap.{IsUnbannedWhere, IsUnbannedWhere-prop};
 
-use crate::question::{Question, What};
-use olr_map::Map;
-use olr_metric::NoMemory;
+use olr_base::NoMemory;
+use olr_request::{Question, QuestionKind};
+use olr_road::Map;
 use olr_why::unbanned_of;
 use std::alloc::Global;
 
@@ -26,11 +26,11 @@ pub struct QuestionOnMap<'a> {
 /// # Errors
 ///
 /// [`NoMemory`] where the allocator refused memory.
-pub fn unbanned_for(alloc: Global, map: &Map, what: What) -> Result<Option<Map>, NoMemory>
+pub fn unbanned_for(alloc: Global, map: &Map, what: QuestionKind) -> Result<Option<Map>, NoMemory>
     ensures { IfOk result (IsUnbannedWhere what map.now) }
 {
     match what {
-        What::Candidates | What::Match(_) | What::Places(_) => Ok(None),
-        What::Why(_) => unbanned_of(alloc, map),
+        QuestionKind::Candidates | QuestionKind::Match(_) | QuestionKind::Places(_) => Ok(None),
+        QuestionKind::Why(_) => unbanned_of(alloc, map),
     }
 }

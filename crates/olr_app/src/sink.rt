@@ -3,11 +3,11 @@
 ghost use Rattle.std.specs.Prelude.{◌≡◌, ℕ, ◌≤◌, List, Option, Result, length, IfOk, OnErr, IsErr};
 ghost use Rattle.std.specs.Prelude.{Ok};
 ghost use Rattle.std.specs.Io.KnownBytes.{Keeps, WriteAppends};
-ghost use Rattle.olr_metric.specs.declared.failure.Failed.{Failed};
-ghost use Rattle.olr_metric.specs.Counting.{one_more, Counts};
+ghost use Rattle.olr_base.specs.declared.failure.Failed.{Failed};
+ghost use Rattle.olr_base.specs.Counting.{one_more, Counts};
 ghost use Rattle.olr_app.specs.Out.{writer_of, failures_of};
 
-use olr_metric::Failed;
+use olr_base::Failed;
 use std::io;
 use std::io::Write;
 

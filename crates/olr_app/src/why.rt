@@ -7,11 +7,10 @@ ghost use Rattle.olr_why.specs.Remedies.{IsUnbanned};
 ghost use Rattle.olr_app.specs.Why.{AreReasons, IsWhyIn};
 ghost use Rattle.olr_app.specs.Stages.{IsStageFault};
 
-use crate::fault::Fault;
-use crate::request::{Format, WhyRequest};
+use olr_base::NoMemory;
 use olr_binary::Reference;
-use olr_map::Map;
-use olr_metric::NoMemory;
+use olr_request::{Fault, Format, WhyRequest};
+use olr_road::Map;
 use olr_why::{Why, unbanned_of, why_json, why_of, why_text};
 use std::alloc::Global;
 

@@ -5,7 +5,7 @@ ghost use Rattle.std.specs.Io.KnownBytes.{Appends};
 ghost use Rattle.olr_app.specs.Writing.{Hands, HasStopped, IsWritten};
 
 use crate::sink::Sink;
-use olr_metric::Failed;
+use olr_base::Failed;
 
 /// Hands over all the bytes, and doesn't have them passed on.
 ///

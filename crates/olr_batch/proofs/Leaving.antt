@@ -1,17 +1,10 @@
 -- What a run over records leaves of the source of a file of the map, once the map is read.
-use Rattle.std.proofs.Common.{ℕ, List, Option, Ok, Err, refl, inl, inr}
-use Rattle.std.specs.Prelude.{IfErr, Result}
-use Rattle.olr_metric.specs.declared.failure.Failed.{Failed}
+use Rattle.olr_batch.proofs.Common.{ℕ, List, Option, Ok, Err, refl, inl, inr, IfErr, Result, Failed, RoadMap, Fault, InputNotRead, NoMemory, WriteFailed, IsStopped, Question}
 use Rattle.olr_records.specs.declared.file.File.{File}
 use Rattle.olr_map.specs.Files.{IsReadWhole}
-use Rattle.olr_map.specs.RoadMap.{RoadMap}
 use Rattle.olr_map.specs.declared.fault.MapFault.TheVariants as map
 use Rattle.olr_app.specs.Sources.{LeavesFile}
-use Rattle.olr_app.specs.declared.fault.Fault.{Fault}
-use Rattle.olr_app.specs.declared.fault.Fault.TheVariants.{InputNotRead, NoMemory, WriteFailed}
 use Rattle.olr_app.proofs.AnswerOf.{unfailed}
-use Rattle.olr_batch.specs.Run.{IsStopped}
-use Rattle.olr_app.specs.declared.question.Question.{Question}
 
 module _ {S I O : Type 0} (left : S → Option (List ℕ)) (failed : S → ℕ) (in_left : I
     → Option (List ℕ)) (in_failed : I → ℕ)

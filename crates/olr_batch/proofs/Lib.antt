@@ -1,7 +1,7 @@
+mod Common
 mod Tokens
 mod Lines
 mod Stepping
 mod Written
 mod Stopping
 mod Leaving
-mod AsRuns

@@ -1,31 +1,25 @@
 -- The line of a record, from the answer to its text.
-use Rattle.std.proofs.Common.{◌≡◌, ℕ, false, List, ◌++◌, Option, None, Ok, Bor, codes, refl, subst, inl}
-use Rattle.serde_json.specs.Data.{Data}
-use Rattle.serde_json.specs.Written.{compact_text}
+use Rattle.olr_batch.proofs.Common.{◌≡◌, ℕ, false, List, ◌++◌, Option, None, Ok, Bor, codes, refl, subst, inl, Data, compact_text, RoadMap, line_text, IsLineOfText, Question}
 use Rattle.olr_candidates.specs.declared.tolerances.Tolerances.{Tolerances}
-use Rattle.olr_map.specs.RoadMap.{RoadMap}
 use Rattle.olr_places.specs.Json.{places_object}
 use Rattle.olr_report.specs.Json.{page_object}
 use Rattle.olr_report.specs.Text.{next_after}
 use Rattle.olr_why.specs.Json.{why_object}
 use Rattle.olr_app.specs.Answer.{IsAnswerOn}
 use Rattle.olr_app.specs.Listing.{listing_object}
-use Rattle.olr_app.specs.Question.{asked_alone}
-use Rattle.olr_app.specs.Request.{at_bytes}
+use Rattle.olr_request.specs.Question.{asked_alone}
+use Rattle.olr_request.specs.Request.{at_bytes}
 use Rattle.olr_app.specs.declared.accepting.Accepted.{Accepted}
-use Rattle.olr_app.specs.declared.request.Format.TheVariants.{Json}
-use Rattle.olr_app.specs.declared.request.MatchRequest.{MatchRequest}
-use Rattle.olr_app.specs.declared.request.Pages.TheVariants.{One}
-use Rattle.olr_app.proofs.HeadlineRuns.{on_map}
+use Rattle.olr_request.specs.declared.request.Format.TheVariants.{Json}
+use Rattle.olr_request.specs.declared.request.MatchRequest.{MatchRequest}
+use Rattle.olr_request.specs.declared.request.Pages.TheVariants.{One}
+use Rattle.olr_app.proofs.OnePage.{on_map}
 use Rattle.olr_batch.specs.Answers.{IsAnswer}
-use Rattle.olr_batch.specs.Line.{line_text}
-use Rattle.olr_batch.specs.Records.{IsLineOfText}
-use Rattle.olr_app.specs.declared.question.Question.{Question}
-use Rattle.olr_app.specs.declared.question.What.{What}
-use Rattle.olr_app.specs.declared.question.What.TheVariants.{Candidates, Match, Places, Why}
+use Rattle.olr_request.specs.declared.question.QuestionKind.{QuestionKind}
+use Rattle.olr_request.specs.declared.question.QuestionKind.TheVariants.{Candidates, Match, Places, Why}
 
 -- an answer is the line of a value
-value_of : (what : What) (tolerances : Tolerances) (text : Bor (List ℕ)) (road : RoadMap)
+value_of : (what : QuestionKind) (tolerances : Tolerances) (text : Bor (List ℕ)) (road : RoadMap)
     (accepted : Accepted) (output : List ℕ)
     → IsAnswerOn false (asked_alone what tolerances text) accepted road (Ok output)
     → (value : Data) × (output ≡ compact_text value ++ codes "\n")

@@ -1,13 +1,6 @@
 -- One step of the run.
-use Rattle.std.proofs.Common.{◌≡◌, ◌↔◌, ℕ, List, [], ◌∷◌, Bool, true, false, Option, None, Some, refl, sym, inl, inr}
-use Rattle.std.proofs.Common.{Contains, IsTrue}
-use Rattle.std.specs.Prelude.{Result}
+use Rattle.olr_batch.proofs.Common.{◌≡◌, ◌↔◌, ℕ, List, [], ◌∷◌, Bool, true, false, Option, None, Some, refl, sym, inl, inr, Contains, IsTrue, Result, Appends, IsAtEnd, prepend_known, Appends-trans, append-nil, Failed, IsPassedOn, IsSame, MayAsk}
 use Rattle.std.specs.Bool.{MatchBool}
-use Rattle.std.specs.Io.KnownBytes.{Appends, IsAtEnd, prepend_known}
-use Rattle.std.proofs.KnownBytes.{Appends-trans}
-use Rattle.std.proofs.lemmas.List.{append-nil}
-use Rattle.olr_metric.specs.declared.failure.Failed.{Failed}
-use Rattle.olr_batch.specs.Steps.{IsPassedOn, IsSame, MayAsk}
 
 -- the case of what is found
 pub where_found : (A B : Type 0) (found : Bool) → found ≡ true → MatchBool found A B → A

@@ -1,20 +1,6 @@
 -- Where the run ends or stops.
-use Rattle.std.proofs.Common.{◌≡◌, ◌⊎◌, ℕ, ◌+◌, ◌-◌, ◌^◌, ◌≤◌, List, [], ◌++◌, length, Option, None, Some, refl, sym, ap, ◌∙◌, subst, inl, inr, arith}
-use Rattle.std.specs.Prelude.{IfSome, Result}
-use Rattle.std.specs.Io.KnownBytes.{Appends, prepend_known}
-use Rattle.std.specs.List.{concat}
-use Rattle.std.proofs.KnownBytes.{Appends-trans}
-use Rattle.std.proofs.lemmas.List.{append-nil}
-use Rattle.olr_metric.specs.Counting.{one_more}
-use Rattle.olr_metric.specs.declared.failure.Failed.{Failed}
-use Rattle.olr_map.specs.RoadMap.{RoadMap}
-use Rattle.olr_messages.specs.Lines.{lines_of}
-use Rattle.olr_app.specs.declared.fault.Fault.{Fault}
-use Rattle.olr_app.specs.declared.fault.Fault.TheVariants.{InputNotRead, NoMemory, WriteFailed}
-use Rattle.olr_batch.specs.Records.{AreWrittenFor, IsWrittenFor}
-use Rattle.olr_batch.specs.Run.{AreAnswered, AreBegun, IsNextOutput, IsStopped, IsWrittenTo}
-use Rattle.olr_batch.specs.Steps.{IsLast, IsOutputOfNext, IsSame, IsStepStopped}
-use Rattle.olr_app.specs.declared.question.Question.{Question}
+use Rattle.olr_batch.proofs.Common.{◌≡◌, ◌⊎◌, ℕ, ◌+◌, ◌-◌, ◌^◌, ◌≤◌, List, [], ◌++◌, length, Option, None, Some, refl, sym, ap, ◌∙◌, subst, inl, inr, arith, IfSome, Result, Appends, prepend_known, concat, Appends-trans, append-nil, Failed, RoadMap, lines_of, Fault, InputNotRead, NoMemory, WriteFailed, AreWrittenFor, IsWrittenFor, AreAnswered, AreBegun, IsNextOutput, IsStopped, IsWrittenTo, IsLast, IsOutputOfNext, IsSame, IsStepStopped, Question}
+use Rattle.olr_base.specs.Counting.{one_more}
 use Rattle.olr_batch.proofs.Stepping.{takes_none}
 use Rattle.olr_batch.proofs.Written.{all_done, cut_of, lines_left, next_of, split_of}
 

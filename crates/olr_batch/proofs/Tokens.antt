@@ -1,9 +1,6 @@
 -- The text of a line, from its pieces.
-use Rattle.std.proofs.Common.{◌≡◌, ℕ, List, ◌++◌, Option, None, Some, codes, append_assoc}
+use Rattle.olr_batch.proofs.Common.{◌≡◌, ℕ, List, ◌++◌, Option, None, Some, codes, append_assoc, Data, compact_text, line_text, tokens_behind}
 use Rattle.json.specs.Print.{print, print_from, escape_byte}
-use Rattle.serde_json.specs.Data.{Data}
-use Rattle.serde_json.specs.Written.{compact_text}
-use Rattle.olr_batch.specs.Line.{line_text, tokens_behind}
 
 regrouped : (a b c d e : List ℕ) → ((((a ++ b) ++ c) ++ d) ++ e) ≡ (a ++ (b ++ (c ++ d))) ++ e
 regrouped a b c d e = simp append_assoc

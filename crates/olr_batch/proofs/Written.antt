@@ -1,19 +1,6 @@
 -- What is written for the first records of an input, record by record.
-use Rattle.std.proofs.Common.{◌≡◌, ℕ, ◌+◌, List, [], ◌∷◌, ◌++◌, length, Option, None, Some, refl, sym, ap, ◌∙◌, subst, append_assoc, length-append, arith}
-use Rattle.std.specs.Prelude.{IfSome}
-use Rattle.std.specs.Io.KnownBytes.{Appends, Consumes, prepend_known}
-use Rattle.std.specs.List.{concat}
-use Rattle.std.proofs.KnownBytes.{Appends-trans}
-use Rattle.std.proofs.lemmas.List.{append-nil}
+use Rattle.olr_batch.proofs.Common.{◌≡◌, ℕ, ◌+◌, List, [], ◌∷◌, ◌++◌, length, Option, None, Some, refl, sym, ap, ◌∙◌, subst, append_assoc, length-append, arith, IfSome, Appends, Consumes, prepend_known, concat, Appends-trans, append-nil, RoadMap, IsMessageOfLine, Message, lines_of, IsNext, IsOver, AreWrittenFor, IsWrittenFor, IsLeft, IsWrittenTo, IsOutputOfNext, Question}
 use Rattle.std.proofs.lemmas.List.Folds.{concat-append}
-use Rattle.olr_map.specs.RoadMap.{RoadMap}
-use Rattle.olr_messages.specs.Content.{IsMessageOfLine, Message}
-use Rattle.olr_messages.specs.Lines.{lines_of}
-use Rattle.olr_messages.specs.Messages.{IsNext, IsOver}
-use Rattle.olr_batch.specs.Records.{AreWrittenFor, IsWrittenFor}
-use Rattle.olr_batch.specs.Run.{IsLeft, IsWrittenTo}
-use Rattle.olr_batch.specs.Steps.{IsOutputOfNext}
-use Rattle.olr_app.specs.declared.question.Question.{Question}
 
 length_more : (done : List (List ℕ)) (line : List ℕ) → length (done ++ line ∷ []) ≡ length done + 1
 length_more done line = length-append done (line ∷ [])

@@ -1,11 +1,11 @@
 -- What is answered to the text of a record, on a map that is read.
 use Rattle.std.specs.Prelude.{ℕ, List, Result}
-use Rattle.olr_map.specs.RoadMap.{RoadMap}
+use Rattle.olr_road.specs.RoadMap.{RoadMap}
 use Rattle.olr_app.specs.Answer.{IsAnswerOfMany, IsFaultOfMany}
-use Rattle.olr_app.specs.Question.{asked_alone}
-use Rattle.olr_app.specs.Request.{at_bytes}
-use Rattle.olr_app.specs.declared.fault.Fault.{Fault}
-use Rattle.olr_app.specs.declared.question.Question.{Question}
+use Rattle.olr_request.specs.Question.{asked_alone}
+use Rattle.olr_request.specs.Request.{at_bytes}
+use Rattle.olr_request.specs.declared.fault.Fault.{Fault}
+use Rattle.olr_request.specs.declared.question.Question.{Question}
 
 -- The JSON that answers a text, or the fault: that of a text which is no reference, or else that of
 -- the reference on the map.

@@ -3,4 +3,3 @@ pub mod Answers
 pub mod Records
 pub mod Steps
 pub mod Run
-pub mod Laws

@@ -2,14 +2,14 @@
 use Rattle.std.specs.Prelude.{◌≡◌, ℕ, ◌+◌, ◌⊎◌, List, [], ◌∷◌, ◌++◌, Option, None, Some, Ok, codes}
 use Rattle.serde_json.specs.Data.{Data, null}
 use Rattle.serde_json.specs.Written.{compact_text}
-use Rattle.olr_map.specs.RoadMap.{RoadMap}
+use Rattle.olr_road.specs.RoadMap.{RoadMap}
 use Rattle.olr_messages.specs.Content.{IsMessageOfLine, Message}
 use Rattle.olr_messages.specs.Content as message
-use Rattle.olr_app.specs.Fault.{fault_text}
-use Rattle.olr_app.specs.declared.fault.Fault.{Fault}
+use Rattle.olr_request.specs.Fault.{fault_text}
+use Rattle.olr_request.specs.declared.fault.Fault.{Fault}
 use Rattle.olr_batch.specs.Answers.{IsAnswer, IsFaultFor}
 use Rattle.olr_batch.specs.Line.{line_text}
-use Rattle.olr_app.specs.declared.question.Question.{Question}
+use Rattle.olr_request.specs.declared.question.Question.{Question}
 
 -- the line of a record that has a fault in place of an answer
 abbrev pub fault_line : List ℕ → Option (List ℕ) → ℕ → List ℕ

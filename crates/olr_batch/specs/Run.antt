@@ -2,21 +2,21 @@
 use Rattle.std.specs.Prelude.{◌≡◌, ℕ, ◌+◌, ◌-◌, ◌^◌, ◌≤◌, ◌⊎◌, List, [], ◌∷◌, ◌++◌, length, Option, None, Some, IfSome, Result, Ok}
 use Rattle.std.specs.Io.KnownBytes.{Appends}
 use Rattle.std.specs.List.{concat}
-use Rattle.olr_metric.specs.Counting.{one_more}
-use Rattle.olr_metric.specs.declared.failure.Failed.{Failed}
+use Rattle.olr_base.specs.Counting.{one_more}
+use Rattle.olr_base.specs.declared.failure.Failed.{Failed}
 use Rattle.olr_map.specs.Files.{IsFaultLeft, Texts}
-use Rattle.olr_map.specs.RoadMap.{RoadMap}
+use Rattle.olr_road.specs.RoadMap.{RoadMap}
 use Rattle.olr_map.specs.declared.fault.MapFault.{MapFault}
-use Rattle.olr_app.specs.Fault.{fault_of_map}
+use Rattle.olr_request.specs.Fault.{fault_of_map}
 use Rattle.olr_messages.specs.Content.{IsMessageOfLine, Message}
 use Rattle.olr_messages.specs.Lines.{lines_of}
 use Rattle.olr_messages.specs.Messages.{HasNoLf}
 use Rattle.olr_app.specs.Writing.{HasStopped}
-use Rattle.olr_app.specs.declared.fault.Fault.{Fault}
-use Rattle.olr_app.specs.declared.fault.Fault.TheVariants.{InputNotRead, NoMemory, WriteFailed}
+use Rattle.olr_request.specs.declared.fault.Fault.{Fault}
+use Rattle.olr_request.specs.declared.fault.Fault.TheVariants.{InputNotRead, NoMemory, WriteFailed}
 use Rattle.olr_batch.specs.Records.{AreWrittenFor, IsWrittenFor}
 use Rattle.olr_batch.specs.Steps.{HasPassedOn}
-use Rattle.olr_app.specs.declared.question.Question.{Question}
+use Rattle.olr_request.specs.declared.question.Question.{Question}
 
 -- these are the first lines of an input, if its bytes are known, and the lines of the other bytes
 -- are left

@@ -1,15 +1,15 @@
 -- One step of the run: what is written for the next record of an input, or why that stopped.
 use Rattle.std.specs.Prelude.{◌≡◌, ℕ, ◌⊎◌, List, [], Contains, Bool, true, false, Option, Result, Ok}
 use Rattle.std.specs.Io.KnownBytes.{Appends}
-use Rattle.olr_metric.specs.declared.failure.Failed.{Failed}
-use Rattle.olr_map.specs.RoadMap.{RoadMap}
+use Rattle.olr_base.specs.declared.failure.Failed.{Failed}
+use Rattle.olr_road.specs.RoadMap.{RoadMap}
 use Rattle.olr_messages.specs.Content.{IsMessageOfLine, Message}
 use Rattle.olr_messages.specs.Messages.{IsCutOff, IsNext, IsOver}
 use Rattle.olr_app.specs.Writing.{HasStopped}
-use Rattle.olr_app.specs.declared.fault.Fault.{Fault}
-use Rattle.olr_app.specs.declared.fault.Fault.TheVariants.{InputNotRead, NoMemory, WriteFailed}
+use Rattle.olr_request.specs.declared.fault.Fault.{Fault}
+use Rattle.olr_request.specs.declared.fault.Fault.TheVariants.{InputNotRead, NoMemory, WriteFailed}
 use Rattle.olr_batch.specs.Records.{IsWrittenFor}
-use Rattle.olr_app.specs.declared.question.Question.{Question}
+use Rattle.olr_request.specs.declared.question.Question.{Question}
 
 module _ {O : Type 0} (flush_gives : O → Result (Unit {0}) Failed → O → Type 0) where
   -- the last call on the sink passed on what it had taken

@@ -4,16 +4,16 @@ ghost use Rattle.std.specs.Prelude.{◌≡◌, [], Contains, IfErr, IfOk, MatchB
 ghost use Rattle.std.specs.Io.KnownBytes.{IsAtEnd};
 ghost use Rattle.olr_messages.specs.Messages.{IsCutOff, IsOver, ReadsLine, left_of};
 ghost use Rattle.olr_app.specs.Writing.{HasStopped};
-ghost use Rattle.olr_app.specs.declared.fault.Fault.TheVariants as fault;
+ghost use Rattle.olr_request.specs.declared.fault.Fault.TheVariants as fault;
 ghost use Rattle.olr_batch.specs.Run.{AreAnswered, IsStopped};
 ghost use Rattle.olr_batch.specs.Steps.{IsLast, IsPassedOn, IsStepStopped, IsWrittenNext};
 ghost use Rattle.olr_batch.specs.Steps.{MayAsk};
 
 use crate::record::write_record;
 use olr_app::{Fault, Question, QuestionOnMap, Sink, Source, put_whole, unbanned_for};
-use olr_map::Map;
+use olr_base::{Failed, NoMemory};
 use olr_messages::Messages;
-use olr_metric::{Failed, NoMemory};
+use olr_road::Map;
 use std::alloc::Global;
 
 /// How many bytes a line takes at most that has a fault in place of an answer: one with a key of

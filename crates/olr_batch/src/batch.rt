@@ -3,7 +3,7 @@
 ghost use Rattle.std.specs.Prelude.{◌≡◌, ◌⊎◌, IfErr, OnOk};
 ghost use Rattle.std.specs.Io.KnownBytes.{IsAtEnd};
 ghost use Rattle.olr_map.specs.Files.{IsMapLeft, IsReadInOrder, texts_of};
-ghost use Rattle.olr_map.specs.RoadMap.{RoadMap};
+ghost use Rattle.olr_road.specs.RoadMap.{RoadMap};
 ghost use Rattle.olr_app.specs.Sources.{LeavesFile};
 ghost use Rattle.olr_batch.specs.Run.{AreAnswered, IsMapFault, IsStopped};
 

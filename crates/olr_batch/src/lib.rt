@@ -7,15 +7,13 @@
 //! - [`answering`]: the loop over the records, which come from `olr_messages`.
 //! - [`batch`]: [`run_batch`], all of this from the files of a map to the output.
 //!
-//! Beside them, [`laws`] says that an answer is what [`run`](olr_app::run) prints for the text
-//! alone.
+//! That an answer is what [`run`](olr_app::run) prints for the text alone is a law of
+//! `olr_app_laws`.
 #![tactic(auto)]
 
 mod answering;
 mod batch;
-mod laws;
 mod line;
 mod record;
 
 pub use batch::run_batch;
-pub use laws::answers_are_of_runs;

@@ -7,7 +7,7 @@ ghost use Rattle.json.specs.Print.{print};
 ghost use Rattle.olr_batch.specs.Line.{bytes_of, line_text, text_token, tokens_behind};
 
 use json::Writer;
-use olr_metric::NoMemory;
+use olr_base::NoMemory;
 use std::alloc::Global;
 use std::mem;
 
@@ -72,6 +72,7 @@ fn push_members(alloc: Global, text: &mut Vec<u8>, line: &Line<'_>) -> Result<()
 /// # Errors
 ///
 /// [`NoMemory`] where the allocator refused memory.
+#[tactic(auto, using(crate::proofs::Tokens::line_is))]
 pub(crate) fn write_line(alloc: Global, text: &mut Vec<u8>, line: &Line<'_>) -> Result<(), NoMemory>
     ensures { OnOk result ((answer : Data) → line.now.answer.now ≡ compact_text answer
         → text.new.items ≡ line_text answer (bytes_of line.now.fault)

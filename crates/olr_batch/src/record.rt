@@ -1,7 +1,7 @@
 //! What is written for a record.
 
 ghost use Rattle.std.specs.Prelude.{◌≡◌, ◌++◌, ℕ, List, None, IfErr, IfOk, OnOk, codes};
-ghost use Rattle.olr_app.specs.Fault.{fault_text};
+ghost use Rattle.olr_request.specs.Fault.{fault_text};
 ghost use Rattle.olr_messages.specs.Content.{message_of};
 ghost use Rattle.serde_json.specs.Data.{Data};
 ghost use Rattle.serde_json.specs.Written.{compact_text};
@@ -12,8 +12,8 @@ ghost use Rattle.olr_batch.specs.Records.{IsLineOfText, IsWrittenFor, fault_line
 use crate::line::{Line, write_line};
 use arrayvec::ArrayString;
 use olr_app::{Fault, QuestionOnMap, answer_text};
+use olr_base::NoMemory;
 use olr_messages::Content;
-use olr_metric::NoMemory;
 use std::alloc::Global;
 use std::fmt::Write;
 

@@ -1,10 +1,7 @@
 -- What decoding by the standard engine says of the bytes of a text.
-use Rattle.std.proofs.Common.{◌≡◌, ℕ, List, Ok, Err, refl, ap, ◌∙◌}
+use Rattle.olr_binary.proofs.Common.{◌≡◌, ℕ, List, Ok, Err, refl, ap, ◌∙◌, decode_of, standard, AreBytes, IsBase64}
 use Rattle.base64.specs.declared.decode.DecodeError.{DecodeError}
-use Rattle.base64.specs.GeneralPurpose.{decode_of}
-use Rattle.base64.specs.Engines.{standard}
 use Rattle.base64.proofs.EngineFacts.{decode_of_strict, decode_of-encode_of}
-use Rattle.olr_binary.specs.Text.{AreBytes, IsBase64}
 
 -- what decodes is the base64 of what it decodes to
 pub base64_from_decoded : (text bytes : List ℕ) → AreBytes text → AreBytes bytes

@@ -1,9 +1,7 @@
 -- The numbers of points and of offset bytes that a number of bytes stands for.
-use Rattle.std.proofs.Common.{◌≡◌, ℕ, ◌-◌, ◌/◌, ◌%◌, ◌<◌, ◌≤◌, arith, inl, inr}
+use Rattle.olr_binary.proofs.Common.{◌≡◌, ℕ, ◌-◌, ◌/◌, ◌%◌, ◌<◌, ◌≤◌, arith, inl, inr, IsLayout, IsLineSize}
 use Rattle.olr_binary.specs.declared.status.LocationType.{LocationType}
 use Rattle.olr_binary.specs.declared.status.LocationType.TheVariants.{Line, PointAlong}
-use Rattle.olr_binary.specs.Layout.{IsLayout}
-use Rattle.olr_binary.specs.Refusal.{IsLineSize}
 use Rattle.olr_binary.specs.Stages.{IsSizeOf, HasTwoPoints}
 
 -- by division

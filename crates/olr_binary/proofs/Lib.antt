@@ -1,3 +1,4 @@
+mod Common
 pub mod Base64
 pub mod Unique
 pub mod Layouts

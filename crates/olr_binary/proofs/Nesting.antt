@@ -1,9 +1,7 @@
 -- The value of a reference nests no deeper than a reader of JSON follows.
-use Rattle.std.proofs.Common.{rules}
+use Rattle.olr_binary.proofs.Common.{rules, Reference, Line, PointAlong}
 use Rattle.serde_json.specs.Read.{max_depth}
 use Rattle.olr_binary.specs.Json.{reference_object}
-use Rattle.olr_binary.specs.declared.reference.Reference.{Reference}
-use Rattle.olr_binary.specs.declared.reference.Reference.TheVariants.{Line, PointAlong}
 use Rattle.olr_text.specs.JsonValues.{NestsWithin}
 use Rattle.olr_text.proofs.Nesting.{items_nest, option_nests}
 

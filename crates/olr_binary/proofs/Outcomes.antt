@@ -1,28 +1,7 @@
 -- A text has one refusal at most.
-use Rattle.std.proofs.Common.{◌≡◌, ℕ, ◌<◌, ◌≤◌, List, length, Ok, Err, refl, ap, subst, arith, inl, inr}
-use Rattle.std.specs.Prelude.{Result}
-use Rattle.std.proofs.lemmas.Int.{ints}
-use Rattle.olr_metric.specs.Coordinates.{Coordinates}
-use Rattle.olr_binary.specs.declared.reference.Reference.{Reference}
-use Rattle.olr_binary.specs.declared.refusal.Refused.{Refused}
-use Rattle.olr_binary.specs.declared.refusal.Refused.TheVariants.{TooLong, NotBase64, Empty, BadVersion, OtherKind, PoiWithAccess, BadLength, TooManyPoints, OffsetFlags, OutOfRange}
-use Rattle.olr_binary.specs.declared.refusal.Kind.TheVariants.{Area, GeoCoordinate}
-use Rattle.olr_binary.specs.Coordinates.{IsFirstPlace}
-use Rattle.olr_binary.specs.Outcome.{IsBytesOutcome, IsOutcome}
-use Rattle.olr_binary.specs.Refusal.{order_of, BytesCondition, Refuses, RefusesBytes, IsFirstOutOfRange}
-use Rattle.olr_binary.specs.Text.{IsBase64, trimmed}
+use Rattle.olr_binary.proofs.Common.{◌≡◌, ℕ, ◌<◌, ◌≤◌, List, length, refl, ap, subst, arith, inl, inr, ints, Coordinates, Refused, TooLong, NotBase64, Empty, BadVersion, OtherKind, PoiWithAccess, BadLength, TooManyPoints, OffsetFlags, OutOfRange, Area, GeoCoordinate, IsFirstPlace, order_of, BytesCondition, Refuses, RefusesBytes, IsFirstOutOfRange, IsBase64}
 use Rattle.olr_binary.proofs.Base64.{base64_is_one}
 use Rattle.olr_binary.proofs.Layouts.{layout_is_one}
-
--- the outcome of the bytes of a text is that of the text
-pub outcome_from_bytes : (text bytes : List ℕ) (r : Result Reference Refused)
-    → length (trimmed text) ≤ 344 → IsBase64 (trimmed text) bytes → IsBytesOutcome bytes r
-    → IsOutcome text r
-outcome_from_bytes text bytes (Ok reference) short b h =
-    record { bytes = bytes; base64 = b; is_reference = h }
-outcome_from_bytes text bytes (Err TooLong) short b h = absurd h.holds
-outcome_from_bytes text bytes (Err NotBase64) short b h = absurd h.holds
-outcome_from_bytes text bytes (Err refused) short b h = (short, bytes, b, h)
 
 -- ---- one refusal
 

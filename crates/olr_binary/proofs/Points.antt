@@ -1,11 +1,6 @@
 -- Reading points one after the other.
-use Rattle.std.proofs.Common.{◌≡◌, ℕ, zero, suc, ◌+◌, ◌-◌, ◌*◌, ◌<◌, List, [], ◌∷◌, ◌++◌, length, Some, refl, arith, inl, inr}
-use Rattle.std.specs.Prelude.{slice_get}
-use Rattle.olr_metric.specs.Coordinates.{Coordinates}
-use Rattle.olr_metric.proofs.Contained.{first_or_last}
-use Rattle.olr_binary.specs.declared.point.Point.{Point}
-use Rattle.olr_binary.specs.Coordinates.{place_of, moved, two_bytes_at}
-use Rattle.olr_binary.specs.Point.{IsPoint}
+use Rattle.olr_binary.proofs.Common.{◌≡◌, ℕ, zero, suc, ◌+◌, ◌-◌, ◌*◌, ◌<◌, List, [], ◌∷◌, ◌++◌, length, Some, refl, arith, inl, inr, slice_get, Coordinates, Point, place_of, moved, two_bytes_at, IsPoint}
+use Rattle.olr_base.proofs.Contained.{first_or_last}
 
 -- the place of a point that isn't the first, from the place of the one before
 pub place_of-next : (bytes : List ℕ) (first before : Coordinates) (i : ℕ) → 0 < i

@@ -1,28 +1,12 @@
 -- What the bytes of a reference say: that they say it of one reference alone, and that no refusal
 -- holds of them.
-use Rattle.std.proofs.Common.{◌≡◌, ℕ, zero, suc, ◌+◌, ◌*◌, ◌<◌, ◌≤◌, List, length, Option, Some, None, refl, ap, ◌∙◌, arith, inl, inr}
-use Rattle.std.specs.Prelude.{Bool, true, false, ◌==◌, if◌then◌else◌, MatchOption, replicate}
+use Rattle.olr_binary.proofs.Common.{◌≡◌, ℕ, zero, suc, ◌+◌, ◌*◌, ◌<◌, ◌≤◌, List, length, Option, Some, None, refl, ap, ◌∙◌, arith, inl, inr, Bool, true, false, ◌==◌, if◌then◌else◌, MatchOption, replicate, standard, Coordinates, IsInRange, Point, Next, Reference, Line, PointAlong, Refused, TooLong, NotBase64, Empty, BadVersion, OtherKind, PoiWithAccess, BadLength, TooManyPoints, OffsetFlags, OutOfRange, Area, GeoCoordinate, place_of, IsLayout, status_of, last_attribute_of, IsPoint, IsNext, ArePoints, IsReferenceOf, IsReference, AreLinked, IsOffset, offset_of, points_of, BytesCondition, flags_set, IsFirstOutOfRange, IsPointAlongSize, IsSize, AreBytes, IsBase64}
 use Rattle.std.proofs.lemmas.List.{length-append, length-replicate}
 use Rattle.std.proofs.lemmas.Option.{slice_get_cases}
 use Rattle.arrayvec.specs.ArrayVec.{ArrayVec}
 use Rattle.base64.proofs.RoundTrip.{length-encode_symbols}
-use Rattle.base64.specs.Engines.{standard}
 use Rattle.base64.specs.Rfc4648.{encode_symbols, padding_len}
-use Rattle.olr_metric.specs.Coordinates.{Coordinates, IsInRange}
-use Rattle.olr_binary.specs.declared.point.Point.{Point}
-use Rattle.olr_binary.specs.declared.point.Next.{Next}
-use Rattle.olr_binary.specs.declared.reference.Reference.{Reference}
-use Rattle.olr_binary.specs.declared.reference.Reference.TheVariants.{Line, PointAlong}
-use Rattle.olr_binary.specs.declared.refusal.Refused.{Refused}
-use Rattle.olr_binary.specs.declared.refusal.Refused.TheVariants.{TooLong, NotBase64, Empty, BadVersion, OtherKind, PoiWithAccess, BadLength, TooManyPoints, OffsetFlags, OutOfRange}
-use Rattle.olr_binary.specs.declared.refusal.Kind.TheVariants.{Area, GeoCoordinate}
 use Rattle.olr_binary.specs.Bits.{area_flags_of, attribute_flag_of, point_flag_of, positive_flag_of, version_of}
-use Rattle.olr_binary.specs.Coordinates.{place_of}
-use Rattle.olr_binary.specs.Layout.{IsLayout, status_of, last_attribute_of}
-use Rattle.olr_binary.specs.Point.{IsPoint, IsNext, ArePoints}
-use Rattle.olr_binary.specs.Reference.{IsReferenceOf, IsReference, AreLinked, IsOffset, offset_of, points_of}
-use Rattle.olr_binary.specs.Refusal.{BytesCondition, flags_set, IsFirstOutOfRange, IsPointAlongSize, IsSize}
-use Rattle.olr_binary.specs.Text.{AreBytes, IsBase64}
 use Rattle.olr_binary.proofs.Layouts.{layout_is_one}
 use Rattle.olr_binary.proofs.Outcomes.{first_place_is_one}
 use Rattle.olr_binary.proofs.Same.{same_degrees, same_next, same_point, same_points}

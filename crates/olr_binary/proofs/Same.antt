@@ -1,12 +1,9 @@
 -- Values whose types keep ranges are equal where their other fields are: a range has one proof at
 -- most.
-use Rattle.std.proofs.Common.{◌≡◌, ℕ, suc, ◌<◌, List, [], ◌∷◌, Option, Some, length, refl, ap, subst, arith}
-use Rattle.std.specs.Prelude.{ℤ, slice_get}
+use Rattle.olr_binary.proofs.Common.{◌≡◌, ℕ, suc, ◌<◌, List, [], ◌∷◌, Option, Some, length, refl, ap, subst, arith, ℤ, slice_get, Next, Point}
 use Rattle.std.proofs.Props.{props}
-use Rattle.olr_metric.specs.Range.{IsLongitude, IsLatitude}
-use Rattle.olr_metric.specs.declared.degrees.Degrees.{Degrees}
-use Rattle.olr_binary.specs.declared.point.Next.{Next}
-use Rattle.olr_binary.specs.declared.point.Point.{Point}
+use Rattle.olr_base.specs.Range.{IsLongitude, IsLatitude}
+use Rattle.olr_base.specs.declared.degrees.Degrees.{Degrees}
 
 -- what is made of equal data, whatever the proofs are
 made_same : {A D : Type 0} (P : A → Type 0) → ((x : A) → IsProp (P x)) → (make : (x : A) → P x → D)

@@ -1,12 +1,5 @@
 -- Bytes have one reference at most, and a text has one outcome at most.
-use Rattle.std.proofs.Common.{◌≡◌, ℕ, List, Ok, Err, ap}
-use Rattle.std.specs.Prelude.{Result, IfOk}
-use Rattle.olr_binary.specs.declared.reference.Reference.{Reference}
-use Rattle.olr_binary.specs.declared.refusal.Refused.{Refused}
-use Rattle.olr_binary.specs.Outcome.{IsOutcome, IsTextOf}
-use Rattle.olr_binary.specs.Reference.{IsReference}
-use Rattle.olr_binary.specs.Refusal.{Refuses}
-use Rattle.olr_binary.specs.Text.{trimmed}
+use Rattle.olr_binary.proofs.Common.{◌≡◌, ℕ, List, Ok, Err, ap, Result, IfOk, Reference, Refused, IsOutcome, IsTextOf, IsReference, Refuses, trimmed}
 use Rattle.olr_binary.proofs.Base64.{base64_is_one}
 use Rattle.olr_binary.proofs.Outcomes.{refusal_is_one, not_refused}
 use Rattle.olr_binary.proofs.References.{is_reference, reference_is_one, reference_refused, text_of_reference}

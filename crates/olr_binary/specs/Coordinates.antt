@@ -2,7 +2,7 @@
 -- version 3). Numbers are signed, with the most significant byte first. They may be out of range
 -- here.
 use Rattle.std.specs.Prelude.{ℕ, zero, suc, ◌+◌, ◌*◌, ◌/◌, ◌^◌, nat_lt, if◌then◌else◌, List, slice_index, ℤ, pos, neg_ℤ, ◌+ℤ◌, ◌-ℤ◌, ◌*ℤ◌, ◌<ℤ◌}
-use Rattle.olr_metric.specs.Coordinates.{Coordinates}
+use Rattle.olr_base.specs.Coordinates.{Coordinates}
 
 -- the number that `size` bits encode as two's complement
 abbrev pub signed : ℕ → ℕ → ℤ

@@ -1,6 +1,6 @@
 -- The points of a reference: their coordinates and attributes, by its bytes.
 use Rattle.std.specs.Prelude.{◌≡◌, ℕ, ◌+◌, ◌<◌, List, length, slice_get, Some, MatchOption}
-use Rattle.olr_metric.specs.Coordinates.{Coordinates}
+use Rattle.olr_base.specs.Coordinates.{Coordinates}
 use Rattle.olr_binary.specs.declared.point.Point.{Point}
 use Rattle.olr_binary.specs.declared.point.Next.{Next}
 use Rattle.olr_binary.specs.Bits.{class_of, form_of, sector_of, lowest_of}

@@ -1,6 +1,6 @@
 -- The refusals of a text, as a table of conditions. The first one that holds is answered.
 use Rattle.std.specs.Prelude.{◌≡◌, ◌≢◌, ℕ, ◌+◌, ◌<◌, ◌≤◌, ◌==◌, if◌then◌else◌, ◌⊎◌, List, [], length, MatchBool}
-use Rattle.olr_metric.specs.Coordinates.{Coordinates, IsInRange}
+use Rattle.olr_base.specs.Coordinates.{Coordinates, IsInRange}
 use Rattle.olr_binary.specs.declared.refusal.Refused.{Refused}
 use Rattle.olr_binary.specs.declared.refusal.Refused.TheVariants.{TooLong, NotBase64, Empty, BadVersion, OtherKind, PoiWithAccess, BadLength, TooManyPoints, OffsetFlags, OutOfRange}
 use Rattle.olr_binary.specs.declared.refusal.Kind.TheVariants.{Area, GeoCoordinate}

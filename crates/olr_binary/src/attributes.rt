@@ -1,7 +1,7 @@
 //! The points of a reference: their coordinates and attributes.
 
-ghost use Rattle.std.specs.Prelude.{◌≡◌, ℕ, ◌+◌, ◌-◌, ◌*◌, ◌<◌, ◌≤◌, length, MatchResult};
-ghost use Rattle.olr_metric.specs.Coordinates.{Coordinates, IsInRange};
+ghost use Rattle.std.specs.Prelude.{◌≡◌, ◌+◌, ◌-◌, ◌*◌, ◌<◌, ◌≤◌, length, MatchResult};
+ghost use Rattle.olr_base.specs.Coordinates.{Coordinates, IsInRange};
 ghost use Rattle.olr_binary.specs.Coordinates.{place_of};
 ghost use Rattle.olr_binary.specs.Point.{ArePoints, HasAttributes};
 ghost use Rattle.olr_binary.specs.Stages.{IsOutOfRangeAt};
@@ -12,7 +12,7 @@ use crate::point::{Next, Point};
 use crate::reference::MAX_POINTS;
 use crate::refusal::Refused;
 use arrayvec::ArrayVec;
-use olr_metric::Degrees;
+use olr_base::Degrees;
 
 /// Point `index`, from 0, of `count`. Its coordinates are `at`.
 fn point_at(bytes: &[u8], count: usize, index: usize, at: Degrees) -> Point

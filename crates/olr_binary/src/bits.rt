@@ -1,6 +1,6 @@
 //! Bit fields of a byte.
 
-ghost use Rattle.std.specs.Prelude.{◌≡◌, ◌+◌, ◌<◌, ◌≤◌};
+ghost use Rattle.std.specs.Prelude.{◌≡◌, ◌<◌};
 ghost use Rattle.olr_binary.specs.Bits.{bits};
 
 /// `count` bits of a byte, of which bit `low` is the least significant, as a number.

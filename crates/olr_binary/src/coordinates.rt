@@ -1,11 +1,11 @@
 //! The coordinates of a reference's points.
 
-ghost use Rattle.std.specs.Prelude.{◌≡◌, ℕ, ◌+◌, ◌-◌, ◌*◌, ◌<◌, ◌≤◌, ◌^◌, List, length, IfSome, IfNone, pos, neg_ℤ, ◌+ℤ◌, ◌*ℤ◌, ◌≤ℤ◌};
-ghost use Rattle.olr_metric.specs.Coordinates.{IsInRange};
-ghost use Rattle.olr_metric.specs.Range.{IsLongitude};
+ghost use Rattle.std.specs.Prelude.{◌≡◌, ◌+◌, ◌-◌, ◌*◌, ◌<◌, ◌≤◌, ◌^◌, length, IfSome, IfNone, pos, neg_ℤ, ◌+ℤ◌, ◌*ℤ◌, ◌≤ℤ◌};
+ghost use Rattle.olr_base.specs.Coordinates.{IsInRange};
+ghost use Rattle.olr_base.specs.Range.{IsLongitude};
 ghost use Rattle.olr_binary.specs.Coordinates.{IsMicrodegreesOf, two_bytes_at, three_bytes_at, IsFirstPlace, moved};
 
-use olr_metric::Degrees;
+use olr_base::Degrees;
 use std::marker::Model;
 
 /// Coordinates in microdegrees that may be out of range.
@@ -16,7 +16,7 @@ pub(crate) struct UncheckedDegrees {
 }
 
 impl Model for UncheckedDegrees {
-    ghost use Rattle.olr_metric.specs.Coordinates.{Coordinates};
+    ghost use Rattle.olr_base.specs.Coordinates.{Coordinates};
 
     ghost Value = { Coordinates };
 

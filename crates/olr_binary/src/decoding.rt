@@ -1,6 +1,6 @@
 //! From a text to a reference, or to its first refusal.
 
-ghost use Rattle.std.specs.Prelude.{◌≡◌, ℕ, ◌+◌, ◌<◌, ◌≤◌, ◌^◌, List, length, slice_index, Result, IfOk};
+ghost use Rattle.std.specs.Prelude.{◌≡◌, ◌+◌, ◌<◌, length, slice_index, Result, IfOk};
 ghost use Rattle.olr_binary.specs.declared.reference.Reference.{Reference};
 ghost use Rattle.olr_binary.specs.declared.refusal.Refused.{Refused};
 ghost use Rattle.olr_binary.specs.Outcome.{IsBytesOutcome, IsOutcome};
@@ -76,6 +76,7 @@ fn outcome_of(text: &str) -> Result<Reference, Refused>
 /// # Errors
 ///
 /// The first variant of [`Refused`], in the order given there, whose condition holds.
+#[tactic(auto, using(crate::proofs::Unique::outcome_is_one, crate::proofs::Unique::outcome_reference))]
 pub fn decode(text: &str) -> Result<Reference, Refused>
     // The result is the reference of the text, or its first refusal.
     ensures outcome { IsOutcome text.now result }

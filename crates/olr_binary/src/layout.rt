@@ -1,6 +1,6 @@
 //! The numbers of points and of offset bytes.
 
-ghost use Rattle.std.specs.Prelude.{◌≡◌, ◌+◌, ◌*◌, ◌<◌, ◌≤◌, length, MatchResult, IfSome, IfNone};
+ghost use Rattle.std.specs.Prelude.{◌≡◌, ◌+◌, ◌*◌, ◌<◌, MatchResult, IfSome, IfNone};
 ghost use Rattle.std.specs.Bool.{OnTrue, OnFalse};
 ghost use Rattle.olr_binary.specs.Layout.{IsLayout, status_of};
 ghost use Rattle.olr_binary.specs.Refusal.{RefusesBytes};

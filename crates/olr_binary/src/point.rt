@@ -2,7 +2,7 @@
 
 ghost use Rattle.std.specs.Prelude.{◌≡◌, ◌<◌, pos, IsNone};
 
-use olr_metric::Degrees;
+use olr_base::Degrees;
 
 /// The attributes of the path from a point to the next one.
 #[derive(Clone, Copy, Debug, PartialEq, Eq)]

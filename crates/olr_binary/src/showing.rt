@@ -1,11 +1,11 @@
 //! The text of a reference.
 
-ghost use Rattle.std.specs.Prelude.{◌≡◌, ◌++◌, ◌+◌, ◌<◌, ◌^◌, length, string_bytes, codes, IfOk, OnOk};
+ghost use Rattle.std.specs.Prelude.{◌≡◌, ◌++◌, ◌+◌, ◌<◌, string_bytes, codes, IfOk, OnOk};
 ghost use Rattle.olr_binary.specs.Show.{next_text, point_text, points_text, offset_text, line_text, point_along_text, reference_text};
 
 use crate::point::{Next, Point};
 use crate::reference::Reference;
-use olr_metric::{Degrees, NoMemory};
+use olr_base::{Degrees, NoMemory};
 use olr_text::Decimal;
 use std::alloc::Global;
 use std::fmt::Write;

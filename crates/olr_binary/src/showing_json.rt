@@ -7,7 +7,7 @@ ghost use Rattle.olr_text.specs.Sent.{Sends};
 
 use crate::point::{Next, Point};
 use crate::reference::Reference;
-use olr_metric::{Degrees, NoMemory};
+use olr_base::{Degrees, NoMemory};
 use olr_text::{ToJson, send_object, to_json_line};
 use serde::Serializer;
 use std::alloc::Global;
@@ -98,6 +98,7 @@ impl ToJson<()> for Reference {
 /// # Errors
 ///
 /// [`NoMemory`] where the allocator refused memory.
+#[tactic(auto, using(crate::proofs::Nesting::reference_nests))]
 pub fn show_json(alloc: Global, reference: &Reference) -> Result<String, NoMemory>
     ensures { IfOk result (λ text. IsReferenceJson reference.now (string_bytes text)) }
 {

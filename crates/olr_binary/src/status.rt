@@ -1,6 +1,6 @@
 //! The location type, from the status byte.
 
-ghost use Rattle.std.specs.Prelude.{◌≡◌, MatchResult};
+ghost use Rattle.std.specs.Prelude.{MatchResult};
 ghost use Rattle.olr_binary.specs.Layout.{status_of};
 ghost use Rattle.olr_binary.specs.Refusal.{RefusesBytes};
 ghost use Rattle.olr_binary.specs.Stages.{HasType, NoneBefore};

@@ -64,6 +64,7 @@ fn prefix(bytes: &[u8], count: usize) -> &[u8]
 }
 
 /// The bytes that a text encodes, in the buffer. `None` where the text is not standard base64.
+#[tactic(auto, using(crate::proofs::Base64::base64_from_decoded, crate::proofs::Base64::not_base64))]
 pub(crate) fn bytes_of<'a>(text: &[u8], buffer: &'a mut [u8; MAX_BYTES]) -> Option<&'a [u8]>
     requires { length text.now ≤ MAX_TEXT }
     ensures found { IfSome result (λ bytes. IsBase64 text.now bytes.now) }

@@ -1,12 +1,8 @@
 -- The lists of the points of a reference, from those of each.
-use Rattle.olr_metric.proofs.Contained.{first_or_last}
+use Rattle.olr_base.proofs.Contained.{first_or_last}
 use Rattle.olr_candidates.proofs.LineCandidates.{line_at}
-use Rattle.std.proofs.Common.{◌≡◌, ℕ, ◌+◌, ◌<◌, ◌≤◌, List, [], ◌∷◌, ◌++◌, length, get_or, inl, inr, ap, ◌∙◌, arith}
 use Rattle.std.proofs.lemmas.List.{length-append, map_push, same_lists}
-use Rattle.std.proofs.lemmas.Option.{slice_get-get_or, slice_get_within}
-use Rattle.olr_candidates.proofs.Common.{ArrayVec, Reference, points_of, RoadLine, Candidate, Tolerances}
-use Rattle.olr_candidates.specs.Laws.{OneListOfPoint, NoListOfPointAndTooMany}
-use Rattle.olr_candidates.specs.Points.{AreCandidatesOf, AreFirstLists, AreLists, HasTooMany, IsListOf, IsFirstTooMany, lists_of}
+use Rattle.olr_candidates.proofs.Common.{ArrayVec, Reference, points_of, RoadLine, Candidate, Tolerances, ◌≡◌, ℕ, ◌+◌, ◌<◌, ◌≤◌, List, [], ◌∷◌, ◌++◌, length, get_or, inl, inr, ap, ◌∙◌, arith, slice_get-get_or, slice_get_within, OneListOfPoint, NoListOfPointAndTooMany, AreCandidatesOf, AreFirstLists, AreLists, HasTooMany, IsListOf, IsFirstTooMany, lists_of}
 
 -- ---- point by point
 

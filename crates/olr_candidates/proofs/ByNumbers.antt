@@ -1,7 +1,5 @@
 -- The order by one number and then, where it is the same, by another.
-use Rattle.std.proofs.Common.{◌≡◌, ℕ, ◌<◌, inl, inr, sym, arith}
-use Rattle.std.specs.Prelude.{◌⊎◌}
-use Rattle.std.proofs.lemmas.Bool.{cases_order}
+use Rattle.olr_candidates.proofs.Common.{◌≡◌, ℕ, ◌<◌, inl, inr, sym, arith, ◌⊎◌, cases_order}
 
 module _ {X : Type 0} (number other : X → ℕ) where
   abbrev pub ComesBefore : X → X → Type 0

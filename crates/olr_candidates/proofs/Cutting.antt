@@ -1,9 +1,7 @@
 -- Texts that are cut at the first of a byte.
-use Rattle.std.proofs.Common.{◌≡◌, ℕ, ◌^◌, ◌<◌, suc, List, [], ◌∷◌, ◌++◌, arith, refl}
-use Rattle.std.specs.Prelude.{Contains, decimal, ⊤}
+use Rattle.olr_candidates.proofs.Common.{◌≡◌, ℕ, ◌^◌, ◌<◌, suc, List, [], ◌∷◌, ◌++◌, arith, refl, Contains, decimal, ⊤, decimal_is_IsNumeral}
 use Rattle.std.specs.Str.Parse.{AllDigits}
 use Rattle.std.proofs.lemmas.Str.Parse.{digit_from_value}
-use Rattle.std.proofs.lemmas.Fmt.{decimal_is_IsNumeral}
 
 -- a byte doesn't occur in a text
 abbrev pub Lacks : ℕ → List ℕ → Type 0

@@ -1,8 +1,5 @@
 -- Numbers in decimal, with a space between each two neighbours, are known by their text.
-use Rattle.std.proofs.Common.{◌≡◌, ◌≢◌, ℕ, ◌<◌, ◌^◌, List, [], ◌∷◌, ◌++◌, length, length-append, refl, sym, ap, arith, decimal, map}
-use Rattle.std.specs.List.{join_with_byte}
-use Rattle.std.specs.Prelude.{⊤}
-use Rattle.std.proofs.lemmas.Fmt.{decimal_injective, decimal_nonempty}
+use Rattle.olr_candidates.proofs.Common.{◌≡◌, ◌≢◌, ℕ, ◌<◌, ◌^◌, List, [], ◌∷◌, ◌++◌, length, length-append, refl, sym, ap, arith, decimal, map, join_with_byte, ⊤, decimal_injective, decimal_nonempty}
 use Rattle.olr_candidates.proofs.Cutting.{Lacks, cut_once, decimal_lacks}
 
 abbrev pub joined : List ℕ → List ℕ

@@ -1,11 +1,6 @@
 -- What is found for a line of the map.
-use Rattle.std.proofs.Common.{◌≡◌, ℕ, zero, suc, ◌<◌, Bool, List, [], ◌∷◌, length, All, Some, Result, Ok, Err, subst, sym, refl, arith}
-use Rattle.std.specs.Prelude.{MatchResult, slice_get, option_map}
-use Rattle.std.proofs.lemmas.Option.{get_or_from_slice_get, slice_get_within}
-use Rattle.olr_candidates.proofs.Common.{Spot, Coordinates, coordinates_of, spot_of, Point, RoadLine, head_of, IsSoundLine, Line, Candidate, Projection, Rejection, Tolerances, IsCandidateAt, Query, Finds, Rejects, polyline_of, IsProjection}
+use Rattle.olr_candidates.proofs.Common.{Spot, Coordinates, coordinates_of, spot_of, Point, RoadLine, head_of, IsSoundLine, Line, Candidate, Projection, Rejection, Tolerances, IsCandidateAt, Query, Finds, Rejects, polyline_of, IsProjection, ◌≡◌, ℕ, zero, suc, ◌<◌, Bool, List, [], ◌∷◌, length, All, Some, Result, Ok, Err, subst, sym, refl, arith, MatchResult, slice_get, option_map, get_or_from_slice_get, slice_get_within, MeetsConditions, IsCandidate, IsOnLine, Rates, IsRejectionAt}
 use Rattle.olr_candidates.specs.declared.rejection.Rejection.TheVariants.{Radius, Bearing, Class, Position}
-use Rattle.olr_candidates.specs.Candidate.{MeetsConditions, IsCandidate, IsOnLine, Rates}
-use Rattle.olr_candidates.specs.Candidates.{IsRejectionAt}
 use Rattle.olr_candidates.specs.Rejection.{IsFirstFailed}
 
 abbrev pub OneProjection : Type 0

@@ -1,13 +1,7 @@
 -- What holds of each candidate of a point.
-use Rattle.std.proofs.Common.{◌≡◌, ℕ, suc, zero, ◌*◌, ◌/◌, ◌<◌, ◌≤◌, Bool, List, length, All, Option, Some, subst, arith}
-use Rattle.std.specs.Prelude.{slice_get, ◌==◌, ◌||◌}
 use Rattle.std.specs.Int.{abs_diff}
-use Rattle.std.proofs.lemmas.Bool.{cond_both}
-use Rattle.std.proofs.lemmas.Nat.{div_below, mul-le}
-use Rattle.std.proofs.lemmas.Option.{slice_get_within}
-use Rattle.olr_candidates.proofs.Common.{Near, Spot, Coordinates, coordinates_of, spot_of, arc, IsNearest, Point, RoadLine, Line, IsSoundLine, Candidate, Projection, Tolerances, IsOneOf, polyline_of}
+use Rattle.olr_candidates.proofs.Common.{Near, Spot, Coordinates, coordinates_of, spot_of, arc, IsNearest, Point, RoadLine, Line, IsSoundLine, Candidate, Projection, Tolerances, IsOneOf, polyline_of, ◌≡◌, ℕ, suc, zero, ◌*◌, ◌/◌, ◌<◌, ◌≤◌, Bool, List, length, All, Option, Some, subst, arith, slice_get, ◌==◌, ◌||◌, cond_both, div_below, mul-le, slice_get_within, MeetsConditions, IsOnLine, penalty_of}
 use Rattle.olr_metric.specs.Difference.{difference}
-use Rattle.olr_candidates.specs.Candidate.{MeetsConditions, IsOnLine, penalty_of}
 use Rattle.olr_candidates.specs.Form.{form_penalty, is_like}
 use Rattle.olr_candidates.proofs.LineCandidates.{sound_at}
 

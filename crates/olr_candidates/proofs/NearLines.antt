@@ -1,13 +1,7 @@
 -- A line near a point is one such line at most. It fails no condition exactly where it is a
 -- candidate.
-use Rattle.std.proofs.Common.{◌≡◌, ℕ, Bool, true, false, List, length, Option, Some, None, refl}
-use Rattle.std.specs.Prelude.{◌+◌, ◌==◌}
-use Rattle.std.proofs.lemmas.Bool.{MatchBool-at_false}
-use Rattle.olr_candidates.proofs.Common.{Coordinates, coordinates_of, Point, points_of, RoadLine, head_of, Line, Candidate, NearLine, Projection, Tolerances, IsCandidateAt}
+use Rattle.olr_candidates.proofs.Common.{Coordinates, coordinates_of, Point, points_of, RoadLine, head_of, Line, Candidate, NearLine, Projection, Tolerances, IsCandidateAt, ◌≡◌, ℕ, Bool, true, false, List, length, Option, Some, None, refl, ◌+◌, ◌==◌, MatchBool-at_false, IsWithinRadius, IsAlikeInBearing, IsAlikeInClass, IsOnLine, IsCandidate, MeetsConditions, Rates, penalty_of, CandidatesFailNone, IsAsCandidate, NearAreCandidates, AreFailed, Describes, FailsExactly, HasPenalty, IsNearLine, IsNearLineAt, none_failed}
 use Rattle.olr_candidates.specs.declared.near.FailedConditions.{FailedConditions}
-use Rattle.olr_candidates.specs.Candidate.{IsWithinRadius, IsAlikeInBearing, IsAlikeInClass, IsOnLine, IsCandidate, MeetsConditions, Rates, penalty_of}
-use Rattle.olr_candidates.specs.Laws.{CandidatesFailNone, IsAsCandidate, NearAreCandidates, OneNearLine}
-use Rattle.olr_candidates.specs.Near.{AreFailed, Describes, FailsExactly, HasPenalty, IsNearLine, IsNearLineAt, none_failed}
 use Rattle.olr_candidates.proofs.LineCandidates.{OneProjection}
 
 -- ---- by one projection
@@ -191,14 +185,6 @@ near_candidate is_last lines rank near is none =
     )
 
 -- ---- of a reference
-
-pub one_near_line : OneProjection → OneNearLine
-one_near_line one tolerances reference lines index rank a b is other =
-    let first : other.first ≡ is.first = cc in
-    let point : other.point ≡ is.point = cc in
-    one_near one _ (coordinates_of is.first.at) is.point
-    (index + 1 == length (points_of reference)) lines rank a b is.just
-    (rw (← first, ← point) other.just)
 
 pub near_are_candidates : NearAreCandidates
 near_are_candidates tolerances reference lines index rank near is none =

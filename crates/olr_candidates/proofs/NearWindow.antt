@@ -1,9 +1,6 @@
 -- The lines that meet a window around a point are, among others, all lines that lie within the
 -- radius.
-use Rattle.std.proofs.Common.{ℕ, List, get_or, All, arith}
-use Rattle.std.proofs.lemmas.Option.{slice_get_within}
-use Rattle.olr_candidates.proofs.Common.{coordinates_of, IsInRange, RoadLine, IsSoundLine, Query, IsNear}
-use Rattle.olr_candidates.specs.Nearest.{CoverRadius}
+use Rattle.olr_candidates.proofs.Common.{coordinates_of, IsInRange, RoadLine, IsSoundLine, Query, IsNear, ℕ, List, get_or, All, arith, slice_get_within, CoverRadius}
 use Rattle.olr_candidates.proofs.LineCandidates.{sound_at}
 use Rattle.olr_candidates.proofs.WindowAround.{FootBetween, NoShorter, meets_window}
 

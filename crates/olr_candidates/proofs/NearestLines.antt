@@ -1,24 +1,11 @@
 -- The nearest of the lines that were tested, and those of all lines.
 use Rattle.std.proofs.lemmas.List.FromFn.{length-range_with_len, get_or-range_with_len}
-use Rattle.std.proofs.Common.{◌≡◌, ◌≢◌, Bool, ℕ, ◌+◌, ◌-◌, ◌*◌, ◌<◌, ◌≤◌, List, [], ◌∷◌, ◌++◌, length, get_or, take, drop, All, inl, inr, sym, ◌∙◌, subst, arith, length-append}
-use Rattle.std.specs.Prelude.{◌⊎◌, AllPairs, Contains, min}
-use Rattle.std.specs.List.{insert, range_with_len}
-use Rattle.std.proofs.lemmas.Bool.{cases_lt}
-use Rattle.std.proofs.lemmas.List.{length-take, get_or-take, get_or_default, take-append-le}
-use Rattle.std.proofs.lemmas.List.Edits.{length-insert}
-use Rattle.std.proofs.lemmas.List.Elements.{All-append, All-cons, All-drop, All-nil, All-take, All-weaker}
-use Rattle.std.proofs.lemmas.List.Sorted.{Contains-permutation, IsPermutation-insert}
-use Rattle.std.proofs.lemmas.Option.{get_or_from_slice_get, slice_get_within}
-use Rattle.olr_candidates.proofs.Common.{Coordinates, Point, RoadLine, NearLine, Query, Tolerances, here, further, no_longer}
-use Rattle.olr_candidates.specs.Laws.{NearIsOfLines, NearestAreInOrderOfIds, NearestAreNear, OneListOfNearest}
-use Rattle.olr_candidates.specs.Near.{AreNearest, IsNearer, IsOneNear}
-use Rattle.olr_candidates.specs.Nearest.{AnswersNearest, AreNearestAmong, AreNearestWithin, FindsNear, IsAmong, IsBehindLast, Keeps}
+use Rattle.olr_candidates.proofs.Common.{Coordinates, Point, RoadLine, NearLine, Query, Tolerances, here, further, no_longer, ◌≡◌, ◌≢◌, Bool, ℕ, ◌+◌, ◌-◌, ◌*◌, ◌<◌, ◌≤◌, List, [], ◌∷◌, ◌++◌, length, get_or, take, drop, All, inl, inr, sym, ◌∙◌, subst, arith, length-append, ◌⊎◌, AllPairs, Contains, min, insert, range_with_len, cases_lt, length-take, get_or-take, get_or_default, take-append-le, length-insert, All-append, All-cons, All-drop, All-nil, All-take, All-weaker, Contains-permutation, IsPermutation-insert, get_or_from_slice_get, slice_get_within, NearIsOfLines, NearestAreInOrderOfIds, NearestAreNear, OneListOfNearest, AreNearest, IsNearer, IsOneNear, AnswersNearest, AreNearestAmong, AreNearestWithin, FindsNear, IsAmong, IsBehindLast, Keeps, AreFirst, same_beginning}
 use Rattle.olr_candidates.proofs.ByNumbers.{not_before, one_way, through}
 use Rattle.olr_candidates.proofs.InOrder.{inserted}
 use Rattle.olr_candidates.proofs.LineCandidates.{OneProjection}
 use Rattle.olr_candidates.proofs.NearLines.{one_near}
 use Rattle.olr_candidates.proofs.PointLaws.{lesser_id}
-use Rattle.olr_metric.proofs.Rising.{AreFirst, same_beginning}
 use Rattle.olr_candidates.proofs.SeenLines.{one_seen, still_seen, now_seen}
 
 -- ---- the beginning of a list in order

@@ -1,13 +1,7 @@
 -- What a query for a point of a reference finds.
-use Rattle.std.proofs.Common.{◌≡◌, ℕ, ◌+◌, List, Option, Some, None, Result, Ok, Err}
-use Rattle.std.specs.Prelude.{MatchOption, MatchResult}
 use Rattle.std.specs.Option.{ok_or}
-use Rattle.olr_candidates.proofs.Common.{ArrayVec, Reference, RoadLine, Candidate, NearLine, Query, Rejection, Tolerances, Answers, Finds, FindsTooMany, Rejects}
+use Rattle.olr_candidates.proofs.Common.{ArrayVec, Reference, RoadLine, Candidate, NearLine, Query, Rejection, Tolerances, Answers, Finds, FindsTooMany, Rejects, ◌≡◌, ℕ, ◌+◌, List, Option, Some, None, Result, Ok, Err, MatchOption, MatchResult, AreNearestOf, IsNearLineOf, AnswersNearest, FindsNear, AreCandidatesOf, HasTooMany, IsCandidateOf, IsRejectionOf, IsQueryOf}
 use Rattle.olr_candidates.specs.declared.point.TooManyCandidates.{TooManyCandidates}
-use Rattle.olr_candidates.specs.Near.{AreNearestOf, IsNearLineOf}
-use Rattle.olr_candidates.specs.Nearest.{AnswersNearest, FindsNear}
-use Rattle.olr_candidates.specs.Points.{AreCandidatesOf, HasTooMany, IsCandidateOf, IsRejectionOf}
-use Rattle.olr_candidates.specs.Query.{IsQueryOf}
 
 module _ (tolerances : Tolerances) (reference : Reference) (lines : List RoadLine) (index : ℕ)
     (query : Query) (is : IsQueryOf tolerances reference index query) where

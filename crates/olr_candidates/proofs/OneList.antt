@@ -1,12 +1,7 @@
 -- A point has one list of candidates. A place in it is the number of the candidates before it.
-use Rattle.std.proofs.Common.{◌≡◌, ℕ, ◌≤◌, Bool, List, length, get_or, Some, arith}
-use Rattle.std.specs.Prelude.{slice_get, filter, Contains, Decides}
 use Rattle.std.proofs.lemmas.Bool.Decides.{Decides-or, Decides-and, Decides-ltb, Decides-eqb}
-use Rattle.std.proofs.lemmas.List.Elements.{All-contains}
-use Rattle.olr_candidates.proofs.Common.{Coordinates, Point, RoadLine, Candidate, Tolerances, IsBefore, IsOneOf, AreCandidates, no_longer}
-use Rattle.olr_candidates.specs.Candidates.{AreTooMany, is_before}
+use Rattle.olr_candidates.proofs.Common.{Coordinates, Point, RoadLine, Candidate, Tolerances, IsBefore, IsOneOf, AreCandidates, no_longer, ◌≡◌, ℕ, ◌≤◌, Bool, List, length, get_or, Some, arith, slice_get, filter, Contains, Decides, All-contains, AreTooMany, is_before, same_list, place_counts}
 use Rattle.olr_candidates.proofs.ByNumbers as numbers
-use Rattle.olr_metric.proofs.Rising.{same_list, place_counts}
 
 -- no two candidates come before each other
 one_way : (a b : Candidate) → IsBefore a b → IsBefore b a → ⊥

@@ -1,15 +1,7 @@
 -- The laws on a point, of a point of a reference; the order by ids.
-use Rattle.std.proofs.Common.{◌≡◌, ℕ, zero, suc, ◌+◌, ◌<◌, false, List, [], ◌∷◌, length, get_or, Some, inl, inr, arith}
-use Rattle.std.specs.Prelude.{slice_get, ◌==◌}
-use Rattle.std.specs.List.Sorted.{IsStrictlyIncreasing}
-use Rattle.std.proofs.lemmas.Bool.{false_from_ne_true}
-use Rattle.std.proofs.lemmas.List.{length-map}
 use Rattle.std.proofs.lemmas.List.Kept.{AllPairs-from_increasing}
-use Rattle.std.proofs.lemmas.Option.{none-some, same_Some, slice_get_within}
 use borrow.Author.Tests.{eqb-true}
-use Rattle.olr_candidates.proofs.Common.{coordinates_of, points_of, RoadLine, AreCandidates}
-use Rattle.olr_map.specs.Rows.{line_ids}
-use Rattle.olr_candidates.specs.Laws.{OneList, NoListAndTooMany, OneListOfPoint, NoListOfPointAndTooMany, HoldsOfEach, IsOfLines, LiesOnLine, LiesUpToEnd, ArePlaces, AreDepartures, AreInOrderOfIds, RejectedAreNone}
+use Rattle.olr_candidates.proofs.Common.{coordinates_of, points_of, RoadLine, AreCandidates, ◌≡◌, ℕ, zero, suc, ◌+◌, ◌<◌, false, List, [], ◌∷◌, length, get_or, Some, inl, inr, arith, slice_get, ◌==◌, IsStrictlyIncreasing, false_from_ne_true, length-map, none-some, same_Some, slice_get_within, line_ids, OneList, NoListAndTooMany, OneListOfPoint, NoListOfPointAndTooMany, HoldsOfEach, IsOfLines, LiesOnLine, LiesUpToEnd, ArePlaces, AreDepartures, AreInOrderOfIds, RejectedAreNone}
 use Rattle.olr_candidates.proofs.LineCandidates.{OneProjection, line_at, rejected}
 
 -- ---- laws on a point, of a point of a reference

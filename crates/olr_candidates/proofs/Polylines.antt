@@ -1,13 +1,7 @@
 -- The polyline of a line is a polyline.
-use Rattle.std.proofs.Common.{◌≡◌, ℕ, zero, suc, ◌≤◌, List, [], ◌∷◌, length, map, Some, All, subst, refl, arith}
-use Rattle.std.specs.Prelude.{slice_get}
-use Rattle.std.proofs.lemmas.List.{length-map}
-use Rattle.std.proofs.lemmas.Option.{same_Some, none-some}
-use Rattle.olr_candidates.proofs.Common.{Spot, Coordinates, coordinates_of, spot_of, IsInPlane}
-use Rattle.olr_metric.specs.declared.degrees.Degrees.{Degrees}
-use Rattle.olr_metric.specs.Polyline.{IsPolyline}
-use Rattle.olr_metric.specs.Range.{IsLatitude}
-use Rattle.olr_map.specs.Rows.{HasEqualNeighbours}
+use Rattle.olr_candidates.proofs.Common.{Spot, Coordinates, coordinates_of, spot_of, IsInPlane, ◌≡◌, ℕ, zero, suc, ◌≤◌, List, [], ◌∷◌, length, map, Some, All, subst, refl, arith, slice_get, length-map, same_Some, none-some, IsPolyline, HasEqualNeighbours}
+use Rattle.olr_base.specs.declared.degrees.Degrees.{Degrees}
+use Rattle.olr_base.specs.Range.{IsLatitude}
 
 abbrev pub OnePlace : Type 0
 OnePlace = (origin a b : Coordinates) → IsLatitude origin.lat → spot_of origin a ≡ spot_of origin b

@@ -1,8 +1,5 @@
 -- A spot has one projection onto a polyline at most.
-use Rattle.std.proofs.Common.{◌≡◌, ℕ, Bool, List, Option, Some, None, refl}
-use Rattle.std.specs.Prelude.{MatchOption}
-use Rattle.olr_candidates.proofs.Common.{Spot, Near, arc, IsNearest, Projection, IsProjection}
-use Rattle.olr_metric.specs.Polyline.{IsAlong}
+use Rattle.olr_candidates.proofs.Common.{Spot, Near, arc, IsNearest, Projection, IsProjection, ◌≡◌, ℕ, Bool, List, Option, Some, None, refl, MatchOption, IsAlong}
 use Rattle.olr_metric.specs.Sector.{Direction, zero_direction, IsSector}
 use Rattle.olr_candidates.specs.Projection.{bearing_arc, HasBearing}
 

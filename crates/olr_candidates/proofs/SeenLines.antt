@@ -1,11 +1,6 @@
 -- The ranks of the lines that were tested.
-use Rattle.std.proofs.Common.{◌≡◌, ◌≢◌, ℕ, zero, suc, ◌<◌, List, [], ◌∷◌, ◌++◌, length, inl, inr, sym, ◌∙◌, length-append, refl, arith}
 use Rattle.std.proofs.Math.Seq.{get_or-append_seam}
-use Rattle.std.specs.Prelude.{◌⊎◌, AllPairs, Contains}
-use Rattle.std.proofs.lemmas.List.Elements.{All-contains, Contains-append_left, Contains-append_right, Contains-push, Contains-push_cases}
-use Rattle.std.proofs.lemmas.Option.{slice_get_within}
-use Rattle.olr_candidates.proofs.Common.{Extent, RoadLine}
-use Rattle.olr_map.specs.RoadMap.{IsWindowOf, RankMeetsWindow}
+use Rattle.olr_candidates.proofs.Common.{BoundingBox, RoadLine, ◌≡◌, ◌≢◌, ℕ, zero, suc, ◌<◌, List, [], ◌∷◌, ◌++◌, length, inl, inr, sym, ◌∙◌, length-append, refl, arith, ◌⊎◌, AllPairs, Contains, All-contains, Contains-append_left, Contains-append_right, Contains-push, Contains-push_cases, slice_get_within, IsWindowOf, RankMeetsWindow}
 
 pub one_seen : (seen : List ℕ) (rank : ℕ) {other : ℕ} → Contains (seen ++ rank ∷ []) other
     → Contains seen other ⊎ (other ≡ rank)
@@ -34,7 +29,7 @@ not_seen (x ∷ seen) rank rest once (suc k, inside, same) =
     (k, omega arith, same)
 
 -- the ranks of a window are those of lines
-pub rank_within : (lines : List RoadLine) (window : Extent) (seen : List ℕ) (rank : ℕ)
+pub rank_within : (lines : List RoadLine) (window : BoundingBox) (seen : List ℕ) (rank : ℕ)
     (rest : List ℕ) → IsWindowOf lines window (seen ++ rank ∷ rest) → rank < length lines
 rank_within lines window seen rank rest meeting =
     let meets = All-contains (RankMeetsWindow lines window) _ _ meeting.only

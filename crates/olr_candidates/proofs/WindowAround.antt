@@ -1,17 +1,9 @@
 -- A line that is near enough to a point meets each window that holds all places so near.
-use Rattle.std.proofs.Common.{◌≡◌, ℕ, suc, ◌+◌, ◌*◌, ◌≤◌, List, Some, subst, arith, ℤ, pos, negsuc, ◌+ℤ◌, ◌-ℤ◌, ◌*ℤ◌, ◌≤ℤ◌, ◌<ℤ◌}
-use Rattle.std.specs.Prelude.{nat_abs, slice_get, Contains, All}
-use Rattle.std.proofs.lemmas.Int.{ints, by_lt_z}
-use Rattle.std.proofs.lemmas.Nat.{mul-le}
-use Rattle.std.proofs.lemmas.List.Elements.{All-contains}
-use Rattle.std.proofs.lemmas.Option.{slice_get_within, get_or_from_slice_get}
-use Rattle.olr_candidates.proofs.Common.{Spot, Near, Coordinates, coordinates_of, IsInRange, spot_of, IsNearest, Extent, RoadLine, Query, polyline_of, x_of}
+use Rattle.olr_candidates.proofs.Common.{Spot, Near, Coordinates, coordinates_of, IsInRange, spot_of, IsNearest, BoundingBox, RoadLine, Query, polyline_of, x_of, ◌≡◌, ℕ, suc, ◌+◌, ◌*◌, ◌≤◌, List, Some, subst, arith, ℤ, pos, negsuc, ◌+ℤ◌, ◌-ℤ◌, ◌*ℤ◌, ◌≤ℤ◌, ◌<ℤ◌, nat_abs, slice_get, Contains, All, ints, by_lt_z, mul-le, All-contains, slice_get_within, get_or_from_slice_get, MeetsWindow, CoversRadius}
 use Rattle.olr_metric.specs.Floor.{floor}
 use Rattle.olr_metric.specs.Plane.{scale_of}
 use Rattle.olr_metric.specs.Segment.{foot, IsBetween}
 use Rattle.olr_metric.specs.Spot.{distance}
-use Rattle.olr_map.specs.RoadMap.{MeetsWindow}
-use Rattle.olr_candidates.specs.Query.{CoversRadius}
 use Rattle.olr_candidates.proofs.Polylines.{place_at}
 
 -- the plane's laws, of one coordinate of spots
@@ -150,7 +142,7 @@ itself_above r = omega (arith, ints)
 
 pub meets_window : FootBetween (λ s. s.x) → FootBetween (λ s. s.y) → NoShorter (λ s. s.x)
     → NoShorter (λ s. s.y)
-    → (query : Query) (radius : ℕ) (line : RoadLine) (near : Near) {window : Extent}
+    → (query : Query) (radius : ℕ) (line : RoadLine) (near : Near) {window : BoundingBox}
     → CoversRadius query radius window → IsInRange (coordinates_of query.point.at)
     → All IsInRange line.points
     → IsNearest (polyline_of (coordinates_of query.plane) line)

@@ -2,8 +2,8 @@
 -- public function that does nothing at run time; its body only names the laws on which it rests.
 use Rattle.std.specs.Prelude.{◌≡◌, ℕ, ◌+◌, ◌<◌, ◌≤◌, ◌⊎◌, Bool, List, Some, length, slice_get, filter, All, AllPairs, Decides}
 use Rattle.olr_candidates.specs.Common.{Coordinates, Point, Reference, points_of, RoadLine}
-use Rattle.olr_map.specs.Place.{IsPlace, IsDeparture}
-use Rattle.olr_map.specs.RoadMap.{RoadMap, IsSoundMap}
+use Rattle.olr_road.specs.Place.{IsPlace, IsDeparture}
+use Rattle.olr_road.specs.RoadMap.{RoadMap, IsSoundMap}
 use Rattle.olr_candidates.specs.declared.candidate.Candidate.{Candidate}
 use Rattle.olr_candidates.specs.declared.near.NearLine.{NearLine}
 use Rattle.olr_candidates.specs.declared.rejection.Rejection.{Rejection}
@@ -150,13 +150,6 @@ AreInOrderOfIds = (tolerances : Tolerances) (reference : Reference) (road : Road
     → AllPairs (IsBeforeById road.lines) candidates
 
 -- ---- the lines near a point of a reference
-
--- a line is one line near a point at most
-abbrev pub OneNearLine : Type 0
-OneNearLine = (tolerances : Tolerances) (reference : Reference) (lines : List RoadLine)
-    (index rank : ℕ) (a b : NearLine)
-    → IsNearLineOf tolerances reference lines index rank a
-    → IsNearLineOf tolerances reference lines index rank b → a ≡ b
 
 -- a line near a point has the place and the penalty of a candidate
 pub record IsAsCandidate (near : NearLine) (candidate : Candidate) : Type 0 where

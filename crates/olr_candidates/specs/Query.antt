@@ -1,9 +1,9 @@
 -- What is asked of a map: the candidates of one point of a reference.
 use Rattle.std.specs.Prelude.{◌≡◌, ℕ, ◌+◌, ◌*◌, ◌==◌, List, length, Some, slice_get, All, AllPairs, Contains, ℤ, pos, ◌+ℤ◌, ◌-ℤ◌, ◌≤ℤ◌}
 use Rattle.olr_candidates.specs.Common.{Coordinates, coordinates_of, spot_of, Point, Reference, points_of, RoadLine}
-use Rattle.olr_metric.specs.Coordinates.{IsInRange}
-use Rattle.olr_map.specs.declared.Extent.{Extent}
-use Rattle.olr_map.specs.RoadMap.{IsWindowOf}
+use Rattle.olr_base.specs.Coordinates.{IsInRange}
+use Rattle.olr_road.specs.declared.BoundingBox.{BoundingBox}
+use Rattle.olr_road.specs.Windows.{IsWindowOf}
 use Rattle.olr_candidates.specs.declared.candidate.Candidate.{Candidate}
 use Rattle.olr_candidates.specs.declared.projection.Projection.{Projection}
 use Rattle.olr_candidates.specs.declared.query.Query.{Query}
@@ -65,7 +65,7 @@ x_of origin lon = (spot_of origin (record { lon = lon; lat = pos 0 })).x
 -- A window holds every place whose x and y in the plane differ from those of the query's point by
 -- at most a radius: such a place lies to none of its sides. The radius has metres, and the plane
 -- centimetres.
-pub record CoversRadius (query : Query) (radius : ℕ) (window : Extent) : Type 0 where
+pub record CoversRadius (query : Query) (radius : ℕ) (window : BoundingBox) : Type 0 where
   pub south : (place : Coordinates) → IsInRange place
       → ((spot_of (coordinates_of query.plane) (coordinates_of query.point.at)).y -ℤ pos
       (100 * radius)) ≤ℤ (spot_of (coordinates_of query.plane) place).y → window.south ≤ℤ place.lat
@@ -84,6 +84,6 @@ pub record CoversRadius (query : Query) (radius : ℕ) (window : Extent) : Type 
 -- the ranks of the lines that meet such a window
 pub record IsNear (query : Query) (lines : List RoadLine) (radius : ℕ) (ranks : List ℕ) : Type 0
   where
-    pub window : Extent
+    pub window : BoundingBox
     pub covers : CoversRadius query radius window
     pub meeting : IsWindowOf lines window ranks

@@ -2,18 +2,18 @@
 use Rattle.std.specs.Prelude.{◌≡◌, ◌≢◌, ℕ, List, [], ◌∷◌, map, decimal}
 use Rattle.std.specs.List.{join_with_byte}
 use Rattle.olr_candidates.specs.Tolerances.{by_name, order_of}
-use Rattle.olr_candidates.specs.declared.tolerances.Name.{Name}
+use Rattle.olr_candidates.specs.declared.tolerances.Tolerance.{Tolerance}
 use Rattle.olr_candidates.specs.declared.tolerances.Tolerances.{Tolerances}
 
 -- the value of the tolerance of a name
-abbrev pub value_of : Tolerances → Name → ℕ
+abbrev pub value_of : Tolerances → Tolerance → ℕ
 value_of tolerances name = by_name tolerances.radius tolerances.bearing tolerances.class
     tolerances.lowest tolerances.percent tolerances.slack name
 
 -- one tolerance has this value, and the others are as given
-pub record IsChanged (name : Name) (value : ℕ) (given changed : Tolerances) : Type 0 where
+pub record IsChanged (name : Tolerance) (value : ℕ) (given changed : Tolerances) : Type 0 where
   pub changed_is : value_of changed name ≡ value
-  pub others : (other : Name) → order_of other ≢ order_of name
+  pub others : (other : Tolerance) → order_of other ≢ order_of name
       → value_of changed other ≡ value_of given other
 
 -- the numbers that a text has for tolerances

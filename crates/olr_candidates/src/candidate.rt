@@ -10,8 +10,8 @@ use crate::form::form_penalty;
 use crate::projection::Projection;
 use crate::query::Query;
 use crate::rejection::Rejection;
-use olr_map::{Line, Place};
 use olr_metric::difference;
+use olr_road::{Line, Place};
 
 /// A line that may carry a point of a reference.
 #[derive(Clone, Copy, Debug, Default, PartialEq, Eq)]

@@ -3,7 +3,7 @@
 ghost use Rattle.std.specs.Prelude.{◌≡◌};
 ghost use Rattle.olr_candidates.specs.declared.fault.LayersFault.TheVariants as fault;
 
-use olr_metric::NoMemory;
+use olr_base::NoMemory;
 use std::alloc::AllocError;
 use thiserror::Error;
 

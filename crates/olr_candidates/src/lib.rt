@@ -55,9 +55,7 @@ pub use fault::LayersFault;
 pub use laws::{bounds, no_list_and_too_many, one_candidate_a_line, one_list, ranks_count};
 pub use list::MAX_CANDIDATES;
 pub use near::{FailedConditions, NearLine};
-pub use near_laws::{
-    near_candidates, nearest_are_near, one_list_of_nearest, one_near_line, order_of_nearest,
-};
+pub use near_laws::{near_candidates, nearest_are_near, one_list_of_nearest, order_of_nearest};
 pub use near_point::{near_line, nearest_lines};
 pub use point::{TooManyCandidates, candidate_of_line, candidates};
 pub use point_laws::{
@@ -66,4 +64,4 @@ pub use point_laws::{
 };
 pub use points::candidates_of_points;
 pub use rejection::Rejection;
-pub use tolerances::{BadTolerance, Name, Tolerances};
+pub use tolerances::{BadTolerance, Tolerance, Tolerances};

@@ -9,7 +9,7 @@ use crate::line_projection::{projection_at, projection_within};
 use crate::projection::one_projection;
 use crate::query::Query;
 use crate::rejection::Rejection;
-use olr_map::Map;
+use olr_road::Map;
 
 /// The line of a rank as a candidate of the query's point.
 ///

@@ -1,8 +1,8 @@
 //! The projection of a point onto a line of the map.
 
 ghost use Rattle.std.specs.Prelude.{◌≡◌, ◌<◌, ◌≤◌, length, slice_get, IfSome, MatchOption, Some};
-ghost use Rattle.olr_map.specs.Rows.{RoadLine};
-ghost use Rattle.olr_metric.specs.Coordinates.{coordinates_of};
+ghost use Rattle.olr_road.specs.RoadMap.{RoadLine};
+ghost use Rattle.olr_base.specs.Coordinates.{coordinates_of};
 ghost use Rattle.olr_metric.specs.Polyline.{IsPolyline};
 ghost use Rattle.olr_candidates.specs.Projection.{polyline_of as polyline_on};
 ghost use Rattle.olr_candidates.specs.Query.{Projects};
@@ -11,8 +11,8 @@ ghost use Rattle.olr_candidates.specs.declared.projection.Projection.{Projection
 use crate::projection::{MAX_POINTS, Projection, polyline_of, project, projection_by};
 use crate::query::Query;
 use arrayvec::ArrayVec;
-use olr_map::{Map, sound};
 use olr_metric::{Spot, nearest, one_place_a_spot, one_spot};
+use olr_road::{Map, sound};
 
 /// Where the points of the line of a rank lie in the query's plane.
 fn polyline_at(map: &Map, query: &Query, rank: u32) -> ArrayVec<Spot, MAX_POINTS>

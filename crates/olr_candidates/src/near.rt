@@ -9,8 +9,8 @@ use crate::candidate::{candidate_by, is_on_line};
 use crate::line_projection::{projection_at, projection_within};
 use crate::projection::Projection;
 use crate::query::Query;
-use olr_map::{Line, Map};
 use olr_metric::difference;
+use olr_road::{Line, Map};
 
 /// Which of the conditions on a candidate a line fails, in their order.
 #[derive(Clone, Copy, Debug, PartialEq, Eq)]

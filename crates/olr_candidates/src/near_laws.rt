@@ -1,16 +1,9 @@
 //! Laws on the lines near a point of a reference. Each law is the contract of a function that does
 //! nothing at run time; its body only names the laws on which it rests.
 
-ghost use Rattle.olr_candidates.specs.Laws.{CandidatesFailNone, NearAreCandidates, NearIsOfLines, NearestAreInOrderOfIds, NearestAreNear, OneListOfNearest, OneNearLine};
+ghost use Rattle.olr_candidates.specs.Laws.{CandidatesFailNone, NearAreCandidates, NearIsOfLines, NearestAreInOrderOfIds, NearestAreNear, OneListOfNearest};
 
 use crate::projection::one_projection;
-
-/// A line is one line near a point at most.
-pub fn one_near_line()
-    ensures { OneNearLine }
-{
-    one_projection();
-}
 
 /// A line near a point fails no condition exactly where it is a candidate of the point, and then it
 /// has the candidate's place and penalty.

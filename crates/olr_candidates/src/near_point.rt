@@ -8,9 +8,9 @@ use crate::near::{NearLine, near_at};
 use crate::near_search::search_nearest;
 use crate::query::query_of;
 use crate::tolerances::Tolerances;
+use olr_base::NoMemory;
 use olr_binary::Reference;
-use olr_map::Map;
-use olr_metric::NoMemory;
+use olr_road::Map;
 use std::alloc::Global;
 
 /// The line of a rank near the point `index` of a reference, counted from 0, with the conditions on

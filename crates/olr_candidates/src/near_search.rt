@@ -10,8 +10,9 @@ use crate::nearest::{keep, lie_within};
 use crate::projection::one_projection;
 use crate::query::Query;
 use crate::window::near_lines;
-use olr_map::{Map, Window};
-use olr_metric::{NoMemory, foot_on_segment, no_shorter_than_east, no_shorter_than_north};
+use olr_base::NoMemory;
+use olr_metric::{foot_on_segment, no_shorter_than_east, no_shorter_than_north};
+use olr_road::{Map, Window};
 use std::alloc::Global;
 
 /// How far the first window reaches, in metres.

@@ -6,7 +6,7 @@ ghost use Rattle.olr_candidates.specs.Near.{IsNearer};
 ghost use Rattle.olr_candidates.specs.Nearest.{Keeps};
 
 use crate::near::NearLine;
-use olr_metric::NoMemory;
+use olr_base::NoMemory;
 
 /// Whether a line is nearer than another: by distance and then by rank.
 fn is_nearer(near: &NearLine, other: &NearLine) -> bool

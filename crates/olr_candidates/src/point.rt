@@ -13,7 +13,7 @@ use crate::search::search_near;
 use crate::tolerances::Tolerances;
 use arrayvec::ArrayVec;
 use olr_binary::Reference;
-use olr_map::Map;
+use olr_road::Map;
 
 /// The point of this number, from 1, has more than 64 candidates.
 #[derive(Clone, Copy, Debug, PartialEq, Eq)]

@@ -10,7 +10,7 @@ use crate::point::candidates;
 use crate::tolerances::Tolerances;
 use arrayvec::ArrayVec;
 use olr_binary::Reference;
-use olr_map::Map;
+use olr_road::Map;
 use std::alloc::Global;
 
 /// The candidates of each point of a reference, point by point: what [`candidates`] gives.

@@ -2,7 +2,7 @@
 //! there.
 
 ghost use Rattle.std.specs.Prelude.{ℕ, Bool, List, ◌≡◌, ◌*◌, ◌/◌, ◌^◌, ◌<◌, ◌≤◌, length, map, All, IfSome};
-ghost use Rattle.olr_metric.specs.Coordinates.{coordinates_of};
+ghost use Rattle.olr_base.specs.Coordinates.{coordinates_of};
 ghost use Rattle.olr_metric.specs.Plane.{spot_of};
 ghost use Rattle.olr_metric.specs.Polyline.{arc, IsNearest, IsPolyline};
 ghost use Rattle.olr_metric.specs.Spot.{IsInPlane};
@@ -11,7 +11,8 @@ ghost use Rattle.olr_candidates.specs.declared.projection.Projection.{Projection
 ghost use Rattle.olr_candidates.specs.Projection.{bearing_arc, HasBearing, IsProjection};
 
 use arrayvec::ArrayVec;
-use olr_metric::{Degrees, Near, Plane, Spot, along, arc, nearest, one_sector, one_spot, sector};
+use olr_base::Degrees;
+use olr_metric::{Near, Plane, Spot, along, arc, nearest, one_sector, one_spot, sector};
 
 /// The most points of a line.
 pub(crate) const MAX_POINTS: usize = 66;

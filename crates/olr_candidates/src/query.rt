@@ -1,6 +1,6 @@
 //! What is asked: the candidates of one point of a reference.
 
-ghost use Rattle.std.specs.Prelude.{◌≡◌, ◌<◌, length};
+ghost use Rattle.std.specs.Prelude.{◌<◌, length};
 ghost use Rattle.olr_binary.specs.Reference.{points_of};
 ghost use Rattle.olr_candidates.specs.Query.{IsQueryOf};
 

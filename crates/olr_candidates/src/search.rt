@@ -10,8 +10,8 @@ use crate::projection::one_projection;
 use crate::query::Query;
 use crate::window::near_lines;
 use arrayvec::ArrayVec;
-use olr_map::Map;
 use olr_metric::{foot_on_segment, no_shorter_than_east, no_shorter_than_north};
+use olr_road::Map;
 
 /// Adds the line of a rank to the candidates found so far, where it is one of them. `None` where
 /// they are 64 already: then there are too many.

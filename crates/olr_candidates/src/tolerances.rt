@@ -1,14 +1,14 @@
 //! How far a line of the map may differ from its point, and a route from its leg.
 
-ghost use Rattle.std.specs.Prelude.{◌≡◌, ◌≤◌, Decides, IfErr, IfOk};
-ghost use Rattle.olr_candidates.specs.declared.tolerances.Name.TheVariants.{Radius, Bearing, Class, Lowest, Percent, Slack};
+ghost use Rattle.std.specs.Prelude.{◌≡◌, Decides, IfErr, IfOk};
+ghost use Rattle.olr_candidates.specs.declared.tolerances.Tolerance.TheVariants.{Radius, Bearing, Class, Lowest, Percent, Slack};
 ghost use Rattle.olr_candidates.specs.Tolerances.{IsFirstOutOfRange, IsTolerance, by_name, greatest_of, least_of, order_of, tolerance_name};
 
 use std::fmt;
 
 /// The name of a tolerance.
 #[derive(Clone, Copy, Debug, PartialEq, Eq)]
-pub enum Name {
+pub enum Tolerance {
     /// How far a line may lie from its point.
     Radius,
     /// How far bearings may differ.
@@ -23,21 +23,21 @@ pub enum Name {
     Slack,
 }
 
-impl Name {
+impl Tolerance {
     /// How many there are.
     pub const COUNT: usize = 6;
 
     /// All of them, in the order in which [`Tolerances::new`] tests their values.
-    pub const ALL: [Name; Name::COUNT] = [
-        Name::Radius,
-        Name::Bearing,
-        Name::Class,
-        Name::Lowest,
-        Name::Percent,
-        Name::Slack,
+    pub const ALL: [Tolerance; Tolerance::COUNT] = [
+        Tolerance::Radius,
+        Tolerance::Bearing,
+        Tolerance::Class,
+        Tolerance::Lowest,
+        Tolerance::Percent,
+        Tolerance::Slack,
     ];
 
-    /// Its number in [`Name::ALL`], from 0.
+    /// Its number in [`Tolerance::ALL`], from 0.
     pub fn order(self) -> usize
         ensures { result ≡ order_of self }
     {
@@ -49,12 +49,12 @@ impl Name {
         ensures { result.now ≡ tolerance_name self }
     {
         match self {
-            Name::Radius => "radius",
-            Name::Bearing => "bearing",
-            Name::Class => "class",
-            Name::Lowest => "lowest",
-            Name::Percent => "percent",
-            Name::Slack => "slack",
+            Tolerance::Radius => "radius",
+            Tolerance::Bearing => "bearing",
+            Tolerance::Class => "class",
+            Tolerance::Lowest => "lowest",
+            Tolerance::Percent => "percent",
+            Tolerance::Slack => "slack",
         }
     }
 
@@ -64,7 +64,7 @@ impl Name {
         ensures { result ≡ least_of self }
     {
         match self {
-            Name::Radius => 1,
+            Tolerance::Radius => 1,
             _ => 0,
         }
     }
@@ -74,11 +74,11 @@ impl Name {
         ensures { result ≡ greatest_of self }
     {
         match self {
-            Name::Radius => 1_000,
-            Name::Bearing => 16,
-            Name::Class | Name::Lowest => 7,
-            Name::Percent => 100,
-            Name::Slack => 10_000,
+            Tolerance::Radius => 1_000,
+            Tolerance::Bearing => 16,
+            Tolerance::Class | Tolerance::Lowest => 7,
+            Tolerance::Percent => 100,
+            Tolerance::Slack => 10_000,
         }
     }
 
@@ -92,7 +92,7 @@ impl Name {
 
 /// A tolerance is out of its range.
 #[derive(Clone, Copy, Debug, PartialEq, Eq)]
-pub struct BadTolerance(pub Name);
+pub struct BadTolerance(pub Tolerance);
 
 /// How far a line of the map may differ from its point, and a route from its leg.
 #[derive(Clone, Copy, Debug, PartialEq, Eq)]
@@ -121,12 +121,12 @@ pub struct Tolerances {
 impl Default for Tolerances {
     ghost use Rattle.olr_candidates.specs.Tolerances.{default_of};
     ghost use Rattle.olr_candidates.specs.Values.{value_of};
-    ghost use Rattle.olr_candidates.specs.declared.tolerances.Name.{Name};
+    ghost use Rattle.olr_candidates.specs.declared.tolerances.Tolerance.{Tolerance};
 
     /// A radius of 100 metres, 4 sectors, every class, a class limit that is the lowest class, 30
     /// percent and 300 decimetres of slack.
     fn default() -> Self
-        ensures { (name : Name) → value_of result name ≡ default_of name }
+        ensures { (name : Tolerance) → value_of result name ≡ default_of name }
     {
         Tolerances {
             radius: 100,
@@ -165,23 +165,23 @@ impl Tolerances {
         ensures refused { IfErr result (λ bad.
             IsFirstOutOfRange (by_name radius bearing class lowest percent slack) bad.0) }
     {
-        if !Name::Radius.allows(radius) {
-            return Err(BadTolerance(Name::Radius));
+        if !Tolerance::Radius.allows(radius) {
+            return Err(BadTolerance(Tolerance::Radius));
         }
-        if !Name::Bearing.allows(bearing) {
-            return Err(BadTolerance(Name::Bearing));
+        if !Tolerance::Bearing.allows(bearing) {
+            return Err(BadTolerance(Tolerance::Bearing));
         }
-        if !Name::Class.allows(class) {
-            return Err(BadTolerance(Name::Class));
+        if !Tolerance::Class.allows(class) {
+            return Err(BadTolerance(Tolerance::Class));
         }
-        if !Name::Lowest.allows(lowest) {
-            return Err(BadTolerance(Name::Lowest));
+        if !Tolerance::Lowest.allows(lowest) {
+            return Err(BadTolerance(Tolerance::Lowest));
         }
-        if !Name::Percent.allows(percent) {
-            return Err(BadTolerance(Name::Percent));
+        if !Tolerance::Percent.allows(percent) {
+            return Err(BadTolerance(Tolerance::Percent));
         }
-        if !Name::Slack.allows(slack) {
-            return Err(BadTolerance(Name::Slack));
+        if !Tolerance::Slack.allows(slack) {
+            return Err(BadTolerance(Tolerance::Slack));
         }
         Ok(Tolerances {
             radius,
@@ -194,32 +194,32 @@ impl Tolerances {
     }
 
     /// The value of the tolerance of a name.
-    pub fn value(&self, name: Name) -> u32
+    pub fn value(&self, name: Tolerance) -> u32
         ensures { result ≡ value_of self.now name }
     {
         match name {
-            Name::Radius => self.radius,
-            Name::Bearing => self.bearing,
-            Name::Class => self.class,
-            Name::Lowest => self.lowest,
-            Name::Percent => self.percent,
-            Name::Slack => self.slack,
+            Tolerance::Radius => self.radius,
+            Tolerance::Bearing => self.bearing,
+            Tolerance::Class => self.class,
+            Tolerance::Lowest => self.lowest,
+            Tolerance::Percent => self.percent,
+            Tolerance::Slack => self.slack,
         }
     }
 
     /// The same tolerances, but for the one of this name, which has this value.
-    pub fn with(&self, name: Name, value: u32) -> Tolerances
+    pub fn with(&self, name: Tolerance, value: u32) -> Tolerances
         requires { IsTolerance name value }
         ensures { IsChanged name value self.now result }
     {
         let mut changed = *self;
         match name {
-            Name::Radius => changed.radius = value,
-            Name::Bearing => changed.bearing = value,
-            Name::Class => changed.class = value,
-            Name::Lowest => changed.lowest = value,
-            Name::Percent => changed.percent = value,
-            Name::Slack => changed.slack = value,
+            Tolerance::Radius => changed.radius = value,
+            Tolerance::Bearing => changed.bearing = value,
+            Tolerance::Class => changed.class = value,
+            Tolerance::Lowest => changed.lowest = value,
+            Tolerance::Percent => changed.percent = value,
+            Tolerance::Slack => changed.slack = value,
         }
         changed
     }
@@ -231,7 +231,7 @@ impl fmt::Display for Tolerances {
 
     ghost output = { λ tolerances. Some (tolerances_text tolerances) };
 
-    /// The numbers in decimal, in the order of [`Name::ALL`], a space between each two.
+    /// The numbers in decimal, in the order of [`Tolerance::ALL`], a space between each two.
     fn fmt<W: fmt::Write>(&self, f: &mut fmt::Formatter<W>) -> fmt::Result {
         write!(
             f,

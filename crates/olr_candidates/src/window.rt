@@ -1,14 +1,14 @@
 //! The lines near a point: those that meet a window around it.
 
 ghost use Rattle.std.specs.Prelude.{◌≡◌, ◌*◌, ◌^◌, ◌≤◌, ℤ, pos, ◌≤ℤ◌, ◌+ℤ◌, ◌-ℤ◌, nat_abs};
-ghost use Rattle.olr_metric.specs.Coordinates.{coordinates_of};
-ghost use Rattle.olr_metric.specs.Range.{IsLatitude, IsLongitude};
-ghost use Rattle.olr_map.specs.RoadMap.{IsSoundMap};
+ghost use Rattle.olr_base.specs.Coordinates.{coordinates_of};
+ghost use Rattle.olr_base.specs.Range.{IsLatitude, IsLongitude};
+ghost use Rattle.olr_road.specs.RoadMap.{IsSoundMap};
 ghost use Rattle.olr_candidates.specs.Query.{x_of, CoversRadius, IsNear};
 
 use crate::query::Query;
-use olr_map::{Extent, Map, Window};
-use olr_metric::Degrees;
+use olr_base::Degrees;
+use olr_road::{BoundingBox, Map, Window};
 
 /// The least longitude of any place, in microdegrees.
 const WESTERNMOST: i32 = -180_000_000;
@@ -94,13 +94,13 @@ fn western_bound(query: &Query, radius: u32) -> i32
 /// a radius of R metres. In latitude it reaches `9 R + 1` microdegrees to each side: a
 /// microdegree of latitude is 11.132 cm in the plane, so 1 m is at most 8.99 of them; the 1 more
 /// covers the rounding of spots.
-fn window_around(query: &Query, radius: u32) -> Extent
+fn window_around(query: &Query, radius: u32) -> BoundingBox
     requires { radius ≤ 1000000 }
     ensures { CoversRadius query.now radius result }
 {
     let reach = (9 * radius + 1) as i32;
     let lat = query.point.at.lat;
-    Extent {
+    BoundingBox {
         south: moved(lat, -reach),
         north: moved(lat, reach),
         west: western_bound(query, radius),

@@ -1,9 +1,8 @@
 //! From words to the bytes of the output.
 
-use crate::rejected::Rejected;
-use crate::words::{Asked, Files, Input, asked_of};
 use olr_app::{Fault, File, In, Question, Request, Sink, Source, run};
 use olr_batch::run_batch;
+use olr_words::{Asked, Files, Input, Rejected, asked_of};
 use std::alloc::Global;
 
 /// Why a file isn't open.

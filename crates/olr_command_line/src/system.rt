@@ -1,8 +1,8 @@
 //! The program over the system: the words of its command line, its files and its outputs.
 
 use crate::performing::{Disk, NotOpened, perform};
-use crate::rejected::Rejected;
 use olr_app::{Fault, In, Out};
+use olr_words::Rejected;
 use std::io::Input;
 use std::process::ExitCode;
 use std::{env, fs, io};

@@ -1,17 +1,9 @@
 -- Blocks of lines, of which those that don't meet a window are passed over.
-use Rattle.std.proofs.Common.{◌≡◌, ℕ, suc, ◌+◌, ◌-◌, ◌*◌, ◌/◌, ◌%◌, ◌<◌, ◌≤◌, min, pos, false, inl, inr, List, [], ◌∷◌, ◌++◌, length, get_or, take, drop, refl, sym, ap, ◌∙◌, arith, append-nil}
-use Rattle.std.proofs.Math.Nat.{div-add-mod, div-lt_iff_lt-mul, mod-lt, mul_comm}
-use Rattle.std.proofs.lemmas.Bool.{cases_lt}
-use Rattle.std.proofs.lemmas.List.Elements.{All-head, All-tail}
-use Rattle.std.specs.List.{All}
-use Rattle.std.proofs.lemmas.List.{length-drop, length-take, get_or-drop, get_or-take, take-append-drop, nil_from_length}
-use Rattle.olr_index.specs.ByExtent.{meets, ranks_in, Covers, AreBlocks, NoneMeets, between}
-use Rattle.olr_index.specs.declared.window.Extent.{Extent}
-use Rattle.olr_index.specs.declared.window.PlacedLine.{PlacedLine}
+use Rattle.olr_index.proofs.Common.{◌≡◌, ℕ, suc, ◌+◌, ◌-◌, ◌*◌, ◌/◌, ◌%◌, ◌<◌, ◌≤◌, min, pos, false, inl, inr, List, [], ◌∷◌, ◌++◌, length, get_or, take, drop, refl, sym, ap, ◌∙◌, arith, append-nil, div-add-mod, div-lt_iff_lt-mul, mod-lt, mul_comm, cases_lt, All-head, All-tail, All, length-drop, length-take, get_or-drop, get_or-take, take-append-drop, nil_from_length, meets, ranks_in, Covers, AreBlocks, NoneMeets, between, BoundingBox, PlacedLine}
 use Rattle.olr_index.proofs.Meeting.{none_within, ranks_in-nil, ranks_in-passed, ranks_in-append, ranks_in-covered}
 
 -- the blocks after the first one
-pub blocks_after : (lines : List PlacedLine) {block : Extent} {others : List Extent} (m : ℕ)
+pub blocks_after : (lines : List PlacedLine) {block : BoundingBox} {others : List BoundingBox} (m : ℕ)
     → AreBlocks 64 lines (block ∷ others) → m ≡ min (length lines) 64
     → AreBlocks 64 (drop m lines) others
 blocks_after lines m blocks size =
@@ -27,9 +19,9 @@ blocks_after lines m blocks size =
     }
 
 -- the lines of the first one
-first_covered : (lines : List PlacedLine) (block : Extent) {others : List Extent} (m : ℕ)
+first_covered : (lines : List PlacedLine) (block : BoundingBox) {others : List BoundingBox} (m : ℕ)
     → AreBlocks 64 lines (block ∷ others) → m ≡ min (length lines) 64
-    → All (λ line. Covers block line.extent) (take m lines)
+    → All (λ line. Covers block line.bounding_box) (take m lines)
 first_covered lines block m blocks size = λ i d below.
     let some = length-take m lines in
     let inside : i < m = omega arith in
@@ -38,12 +30,12 @@ first_covered lines block m blocks size = λ i d below.
     (rw place at (blocks.cover 0 i d block (omega arith) (omega arith) (omega arith)))
 
 -- the ranks of the first block's lines, and of those after
-pub ranks_split : (window : Extent) (m : ℕ) (lines : List PlacedLine)
+pub ranks_split : (window : BoundingBox) (m : ℕ) (lines : List PlacedLine)
     → ranks_in window (take m lines) ++ ranks_in window (drop m lines) ≡ ranks_in window lines
 ranks_split window m lines = cc (ranks_in-append _ _ _, take-append-drop m lines)
 
 -- a block that meets the window
-pub entered : (window : Extent) (at_hand lines : List PlacedLine) {first rest : List PlacedLine}
+pub entered : (window : BoundingBox) (at_hand lines : List PlacedLine) {first rest : List PlacedLine}
     (m : ℕ)
     {value : List ℕ} → first ≡ take m lines → rest ≡ drop m lines → ranks_in window at_hand ≡ []
     → ranks_in window at_hand ++ ranks_in window lines ≡ value
@@ -53,9 +45,9 @@ entered window at_hand lines m first_is rest_is none left =
     ∙ sym (ap (λ (ranks : List ℕ). ranks ++ ranks_in window lines) none) ∙ left
 
 -- a block that doesn't
-pub passed : (window : Extent) (at_hand : List PlacedLine) {lines : List PlacedLine}
-    (rest : List PlacedLine) (block : Extent)
-    {others : List Extent} (m : ℕ) {value : List ℕ} → AreBlocks 64 lines (block ∷ others)
+pub passed : (window : BoundingBox) (at_hand : List PlacedLine) {lines : List PlacedLine}
+    (rest : List PlacedLine) (block : BoundingBox)
+    {others : List BoundingBox} (m : ℕ) {value : List ℕ} → AreBlocks 64 lines (block ∷ others)
     → m ≡ min (length lines) 64
     → rest ≡ drop m lines → meets window block ≡ false → ranks_in window at_hand ≡ []
     → ranks_in window at_hand ++ ranks_in window lines ≡ value
@@ -66,7 +58,7 @@ passed window at_hand rest block m blocks size rest_is fails none left =
     ∙ entered _ _ _ m refl rest_is none left
 
 -- no block is left
-pub over : (window : Extent) (at_hand lines : List PlacedLine) (blocks : List Extent)
+pub over : (window : BoundingBox) (at_hand lines : List PlacedLine) (blocks : List BoundingBox)
     {value : List ℕ} → AreBlocks 64 lines blocks → length blocks ≡ 0 → ranks_in window at_hand ≡ []
     → ranks_in window at_hand ++ ranks_in window lines ≡ value → (value ≡ [])
     × (ranks_in window at_hand ++ ranks_in window lines ≡ [])
@@ -79,34 +71,34 @@ over window at_hand lines blocks are none first left =
 -- ---- groups of blocks
 
 -- no line of a block that doesn't meet the window does
-none_at : (size : ℕ) (window : Extent) (lines : List PlacedLine) (blocks : List Extent) (j : ℕ)
-    (d : PlacedLine) (e : Extent) → 0 < size → AreBlocks size lines blocks
+none_at : (size : ℕ) (window : BoundingBox) (lines : List PlacedLine) (blocks : List BoundingBox) (j : ℕ)
+    (d : PlacedLine) (e : BoundingBox) → 0 < size → AreBlocks size lines blocks
     → j < length lines → meets window (get_or blocks (j / size) e) ≡ false
-    → meets window (get_or lines j d).extent ≡ false
+    → meets window (get_or lines j d).bounding_box ≡ false
 none_at size window lines blocks j d e some are inside fails =
     let place : size * (j / size) + j % size ≡ j =
     omega (arith, div-add-mod j size, mul_comm size (j / size)) in
     let below : j / size < length blocks =
     (div-lt_iff_lt-mul some).1 (omega (arith, mul_comm size (length blocks))) in
     let covers = are.cover (j / size) (j % size) d e below (mod-lt j some) (omega arith) in
-    none_within _ (get_or lines j d).extent
+    none_within _ (get_or lines j d).bounding_box
     (rw place at covers) fails
 
-ranks_none : (window : Extent) (lines : List PlacedLine)
-    → All (λ line. meets window line.extent ≡ false) lines → ranks_in window lines ≡ []
+ranks_none : (window : BoundingBox) (lines : List PlacedLine)
+    → All (λ line. meets window line.bounding_box ≡ false) lines → ranks_in window lines ≡ []
 ranks_none window [] none = ranks_in-nil _
 ranks_none window (line ∷ lines) none =
-    ranks_in-passed _ _ _ refl (All-head (λ (l : PlacedLine). meets window l.extent ≡ false) line
+    ranks_in-passed _ _ _ refl (All-head (λ (l : PlacedLine). meets window l.bounding_box ≡ false) line
     _ none)
-    ∙ ranks_none _ _ (All-tail (λ (l : PlacedLine). meets window l.extent ≡ false) line _ none)
+    ∙ ranks_none _ _ (All-tail (λ (l : PlacedLine). meets window l.bounding_box ≡ false) line _ none)
 
-abbrev pub no_extent : Extent
-no_extent = record { south = pos 0; north = pos 0; west = pos 0; east = pos 0 }
+abbrev pub no_bounding_box : BoundingBox
+no_bounding_box = record { south = pos 0; north = pos 0; west = pos 0; east = pos 0 }
 
-module _ (size : ℕ) (window : Extent) (lines : List PlacedLine) (blocks : List Extent)
+module _ (size : ℕ) (window : BoundingBox) (lines : List PlacedLine) (blocks : List BoundingBox)
     (first end : ℕ) (some : 0 < size) (are : AreBlocks size lines blocks) where
   none_before : NoneMeets window (take first blocks)
-      → All (λ line. meets window line.extent ≡ false)
+      → All (λ line. meets window line.bounding_box ≡ false)
       (take (size * first) (take (size * end) lines))
   none_before none i d below =
       let kept = take (size * end) lines in
@@ -120,11 +112,11 @@ module _ (size : ℕ) (window : Extent) (lines : List PlacedLine) (blocks : List
       (div-lt_iff_lt-mul some).1 (omega (arith, mul_comm size (length blocks))) in
       rw (get_or-take (size * first) kept i d there, get_or-take (size * end) lines i d before)
       (none_at _ _ _ _ i d _ some are long
-      (rw (get_or-take first blocks (i / size) no_extent at) at
-      (none (i / size) no_extent (omega (arith, length-take first blocks)))))
+      (rw (get_or-take first blocks (i / size) no_bounding_box at) at
+      (none (i / size) no_bounding_box (omega (arith, length-take first blocks)))))
 
   none_behind : NoneMeets window (drop end blocks)
-      → All (λ line. meets window line.extent ≡ false) (drop (size * end) lines)
+      → All (λ line. meets window line.bounding_box ≡ false) (drop (size * end) lines)
   none_behind none i d below =
       let j = size * end + i in
       let long : j < length lines = omega (arith, length-drop (size * end) lines) in
@@ -139,8 +131,8 @@ module _ (size : ℕ) (window : Extent) (lines : List PlacedLine) (blocks : List
       let place : end + k ≡ j / size = omega arith in
       rw (get_or-drop (size * end) lines i d)
       (none_at _ _ _ _ j d _ some are long
-      (rw (get_or-drop end blocks k no_extent, place) at
-      (none k no_extent (omega (arith, length-drop end blocks)))))
+      (rw (get_or-drop end blocks k no_bounding_box, place) at
+      (none k no_bounding_box (omega (arith, length-drop end blocks)))))
 
   -- the lines of the groups between meet the window as all do
   pub ranks_between : NoneMeets window (take first blocks) → NoneMeets window (drop end blocks)
@@ -156,7 +148,7 @@ module _ (size : ℕ) (window : Extent) (lines : List PlacedLine) (blocks : List
       ∙ ranks_split _ _ _
 
 -- their blocks
-pub blocks_between : (first end : ℕ) (lines : List PlacedLine) (blocks : List Extent)
+pub blocks_between : (first end : ℕ) (lines : List PlacedLine) (blocks : List BoundingBox)
     → AreBlocks 64 lines blocks
     → AreBlocks 64 (between 4096 first end lines) (between 64 first end blocks)
 blocks_between first end lines blocks are =
@@ -184,7 +176,7 @@ blocks_between first end lines blocks are =
     }
 
 -- the start: no line is at hand, and those between are left
-pub started : (window : Extent) (next all : List PlacedLine)
+pub started : (window : BoundingBox) (next all : List PlacedLine)
     → ranks_in window next ≡ ranks_in window all
     → ranks_in window [] ++ ranks_in window next ≡ ranks_in window all
 started window next all same = rw (ranks_in-nil _) same

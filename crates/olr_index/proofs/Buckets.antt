@@ -1,13 +1,6 @@
 -- Ids in buckets.
-use Rattle.std.proofs.Common.{◌≡◌, ℕ, ◌+◌, ◌-◌, ◌/◌, ◌^◌, ◌<◌, ◌≤◌, List, map, length, drop, get_or, Result, Ok, Err, MatchResult, sym, ap, ◌∙◌, arith}
-use Rattle.std.specs.Prelude.{slice_index, slice_range, slice_get, Contains, Some}
-use Rattle.std.specs.Ordering.{nat_cmp}
-use Rattle.std.specs.List.Sorted.{IsBinarySearchResult, IsSearchInRange, IsStrictlyIncreasing}
-use Rattle.std.proofs.Math.Nat.{div-mul-le_self}
+use Rattle.olr_index.proofs.Common.{◌≡◌, ℕ, ◌+◌, ◌-◌, ◌/◌, ◌^◌, ◌<◌, ◌≤◌, List, map, length, drop, get_or, Result, Ok, Err, MatchResult, sym, ap, ◌∙◌, arith, slice_index, slice_range, slice_get, Contains, Some, nat_cmp, IsBinarySearchResult, IsSearchInRange, IsStrictlyIncreasing, div-mul-le_self, IsHead, AreHeads, IsIndex, length-take, length-drop, get_or-take, get_or-drop, get_or_default, get_or_from_slice_get, slice_get-get_or, slice_get_within}
 use Rattle.std.proofs.lemmas.Nat.{le-div, pow_pos}
-use Rattle.olr_index.specs.inner.Buckets.{IsHead, AreHeads, IsIndex}
-use Rattle.std.proofs.lemmas.List.{length-take, length-drop, get_or-take, get_or-drop, get_or_default}
-use Rattle.std.proofs.lemmas.Option.{get_or_from_slice_get, slice_get-get_or, slice_get_within}
 use Rattle.olr_index.proofs.Finding.{found_by_key, part_keys, rises}
 
 -- a greater key is in no earlier bucket

@@ -1,14 +1,5 @@
 -- A number among numbers that rise.
-use Rattle.std.proofs.Common.{◌≡◌, ℕ, ◌-◌, ◌<◌, ◌≤◌, List, [], ◌∷◌, map, length, drop, get_or, Result, Ok, Err, MatchResult, Some, inl, inr, ap, ◌∙◌, arith}
-use Rattle.std.specs.Prelude.{slice_get, slice_range, Contains}
-use Rattle.std.specs.Ordering.{nat_cmp}
-use Rattle.std.specs.List.Sorted.{IsStrictlyIncreasing, IsBinarySearchResult, IsSearchInRange}
-use Rattle.std.proofs.Math.Nat.{eq-or-lt_of_le}
-use Rattle.std.proofs.lemmas.List.{length-map, get_or-map, get_or_default, take-map, drop-map}
-use Rattle.std.proofs.lemmas.Bool.{cases_lt}
-use Rattle.std.proofs.lemmas.Option.{slice_get-get_or}
-use Rattle.std.proofs.lemmas.List.Kept.{AllPairs-from_increasing}
-use Rattle.std.proofs.lemmas.List.Sorted.{searched}
+use Rattle.olr_index.proofs.Common.{◌≡◌, ℕ, ◌-◌, ◌<◌, ◌≤◌, List, [], ◌∷◌, map, length, drop, get_or, Result, Ok, Err, MatchResult, Some, inl, inr, ap, ◌∙◌, arith, slice_get, slice_range, Contains, nat_cmp, IsStrictlyIncreasing, IsBinarySearchResult, IsSearchInRange, eq-or-lt_of_le, length-map, get_or-map, get_or_default, take-map, drop-map, cases_lt, slice_get-get_or, AllPairs-from_increasing, searched}
 
 pub rises : (xs : List ℕ) → IsStrictlyIncreasing xs → (i j : ℕ) → i ≤ j → j < length xs
     → get_or xs i 0 ≤ get_or xs j 0

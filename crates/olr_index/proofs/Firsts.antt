@@ -1,10 +1,5 @@
 -- The items of a first number are those of one bucket.
-use Rattle.std.proofs.Common.{◌≡◌, ℕ, ◌+◌, ◌-◌, ◌<◌, ◌≤◌, List, [], map, length, get_or, ap, ◌∙◌, arith}
-use Rattle.std.specs.Prelude.{slice_index, slice_range}
-use Rattle.std.specs.List.Sorted.{IsStrictlyIncreasing}
-use Rattle.std.proofs.lemmas.List.{length-map, get_or-map}
-use Rattle.std.proofs.lemmas.List.Elements.{Contains-get_or}
-use Rattle.olr_index.specs.inner.Buckets.{IsHead, AreHeads, IsIndex}
+use Rattle.olr_index.proofs.Common.{◌≡◌, ℕ, ◌+◌, ◌-◌, ◌<◌, ◌≤◌, List, [], map, length, get_or, ap, ◌∙◌, arith, slice_index, slice_range, IsStrictlyIncreasing, length-map, get_or-map, Contains-get_or, IsHead, AreHeads, IsIndex}
 use Rattle.olr_index.specs.Pairs.{first_of, AreOfFirst}
 use Rattle.olr_index.proofs.Buckets.{heads_rise, part_at, part_length, part_rises}
 use Rattle.olr_index.proofs.Finding.{part_keys}

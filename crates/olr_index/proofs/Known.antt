@@ -1,18 +1,9 @@
 -- A set of the numbers of a list before a place, which differ.
-use Rattle.std.proofs.Common.{◌≡◌, ◌≢◌, ℕ, ◌+◌, ◌<◌, ◌≤◌, true, false, List, [], ◌∷◌, ◌++◌, length, take, get_or, eqb, sym, ap, ◌∙◌, arith}
-use Rattle.std.specs.List.{list_any}
-use Rattle.std.specs.Ordering.{nat_cmp}
+use Rattle.olr_index.proofs.Common.{◌≡◌, ◌≢◌, ℕ, ◌+◌, ◌<◌, ◌≤◌, true, false, List, [], ◌∷◌, ◌++◌, length, take, get_or, eqb, sym, ap, ◌∙◌, arith, list_any, nat_cmp, false≢true, nat_eq_equiv, take_more, take_all, Contains-get_or, list_any-append, AllDiffer, IsFirstRepeat}
 use Rattle.std.specs.BTreeSet.{BTreeSet, contains, IsEmpty, Updates}
-use Rattle.std.proofs.lemmas.Bool.{false≢true}
-use Rattle.std.proofs.lemmas.Cmp.{nat_eq_equiv}
 use Rattle.std.proofs.lemmas.Grind.{common_steps}
-use Rattle.std.proofs.lemmas.List.{take_more, take_all}
-use Rattle.std.proofs.lemmas.List.Elements.{Contains-get_or}
-use Rattle.std.proofs.lemmas.List.Folds.{list_any-append}
 use Rattle.std.proofs.lemmas.List.Quantifiers.{all_pairs_push}
 use Rattle.std.proofs.lemmas.Map.Views.{Contains-from_any, list_any-from_Contains, exact_unsigned_eq}
-use Rattle.olr_index.specs.Repeats.{AllDiffer}
-use Rattle.olr_index.specs.Repeats.{IsFirstRepeat}
 
 pub record IsKnown (ids : List ℕ) (place : ℕ) (known : BTreeSet ℕ) : Type 0 where
   pub differ : AllDiffer (take place ids)

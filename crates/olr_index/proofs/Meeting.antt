@@ -1,15 +1,5 @@
 -- The lines that meet a window.
-use Rattle.std.proofs.Common.{◌≡◌, ℤ, Bool, true, false, List, [], ◌∷◌, ◌++◌, Some, None, refl, ◌∙◌, arith}
-use Rattle.std.specs.Prelude.{int_le, ◌≤ℤ◌, Option, IsSomeAnd}
-use Rattle.std.specs.List.{All, filter}
-use Rattle.std.proofs.lemmas.Int.{ints}
-use Rattle.std.proofs.lemmas.Bool.{and_parts, and_from}
-use Rattle.std.proofs.lemmas.List.{map-append}
-use Rattle.std.proofs.lemmas.List.Elements.{All-head, All-tail, filter-append}
-use Rattle.olr_index.specs.Window.{Meets}
-use Rattle.olr_index.specs.ByExtent.{meets_in_latitude, meets_in_longitude, meets, ranks_in, Covers}
-use Rattle.olr_index.specs.declared.window.Extent.{Extent}
-use Rattle.olr_index.specs.declared.window.PlacedLine.{PlacedLine}
+use Rattle.olr_index.proofs.Common.{◌≡◌, ℤ, Bool, true, false, List, [], ◌∷◌, ◌++◌, Some, None, refl, ◌∙◌, arith, int_le, ◌≤ℤ◌, Option, IsSomeAnd, All, filter, ints, and_parts, and_from, map-append, All-head, All-tail, filter-append, Meets, meets_in_latitude, meets_in_longitude, meets, ranks_in, Covers, BoundingBox, PlacedLine}
 
 -- ---- the test
 
@@ -19,12 +9,12 @@ le_if h = grind (arith, ints)
 if_le : {a b : ℤ} → a ≤ℤ b → int_le a b ≡ true
 if_le h = grind (arith, ints)
 
-pub meets_if : (window extent : Extent) → meets window extent ≡ true → Meets window extent
-meets_if window extent h =
-    let both = and_parts (meets_in_latitude window extent) (meets_in_longitude window extent) h in
-    let lats = and_parts (int_le extent.south window.north) (int_le window.south extent.north)
+pub meets_if : (window bounding_box : BoundingBox) → meets window bounding_box ≡ true → Meets window bounding_box
+meets_if window bounding_box h =
+    let both = and_parts (meets_in_latitude window bounding_box) (meets_in_longitude window bounding_box) h in
+    let lats = and_parts (int_le bounding_box.south window.north) (int_le window.south bounding_box.north)
     both.0 in
-    let lons = and_parts (int_le extent.west window.east) (int_le window.west extent.east) both.1 in
+    let lons = and_parts (int_le bounding_box.west window.east) (int_le window.west bounding_box.east) both.1 in
     record {
       not_north = le_if lats.0;
       not_south = le_if lats.1;
@@ -32,23 +22,23 @@ meets_if window extent h =
       not_west = le_if lons.1;
     }
 
-pub if_meets : (window extent : Extent) → Meets window extent → meets window extent ≡ true
-if_meets window extent h =
+pub if_meets : (window bounding_box : BoundingBox) → Meets window bounding_box → meets window bounding_box ≡ true
+if_meets window bounding_box h =
     and_from _ _
     (and_from _ _ (if_le h.not_north) (if_le h.not_south))
     (and_from _ _ (if_le h.not_east) (if_le h.not_west))
 
--- the extent of a rank that meets a window
-pub met_extent : (o : Option Extent) (P : Extent → Type 0) → IsSomeAnd o P → (extent : Extent)
-    × (o ≡ Some extent) × P extent
-met_extent None P h = absurd h
-met_extent (Some extent) P h = (extent, refl, h)
+-- the bounding box of a rank that meets a window
+pub met_bounding_box : (o : Option BoundingBox) (P : BoundingBox → Type 0) → IsSomeAnd o P → (bounding_box : BoundingBox)
+    × (o ≡ Some bounding_box) × P bounding_box
+met_bounding_box None P h = absurd h
+met_bounding_box (Some bounding_box) P h = (bounding_box, refl, h)
 
 by_test : (b : Bool) → (b ≡ true → ⊥) → b ≡ false
 by_test true h = absurd (h refl)
 by_test false h = refl
 
-wider : (window outer inner : Extent) → Covers outer inner → Meets window inner → Meets window outer
+wider : (window outer inner : BoundingBox) → Covers outer inner → Meets window inner → Meets window outer
 wider window outer inner covers h =
     record {
       not_north = omega (arith, ints);
@@ -57,8 +47,8 @@ wider window outer inner covers h =
       not_west = omega (arith, ints);
     }
 
--- what lies within an extent that doesn't meet a window doesn't meet it
-pub none_within : (window : Extent) {outer : Extent} (inner : Extent) → Covers outer inner
+-- what lies within a bounding box that doesn't meet a window doesn't meet it
+pub none_within : (window : BoundingBox) {outer : BoundingBox} (inner : BoundingBox) → Covers outer inner
     → meets window outer ≡ false
     → meets window inner ≡ false
 none_within window inner covers none =
@@ -66,27 +56,27 @@ none_within window inner covers none =
 
 -- ---- the ranks
 
-pub ranks_in-nil : (window : Extent) → ranks_in window [] ≡ []
+pub ranks_in-nil : (window : BoundingBox) → ranks_in window [] ≡ []
 unfolding ranks_in
 ranks_in-nil window = refl
 
-pub ranks_in-met : (window : Extent) {line : PlacedLine} (lines all : List PlacedLine)
-    → all ≡ line ∷ lines → meets window line.extent ≡ true
+pub ranks_in-met : (window : BoundingBox) {line : PlacedLine} (lines all : List PlacedLine)
+    → all ≡ line ∷ lines → meets window line.bounding_box ≡ true
     → ranks_in window all ≡ line.rank ∷ ranks_in window lines
 unfolding ranks_in
 ranks_in-met window lines all e h = rw (e, h) refl
 
-pub ranks_in-passed : (window : Extent) {line : PlacedLine} (lines all : List PlacedLine)
-    → all ≡ line ∷ lines → meets window line.extent ≡ false
+pub ranks_in-passed : (window : BoundingBox) {line : PlacedLine} (lines all : List PlacedLine)
+    → all ≡ line ∷ lines → meets window line.bounding_box ≡ false
     → ranks_in window all ≡ ranks_in window lines
 unfolding ranks_in
 ranks_in-passed window lines all e h = rw (e, h) refl
 
-pub ranks_in-append : (window : Extent) (xs ys : List PlacedLine)
+pub ranks_in-append : (window : BoundingBox) (xs ys : List PlacedLine)
     → ranks_in window (xs ++ ys) ≡ ranks_in window xs ++ ranks_in window ys
 unfolding ranks_in
 ranks_in-append window xs ys =
-    let test : PlacedLine → Bool = λ line. meets window line.extent in
+    let test : PlacedLine → Bool = λ line. meets window line.bounding_box in
     cc (
       filter-append test xs ys,
       map-append (λ (line : PlacedLine). line.rank) (filter test xs)
@@ -94,12 +84,12 @@ ranks_in-append window xs ys =
     )
 
 -- a block that doesn't meet the window has no line that does
-pub ranks_in-covered : (window block : Extent) (lines : List PlacedLine)
-    → All (λ line. Covers block line.extent) lines → meets window block ≡ false
+pub ranks_in-covered : (window block : BoundingBox) (lines : List PlacedLine)
+    → All (λ line. Covers block line.bounding_box) lines → meets window block ≡ false
     → ranks_in window lines ≡ []
 ranks_in-covered window block [] covers none = ranks_in-nil _
 ranks_in-covered window block (line ∷ lines) covers none =
     ranks_in-passed _ _ _ refl (none_within _ _
-    (All-head (λ (l : PlacedLine). Covers block l.extent) line _ covers) none)
-    ∙ ranks_in-covered _ _ _ (All-tail (λ (l : PlacedLine). Covers block l.extent) line _ covers)
+    (All-head (λ (l : PlacedLine). Covers block l.bounding_box) line _ covers) none)
+    ∙ ranks_in-covered _ _ _ (All-tail (λ (l : PlacedLine). Covers block l.bounding_box) line _ covers)
     none

@@ -1,19 +1,7 @@
 -- Numbers that differ, in another order.
-use Rattle.std.proofs.Common.{◌≡◌, ℕ, ◌+◌, ◌<◌, ◌≤◌, Bool, true, false, List, [], ◌∷◌, length, map, get_or, Option, Some, None, MatchOption, ltb, sym, refl, arith}
-use Rattle.std.specs.Prelude.{◌↔◌, IsTrue}
-use Rattle.std.specs.List.{IsAllAdjacentAnswer}
-use Rattle.std.specs.List.Sorted.{IsPermutation, IsNonDecreasingBy, IsStrictlyIncreasing, IsSorted}
-use Rattle.std.specs.Ordering.{nat_cmp}
-use Rattle.std.proofs.lemmas.Bool.{ltb-true, ltb-false}
-use Rattle.std.proofs.lemmas.Bool.Decides.{Decides-eqb}
-use Rattle.std.proofs.lemmas.Cmp.{nat_eq_equiv}
-use Rattle.std.proofs.lemmas.List.{get_or-map, length-map}
-use Rattle.std.proofs.lemmas.List.Sorted.{IsPermutation-map, IsPermutation-sym, IsNonDecreasingBy-from_sort}
-use Rattle.std.proofs.lemmas.List.Kept.{AllPairs-from_increasing}
+use Rattle.olr_index.proofs.Common.{◌≡◌, ℕ, ◌+◌, ◌<◌, ◌≤◌, Bool, true, false, List, [], ◌∷◌, length, map, get_or, Option, Some, None, MatchOption, ltb, sym, refl, arith, ◌↔◌, IsTrue, IsAllAdjacentAnswer, IsPermutation, IsNonDecreasingBy, IsStrictlyIncreasing, IsSorted, nat_cmp, ltb-true, ltb-false, Decides-eqb, nat_eq_equiv, get_or-map, length-map, IsPermutation-map, IsPermutation-sym, IsNonDecreasingBy-from_sort, AllPairs-from_increasing, AllDiffer, IsFirstRepeat, Sorts}
 use Rattle.std.proofs.lemmas.Map.Keys.{IsDistinct-IsPermutation}
 use Rattle.std.proofs.lemmas.Map.Made.{AllPairs-from_IsDistinct, IsDistinct-from_AllPairs}
-use Rattle.olr_index.specs.Repeats.{AllDiffer}
-use Rattle.olr_index.specs.Repeats.{IsFirstRepeat, Sorts}
 
 -- numbers that differ do so in any order
 pub differ_permuted : {xs ys : List ℕ} → IsPermutation xs ys → AllDiffer xs → AllDiffer ys

@@ -1,16 +1,7 @@
 -- The least and the greatest latitude and longitude so far.
-use Rattle.std.proofs.Common.{◌≡◌, ℕ, ◌+◌, ◌<◌, ◌≤◌, ℤ, Bool, true, false, cond, List, length, map, take, get_or, arith, sym, ap, ◌∙◌, w32, to_z, of_z, FitsSigned}
-use Rattle.std.specs.Prelude.{◌≤ℤ◌}
+use Rattle.olr_index.proofs.Common.{◌≡◌, ℕ, ◌+◌, ◌<◌, ◌≤◌, ℤ, Bool, true, false, cond, List, length, map, take, get_or, arith, sym, ap, ◌∙◌, w32, to_z, of_z, FitsSigned, ◌≤ℤ◌, ints, clamps, to_z-of_z, take_all, length-map, get_or-map, All-more, All-weaker, Degrees, IsSpan, Covers, BoundingBox, PlacedLine}
 use Rattle.std.specs.Int.{int_min, int_max}
 use Rattle.std.specs.List.{All, Contains}
-use Rattle.std.proofs.lemmas.Int.{ints, clamps, to_z-of_z}
-use Rattle.std.proofs.lemmas.List.{take_all, length-map, get_or-map}
-use Rattle.std.proofs.lemmas.List.Elements.{All-more, All-weaker}
-use Rattle.olr_metric.specs.declared.degrees.Degrees.{Degrees}
-use Rattle.olr_index.specs.Window.{IsSpan}
-use Rattle.olr_index.specs.ByExtent.{Covers}
-use Rattle.olr_index.specs.declared.window.Extent.{Extent}
-use Rattle.olr_index.specs.declared.window.PlacedLine.{PlacedLine}
 
 -- ---- numbers as the code passes them
 
@@ -32,9 +23,9 @@ pub greatest_is : {bound x y : ℤ} → FitsSigned w32 bound → FitsSigned w32 
     → to_z w32 (of_z w32 bound) ≡ int_max x y
 greatest_is = bound_is int_max
 
--- ---- extents that others lie within
+-- ---- bounding boxes that others lie within
 
-covers_all : (outer middle inner : Extent) → Covers outer middle → Covers middle inner
+covers_all : (outer middle inner : BoundingBox) → Covers outer middle → Covers middle inner
     → Covers outer inner
 covers_all outer middle inner first second =
     record {
@@ -44,7 +35,7 @@ covers_all outer middle inner first second =
       east = omega (arith, ints);
     }
 
--- bounds that the code computes for an extent that holds two others
+-- bounds that the code computes for a bounding box that holds two others
 pub least_covers : {bound x y : ℤ} → FitsSigned w32 bound → FitsSigned w32 x → FitsSigned w32 y
     → bound ≡ int_min (to_z w32 (of_z w32 x)) (to_z w32 (of_z w32 y))
     → (to_z w32 (of_z w32 bound) ≤ℤ x) × (to_z w32 (of_z w32 bound) ≤ℤ y)
@@ -58,15 +49,15 @@ greatest_covers fits first second same =
     rw (greatest_is fits first second same)
     (omega (arith, ints, clamps), omega (arith, ints, clamps))
 
--- one line more, in an extent that holds its extent and the one before
-pub cover_more : (old new : Extent) (lines : List PlacedLine) (i : ℕ) (d : PlacedLine)
-    → i < length lines → Covers new old → Covers new (get_or lines i d).extent
-    → All (λ l. Covers old l.extent) (take i lines)
-    → All (λ l. Covers new l.extent) (take (i + 1) lines)
+-- one line more, in a bounding box that holds its bounding box and the one before
+pub cover_more : (old new : BoundingBox) (lines : List PlacedLine) (i : ℕ) (d : PlacedLine)
+    → i < length lines → Covers new old → Covers new (get_or lines i d).bounding_box
+    → All (λ l. Covers old l.bounding_box) (take i lines)
+    → All (λ l. Covers new l.bounding_box) (take (i + 1) lines)
 cover_more old new lines i d inside wider holds before =
-    All-more (λ (l : PlacedLine). Covers new l.extent) lines i d inside
-    (All-weaker (λ (l : PlacedLine). Covers old l.extent) (λ (l : PlacedLine). Covers new l.extent)
-    (λ l h. covers_all new old l.extent wider h) (take i lines) before)
+    All-more (λ (l : PlacedLine). Covers new l.bounding_box) lines i d inside
+    (All-weaker (λ (l : PlacedLine). Covers old l.bounding_box) (λ (l : PlacedLine). Covers new l.bounding_box)
+    (λ l h. covers_all new old l.bounding_box wider h) (take i lines) before)
     holds
 
 -- ---- latitudes

@@ -2,5 +2,5 @@ pub mod Repeats
 pub mod Pairs
 pub mod ByNode
 pub mod Window
-pub mod ByExtent
+pub mod ByBoundingBox
 pub mod inner

@@ -6,7 +6,7 @@ ghost use Rattle.std.specs.List.Sorted.{IsStrictlyIncreasing};
 ghost use Rattle.olr_index.specs.inner.Buckets.{IsHead, AreHeads, IsIndex};
 
 use crate::keyed::Keyed;
-use olr_metric::NoMemory;
+use olr_base::NoMemory;
 use std::alloc::Global;
 
 /// The bucket of a key.

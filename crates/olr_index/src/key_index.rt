@@ -5,7 +5,7 @@ ghost use Rattle.std.specs.List.Sorted.{IsStrictlyIncreasing};
 
 use crate::bucketing::{bucket_of, find_in, greatest, heads_up_to};
 use crate::keyed::{Keyed, keys_of};
-use olr_metric::NoMemory;
+use olr_base::NoMemory;
 use std::alloc::Global;
 use std::marker::Model;
 

@@ -1,9 +1,9 @@
 //! Values that have a key, by which they are sorted and found.
 
-ghost use Rattle.std.specs.Prelude.{◌≡◌, ℕ, ◌↔◌, List, map, IfOk, IsTrue};
+ghost use Rattle.std.specs.Prelude.{◌≡◌, ℕ, ◌↔◌, map, IfOk, IsTrue};
 ghost use Rattle.std.specs.List.Sorted.{IsStrictlyIncreasing};
 
-use olr_metric::NoMemory;
+use olr_base::NoMemory;
 use std::alloc::Global;
 
 /// A value that has a key.
@@ -23,6 +23,7 @@ pub trait Keyed: Drop {
 /// # Errors
 ///
 /// [`NoMemory`] where the allocator refused memory.
+#[tactic(auto, using(std::proofs::lemmas::List::map_more))]
 pub fn keys_of<T: Keyed>(alloc: Global, items: &[T]) -> Result<Vec<u64>, NoMemory>
     ensures { IfOk result (λ keys. keys.items ≡ map T.key_of items.now) }
 {

@@ -1,7 +1,8 @@
 //! Order and look-up: numbers grouped, found and compared, without a word on where they come from.
 //!
 //! - [`by_node`]: lines by the node at which they start, or end.
-//! - [`window`]: lines by extent, so that those near a place are found without a look at each.
+//! - [`window`]: lines by bounding box, so that those near a place are found without a look at
+//!   each.
 //! - [`keyed`]: what has a key; [`sorting`]: items by rising key; [`repeats`]: numbers that occur
 //!   twice.
 //! - [`look_up`]: the rank of a key among sorted items; [`key_index`]: the same with an index,
@@ -26,4 +27,4 @@ pub use look_up::rank_of_key;
 pub use pair_index::PairIndex;
 pub use repeats::first_repeat;
 pub use sorting::sort_or_repeat;
-pub use window::{ByExtent, Extent, PlacedLine, Window, extent_of};
+pub use window::{BoundingBox, ByBoundingBox, PlacedLine, Window, bounding_box_of};

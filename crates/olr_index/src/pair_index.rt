@@ -6,7 +6,7 @@ ghost use Rattle.olr_index.specs.Pairs.{AreOfFirst};
 
 use crate::bucketing::{bounds_of, bucket_of, find_in, greatest, heads_up_to};
 use crate::keyed::{Keyed, keys_of};
-use olr_metric::NoMemory;
+use olr_base::NoMemory;
 use std::alloc::Global;
 use std::marker::Model;
 

@@ -6,7 +6,7 @@ ghost use Rattle.std.specs.List.Sorted.{IsStrictlyIncreasing};
 ghost use Rattle.olr_index.specs.Repeats.{AllDiffer};
 ghost use Rattle.olr_index.specs.Repeats.{IsFirstRepeat};
 
-use olr_metric::NoMemory;
+use olr_base::NoMemory;
 use std::alloc::Global;
 use std::collections::BTreeSet;
 
@@ -47,6 +47,7 @@ fn first_known(numbers: &[u64], known: &mut BTreeSet<u64>) -> Result<Option<usiz
 /// # Errors
 ///
 /// [`NoMemory`] where the allocator refused the memory for it.
+#[tactic(auto, using(crate::proofs::Permuted::rising_differ))]
 pub fn first_repeat(alloc: Global, numbers: &[u64]) -> Result<Option<usize>, NoMemory>
     ensures { IfOk result (λ found. MatchOption found
         (AllDiffer numbers.now)

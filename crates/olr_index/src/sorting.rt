@@ -6,7 +6,7 @@ ghost use Rattle.olr_index.specs.Repeats.{AllDiffer, IsFirstRepeat, Sorts};
 
 use crate::keyed::{Keyed, keys_of, rises};
 use crate::repeats::first_repeat;
-use olr_metric::NoMemory;
+use olr_base::NoMemory;
 use std::alloc::Global;
 
 /// Sorts items by key. Their keys rise then, unless one occurs twice.
@@ -24,11 +24,13 @@ fn sort<T: Keyed>(items: &mut Vec<T>)
 /// # Errors
 ///
 /// [`NoMemory`] where the allocator refused memory. The items may be in another order then.
+#[tactic(auto, using(crate::proofs::Permuted::sorts_or_first))]
 pub fn sort_or_repeat<T: Keyed>(
     alloc: Global,
     items: &mut Vec<T>,
 ) -> Result<Option<usize>, NoMemory>
-    ensures { IfOk result (λ repeat. MatchOption repeat
+    ensures same { IsPermutation items.old.items items.new.items }
+    ensures sorted { IfOk result (λ repeat. MatchOption repeat
         (Sorts T.key_of items.old.items items.new.items)
         (IsFirstRepeat (map T.key_of items.old.items))) }
 {

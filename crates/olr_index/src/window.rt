@@ -1,13 +1,13 @@
-//! The lines of a map by their extents, so that those near a place are found without a look at
-//! each.
+//! The lines of a map by their bounding boxes, so that those near a place are found without a look
+//! at each.
 
 ghost use Rattle.std.specs.Prelude.{◌≡◌, [], ◌∷◌, ◌<◌, ◌≤◌, drop, length, take, IfOk, MatchOption};
 ghost use Rattle.std.specs.Iterator.{YieldsFirst, item_count};
 ghost use Rattle.std.specs.List.{All};
-ghost use Rattle.olr_index.specs.Window.{IsExtent, IsWindow};
-ghost use Rattle.olr_index.specs.ByExtent.{meets_in_latitude, meets_in_longitude, meets, ranks_in, extents_of, AreInOrder, Covers, AreBlocks, NoneMeets, between};
+ghost use Rattle.olr_index.specs.Window.{IsBoundingBox, IsWindow};
+ghost use Rattle.olr_index.specs.ByBoundingBox.{meets_in_latitude, meets_in_longitude, meets, ranks_in, bounding_boxes_of, AreInOrder, Covers, AreBlocks, NoneMeets, between};
 
-use olr_metric::{Degrees, NoMemory};
+use olr_base::{Degrees, NoMemory};
 use std::alloc::Global;
 use std::marker::Model;
 
@@ -21,9 +21,9 @@ const GROUP: usize = 64;
 const CELL_BITS: u32 = 13;
 
 /// The places between two latitudes and between two longitudes, all in microdegrees and included.
-/// The extent of a line is the least one that has all its points.
+/// The bounding box of a line is the least one that has all its points.
 #[derive(Clone, Copy)]
-pub struct Extent {
+pub struct BoundingBox {
     /// The least latitude, in microdegrees.
     pub south: i32,
     /// The greatest latitude, in microdegrees.
@@ -34,39 +34,39 @@ pub struct Extent {
     pub east: i32,
 }
 
-/// A line of a map: its rank and its extent.
+/// A line of a map: its rank and its bounding box.
 #[derive(Clone, Copy)]
 pub struct PlacedLine {
     /// The rank.
     pub rank: u32,
-    /// The extent.
-    pub extent: Extent,
+    /// The bounding box.
+    pub bounding_box: BoundingBox,
 }
 
-/// The lines of a map in blocks. Contracts see the extents of the lines, by the line's rank.
+/// The lines of a map in blocks. Contracts see the bounding boxes of the lines, by the line's rank.
 ///
 /// The lines are sorted by the cell in which their south-western corner lies, row by row, so few
 /// blocks meet a small window, and few neighbouring groups of blocks.
 #[derive(Drop)]
-pub struct ByExtent {
+pub struct ByBoundingBox {
     lines: Vec<PlacedLine>,
-    /// Of each block, an extent within which those of its lines lie.
-    blocks: Vec<Extent>,
-    /// Of each group, an extent within which those of its lines lie.
-    groups: Vec<Extent>,
+    /// Of each block, a bounding box within which those of its lines lie.
+    blocks: Vec<BoundingBox>,
+    /// Of each group, a bounding box within which those of its lines lie.
+    groups: Vec<BoundingBox>,
 }
 
-impl Model for ByExtent {
+impl Model for ByBoundingBox {
     ghost use Rattle.std.specs.Prelude.{List};
-    ghost use Rattle.olr_index.specs.declared.window.Extent.{Extent};
+    ghost use Rattle.olr_index.specs.declared.window.BoundingBox.{BoundingBox};
 
-    ghost Value = { List Extent };
+    ghost Value = { List BoundingBox };
 
-    ghost use Rattle.olr_index.specs.ByExtent.{extents_by_rank, AreByRank, AreBlocks};
+    ghost use Rattle.olr_index.specs.ByBoundingBox.{bounding_boxes_by_rank, AreByRank, AreBlocks};
 
-    ghost view = { λ by. extents_by_rank by.lines.items };
+    ghost view = { λ by. bounding_boxes_by_rank by.lines.items };
 
-    ghost invariant = { λ by. AreByRank (extents_by_rank by.lines.items) by.lines.items
+    ghost invariant = { λ by. AreByRank (bounding_boxes_by_rank by.lines.items) by.lines.items
         × AreBlocks 64 by.lines.items by.blocks.items
         × AreBlocks 4096 by.lines.items by.groups.items };
 }
@@ -74,13 +74,13 @@ impl Model for ByExtent {
 /// The lines that meet a window. Contracts see the ranks of those that are left.
 #[derive(Drop)]
 pub struct Window<'a> {
-    bounds: Extent,
+    bounds: BoundingBox,
     /// The lines that are left of the block at hand.
     at_hand: &'a [PlacedLine],
     /// The lines of the blocks after it.
     next_lines: &'a [PlacedLine],
-    /// Of each of those blocks, an extent within which those of its lines lie.
-    next_blocks: &'a [Extent],
+    /// Of each of those blocks, a bounding box within which those of its lines lie.
+    next_blocks: &'a [BoundingBox],
 }
 
 impl<'a> Model for Window<'a> {
@@ -88,7 +88,7 @@ impl<'a> Model for Window<'a> {
 
     ghost Value = { List ℕ };
 
-    ghost use Rattle.olr_index.specs.ByExtent.{ranks_in, AreBlocks};
+    ghost use Rattle.olr_index.specs.ByBoundingBox.{ranks_in, AreBlocks};
 
     ghost view = { λ window. ranks_in window.bounds window.at_hand.now
         ++ ranks_in window.bounds window.next_lines.now };
@@ -100,40 +100,40 @@ impl PlacedLine {
     /// The cell in which its south-western corner lies. Nothing rests on it but how long a look
     /// takes.
     fn cell(&self) -> u32 {
-        let row = (self.extent.south >> CELL_BITS).cast_unsigned();
-        let column = (self.extent.west >> CELL_BITS).cast_unsigned();
+        let row = (self.bounding_box.south >> CELL_BITS).cast_unsigned();
+        let column = (self.bounding_box.west >> CELL_BITS).cast_unsigned();
         row << 16 | column & 0xffff
     }
 }
 
-impl Extent {
+impl BoundingBox {
     /// Whether some of its latitudes are those of a window.
-    fn meets_in_latitude(&self, window: &Extent) -> bool
+    fn meets_in_latitude(&self, window: &BoundingBox) -> bool
         ensures { result ≡ meets_in_latitude window.now self.now }
     {
         self.south <= window.north && window.south <= self.north
     }
 
     /// Whether some of its longitudes are those of a window.
-    fn meets_in_longitude(&self, window: &Extent) -> bool
+    fn meets_in_longitude(&self, window: &BoundingBox) -> bool
         ensures { result ≡ meets_in_longitude window.now self.now }
     {
         self.west <= window.east && window.west <= self.east
     }
 
     /// Whether it meets a window.
-    fn meets(&self, window: &Extent) -> bool
+    fn meets(&self, window: &BoundingBox) -> bool
         ensures { result ≡ meets window.now self.now }
     {
         self.meets_in_latitude(window) && self.meets_in_longitude(window)
     }
 
-    /// The extent of both.
-    fn joined(&self, other: &Extent) -> Extent
+    /// The bounding box of both.
+    fn joined(&self, other: &BoundingBox) -> BoundingBox
         ensures first { Covers result self.now }
         ensures second { Covers result other.now }
     {
-        Extent {
+        BoundingBox {
             south: self.south.min(other.south),
             north: self.north.max(other.north),
             west: self.west.min(other.west),
@@ -142,41 +142,41 @@ impl Extent {
     }
 }
 
-/// The extent of a line's points, of which there is at least one.
-pub fn extent_of(points: &[Degrees]) -> Extent
+/// The bounding box of a line's points, of which there is at least one.
+pub fn bounding_box_of(points: &[Degrees]) -> BoundingBox
     requires { 0 < length points.now }
-    ensures { IsExtent points.now result }
+    ensures { IsBoundingBox points.now result }
 {
     let first = points[0];
-    let mut extent = Extent {
+    let mut bounding_box = BoundingBox {
         south: first.lat,
         north: first.lat,
         west: first.lon,
         east: first.lon,
     };
     for point in points {
-        extent.south = extent.south.min(point.lat);
-        extent.north = extent.north.max(point.lat);
-        extent.west = extent.west.min(point.lon);
-        extent.east = extent.east.max(point.lon);
+        bounding_box.south = bounding_box.south.min(point.lat);
+        bounding_box.north = bounding_box.north.max(point.lat);
+        bounding_box.west = bounding_box.west.min(point.lon);
+        bounding_box.east = bounding_box.east.max(point.lon);
     }
-    extent
+    bounding_box
 }
 
-/// An extent within which those of all the lines lie.
-fn cover(lines: &[PlacedLine]) -> Extent
+/// A bounding box within which those of all the lines lie.
+fn cover(lines: &[PlacedLine]) -> BoundingBox
     requires { 0 < length lines.now }
-    ensures { All (λ line. Covers result line.extent) lines.now }
+    ensures { All (λ line. Covers result line.bounding_box) lines.now }
 {
-    let mut extent = lines[0].extent;
+    let mut bounding_box = lines[0].bounding_box;
     for line in lines {
-        extent = extent.joined(&line.extent);
+        bounding_box = bounding_box.joined(&line.bounding_box);
     }
-    extent
+    bounding_box
 }
 
-/// Of each block of so many lines, an extent within which those of its lines lie.
-fn blocks_of(alloc: Global, lines: &[PlacedLine], size: usize) -> Result<Vec<Extent>, NoMemory>
+/// Of each block of so many lines, a bounding box within which those of its lines lie.
+fn blocks_of(alloc: Global, lines: &[PlacedLine], size: usize) -> Result<Vec<BoundingBox>, NoMemory>
     requires { 1 ≤ size }
     ensures { IfOk result (λ blocks. AreBlocks size lines.now blocks.items) }
 {
@@ -190,21 +190,21 @@ fn blocks_of(alloc: Global, lines: &[PlacedLine], size: usize) -> Result<Vec<Ext
     Ok(blocks)
 }
 
-impl ByExtent {
+impl ByBoundingBox {
     /// These lines, which have the ranks from 0 on, in this order.
     ///
     /// # Errors
     ///
     /// [`NoMemory`] where the allocator refused memory.
-    pub fn new(alloc: Global, lines: Vec<PlacedLine>) -> Result<ByExtent, NoMemory>
+    pub fn new(alloc: Global, lines: Vec<PlacedLine>) -> Result<ByBoundingBox, NoMemory>
         requires { AreInOrder lines.items }
-        ensures { IfOk result (λ by_extent. by_extent ≡ extents_of lines.items) }
+        ensures { IfOk result (λ by_bounding_box. by_bounding_box ≡ bounding_boxes_of lines.items) }
     {
         let mut lines = lines;
         lines.sort_unstable_by_key(|line| line.cell());
         let blocks = blocks_of(alloc, &lines, BLOCK)?;
         let groups = blocks_of(alloc, &lines, BLOCK * GROUP)?;
-        Ok(ByExtent {
+        Ok(ByBoundingBox {
             lines,
             blocks,
             groups,
@@ -216,7 +216,7 @@ impl ByExtent {
         ensures { result ≡ [] }
     {
         Window {
-            bounds: Extent {
+            bounds: BoundingBox {
                 south: 0,
                 north: 0,
                 west: 0,
@@ -228,8 +228,8 @@ impl ByExtent {
         }
     }
 
-    /// The lines whose extent meets a window; each once, in an order of its own.
-    pub fn window(&self, bounds: &Extent) -> Window<'_>
+    /// The lines whose bounding box meets a window; each once, in an order of its own.
+    pub fn window(&self, bounds: &BoundingBox) -> Window<'_>
         ensures { IsWindow self.now bounds.now result }
     {
         let first = first_that_meets(&self.groups, bounds);
@@ -243,27 +243,27 @@ impl ByExtent {
     }
 }
 
-/// How many extents stand before the first one that meets a window: all, where none does.
-fn first_that_meets(extents: &[Extent], window: &Extent) -> usize
-    ensures at_most { result ≤ length extents.now }
-    ensures none { NoneMeets window.now (take result extents.now) }
+/// How many bounding boxes stand before the first one that meets a window: all, where none does.
+fn first_that_meets(bounding_boxes: &[BoundingBox], window: &BoundingBox) -> usize
+    ensures at_most { result ≤ length bounding_boxes.now }
+    ensures none { NoneMeets window.now (take result bounding_boxes.now) }
 {
-    for (index, extent) in extents.iter().enumerate() {
-        if extent.meets(window) {
+    for (index, bounding_box) in bounding_boxes.iter().enumerate() {
+        if bounding_box.meets(window) {
             return index;
         }
     }
-    extents.len()
+    bounding_boxes.len()
 }
 
-/// The place behind the last extent that meets a window: 0 where none does.
-fn end_of_those_that_meet(extents: &[Extent], window: &Extent) -> usize
-    ensures at_most { result ≤ length extents.now }
-    ensures none { NoneMeets window.now (drop result extents.now) }
+/// The place behind the last bounding box that meets a window: 0 where none does.
+fn end_of_those_that_meet(bounding_boxes: &[BoundingBox], window: &BoundingBox) -> usize
+    ensures at_most { result ≤ length bounding_boxes.now }
+    ensures none { NoneMeets window.now (drop result bounding_boxes.now) }
 {
-    let mut end = extents.len();
+    let mut end = bounding_boxes.len();
     while end > 0 {
-        if extents[end - 1].meets(window) {
+        if bounding_boxes[end - 1].meets(window) {
             return end;
         }
         end -= 1;
@@ -282,14 +282,14 @@ fn between<T>(items: &[T], size: usize, first: usize, end: usize) -> &[T]
 }
 
 /// The rank of the first of the lines that meets the window, with the lines after it.
-fn first_in<'a>(lines: &'a [PlacedLine], window: &Extent) -> Option<(u32, &'a [PlacedLine])>
+fn first_in<'a>(lines: &'a [PlacedLine], window: &BoundingBox) -> Option<(u32, &'a [PlacedLine])>
     ensures { MatchOption result
         (ranks_in window.now lines.now ≡ [])
         (λ found. ranks_in window.now lines.now ≡ found.0 ∷ ranks_in window.now found.1.now) }
 {
     let mut left = lines;
     while let Some((line, rest)) = left.split_first() {
-        if line.extent.meets(window) {
+        if line.bounding_box.meets(window) {
             return Some((line.rank, rest));
         }
         left = rest;

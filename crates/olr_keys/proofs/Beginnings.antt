@@ -1,15 +1,6 @@
 -- The keys that complete a beginning of a matching, by the rank of the next candidate.
-use Rattle.std.proofs.Common.{◌≡◌, ℕ, ◌+◌, ◌≤◌, ◌⊎◌, ◌++◌, List, [], ◌∷◌, length, Option, Some, inl, inr, refl, sym, ◌∙◌, subst, append_assoc, length-append, arith}
-use Rattle.std.proofs.lemmas.Bool.{cases_lt}
-use Rattle.std.proofs.lemmas.List.{append-nil}
-use Rattle.olr_keys.specs.Table.{Penalties, IsTable, count_of, max_step}
-use Rattle.olr_keys.specs.Key.{KeyValue, IsInRange}
-use Rattle.olr_keys.specs.Finder.{IsAfter, IsLeastOf}
-use Rattle.olr_keys.specs.Matching.{IsCompletion}
-use Rattle.olr_keys.specs.Product.{IsBeginning, Completes, IsHeld, IsJoined}
-use Rattle.olr_keys.specs.Bounds.{IsLeft}
+use Rattle.olr_keys.proofs.Common.{◌≡◌, ℕ, ◌+◌, ◌≤◌, ◌⊎◌, ◌++◌, List, [], ◌∷◌, length, Option, Some, inl, inr, refl, sym, ◌∙◌, subst, append_assoc, length-append, arith, cases_lt, append-nil, Penalties, IsTable, count_of, max_step, KeyValue, IsInRange, IsAfter, IsLeastOf, IsCompletion, IsBeginning, Completes, IsHeld, IsJoined, IsLeft, same_key}
 use Rattle.olr_keys.proofs.Least.{same_least, more_least, later_least}
-use Rattle.olr_keys.specs.Order.{same_key}
 use Rattle.olr_keys.proofs.Ranges.{key_in_range, rank_inside}
 use Rattle.olr_keys.proofs.Completions.{layer_inside, step_leg, step_penalty}
 

@@ -1,14 +1,7 @@
 -- The least remaining totals of a table, from the last layer backwards.
 use Rattle.olr_keys.proofs.Bounds.{each_more}
-use Rattle.std.proofs.Common.{◌≡◌, ℕ, ◌+◌, ◌-◌, ◌<◌, ◌≤◌, ◌⊎◌, min, List, [], ◌∷◌, ◌++◌, length, Option, Some, None, inl, inr, sym, ◌∙◌, ap, subst, arith}
-use Rattle.std.specs.Prelude.{slice_index_or}
-use Rattle.std.specs.Global.{Vec}
-use Rattle.std.proofs.Math.ListN.{get_or-eq_default}
-use Rattle.std.proofs.Math.Nat.{min-le_left, min-le_right}
-use Rattle.std.proofs.lemmas.Bool.{cases_lt, cases_eq}
+use Rattle.olr_keys.proofs.Common.{◌≡◌, ℕ, ◌+◌, ◌-◌, ◌<◌, ◌≤◌, ◌⊎◌, min, List, [], ◌∷◌, ◌++◌, length, Option, Some, None, inl, inr, sym, ◌∙◌, ap, subst, arith, slice_index_or, Vec, get_or-eq_default, min-le_left, min-le_right, cases_lt, cases_eq, Penalties, IsTable, count_of, penalty_at, leg_at, max_total, AreBoundsOf, AreFirstBounds, AreLastBounds, IsBound, IsLeastNumber, IsTotalThrough, lesser_of, lists_of}
 use Rattle.std.proofs.lemmas.List.{length-append, length-map, map-append}
-use Rattle.olr_keys.specs.Table.{Penalties, IsTable, count_of, penalty_at, leg_at, max_total}
-use Rattle.olr_keys.specs.Bounds.{AreBoundsOf, AreFirstBounds, AreLastBounds, IsBound, IsLeastNumber, IsTotalThrough, lesser_of, lists_of}
 use Rattle.olr_keys.proofs.Completions.{same_some}
 use Rattle.olr_keys.proofs.Remaining.{IsTotalBy, remaining_by, by_remaining}
 use Rattle.olr_keys.proofs.Sizes.{remaining_below, width_at_most}

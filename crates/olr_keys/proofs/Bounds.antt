@@ -1,12 +1,5 @@
 -- How great the penalties of a table are.
-use Rattle.std.proofs.lemmas.List.{get_or_append_left, get_or_at}
-use Rattle.std.proofs.Common.{rules, ℕ, zero, suc, ◌+◌, ◌<◌, ◌≤◌, List, [], length, Option, None, inl, inr, arith, ◌≡◌, ◌++◌, ◌∷◌}
-use Rattle.std.specs.Prelude.{All, IfSome, slice_index_or}
-use Rattle.std.proofs.Math.ListN.{get_or-eq_default}
-use Rattle.std.proofs.lemmas.Bool.{cases_lt}
-use Rattle.std.proofs.lemmas.List.Elements.{All-get_or}
-use Rattle.std.proofs.lemmas.Option.{slice_get-get_or, slice_get_past}
-use Rattle.olr_keys.specs.Table.{Penalties, IsTable, IsLayer, AreLegs, count_of, penalty_at, leg_at, max_leg, max_penalty}
+use Rattle.olr_keys.proofs.Common.{get_or_append_left, get_or_at, rules, ℕ, zero, suc, ◌+◌, ◌<◌, ◌≤◌, List, [], length, Option, None, inl, inr, arith, ◌≡◌, ◌++◌, ◌∷◌, All, IfSome, slice_index_or, get_or-eq_default, cases_lt, All-get_or, slice_get-get_or, slice_get_past, Penalties, IsTable, IsLayer, AreLegs, count_of, penalty_at, leg_at, max_leg, max_penalty}
 
 -- what holds of each element of a list holds of what stands at an index, if it holds of the default
 pub at_index : {X : Type 0} (P : X → Type 0) (xs : List X) (index : ℕ) (default : X) → All P xs

@@ -1,18 +1,7 @@
 -- Pages, one after the other, of a rising list.
-use Rattle.std.proofs.Common.{◌≡◌, ℕ, zero, suc, ◌+◌, ◌-◌, ◌<◌, ◌≤◌, ◌++◌, true, false, List, [], ◌∷◌, length, map, drop, Option, Some, None, inl, inr, refl, sym, ap, ◌∙◌, append_assoc, length-append, length-drop, length-take, arith}
-use Rattle.std.specs.Prelude.{AllPairs, slice_get}
-use Rattle.std.proofs.lemmas.Bool.{cases_lt}
-use Rattle.std.proofs.lemmas.List.{append-nil, map-append, take-append-drop, take_all}
-use Rattle.std.proofs.lemmas.Option.{slice_get_within}
-use Rattle.olr_keys.specs.Finder.{IsPosition}
-use Rattle.olr_keys.specs.Headline.{AreAllPages, AreEnded, AreResumed, joined}
-use Rattle.olr_keys.specs.Key.{KeyValue, IsBefore}
-use Rattle.olr_keys.specs.Order.{asymmetric}
-use Rattle.olr_keys.specs.Page.{PageValue, IsRestAfter, IsPageOf, IsPageAfter, last_key_of, last_of, page_of}
+use Rattle.olr_keys.proofs.Common.{◌≡◌, ℕ, zero, suc, ◌+◌, ◌-◌, ◌<◌, ◌≤◌, ◌++◌, true, false, List, [], ◌∷◌, length, map, drop, Option, Some, None, inl, inr, refl, sym, ap, ◌∙◌, append_assoc, length-append, length-drop, length-take, arith, AllPairs, slice_get, cases_lt, append-nil, map-append, take-append-drop, take_all, slice_get_within, IsPosition, AreAllPages, AreEnded, AreResumed, joined, KeyValue, IsBefore, asymmetric, PageValue, IsRestAfter, IsPageOf, IsPageAfter, last_key_of, last_of, page_of, same_list}
 use Rattle.olr_keys.specs.declared.pages.Page.{Page}
 use Rattle.olr_keys.proofs.PageLists.{after_keys, in_answers, in_rest, position_within, rest_of, rest_rises_too}
-use Rattle.olr_metric.proofs.Rising.{same_list}
-use Rattle.olr_keys.specs.Laws.{SizesAgree}
 
 -- ---- one rest
 
@@ -219,7 +208,3 @@ module _ {now answers : List KeyValue} (same : now ≡ answers) {position : Opti
     fewer_left more = rw grown_pages
         (chain_smaller answers after size (map page_of pages) (page_of page) rise so_far next_page
         more)
-
-pub sizes_agree : SizesAgree
-sizes_agree penalties answers after size other pages others list one two =
-    one_rest _ _ list.rise one.keys two.keys

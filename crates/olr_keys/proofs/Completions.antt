@@ -1,12 +1,5 @@
 -- How great the total of a completion is.
-use Rattle.std.proofs.Common.{◌≡◌, ℕ, zero, suc, ◌+◌, ◌*◌, ◌<◌, ◌≤◌, List, [], ◌∷◌, length, Option, Some, None, inl, inr, sym, subst, ap, ◌∙◌, arith}
-use Rattle.std.specs.Prelude.{◌==◌, Decides, IfSome, slice_get}
-use Rattle.std.proofs.Math.ListN.{get_or-eq_default}
-use Rattle.std.proofs.lemmas.Bool.{cases_lt}
-use Rattle.std.proofs.lemmas.Bool.Decides.{Decides-eqb}
-use Rattle.olr_keys.specs.Table.{Penalties, IsTable, penalty_at, max_leg, max_penalty, max_step}
-use Rattle.olr_keys.specs.Key.{KeyValue}
-use Rattle.olr_keys.specs.Matching.{leg_to, IsKey, IsCompletion}
+use Rattle.olr_keys.proofs.Common.{◌≡◌, ℕ, zero, suc, ◌+◌, ◌*◌, ◌<◌, ◌≤◌, List, [], ◌∷◌, length, Option, Some, None, inl, inr, sym, ap, ◌∙◌, arith, ◌==◌, Decides, IfSome, slice_get, get_or-eq_default, cases_lt, Decides-eqb, Penalties, IsTable, penalty_at, max_leg, max_penalty, max_step, KeyValue, leg_to, IsKey, IsCompletion}
 use Rattle.olr_keys.proofs.Bounds.{penalty_at_most, leg_at_most}
 
 some_at_most : {o : Option ℕ} {x bound : ℕ} → o ≡ Some x → IfSome o (λ n. n ≤ bound) → x ≤ bound

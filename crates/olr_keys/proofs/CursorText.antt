@@ -1,11 +1,7 @@
 -- Texts of cursors: a key, and perhaps `@` and the digits of a mark.
-use Rattle.std.proofs.Common.{◌≡◌, ℕ, List, [], ◌∷◌, ◌++◌, Option, None, Some, refl, sym, ap, ◌∙◌, append_assoc}
-use Rattle.std.specs.Prelude.{◌≢◌, Result, Ok, Err}
-use Rattle.olr_keys.specs.Cursor.{IsCursorOf, IsMark, cursor_text, hexadecimal, key_text}
-use Rattle.olr_keys.specs.Key.{KeyValue, IsInRange}
+use Rattle.olr_keys.proofs.Common.{◌≡◌, ℕ, List, [], ◌∷◌, ◌++◌, Option, None, Some, refl, sym, ap, ◌∙◌, append_assoc, ◌≢◌, Result, Ok, Err, IsCursorOf, IsMark, cursor_text, hexadecimal, key_text, KeyValue, IsInRange, Mark}
 use Rattle.olr_keys.specs.declared.cursor.BadCursor.{BadCursor}
 use Rattle.olr_keys.specs.declared.cursor.CursorRead.{CursorRead}
-use Rattle.olr_keys.specs.declared.mark.Mark.{Mark}
 use Rattle.olr_keys.proofs.Lacking.{Lacks, IsCut, one_cut, not_cut}
 use Rattle.olr_keys.proofs.KeyText.{lacks_key, one_key}
 use Rattle.olr_keys.proofs.Hexadecimal.{one_bytes}

@@ -1,11 +1,5 @@
 -- One step of the search for the completion after that of a cursor.
-use Rattle.std.proofs.Common.{◌≡◌, ℕ, suc, ◌+◌, ◌-◌, ◌*◌, ◌<◌, ◌≤◌, Bool, true, false, List, [], ◌∷◌, ◌++◌, length, Option, Some, refl, ◌∙◌, ap, subst, arith}
-use Rattle.std.specs.Prelude.{MatchBool}
-use Rattle.std.proofs.Math.Nat.{suc-mul}
-use Rattle.olr_keys.specs.Table.{Penalties, count_of}
-use Rattle.olr_keys.specs.Matching.{IsCompletion}
-use Rattle.olr_keys.specs.Rows.{IsStep, most_of}
-use Rattle.olr_keys.specs.Search.{Appends, IsFirstAbove, HasNoStep, IsNextCompletion, HasNoNextCompletion}
+use Rattle.olr_keys.proofs.Common.{◌≡◌, ℕ, suc, ◌+◌, ◌-◌, ◌*◌, ◌<◌, ◌≤◌, Bool, true, false, List, [], ◌∷◌, ◌++◌, length, Option, Some, refl, ◌∙◌, ap, subst, arith, MatchBool, suc-mul, Penalties, count_of, IsCompletion, IsStep, most_of, Appends, IsFirstAbove, HasNoStep, IsNextCompletion, HasNoNextCompletion}
 use Rattle.olr_keys.proofs.Searching.{appends_deeper, next_deeper, next_above, no_next_at_end, none_above, same_later, step_inside, step_layer, step_of_completion}
 use Rattle.olr_keys.proofs.Sizes.{count_most}
 

@@ -1,12 +1,5 @@
 -- The keys that complete the empty beginning are the answers.
-use Rattle.std.proofs.Common.{◌≡◌, ℕ, ◌⊎◌, List, [], Option, None, inl, inr, refl, sym, ◌∙◌, subst, arith}
-use Rattle.olr_keys.specs.Table.{Penalties}
-use Rattle.olr_keys.specs.AnswersOf.{answers_of}
-use Rattle.olr_keys.specs.Finder.{IsAfter, IsNext, IsLeastOf}
-use Rattle.olr_keys.specs.Key.{KeyValue}
-use Rattle.olr_keys.specs.Matching.{IsKey}
-use Rattle.olr_keys.specs.Order.{same_key}
-use Rattle.olr_keys.specs.Product.{Completes, IsHeld}
+use Rattle.olr_keys.proofs.Common.{◌≡◌, ℕ, ◌⊎◌, List, [], Option, None, inl, inr, refl, sym, ◌∙◌, subst, arith, Penalties, answers_of, IsAfter, IsNext, IsLeastOf, KeyValue, IsKey, same_key, Completes, IsHeld}
 use Rattle.olr_keys.proofs.Least.{same_least}
 use Rattle.olr_keys.proofs.NextKeys.{next_listed}
 

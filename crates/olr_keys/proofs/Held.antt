@@ -1,12 +1,5 @@
 -- How many bytes the rows have that are held.
-use Rattle.std.proofs.Common.{◌≡◌, ℕ, zero, suc, ◌+◌, ◌-◌, ◌*◌, ◌<◌, List, [], ◌∷◌, length, take, refl, ap, ◌∙◌, arith}
-use Rattle.std.specs.Prelude.{slice_index_or, get_or}
-use Rattle.std.specs.List.{sum_by}
-use Rattle.std.proofs.Math.Nat.{suc-mul}
-use Rattle.std.proofs.lemmas.List.{take_all}
-use Rattle.std.proofs.lemmas.List.Sums.{sum_by-cons}
-use Rattle.olr_keys.specs.Rows.{AreLastLayers, IsRowOf, IsTotal, bytes_of, held_bytes, width_of}
-use Rattle.olr_keys.specs.Table.{Penalties, count_of}
+use Rattle.olr_keys.proofs.Common.{◌≡◌, ℕ, zero, suc, ◌+◌, ◌-◌, ◌*◌, ◌<◌, List, [], ◌∷◌, length, take, refl, ap, ◌∙◌, arith, slice_index_or, get_or, sum_by, suc-mul, take_all, sum_by-cons, AreLastLayers, IsRowOf, IsTotal, bytes_of, held_bytes, width_of, Penalties, count_of}
 use Rattle.olr_keys.proofs.Sizes.{sum_more}
 
 -- rows of one width

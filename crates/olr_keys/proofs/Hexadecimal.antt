@@ -1,17 +1,9 @@
 -- The digits of a mark, and those of `hex`.
-use Rattle.std.proofs.Common.{◌≡◌, ℕ, ◌/◌, ◌%◌, ◌<◌, List, [], ◌∷◌, ◌==◌, slice_index, true, false, refl, arith}
+use Rattle.olr_keys.proofs.Common.{◌≡◌, ℕ, ◌/◌, ◌%◌, ◌<◌, List, [], ◌∷◌, ◌==◌, slice_index, true, false, refl, arith, All, Ok, nat_lt, agree_below_at, eqb-true, All-head, All-tail, Decides-ltb, IsUtf8-from_ascii, IsBytes, decode_sized, encode_lower, encode_with, lower_digits, IsMark, hexadecimal, Mark}
 use Rattle.std.specs.Fmt.{digit_glyph}
-use Rattle.std.specs.Prelude.{All, Result, Ok, Err, IsOk, OnOk, nat_lt}
 use Rattle.std.specs.Str.{IsAscii, IsUtf8}
-use Rattle.std.proofs.lemmas.Bool.{agree_below_at, eqb-true}
-use Rattle.std.proofs.lemmas.List.Elements.{All-head, All-tail}
-use Rattle.std.proofs.lemmas.Bool.Decides.{Decides-ltb}
-use Rattle.std.proofs.lemmas.Str.{IsUtf8-from_ascii}
 use Rattle.std.proofs.lemmas.Str.Ascii.{IsAscii-from_reads}
-use Rattle.hex.specs.Hex.{IsBytes, decode_sized, encode_lower, encode_with, lower_digits}
 use Rattle.hex.proofs.HexLemmas.{IsAscii-encode_with, decode_of-encode_lower, decode_of-same, decode_sized-encode_lower}
-use Rattle.olr_keys.specs.Cursor.{IsMark, hexadecimal}
-use Rattle.olr_keys.specs.declared.mark.Mark.{Mark}
 use Rattle.olr_keys.proofs.Bounds.{at_index}
 
 one_digit : (value : ℕ) → value < 16 → slice_index lower_digits value ≡ digit_glyph false value
@@ -43,11 +35,6 @@ ascii_digits =
 
 pub are_text : (bytes : List ℕ) → IsUtf8 (encode_lower bytes)
 are_text bytes = IsUtf8-from_ascii _ (IsAscii-encode_with lower_digits bytes ascii_digits)
-
--- what a call that succeeded ensures
-pub of_ok : {T E : Type 0} (r : Result T E) (P : Type 0) → IsOk r → OnOk r P → P
-of_ok (Ok x) P ok holds = holds
-of_ok (Err e) P ok holds = cc ok
 
 -- the digits of a mark are read as the mark
 pub mark_read : {mark : Mark} {text : List ℕ} → IsMark mark → text ≡ hexadecimal mark.0

@@ -1,10 +1,7 @@
 -- A row that is joined with another one step by step.
-use Rattle.std.proofs.Common.{◌≡◌, ℕ, zero, suc, ◌+◌, ◌-◌, ◌*◌, ◌<◌, ◌≤◌, List, [], length, take, drop, slice_index, get_or, bit_or, inl, inr, ap, ◌∙◌, subst, mul-le-mul_left, arith}
+use Rattle.olr_keys.proofs.Common.{◌≡◌, ℕ, zero, suc, ◌+◌, ◌-◌, ◌*◌, ◌<◌, ◌≤◌, List, [], length, take, drop, slice_index, get_or, bit_or, inl, inr, ap, ◌∙◌, subst, mul-le-mul_left, arith, cases_lt, drop-drop, length-put_chunk, length-chunk, length-zip2, get_or-chunk, get_or-zip2, get_or-put_chunk_below, get_or-put_chunk_at, get_or-put_chunk_above}
 use Rattle.std.specs.Simd.{first_chunks}
 use Rattle.std.specs.Simd.Lanes.{zip2, put_chunk, chunk}
-use Rattle.std.proofs.lemmas.Bool.{cases_lt}
-use Rattle.std.proofs.lemmas.List.{drop-drop}
-use Rattle.std.proofs.lemmas.Simd.{length-put_chunk, length-chunk, length-zip2, get_or-chunk, get_or-zip2, get_or-put_chunk_below, get_or-put_chunk_at, get_or-put_chunk_above}
 
 -- how far the joining has come: below an index each byte is joined, from there on it is as it was
 pub record IsJoinedBelow (before other : List ℕ) (count : ℕ) (after : List ℕ) : Type 0 where

@@ -1,11 +1,5 @@
 -- Texts of keys: the total, a colon, and the ranks.
-use Rattle.std.proofs.Common.{◌≡◌, ℕ, ◌<◌, List, [], ◌∷◌, ◌++◌, length, ap, ◌∙◌, append_assoc, rules, arith}
-use Rattle.std.specs.Prelude.{◌≢◌, decimal, All}
-use Rattle.std.proofs.lemmas.Fmt.{decimal_injective}
-use Rattle.std.proofs.lemmas.List.Elements.{All-append, All-cons, All-head, All-tail}
-use Rattle.olr_keys.specs.Cursor.{AreRanks, key_text, ranks_text}
-use Rattle.olr_keys.specs.Key.{KeyValue, IsInRange, IsRank}
-use Rattle.olr_keys.specs.Order.{same_key}
+use Rattle.olr_keys.proofs.Common.{◌≡◌, ℕ, ◌<◌, List, [], ◌∷◌, ◌++◌, length, ap, ◌∙◌, append_assoc, rules, arith, ◌≢◌, decimal, All, decimal_injective, All-append, All-cons, All-head, All-tail, AreRanks, key_text, ranks_text, KeyValue, IsInRange, IsRank, same_key}
 use Rattle.olr_keys.proofs.Lacking.{Lacks, IsCut, lacks_decimal, one_cut, not_cut}
 use Rattle.olr_keys.proofs.RanksText.{later, one_ranks, ranks_text-cons}
 

@@ -1,15 +1,8 @@
 -- The rows of all layers.
 use Rattle.olr_keys.proofs.Bounds.{each_more}
-use Rattle.std.proofs.Common.{◌≡◌, ℕ, ◌+◌, ◌-◌, ◌<◌, List, [], ◌∷◌, ◌++◌, length, map, inl, inr, sym, ◌∙◌, ap, subst, arith}
-use Rattle.std.specs.Prelude.{slice_index_or}
-use Rattle.std.specs.Global.{Vec}
-use Rattle.std.proofs.Math.ListN.{get_or-eq_default}
+use Rattle.olr_keys.proofs.Common.{◌≡◌, ℕ, ◌+◌, ◌-◌, ◌<◌, List, [], ◌∷◌, ◌++◌, length, map, inl, inr, sym, ◌∙◌, ap, subst, arith, slice_index_or, Vec, get_or-eq_default, cases_lt, map-map, Penalties, AreRowsOf, AreLastLayers, rows_of, layers_of}
 use Rattle.std.proofs.Math.ListN.{get_or-map as map_at}
-use Rattle.std.proofs.lemmas.Bool.{cases_lt}
 use Rattle.std.proofs.lemmas.List.{length-append, length-map, map-append}
-use Rattle.std.proofs.lemmas.Simd.{map-map}
-use Rattle.olr_keys.specs.Table.{Penalties, count_of}
-use Rattle.olr_keys.specs.Rows.{AreRowsOf, AreLastLayers, rows_of, layers_of}
 
 -- the rows of a layer at an index
 pub layer_at : (marks : List (Vec (Vec ℕ))) (index : ℕ)

@@ -1,11 +1,5 @@
 -- The least of all keys that something holds of.
-use Rattle.std.proofs.Common.{◌≡◌, ◌⊎◌, Bool, false, Option, Some, None, inl, inr, refl, sym}
-use Rattle.std.specs.Prelude.{Decides}
-use Rattle.olr_keys.specs.Bounds.{IsHeldBefore}
-use Rattle.olr_keys.specs.Key.{KeyValue, IsBefore}
-use Rattle.olr_keys.specs.Finder.{IsAfter, IsLeastOf}
-use Rattle.olr_keys.specs.Product.{IsHeld}
-use Rattle.olr_keys.specs.Order.{transitive, compared}
+use Rattle.olr_keys.proofs.Common.{◌≡◌, ◌⊎◌, Bool, false, Option, Some, None, inl, inr, refl, sym, Decides, IsHeldBefore, KeyValue, IsBefore, IsAfter, IsLeastOf, IsHeld, transitive, compared}
 
 -- a key held that the other one doesn't come before
 pub stays_held : (after held : Option KeyValue) {key h : KeyValue} {test : Bool} → held ≡ Some h

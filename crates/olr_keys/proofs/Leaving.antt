@@ -1,12 +1,6 @@
 -- What may be left: beginnings that can't be completed, or only by keys that come after the one
 -- held.
-use Rattle.std.proofs.Common.{◌≡◌, ℕ, ◌+◌, ◌≤◌, List, [], ◌∷◌, ◌++◌, length, Option, Some, None, inl, inr, refl, ◌∙◌, append_assoc, arith}
-use Rattle.std.proofs.lemmas.Bool.{cases_eq}
-use Rattle.olr_keys.specs.Bounds.{HasNoCompletionBy, IsBound, IsHeldBefore, IsLeft, IsLowerBound}
-use Rattle.olr_keys.specs.Key.{KeyValue, AreBefore, IsBefore}
-use Rattle.olr_keys.specs.Matching.{leg_to}
-use Rattle.olr_keys.specs.Product.{IsJoined}
-use Rattle.olr_keys.specs.Table.{Penalties}
+use Rattle.olr_keys.proofs.Common.{◌≡◌, ℕ, ◌+◌, ◌≤◌, List, [], ◌∷◌, ◌++◌, length, Option, Some, None, inl, inr, refl, ◌∙◌, append_assoc, arith, cases_eq, HasNoCompletionBy, IsBound, IsHeldBefore, IsLeft, IsLowerBound, KeyValue, AreBefore, IsBefore, leg_to, IsJoined, Penalties}
 use Rattle.olr_keys.proofs.Completions.{same_some}
 
 -- ---- one step

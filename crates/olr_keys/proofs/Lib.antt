@@ -1,3 +1,4 @@
+mod Common
 mod Bounds
 mod Completions
 mod Joining

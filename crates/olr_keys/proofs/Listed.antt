@@ -1,31 +1,16 @@
 -- A table has exactly one list of answers.
-use Rattle.std.proofs.Common.{◌≡◌, ℕ, zero, suc, ◌+◌, ◌≤◌, List, [], ◌∷◌, length, map, is_some, Option, Some, None, inl, inr, refl, sym, ap, ◌∙◌, subst, arith}
-use Rattle.std.specs.Prelude.{Contains}
-use Rattle.std.specs.List.{list_any}
+use Rattle.olr_keys.proofs.Common.{◌≡◌, ℕ, zero, suc, ◌+◌, ◌≤◌, List, [], ◌∷◌, length, map, is_some, Option, Some, None, inl, inr, refl, sym, ap, ◌∙◌, subst, arith, Contains, list_any, on_texts, cases_lt, map-id, All-contains, All-contains_itself, Contains-append_cases, Contains-append_left, Contains-append_right, map-map, answers_of, by_key, entry_of, completions_with, lists_up_to, completions, KeyValue, IsBefore, IsKey, IsCompletion, Penalties, compared_by, asymmetric, further, here, member, same_list, OneList, HasList}
 use Rattle.std.specs.Cmp.{IsTotalOrder}
-use Rattle.std.specs.Cmp.Lexicographic.{on_texts}
 use Rattle.std.specs.FinMap.{contains_key-keys, from_entries, get-from_entries, keys as keys_of}
 use Rattle.std.specs.FinMap.Entries.{is_some-find}
 use Rattle.std.specs.Ordering.{eq_by_cmp}
-use Rattle.std.proofs.lemmas.Bool.{cases_lt}
 use Rattle.std.proofs.lemmas.Cmp.{eq_by_cmp_equiv}
-use Rattle.std.proofs.lemmas.List.{map-id}
-use Rattle.std.proofs.lemmas.List.Elements.{All-contains, All-contains_itself, Contains-append_cases, Contains-append_left, Contains-append_right}
 use Rattle.std.proofs.lemmas.Map.Lookups.{CmpEqualImpliesEq}
 use Rattle.std.proofs.lemmas.Map.Views.{Contains-from_any, list_any-from_Contains, tells_apart}
-use Rattle.std.proofs.lemmas.Simd.{map-map}
 use Rattle.olr_keys.specs.Answers.{AreAnswers}
-use Rattle.olr_keys.specs.AnswersOf.{answers_of, by_key, entry_of, completions_with, lists_up_to, completions}
-use Rattle.olr_keys.specs.Key.{KeyValue, IsBefore}
-use Rattle.olr_keys.specs.Matching.{IsKey, IsCompletion}
-use Rattle.olr_keys.specs.Table.{Penalties}
-use Rattle.olr_keys.specs.Order.{compared_by, asymmetric}
 use Rattle.olr_keys.proofs.Ranges.{rank_inside}
 use Rattle.olr_keys.specs.Rise.{answers_rise}
-use Rattle.olr_metric.proofs.Contained.{further, here, member}
-use Rattle.olr_metric.proofs.Rising.{same_list}
 use Rattle.olr_keys.proofs.Completions.{layer_inside, same_some}
-use Rattle.olr_keys.specs.Laws.{OneList, HasList}
 
 -- ---- at most one
 

@@ -1,16 +1,9 @@
 -- Rows that mark numbers.
 use Rattle.olr_keys.proofs.Ranges.{rank_inside}
 use Rattle.olr_keys.proofs.Bounds.{each_more}
-use Rattle.std.proofs.Common.{◌≡◌, ℕ, ◌+◌, ◌-◌, ◌<◌, ◌≤◌, ◌⊎◌, List, [], ◌∷◌, ◌++◌, length, add-zero, set, replicate, slice_index, bit_or, Some, None, inl, inr, refl, sym, ◌∙◌, subst, arith}
-use Rattle.std.specs.Prelude.{slice_index_or, get_or}
-use Rattle.std.specs.Global.{Vec}
-use Rattle.std.proofs.Math.ListN.{get_or-eq_default}
-use Rattle.std.proofs.lemmas.Bool.{cases_lt, cases_eq}
+use Rattle.olr_keys.proofs.Common.{◌≡◌, ℕ, ◌+◌, ◌-◌, ◌<◌, ◌≤◌, ◌⊎◌, List, [], ◌∷◌, ◌++◌, length, add-zero, set, replicate, slice_index, bit_or, Some, None, inl, inr, refl, sym, ◌∙◌, subst, arith, slice_index_or, get_or, Vec, get_or-eq_default, cases_lt, cases_eq, Penalties, IsTable, count_of, penalty_at, leg_at, IsRemainingTotal, IsCompletion, AreRowsOf, IsRowOf, IsTotal, rows_of, width_of}
 use Rattle.std.proofs.lemmas.List.{length-replicate, length-set, get_or-replicate, get_or-set_same, get_or-set_other, get_or-map, length-map, length-append, map-append}
 use Rattle.std.proofs.lemmas.Nat.{le_or_l, le_or_r}
-use Rattle.olr_keys.specs.Table.{Penalties, IsTable, count_of, penalty_at, leg_at}
-use Rattle.olr_keys.specs.Matching.{IsRemainingTotal, IsCompletion}
-use Rattle.olr_keys.specs.Rows.{AreRowsOf, IsRowOf, IsTotal, rows_of, width_of}
 use Rattle.olr_keys.specs.Shifted.{IsOrShifted}
 use Rattle.olr_keys.proofs.Remaining.{IsTotalBy, remaining_last, only_last, remaining_by, by_remaining}
 use Rattle.olr_keys.proofs.Sizes.{remaining_below}

@@ -1,17 +1,6 @@
 -- The next key, from the next completion with a total and the first completion with the next total.
-use Rattle.std.proofs.Common.{◌≡◌, ℕ, ◌+◌, ◌<◌, ◌≤◌, ◌⊎◌, List, [], ◌++◌, length, Bool, Option, Some, None, inl, inr, sym, ◌∙◌, ap, arith}
-use Rattle.std.specs.Prelude.{Contains, Decides, IfSome}
-use Rattle.std.proofs.lemmas.Bool.{cases_eq, cases_lt}
-use Rattle.std.proofs.lemmas.List.Elements.{All-contains}
-use Rattle.olr_keys.specs.Finder.{IsNext, IsPosition, IsLeastOf, IsNextKey}
-use Rattle.olr_keys.specs.AnswersOf.{answers_of}
+use Rattle.olr_keys.proofs.Common.{◌≡◌, ℕ, ◌+◌, ◌<◌, ◌≤◌, ◌⊎◌, List, [], ◌++◌, length, Bool, Option, Some, None, inl, inr, sym, ◌∙◌, ap, arith, Contains, Decides, IfSome, cases_eq, cases_lt, All-contains, IsNext, IsPosition, IsLeastOf, IsNextKey, answers_of, Penalties, IsTable, KeyValue, IsBefore, IsInRange, IsKey, IsCompletion, same_key, IsTotal, width_of, Appends, IsFirstTotal, IsFirstCompletion}
 use Rattle.olr_keys.proofs.Listed.{has_list}
-use Rattle.olr_keys.specs.Table.{Penalties, IsTable}
-use Rattle.olr_keys.specs.Key.{KeyValue, IsBefore, IsInRange}
-use Rattle.olr_keys.specs.Matching.{IsKey, IsCompletion}
-use Rattle.olr_keys.specs.Order.{same_key}
-use Rattle.olr_keys.specs.Rows.{IsTotal, width_of}
-use Rattle.olr_keys.specs.Search.{Appends, IsFirstTotal, IsFirstCompletion}
 use Rattle.olr_keys.proofs.Ranges.{key_in_range, completion_length}
 use Rattle.olr_keys.proofs.Sizes.{total_below}
 

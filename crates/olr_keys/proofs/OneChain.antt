@@ -1,13 +1,7 @@
 -- Pages of a rising list: those after one position and of one size are the same.
 use Rattle.olr_keys.proofs.Chains.{one_rest}
-use Rattle.std.proofs.Common.{◌≡◌, ℕ, Bool, true, false, List, [], ◌∷◌, Option, Some, sym, ap, ◌∙◌}
-use Rattle.std.specs.Prelude.{AllPairs}
-use Rattle.std.proofs.lemmas.Bool.Decides.{same_from_decides}
-use Rattle.olr_keys.specs.Headline.{AreEnded, AreResumed}
-use Rattle.olr_keys.specs.Key.{KeyValue, IsBefore}
-use Rattle.olr_keys.specs.Page.{PageValue, IsPageOf, IsPageAfter, last_of}
+use Rattle.olr_keys.proofs.Common.{◌≡◌, ℕ, Bool, true, false, List, [], ◌∷◌, Option, Some, sym, ap, ◌∙◌, AllPairs, same_from_decides, AreEnded, AreResumed, KeyValue, IsBefore, PageValue, IsPageOf, IsPageAfter, last_of, NoPageBehindOthers}
 use Rattle.olr_keys.proofs.PageLists.{position_within}
-use Rattle.olr_keys.specs.Laws.{NoPageBehindOthers}
 
 -- ---- one page
 

@@ -1,8 +1,5 @@
 -- What a call gave.
-use Rattle.std.proofs.Common.{◌≡◌, ℕ, true, not, List, Option, None, refl}
-use Rattle.std.specs.Cmp.Lexicographic.{pointwise}
-use Rattle.std.specs.Prelude.{MatchOption, Result, Ok, nat_eq}
-use Rattle.std.proofs.lemmas.Bool.Decides.{Decides-eqb}
+use Rattle.olr_keys.proofs.Common.{◌≡◌, ℕ, true, not, List, Option, None, refl, pointwise, MatchOption, Result, Ok, nat_eq, Decides-eqb}
 use Rattle.std.proofs.lemmas.Slice.Eq.{slice_eq-Decides}
 
 -- what has to hold where a call gave none

@@ -1,15 +1,5 @@
 -- What is left of a rising list after some of its keys.
-use Rattle.std.proofs.Common.{◌≡◌, ℕ, zero, suc, ◌+◌, ◌-◌, ◌<◌, ◌≤◌, ◌++◌, Bool, true, List, [], ◌∷◌, length, drop, get_or, Option, Some, None, inl, inr, refl, sym, ap, ◌∙◌, subst, append_assoc, length-append, arith}
-use Rattle.std.specs.Prelude.{AllPairs, Contains, is_some, slice_get}
-use Rattle.std.proofs.lemmas.List.{append-nil, take_all, take_at}
-use Rattle.std.proofs.lemmas.List.Elements.{Contains-append_cases, Contains-append_right}
-use Rattle.std.proofs.lemmas.Option.{slice_get_within}
-use Rattle.olr_keys.specs.Finder.{IsAfter, IsNext, IsPosition}
-use Rattle.olr_keys.specs.Key.{KeyValue, IsBefore}
-use Rattle.olr_keys.specs.Order.{asymmetric}
-use Rattle.olr_keys.specs.Page.{IsRestAfter, IsPageAfter, IsPageOf, last_of}
-use Rattle.olr_metric.proofs.Contained.{further, here, member}
-use Rattle.olr_metric.proofs.Rising.{behind_first, rest_rises}
+use Rattle.olr_keys.proofs.Common.{◌≡◌, ℕ, zero, suc, ◌+◌, ◌-◌, ◌<◌, ◌≤◌, ◌++◌, Bool, true, List, [], ◌∷◌, length, drop, get_or, Option, Some, None, inl, inr, refl, sym, ap, ◌∙◌, append_assoc, length-append, arith, AllPairs, Contains, is_some, slice_get, append-nil, take_all, take_at, Contains-append_cases, Contains-append_right, slice_get_within, IsAfter, IsNext, IsPosition, KeyValue, IsBefore, asymmetric, IsRestAfter, IsPageAfter, IsPageOf, last_of, further, here, member, behind_first, rest_rises}
 
 -- ---- the last key
 

@@ -1,13 +1,7 @@
 -- The key of a matching is in the ranges of a key.
-use Rattle.std.proofs.Common.{◌≡◌, ℕ, zero, suc, ◌+◌, ◌≤◌, List, [], ◌∷◌, length, All, Option, Some, None, arith}
-use Rattle.std.specs.Prelude.{slice_index_or}
-use Rattle.std.proofs.lemmas.List.Elements.{All-cons, All-nil}
-use Rattle.std.proofs.lemmas.Option.{slice_get_within}
-use Rattle.olr_keys.specs.Table.{Penalties, IsTable, count_of, penalty_at, max_total}
-use Rattle.olr_keys.specs.Matching.{IsCompletion}
+use Rattle.olr_keys.proofs.Common.{◌≡◌, ℕ, zero, suc, ◌+◌, ◌≤◌, List, [], ◌∷◌, length, All, Option, Some, None, arith, slice_index_or, All-cons, All-nil, slice_get_within, Penalties, IsTable, count_of, penalty_at, max_total, IsCompletion, KeysAreInRange}
 use Rattle.olr_keys.proofs.Bounds.{count_at_most}
 use Rattle.olr_keys.proofs.Completions.{step_penalty, completion_at_most}
-use Rattle.olr_keys.specs.Laws.{KeysAreInRange}
 
 -- a candidate's rank is from 1 to the count of its layer
 pub rank_inside : (p : Penalties) (layer rank penalty : ℕ) → penalty_at p layer rank ≡ Some penalty

@@ -1,11 +1,6 @@
 -- Texts of ranks: in decimal, joined by dots.
 use Rattle.std.proofs.Common.{◌≡◌, ℕ, ◌+◌, ◌-◌, ◌<◌, List, [], ◌∷◌, ◌++◌, length, get_or, Option, Some, None, sym, ap, ◌∙◌, append_assoc, append-nil, length-append, take, suc, arith}
-use Rattle.std.specs.Prelude.{◌≢◌, decimal, MatchOption}
-use Rattle.std.proofs.Math.Seq.{take-suc}
-use Rattle.std.proofs.lemmas.Fmt.{decimal_injective}
-use Rattle.std.proofs.lemmas.List.Elements.{All-cons, All-tail}
-use Rattle.olr_keys.specs.Cursor.{AreRanks, ranks_text}
-use Rattle.olr_keys.specs.Key.{IsRank}
+use Rattle.olr_keys.proofs.Common.{◌≢◌, decimal, MatchOption, take-suc, decimal_injective, All-cons, All-tail, AreRanks, ranks_text, IsRank}
 use Rattle.olr_keys.proofs.Lacking.{Lacks, IsCut, lacks_decimal, one_cut, not_cut}
 
 lacks_rank : {rank : ℕ} → IsRank rank → Lacks 46 (decimal rank)

@@ -1,8 +1,6 @@
 -- Remaining totals, from one layer to the next.
 use Rattle.olr_keys.proofs.Ranges.{rank_inside}
-use Rattle.std.proofs.Common.{◌≡◌, ℕ, ◌+◌, ◌<◌, ◌≤◌, [], ◌∷◌, length, Some, refl, arith}
-use Rattle.olr_keys.specs.Table.{Penalties, count_of, penalty_at, leg_at}
-use Rattle.olr_keys.specs.Matching.{IsRemainingTotal}
+use Rattle.olr_keys.proofs.Common.{◌≡◌, ℕ, ◌+◌, ◌<◌, ◌≤◌, [], ◌∷◌, length, Some, refl, arith, Penalties, count_of, penalty_at, leg_at, IsRemainingTotal}
 use Rattle.olr_keys.proofs.Completions.{layer_inside, same_some}
 
 -- ---- the last layer

@@ -1,13 +1,6 @@
 -- The search for a completion, from one layer to the next.
-use Rattle.std.proofs.Common.{◌≡◌, ℕ, suc, ◌+◌, ◌-◌, ◌*◌, ◌<◌, ◌≤◌, ◌⊎◌, List, [], ◌∷◌, ◌++◌, length, take, Option, Some, inl, inr, refl, sym, ◌∙◌, ap, subst, arith}
-use Rattle.std.proofs.Math.Nat.{suc-mul}
+use Rattle.olr_keys.proofs.Common.{◌≡◌, ℕ, suc, ◌+◌, ◌-◌, ◌*◌, ◌<◌, ◌≤◌, ◌⊎◌, List, [], ◌∷◌, ◌++◌, length, take, Option, Some, inl, inr, refl, sym, ◌∙◌, ap, subst, arith, suc-mul, cases_eq, cases_order, Penalties, count_of, penalty_at, AreBefore, IsCompletion, IsRemainingTotal, IsStep, IsPredecessor, Appends, IsFirstStep, HasNoStep, HasCompletion, IsFirstCompletion, IsNextCompletion, HasNoNextCompletion}
 use Rattle.std.proofs.lemmas.List.{append-nil, append_assoc, length-append, take_at}
-use Rattle.std.proofs.lemmas.Bool.{cases_eq, cases_order}
-use Rattle.olr_keys.specs.Table.{Penalties, count_of, penalty_at}
-use Rattle.olr_keys.specs.Key.{AreBefore}
-use Rattle.olr_keys.specs.Matching.{IsCompletion, IsRemainingTotal}
-use Rattle.olr_keys.specs.Rows.{IsStep, IsPredecessor}
-use Rattle.olr_keys.specs.Search.{Appends, IsFirstStep, HasNoStep, HasCompletion, IsFirstCompletion, IsNextCompletion, HasNoNextCompletion}
 use Rattle.olr_keys.proofs.Ranges.{rank_inside}
 use Rattle.olr_keys.proofs.Completions.{layer_inside, same_some}
 

@@ -1,19 +1,7 @@
 -- The width of a table: how great it is, and that each remaining total is less.
-use Rattle.std.proofs.lemmas.Option.{slice_get-get_or, slice_get_within, get_or_from_slice_get}
-use Rattle.std.proofs.Common.{◌≡◌, ℕ, zero, suc, ◌+◌, ◌-◌, ◌*◌, ◌<◌, ◌≤◌, max, List, [], ◌∷◌, length, map, drop, take, Option, Some, None, inl, inr, refl, ap, add-one, arith}
-use Rattle.std.specs.Prelude.{slice_index_or, slice_get, unwrap_or, IfSome, get_or, All}
-use Rattle.std.specs.List.{sum_by}
-use Rattle.std.proofs.Math.Nat.{le-max_left, le-max_right, mul-le-mul_right}
-use Rattle.std.proofs.lemmas.List.Sums.{sum_by-cons, sum_by-take-drop, sum_by-le}
-use Rattle.std.proofs.Math.ListN.{get_or-eq_default}
-use Rattle.std.proofs.lemmas.Bool.{cases_lt}
-use Rattle.std.proofs.lemmas.List.{take_all, take_more}
+use Rattle.olr_keys.proofs.Common.{slice_get-get_or, slice_get_within, get_or_from_slice_get, ◌≡◌, ℕ, zero, suc, ◌+◌, ◌-◌, ◌*◌, ◌<◌, ◌≤◌, max, List, [], ◌∷◌, length, map, drop, take, Option, Some, None, inl, inr, refl, ap, add-one, arith, slice_index_or, slice_get, unwrap_or, IfSome, get_or, All, sum_by, le-max_left, le-max_right, mul-le-mul_right, sum_by-cons, sum_by-take-drop, sum_by-le, get_or-eq_default, cases_lt, take_all, take_more, Penalties, IsTable, count_of, penalty_at, max_leg, max_penalty, max_total, leg_to, IsCompletion, greatest, greatest_leg, bytes_of, most_of, width_of, RemainingAreBelow, TotalsAreBelow}
 use Rattle.std.proofs.lemmas.List.Recursion.{max_push, max_bounds, max_least}
 use Rattle.olr_keys.proofs.Bounds.{layer_sound, legs_sound}
-use Rattle.olr_keys.specs.Table.{Penalties, IsTable, count_of, penalty_at, max_leg, max_penalty, max_total}
-use Rattle.olr_keys.specs.Matching.{leg_to, IsCompletion}
-use Rattle.olr_keys.specs.Rows.{greatest, greatest_leg, bytes_of, most_of, width_of}
-use Rattle.olr_keys.specs.Laws.{RemainingAreBelow, TotalsAreBelow}
 
 empty_sum : {X : Type 0} (f : X → ℕ) (index : ℕ) → sum_by f (drop index []) ≡ 0
 empty_sum f zero = refl

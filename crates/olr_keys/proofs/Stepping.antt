@@ -1,11 +1,5 @@
 -- What a byte of a row says of a step.
-use Rattle.std.proofs.Common.{◌≡◌, ℕ, ◌+◌, ◌-◌, ◌<◌, List, [], length, map, Option, Some, None, sym, ◌∙◌, ap, subst, arith}
-use Rattle.std.specs.Prelude.{slice_index_or, MatchOption}
-use Rattle.std.specs.Global.{Vec}
-use Rattle.std.proofs.lemmas.List.{length-map}
-use Rattle.olr_keys.specs.Table.{Penalties, count_of, penalty_at}
-use Rattle.olr_keys.specs.Matching.{leg_to, IsRemainingTotal}
-use Rattle.olr_keys.specs.Rows.{AreLastLayers, AreRowsOf, IsRowOf, IsStep, rows_of, layers_of, width_of}
+use Rattle.olr_keys.proofs.Common.{◌≡◌, ℕ, ◌+◌, ◌-◌, ◌<◌, List, [], length, map, Option, Some, None, sym, ◌∙◌, ap, subst, arith, slice_index_or, MatchOption, Vec, length-map, Penalties, count_of, penalty_at, leg_to, IsRemainingTotal, AreLastLayers, AreRowsOf, IsRowOf, IsStep, rows_of, layers_of, width_of}
 use Rattle.olr_keys.specs.Search.{IsLeft}
 use Rattle.olr_keys.proofs.Layers.{layer_at}
 use Rattle.olr_keys.proofs.Completions.{same_some}

@@ -34,14 +34,6 @@ abbrev pub TotalsAreBelow : Type 0
 TotalsAreBelow = (penalties : Penalties) (total : ℕ) → IsTotal penalties total
     → total < width_of penalties
 
--- the pages of any two sizes, all pages or those after the same key, have the same keys when they
--- are joined
-abbrev pub SizesAgree : Type 0
-SizesAgree = (penalties : Penalties) (answers : List KeyValue) (after : Option KeyValue)
-    (size other : ℕ) (pages others : List PageValue) → AreAnswers penalties answers
-    → AreAllPages answers after size pages → AreAllPages answers after other others
-    → joined pages ≡ joined others
-
 -- Pages that were taken one by one, each resumed at the last key of the one before, up to one
 -- without more: joined, they are exactly the keys after the position at which the first page began.
 abbrev pub PagesJoin : Type 0

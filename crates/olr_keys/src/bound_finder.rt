@@ -18,7 +18,7 @@ use crate::matching::is_key;
 use crate::product::{lesser, with_rank};
 use crate::table::Table;
 use arrayvec::ArrayVec;
-use olr_metric::NoMemory;
+use olr_base::NoMemory;
 use std::alloc::Global;
 
 /// The finder that keeps the least remaining total of each candidate beside its table.
@@ -60,6 +60,7 @@ impl<'a> Finder for BoundFinder<'a> {
         is_key(self.bounds.table(), key)
     }
 
+    #[tactic(auto, using(crate::proofs::FromStart::next_of))]
     fn next(&mut self, _alloc: Global, after: Option<&Key>) -> Result<Option<Key>, NoMemory>
         requires { IsPosition (answers_of self.old.bounds) (option_map (λ key. key.now) after) }
         ensures next { IfOk result

@@ -8,7 +8,7 @@ ghost use Rattle.olr_keys.specs.Bounds.{lesser_of};
 ghost use Rattle.olr_keys.specs.Table.{IsTable, count_of, penalty_at, max_penalty};
 
 use crate::table::{Table, list_at};
-use olr_metric::NoMemory;
+use olr_base::NoMemory;
 use std::alloc::Global;
 use std::marker::Model;
 
@@ -110,6 +110,7 @@ fn last(least: &[Vec<Option<u16>>]) -> &[Option<u16>]
 /// # Errors
 ///
 /// [`NoMemory`] where the allocator refused memory.
+#[tactic(auto, using(crate::proofs::Bounding::push_bound))]
 fn layer_bounds(
     alloc: Global,
     table: &Table,
@@ -144,6 +145,7 @@ fn bound(table: &Table, layer: usize, rank: u8, next: &[Option<u16>]) -> Option<
 }
 
 /// The bound of a candidate of this penalty in a layer before the last one.
+#[tactic(auto, using(crate::proofs::Bounding::least_more, crate::proofs::Bounding::least_whole))]
 fn least_by(
     table: &Table,
     layer: usize,

@@ -9,10 +9,11 @@ use crate::key::Key;
 use crate::page_size::PageSize;
 use crate::pages::{Page, last_or};
 use crate::paging::page_after;
-use olr_metric::NoMemory;
+use olr_base::NoMemory;
 use std::alloc::Global;
 
 /// The last key of the last page; `None` where it has none or there is no page.
+#[tactic(auto, using(crate::proofs::Chains::last_key_found))]
 fn last_key(pages: &[Page]) -> Option<&Key>
     ensures { option_map (λ key. key.now) result ≡ last_key_of None (map page_of pages.now) }
 {

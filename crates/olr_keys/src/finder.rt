@@ -5,7 +5,7 @@ ghost use Rattle.olr_keys.specs.Finder.{IsNext, IsPosition};
 ghost use Rattle.olr_keys.specs.Key.{IsBefore, KeyValue};
 
 use crate::key::Key;
-use olr_metric::NoMemory;
+use olr_base::NoMemory;
 use std::alloc::Global;
 
 /// What finds the keys of matchings in their order: by the total, and then by the ranks.

@@ -3,7 +3,7 @@
 
 ghost use Rattle.olr_keys.specs.Laws.{HasList, KeysAreInRange, OneList, RemainingAreBelow};
 ghost use Rattle.olr_keys.specs.Laws.{NoPageBehindOthers, OneChain, OnePage, PagesJoin};
-ghost use Rattle.olr_keys.specs.Laws.{SizesAgree, TotalsAreBelow};
+ghost use Rattle.olr_keys.specs.Laws.{TotalsAreBelow};
 
 /// A table has exactly one list of answers: the keys of all matchings, strictly rising.
 pub fn one_list()
@@ -12,6 +12,7 @@ pub fn one_list()
 {}
 
 /// The key of a matching has a total of at most 14,620 and 2 to 32 ranks, each from 1 to 64.
+#[tactic(auto, using(crate::proofs::Ranges::key_in_range))]
 pub fn keys_are_in_range()
     ensures { KeysAreInRange }
 {}
@@ -22,12 +23,6 @@ pub fn keys_are_in_range()
 pub fn totals_are_below_width()
     ensures remaining { RemainingAreBelow }
     ensures totals { TotalsAreBelow }
-{}
-
-/// The pages of any two sizes have the same keys in the same order: all of them, or those after the
-/// same key.
-pub fn sizes_agree()
-    ensures { SizesAgree }
 {}
 
 /// Take pages by separate calls of `page`, each after the last key of the one before, up to the

@@ -55,7 +55,7 @@ pub use finder::Finder;
 pub use key::Key;
 pub use laws::{
     keys_are_in_range, no_page_behind_others, one_chain, one_list, one_page, pages_join,
-    sizes_agree, totals_are_below_width,
+    totals_are_below_width,
 };
 pub use limits::is_table;
 pub use mark::Mark;

@@ -33,6 +33,7 @@ fn digits_of(mark: &Mark) -> ArrayString<64>
 }
 
 /// The mark that a text writes in 64 hexadecimal digits; `None` where it writes none.
+#[tactic(auto, using(crate::proofs::Hexadecimal::mark_read, crate::proofs::Outcomes::differ, crate::proofs::Outcomes::same_ok))]
 pub(crate) fn mark_of(text: &str) -> Option<Mark>
     ensures { MatchOption result
         ((mark : Mark) → IsMark mark → text.now ≢ hexadecimal mark.0)

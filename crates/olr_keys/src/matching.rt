@@ -1,6 +1,6 @@
 //! The total of a matching.
 
-ghost use Rattle.std.specs.Prelude.{◌≡◌, ◌+◌, ◌≤◌, ℕ, length, Decides, IfSome, MatchOption};
+ghost use Rattle.std.specs.Prelude.{◌+◌, ◌≤◌, ℕ, length, Decides, IfSome, MatchOption};
 ghost use Rattle.olr_keys.specs.Matching.{IsKey, IsCompletion};
 
 use crate::key::Key;
@@ -35,6 +35,7 @@ pub(crate) fn total_from(
 
 /// Whether a key is that of a matching: there are such candidates, each two neighbours are joined,
 /// and the total is right.
+#[tactic(auto, using(crate::proofs::Completions::key_decides))]
 pub(crate) fn is_key(table: &Table, key: &Key) -> bool
     ensures { Decides result (IsKey table.now key.now) }
 {

@@ -5,7 +5,7 @@ ghost use Rattle.olr_keys.specs.Page.{last_of};
 ghost use Rattle.olr_keys.specs.declared.pages.PageFault.TheVariants as fault;
 
 use crate::key::Key;
-use olr_metric::NoMemory;
+use olr_base::NoMemory;
 use thiserror::Error;
 
 /// A page: some keys in order, and whether more follow.
@@ -37,6 +37,7 @@ impl From<NoMemory> for PageFault {
 }
 
 /// The last one of these keys, or the position before them where there is none.
+#[tactic(auto, using(crate::proofs::PageLists::last_found))]
 pub(crate) fn last_or<'a>(keys: &'a [Key], before: Option<&'a Key>) -> Option<&'a Key>
     ensures { option_map (λ key. key.now) result
         ≡ last_of (option_map (λ key. key.now) before.entry) keys.now }

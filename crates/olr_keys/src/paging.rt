@@ -9,7 +9,7 @@ use crate::finder::Finder;
 use crate::key::Key;
 use crate::page_size::PageSize;
 use crate::pages::{Page, PageFault, last_or};
-use olr_metric::NoMemory;
+use olr_base::NoMemory;
 use std::alloc::Global;
 
 /// The page of so many keys after a key of the list, or the first page. The list stays, whatever

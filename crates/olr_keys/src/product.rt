@@ -1,12 +1,12 @@
 //! The plain finder, which goes through all combinations of candidates.
 
-ghost use Rattle.std.specs.Prelude.{◌≡◌, ◌≤◌, ◌<◌, ◌+◌, ◌*◌, ◌⊎◌, ℕ, [], ◌∷◌, ◌++◌, length};
-ghost use Rattle.std.specs.Prelude.{IfOk, IfSome, IsOk, MatchOption, option_map};
+ghost use Rattle.std.specs.Prelude.{◌≡◌, ◌≤◌, ◌<◌, ◌+◌, ◌*◌, ◌⊎◌, [], ◌∷◌, ◌++◌, length};
+ghost use Rattle.std.specs.Prelude.{IfOk, IfSome, IsOk, option_map};
 ghost use Rattle.olr_keys.specs.Answers.{AreAnswers};
 ghost use Rattle.olr_keys.specs.AnswersOf.{answers_of};
 ghost use Rattle.olr_keys.specs.Finder.{IsAfter, IsNext, IsPosition, IsLeastOf};
-ghost use Rattle.olr_keys.specs.Table.{IsTable, max_step};
-ghost use Rattle.olr_keys.specs.Product.{IsBeginning, Completes, IsHeld, IsJoined};
+ghost use Rattle.olr_keys.specs.Table.{max_step};
+ghost use Rattle.olr_keys.specs.Product.{IsBeginning, Completes, IsHeld};
 
 use crate::before::is_before;
 use crate::finder::Finder;
@@ -14,7 +14,7 @@ use crate::key::Key;
 use crate::matching::is_key;
 use crate::table::Table;
 use arrayvec::ArrayVec;
-use olr_metric::NoMemory;
+use olr_base::NoMemory;
 use std::alloc::Global;
 
 /// The plain finder: it goes through all combinations of candidates and keeps the least key that
@@ -47,6 +47,7 @@ impl<'a> Finder for ProductFinder<'a> {
         is_key(self.table, key)
     }
 
+    #[tactic(auto, using(crate::proofs::FromStart::next_of))]
     fn next(&mut self, _alloc: Global, after: Option<&Key>) -> Result<Option<Key>, NoMemory>
         requires { IsPosition (answers_of self.old.table.now) (option_map (λ key. key.now) after) }
         ensures next { IfOk result

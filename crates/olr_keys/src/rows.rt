@@ -10,7 +10,7 @@ mod fill;
 
 ghost use Rattle.std.specs.Prelude.{◌≡◌, ◌+◌, ◌*◌, ◌<◌, ◌≤◌, Decides, IfOk, MatchOption, length};
 ghost use Rattle.std.specs.Prelude.{slice_index, ℕ, ◌-◌};
-ghost use Rattle.olr_metric.specs.Counting.{one_more};
+ghost use Rattle.olr_base.specs.Counting.{one_more};
 ghost use Rattle.olr_keys.specs.Rows.{AreRowsOf, IsStep, IsTotal, IsPredecessor, bytes_of, most_of};
 ghost use Rattle.olr_keys.specs.Rows.{rows_of, width_of};
 ghost use Rattle.olr_keys.specs.Search.{IsLeft};
@@ -18,7 +18,7 @@ ghost use Rattle.olr_keys.specs.Table.{IsTable, count_of, max_total};
 
 use crate::table::{Table, list_at};
 use crate::width::width;
-use olr_metric::NoMemory;
+use olr_base::NoMemory;
 use std::alloc::Global;
 use std::marker::Model;
 
@@ -88,6 +88,7 @@ impl<'a> Rows<'a> {
 
     /// One more than the sum of the greatest penalty of each layer and of the legs between each two
     /// neighbours: how many bytes a row has.
+    #[tactic(auto, using(crate::proofs::Sizes::width_at_most))]
     pub fn width(&self) -> usize
         ensures value { result ≡ width_of self.now.penalties }
         ensures at_most { result ≤ max_total + 1 }
@@ -97,6 +98,7 @@ impl<'a> Rows<'a> {
 
     /// How many bytes the rows have that are held: a row for each candidate, and one for the totals
     /// of all matchings. It is the sum of the lengths of all rows.
+    #[tactic(auto, using(crate::proofs::Held::held_is, crate::proofs::Sizes::bytes_at_most))]
     pub fn bytes(&self) -> usize
         ensures value { result ≡ bytes_of self.now.penalties }
         ensures at_most { result

@@ -37,6 +37,7 @@ pub fn next_key(rows: &mut Rows, after: Option<&Key>) -> Option<Key>
 }
 
 /// The least key that comes after `after` and has the same total, if there is one.
+#[tactic(auto, using(crate::proofs::NextKeys::found_in_range, crate::proofs::NextKeys::found_alone, crate::proofs::NextKeys::layers_at_most))]
 fn next_of_total(rows: &mut Rows, after: &Key) -> Option<Key>
     requires { IsKey rows.old.penalties after.now }
     ensures key { MatchOption result

@@ -7,7 +7,7 @@ ghost use Rattle.olr_keys.specs.Table.{penalty_at};
 ghost use Rattle.olr_keys.specs.Matching.{leg_to};
 ghost use Rattle.olr_keys.specs.Product.{IsJoined};
 
-use olr_metric::NoMemory;
+use olr_base::NoMemory;
 use std::alloc::Global;
 use std::marker::Model;
 
@@ -124,6 +124,7 @@ impl Table {
 
     /// The candidate of this rank in a layer, joined to the candidate `before` it in the layer
     /// before; `None` where there is no such candidate, or the two aren't joined.
+    #[tactic(auto, using(crate::proofs::Completions::layer_inside, crate::proofs::Completions::step_leg, crate::proofs::Completions::step_penalty))]
     pub(crate) fn joined(&self, layer: usize, before: Option<u8>, rank: u8) -> Option<Joined>
         requires { IfSome before (λ first. (1 ≤ layer) × (1 ≤ first)) }
         ensures joined { MatchOption result

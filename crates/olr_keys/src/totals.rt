@@ -12,7 +12,7 @@ use crate::matching::is_key;
 use crate::rows::Rows;
 use crate::search::next_key;
 use crate::table::Table;
-use olr_metric::NoMemory;
+use olr_base::NoMemory;
 use std::alloc::Global;
 use std::marker::Model;
 
@@ -84,6 +84,7 @@ impl<'a> Finder for TotalsFinder<'a> {
         is_key(self.table, key)
     }
 
+    #[tactic(auto, using(crate::proofs::NextKeys::next_listed, crate::proofs::NextKeys::position_is_key))]
     fn next(&mut self, _alloc: Global, after: Option<&Key>) -> Result<Option<Key>, NoMemory>
         requires { IsPosition (answers_of self.old.penalties) (option_map (λ key. key.now) after) }
         ensures next { IfOk result

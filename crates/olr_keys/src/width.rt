@@ -22,6 +22,7 @@ pub(crate) fn width(table: &Table) -> usize
 }
 
 /// The greatest of these penalties, 0 where there is none.
+#[tactic(auto, using(crate::proofs::Sizes::greatest_more))]
 fn greatest(penalties: &[u16]) -> u16
     ensures { result ≡ greatest penalties.now }
 {
@@ -33,6 +34,7 @@ fn greatest(penalties: &[u16]) -> u16
 }
 
 /// The greatest penalty of these legs, 0 where there is none.
+#[tactic(auto, using(crate::proofs::Sizes::greatest_leg_more))]
 fn greatest_leg(legs: &[Option<u8>]) -> u8
     ensures { result ≡ greatest_leg legs.now }
 {

@@ -1,9 +1,6 @@
 -- The checks on a record of the file of bans: what a record passes whose fields were read, and that
 -- one that spells a ban passes all.
-use Rattle.std.proofs.Common.{◌≡◌, ℕ, ◌+◌, ◌<◌, List, length, inl, inr, refl}
-use Rattle.olr_map.proofs.Common.{AllPass, Ban, Stop, AllDiffer, RoadLine, line_ids, NamesLines, bans_table, IsSettled, StopsAfter, fields_of, SpellsIds, wrong_row, unknown, apart}
-use Rattle.olr_map.specs.Faults.{NamesUnknownLine}
-use Rattle.olr_map.specs.inner.Reading.{StopsBan}
+use Rattle.olr_map.proofs.Common.{AllPass, Ban, Stop, AllDiffer, RoadLine, line_ids, NamesLines, bans_table, IsSettled, StopsAfter, fields_of, SpellsIds, wrong_row, unknown, apart, ◌≡◌, ℕ, ◌+◌, ◌<◌, List, length, inl, inr, refl, NamesUnknownLine, StopsBan}
 use Rattle.olr_map.proofs.Checked.{stops_at_error, stops_later, stops_unread}
 use Rattle.olr_map.proofs.OneBan.{named_known, named_once, ban_once}
 use Rattle.olr_map.proofs.OneTable.{IsLawful}

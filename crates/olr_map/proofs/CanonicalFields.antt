@@ -1,14 +1,6 @@
 -- The fields of the rows of a map's canonical text: which bytes they lack, and that they decide the
 -- node, the line or the ban.
-use Rattle.std.proofs.Common.{◌≡◌, ℕ, ◌-◌, ◌^◌, ◌<◌, ◌≤◌, List, [], ◌∷◌, ◌++◌, length, Some, refl, sym, ap, ◌∙◌, arith, rules}
-use Rattle.std.specs.Prelude.{All, unwrap_or, slice_get, slice_index}
-use Rattle.std.specs.Fmt.{decimal, signed_decimal}
-use Rattle.std.specs.Int.Signed.{mag}
-use Rattle.std.proofs.lemmas.List.{length-append, length-map, take_at}
-use Rattle.std.proofs.lemmas.List.Elements.{All-drop, All-take, All-map, All-weaker}
-use Rattle.std.proofs.lemmas.Fmt.{decimal_injective, signed_decimal_injective}
-use Rattle.std.proofs.lemmas.Option.{slice_get_within}
-use Rattle.olr_map.proofs.Common.{Coordinates, IsInRange, AllDiffer, rising_differ, Ban, Node, node_ids, RoadLine, line_ids, IsAdjacent, IsSoundNode, AreSoundNodes, IsSoundLine, JoinsNodes, AreSoundLines, place_text, shape_text, between_ends, node_fields, line_fields, ban_fields}
+use Rattle.olr_map.proofs.Common.{Coordinates, IsInRange, AllDiffer, rising_differ, Ban, Node, node_ids, RoadLine, line_ids, IsAdjacent, IsSoundNode, AreSoundNodes, IsSoundLine, JoinsNodes, AreSoundLines, place_text, shape_text, between_ends, node_fields, line_fields, ban_fields, ◌≡◌, ℕ, ◌-◌, ◌^◌, ◌<◌, ◌≤◌, List, [], ◌∷◌, ◌++◌, length, Some, refl, sym, ap, ◌∙◌, arith, rules, All, unwrap_or, slice_get, slice_index, decimal, signed_decimal, mag, length-append, length-map, take_at, All-drop, All-take, All-map, All-weaker, decimal_injective, signed_decimal_injective, slice_get_within}
 use Rattle.olr_map.proofs.OneRow.{rank_once}
 use Rattle.olr_map.proofs.CanonicalTexts.{Lacks, AllLack, joined_once, map_once, joined_lacks, each_lacks, decimal_lacks, signed_lacks}
 

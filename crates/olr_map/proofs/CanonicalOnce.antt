@@ -1,13 +1,8 @@
 -- Sound maps of one canonical text are one: the text decides its rows and their fields, and these
 -- decide the map.
-use Rattle.std.proofs.Common.{◌≡◌, ℕ, ◌^◌, ◌<◌, List, [], ◌∷◌, ◌++◌, append_assoc, map, length, drop, refl, sym, ap, ◌∙◌, subst, arith}
 use Rattle.std.specs.Prelude.{All, codes, decimal}
-use Rattle.std.specs.List.{concat}
-use Rattle.std.proofs.lemmas.List.{append-nil, append_cancel_left, length-map}
-use Rattle.std.proofs.lemmas.List.Elements.{All-cons, All-append, All-map, All-weaker}
-use Rattle.std.proofs.lemmas.Fmt.{decimal_injective}
-use Rattle.olr_map.proofs.Common.{Ban, Node, RoadLine, IsAdjacent, RoadMap, IsSoundNode, AreSoundNodes, AreSoundLines, IsSoundMap, joined, node_fields, line_fields, ban_fields, part, row_text}
-use Rattle.olr_map.specs.Canonical.{heading, nodes_part, lines_part, bans_part, canonical_fields, canonical_text}
+use Rattle.olr_map.proofs.Common.{Ban, Node, RoadLine, IsAdjacent, RoadMap, IsSoundNode, AreSoundNodes, AreSoundLines, IsSoundMap, joined, node_fields, line_fields, ban_fields, part, row_text, ◌≡◌, ℕ, ◌^◌, ◌<◌, List, [], ◌∷◌, ◌++◌, append_assoc, map, length, drop, refl, sym, ap, ◌∙◌, subst, arith, concat, append-nil, append_cancel_left, length-map, All-cons, All-append, All-map, All-weaker, decimal_injective}
+use Rattle.olr_road.specs.Canonical.{heading, nodes_part, lines_part, bans_part, canonical_fields, canonical_text}
 use Rattle.olr_map.proofs.CanonicalTexts.{Lacks, AllLack, ended, ended_once, joined_once, map_once, joined_lacks, each_lacks, decimal_lacks}
 use Rattle.olr_map.proofs.CanonicalFields.{IsCut, IsOn, node_lacks, node_by_fields, line_lacks, line_by_fields, ban_lacks, ban_by_fields}
 

@@ -1,16 +1,7 @@
 -- Texts that are put together from parts, and taken apart again at a byte that the parts don't
 -- have.
-use Rattle.std.proofs.Common.{◌≡◌, ℕ, ℤ, ◌^◌, ◌<◌, ◌≤◌, List, [], ◌∷◌, ◌++◌, append_assoc, map, length, refl, sym, ap, pos, negsuc, arith}
-use Rattle.std.specs.Prelude.{All, ⊤}
-use Rattle.std.specs.List.{flat_map}
-use Rattle.std.specs.Fmt.{decimal, signed_decimal}
-use Rattle.std.specs.Int.Signed.{mag}
-use Rattle.std.specs.Str.Parse.{AllDigits}
-use Rattle.std.proofs.lemmas.List.{length-append}
-use Rattle.std.proofs.lemmas.List.Elements.{All-head, All-tail}
 use Rattle.std.proofs.lemmas.Str.Parse.{digit_from_value}
-use Rattle.std.proofs.lemmas.Fmt.{decimal_is_IsNumeral}
-use Rattle.olr_map.proofs.Common.{joined}
+use Rattle.olr_map.proofs.Common.{joined, ◌≡◌, ℕ, ℤ, ◌^◌, ◌<◌, ◌≤◌, List, [], ◌∷◌, ◌++◌, append_assoc, map, length, refl, sym, ap, pos, negsuc, arith, All, ⊤, flat_map, decimal, signed_decimal, mag, AllDigits, length-append, All-head, All-tail, decimal_is_IsNumeral}
 
 -- a byte doesn't occur in a text
 abbrev pub Lacks : ℕ → List ℕ → Type 0

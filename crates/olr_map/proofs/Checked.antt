@@ -1,16 +1,9 @@
 -- The checks on a record of any table: which one the reader has found to fail, or that all pass.
-use Rattle.std.proofs.Common.{◌≡◌, ℕ, suc, ◌+◌, ◌<◌, List, [], ◌∷◌, ◌++◌, length, Some, None, inl, inr, refl, ap, ◌∙◌, arith}
-use Rattle.std.specs.Prelude.{Contains}
-use Rattle.std.proofs.lemmas.List.{length-append, length-map, get_or_append_left, get_or_at, get_or_default}
-use Rattle.olr_map.proofs.Common.{AllPass, Refuses, File, AllDiffer, MapFault, Table, keys_of, fields_of, others_of, checks_of, IsFaultOfTable, StopsAfter, IsSettled, Reports}
-use Rattle.olr_metric.specs.Checks.{EachFault}
-use Rattle.olr_metric.proofs.Checks.{each_of_both, refuses_behind, refuses_among, reported}
+use Rattle.olr_map.proofs.Common.{AllPass, Refuses, File, AllDiffer, MapFault, Table, keys_of, fields_of, others_of, checks_of, IsFaultOfTable, StopsAfter, IsSettled, Reports, ◌≡◌, ℕ, suc, ◌+◌, ◌<◌, List, [], ◌∷◌, ◌++◌, length, Some, None, inl, inr, refl, ap, ◌∙◌, arith, Contains, length-append, length-map, get_or_append_left, get_or_at, get_or_default, EachFault, IsOfFile, fault_of, IsOfText}
+use Rattle.olr_base.proofs.Checks.{each_of_both, refuses_behind, refuses_among, reported}
 use Rattle.olr_map.specs.declared.fault.MapFault.TheVariants as fault
 use Rattle.olr_map.specs.declared.rows.RowError.{RowError}
 use Rattle.olr_map.specs.Table.{column_checks}
-use Rattle.olr_map.specs.inner.Settling.{IsOfFile}
-use Rattle.olr_map.specs.inner.Reading.{fault_of}
-use Rattle.olr_map.specs.Files.{IsOfText}
 
 pub keys_length : {Row : Type 0} (table : Table Row) (rows : List Row)
     → length (keys_of table rows) ≡ length rows

@@ -1,8 +1,5 @@
 -- The columns of a record.
-use Rattle.std.proofs.Common.{◌≡◌, ℕ, List, Some, Option, ap, ◌∙◌}
-use Rattle.std.specs.Prelude.{unwrap_or}
-use Rattle.olr_records.specs.Records.{field_at}
-use Rattle.olr_map.specs.Rows.{HasValue}
+use Rattle.olr_map.proofs.Common.{◌≡◌, ℕ, List, Some, Option, ap, ◌∙◌, unwrap_or, field_at, HasValue}
 
 -- a field that spells nothing leaves its place without a value
 pub no_value : {A : Type 0} {Spells : List ℕ → A → Type 0} {fields : List (List ℕ)} {place : ℕ}

@@ -1,8 +1,5 @@
 -- Records that were read one after the other, and what each of them spells.
-use Rattle.std.proofs.Common.{◌≡◌, ℕ, List, [], ◌∷◌, ◌++◌, append_assoc}
-use Rattle.std.specs.List.{AllZip}
-use Rattle.olr_map.proofs.Common.{Table, AddsRow}
-use Rattle.olr_map.proofs.Zips.{zip_push}
+use Rattle.olr_map.proofs.Common.{Table, AddsRow, ◌≡◌, ℕ, List, [], ◌∷◌, ◌++◌, append_assoc, AllZip, zip_push}
 
 -- of all records, those that were read spell the rows, and these are left
 pub record Collects {Row : Type 0} (table : Table Row) (all left : List (List (List ℕ)))

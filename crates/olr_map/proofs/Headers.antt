@@ -1,10 +1,5 @@
 -- A record that is a header has its names, one after the other, and no more.
-use Rattle.std.proofs.Common.{◌≡◌, ℕ, zero, suc, ◌+◌, ◌<◌, List, [], ◌∷◌, map, length, get_or, Some, Bor, refl, ap, ◌∙◌, inl, inr, arith}
-use Rattle.std.specs.Prelude.{slice_get}
-use Rattle.std.proofs.Math.Nat.{eq-or-lt_of_le}
-use Rattle.std.proofs.lemmas.List.{length-map, get_or-map}
-use Rattle.std.proofs.lemmas.Option.{slice_get-get_or}
-use Rattle.olr_records.specs.Records.{field_at}
+use Rattle.olr_map.proofs.Common.{◌≡◌, ℕ, zero, suc, ◌+◌, ◌<◌, List, [], ◌∷◌, map, length, get_or, Some, Bor, refl, ap, ◌∙◌, inl, inr, arith, slice_get, eq-or-lt_of_le, length-map, get_or-map, slice_get-get_or, field_at}
 
 field_there : (fields : List (List ℕ)) (place : ℕ) → field_at fields place ≡ slice_get fields place
 unfolding field_at

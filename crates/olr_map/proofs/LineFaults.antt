@@ -1,7 +1,6 @@
 -- The checks on a record of the file of lines: what a record passes whose row was read, and that
 -- one that spells a line passes all.
-use Rattle.std.proofs.Common.{ℕ, ◌+◌, ◌<◌, List, ◌≡◌, length, Some, refl, inl, inr, arith}
-use Rattle.olr_map.proofs.Common.{AllPass, Coordinates, MapFault, LineRow, AllDiffer, Node, node_ids, RoadLine, IsLine, lines_table, IsSettled, StopsAfter, fields_of, SpellsLine, IsLateFault}
+use Rattle.olr_map.proofs.Common.{AllPass, Coordinates, MapFault, LineRow, AllDiffer, Node, node_ids, RoadLine, IsLine, lines_table, IsSettled, StopsAfter, fields_of, SpellsLine, IsLateFault, ℕ, ◌+◌, ◌<◌, List, ◌≡◌, length, Some, refl, inl, inr, arith}
 use Rattle.olr_map.proofs.Checked.{stops_later}
 use Rattle.olr_map.proofs.LineRows.{number_once, known}
 use Rattle.olr_map.proofs.OneRow.{line_once, points_once}

@@ -1,14 +1,6 @@
 -- The row of a line's record: its ends among the nodes, and its points behind those of other lines.
-use Rattle.std.proofs.Common.{◌≡◌, ℕ, ◌-◌, List, [], ◌∷◌, ◌++◌, map, length, take, drop, Option, sym, ap, ◌∙◌, arith}
-use Rattle.std.specs.Prelude.{unwrap_or, Contains}
-use Rattle.std.proofs.lemmas.List.{length-map, length-append, get_or-map, map-append}
-use Rattle.std.proofs.Math.Seq.{take-length, drop-append_seam}
-use Rattle.std.proofs.lemmas.Option.{get_or_from_slice_get, slice_get_within}
-use Rattle.std.proofs.lemmas.List.Elements.{Contains-get_or}
-use Rattle.std.specs.Str.Parse.{digits_value}
-use Rattle.olr_map.proofs.Common.{Degrees, Coordinates, coordinates_of, SpellsAt, Node, node_ids, IsNodeAt}
+use Rattle.olr_map.proofs.Common.{Degrees, Coordinates, coordinates_of, SpellsAt, Node, node_ids, IsNodeAt, ◌≡◌, ℕ, ◌-◌, List, [], ◌∷◌, ◌++◌, map, Option, sym, ap, ◌∙◌, arith, unwrap_or, Contains, length-map, get_or-map, map-append, get_or_from_slice_get, slice_get_within, Contains-get_or, digits_value, IsUnknown}
 use Rattle.olr_records.specs.Fields.{IsNumberWithin}
-use Rattle.olr_map.specs.Faults.{IsUnknown}
 
 -- a field spells one number
 pub number_once : (least greatest : ℕ) {fields : List (List ℕ)} (at : ℕ) {a : ℕ} (b : ℕ)
@@ -48,13 +40,3 @@ pub coordinates_joined : (first : Degrees) (shape : List Degrees) (last : Degree
     → map coordinates_of (joined first shape last) ≡ coordinates_of first ∷ map coordinates_of shape
     ++ coordinates_of last ∷ []
 coordinates_joined first shape last = cc (map-append coordinates_of shape (last ∷ []))
-
-pub behind : (old new more : List Degrees) (start end : ℕ) → new ≡ old ++ more → start ≡ length old
-    → end ≡ length new → take (end - start) (drop start new) ≡ more
-behind old new more start end is at all =
-    let size = ap length is ∙ length-append old more in
-    let count : end - start ≡ length more = omega arith in
-    ap (λ (n : ℕ). take (end - start) (drop n new)) at
-    ∙ ap (λ (l : List Degrees). take (end - start) (drop (length old) l)) is
-    ∙ ap (λ (l : List Degrees). take (end - start) l) (drop-append_seam old more)
-    ∙ ap (λ (n : ℕ). take n more) count ∙ take-length more

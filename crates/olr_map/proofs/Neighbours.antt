@@ -1,9 +1,5 @@
 -- Neighbours in a list that are equal.
-use Rattle.std.proofs.Common.{◌≡◌, ℕ, zero, suc, ◌+◌, ◌-◌, ◌<◌, ◌≤◌, List, [], ◌∷◌, ◌++◌, map, length, get_or, refl, sym, ap, ◌∙◌, inl, inr, arith}
-use Rattle.std.proofs.Math.Nat.{eq-or-lt_of_le}
-use Rattle.std.proofs.lemmas.List.{length-map, get_or-map}
-use Rattle.olr_map.proofs.Common.{Degrees, Coordinates, coordinates_of}
-use Rattle.olr_map.specs.Rows.{HasEqualNeighbours}
+use Rattle.olr_map.proofs.Common.{Degrees, Coordinates, coordinates_of, ◌≡◌, ℕ, zero, suc, ◌+◌, ◌-◌, ◌<◌, ◌≤◌, List, [], ◌∷◌, ◌++◌, map, length, get_or, refl, sym, ap, ◌∙◌, inl, inr, arith, eq-or-lt_of_le, length-map, get_or-map, HasEqualNeighbours}
 
 pub equal_at : (xs : List Coordinates) (k : ℕ) (d : Coordinates) → suc k < length xs
     → get_or xs k d ≡ get_or xs (suc k) d → HasEqualNeighbours xs

@@ -1,6 +1,5 @@
 -- The checks on a record of the file of nodes: a record that spells a node passes them.
-use Rattle.std.proofs.Common.{ℕ, List}
-use Rattle.olr_map.proofs.Common.{AllPass, Node, IsNode, nodes_table, IsSettled, fields_of}
+use Rattle.olr_map.proofs.Common.{AllPass, Node, IsNode, nodes_table, IsSettled, fields_of, ℕ, List}
 use Rattle.olr_map.proofs.LineRows.{number_once}
 use Rattle.olr_map.proofs.OneRow.{node_once}
 use Rattle.olr_map.proofs.OneTable.{IsLawful}

@@ -1,10 +1,5 @@
 -- A record spells one ban at most: on lines whose ids differ, an id is that of one rank.
-use Rattle.std.proofs.Common.{◌≡◌, ℕ, List, sym, ◌∙◌}
-use Rattle.std.proofs.lemmas.List.Elements.{Contains-get_or}
-use Rattle.std.proofs.lemmas.Option.{get_or_from_slice_get, slice_get_within}
-use Rattle.olr_map.proofs.Common.{Ban, AllDiffer, RoadLine, line_ids, NamesLines}
-use Rattle.olr_map.specs.Rows.{IsLineNamed, IsBan}
-use Rattle.olr_map.specs.Faults.{IsUnknownLine}
+use Rattle.olr_map.proofs.Common.{Ban, AllDiffer, RoadLine, line_ids, NamesLines, ◌≡◌, ℕ, List, sym, ◌∙◌, Contains-get_or, get_or_from_slice_get, slice_get_within, IsLineNamed, IsBan, IsUnknownLine}
 use Rattle.olr_map.proofs.LineRows.{number_once}
 use Rattle.olr_map.proofs.OneRow.{rank_once}
 

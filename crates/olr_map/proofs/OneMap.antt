@@ -1,10 +1,7 @@
 -- Three texts have one map, or one fault, and not both.
-use Rattle.std.proofs.Common.{◌≡◌, ℕ, List, Option, Some, None, refl, subst}
-use Rattle.olr_map.proofs.Common.{File, Ban, MapFault, Node, RoadLine, RoadMap, lines_table, bans_table, IsLinesFault, IsBansFault, IsNodeSet, IsLineSet, IsBanSet}
-use Rattle.olr_records.specs.declared.file.File.TheVariants.{Nodes, Lines, Bans}
+use Rattle.olr_map.proofs.Common.{File, Ban, MapFault, Node, RoadLine, RoadMap, lines_table, bans_table, IsLinesFault, IsBansFault, IsNodeSet, IsLineSet, IsBanSet, ◌≡◌, ℕ, List, Option, Some, None, refl, subst, Nodes, Lines, Bans, known, IsMapOf, file_of, IsOfText, IsFaultWithin, IsFaultIn, IsFaultOf}
 use Rattle.olr_map.specs.declared.fault.MapFault.TheVariants as fault
-use Rattle.olr_map.specs.RoadMap.{IsNodesFault}
-use Rattle.olr_map.specs.Files.{known, IsMapOf, file_of, IsOfText, IsFaultWithin, IsFaultIn, IsFaultOf}
+use Rattle.olr_map.specs.Tables.{IsNodesFault}
 use Rattle.olr_map.proofs.NodeFaults.{nodes_lawful}
 use Rattle.olr_map.proofs.LineFaults.{lines_lawful}
 use Rattle.olr_map.proofs.BanFaults.{bans_lawful}

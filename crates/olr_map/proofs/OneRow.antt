@@ -1,10 +1,6 @@
 -- A record spells one node, or one line, at most.
-use Rattle.std.proofs.Common.{◌≡◌, ℕ, ◌<◌, List, length, get_or, Option, sym, ap, ◌∙◌, arith}
-use Rattle.std.specs.Prelude.{unwrap_or, slice_get}
-use Rattle.std.proofs.lemmas.List.{length-map, get_or-map}
-use Rattle.std.proofs.lemmas.Option.{get_or_from_slice_get, slice_get_within}
-use Rattle.olr_metric.proofs.Neither.{neither_less}
-use Rattle.olr_map.proofs.Common.{Coordinates, SpellsAt, Node, node_ids, IsNode, RoadLine, IsNodeAt, IsEnd, ArePoints, IsLine, AllDiffer}
+use Rattle.olr_base.proofs.Neither.{neither_less}
+use Rattle.olr_map.proofs.Common.{Coordinates, SpellsAt, Node, node_ids, IsNode, RoadLine, IsNodeAt, IsEnd, ArePoints, IsLine, AllDiffer, ◌≡◌, ℕ, ◌<◌, List, length, get_or, Option, sym, ap, ◌∙◌, arith, unwrap_or, slice_get, length-map, get_or-map, get_or_from_slice_get, slice_get_within}
 use Rattle.olr_records.proofs.Signs.{signed_once}
 use Rattle.olr_map.proofs.OneShape.{shape_once}
 use Rattle.olr_map.proofs.LineRows.{number_once}

@@ -1,6 +1,5 @@
 -- A text spells one shape at most.
-use Rattle.std.proofs.Common.{rules, ◌≡◌, ℕ, List, [], ◌∷◌, ◌++◌, Some, sym, ap, ◌∙◌, inl, inr, arith}
-use Rattle.olr_map.proofs.Common.{Coordinates, IsItem, AreItems, IsShape}
+use Rattle.olr_map.proofs.Common.{Coordinates, IsItem, AreItems, IsShape, rules, ◌≡◌, ℕ, List, [], ◌∷◌, ◌++◌, Some, sym, ap, ◌∙◌, inl, inr, arith}
 use Rattle.olr_records.specs.Front.{Begins}
 use Rattle.olr_records.proofs.Cuts.{not_avoided}
 use Rattle.olr_records.proofs.Items.{item_once, rest_of_item}

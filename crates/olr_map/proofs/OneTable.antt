@@ -1,13 +1,7 @@
 -- The records of a table spell one list of rows, or have one first fault, and not both; and so it
 -- is with a text.
-use Rattle.std.proofs.Common.{◌≡◌, ℕ, suc, ◌+◌, List, ◌∷◌, ◌++◌, length, sym, ◌∙◌, subst, inl, inr, arith}
-use Rattle.std.specs.Prelude.{Contains}
-use Rattle.std.specs.List.{AllZip}
-use Rattle.std.specs.List.Sorted.{IsPermutation}
-use Rattle.std.proofs.lemmas.List.{length-append, map-append}
-use Rattle.std.proofs.lemmas.List.Sorted.{IsPermutation-sym, IsPermutation-trans}
-use Rattle.olr_map.proofs.Common.{AllPass, Refuses, MapFault, AllDiffer, rising_differ, IsSettled, Table, keys_of, fields_of, others_of, checks_of, AreRows, IsTableOf, RefusesRecord, IsFaultOfTable}
-use Rattle.olr_metric.proofs.Checks.{fault_once as first_once, none_refuses, each_of_both}
+use Rattle.olr_map.proofs.Common.{AllPass, Refuses, MapFault, AllDiffer, rising_differ, IsSettled, Table, keys_of, fields_of, others_of, checks_of, AreRows, IsTableOf, RefusesRecord, IsFaultOfTable, ◌≡◌, ℕ, suc, ◌+◌, List, ◌∷◌, ◌++◌, length, sym, ◌∙◌, subst, inl, inr, arith, Contains, AllZip, IsPermutation, length-append, map-append, IsPermutation-sym, IsPermutation-trans}
+use Rattle.olr_base.proofs.Checks.{fault_once as first_once, none_refuses, each_of_both}
 use Rattle.olr_map.proofs.Checked.{keys_length, new_id}
 use Rattle.olr_map.proofs.Rising.{same_rising}
 use Rattle.olr_map.proofs.Splits.{two_splits, one, before, behind, zip_split, zip_once}

@@ -1,7 +1,5 @@
 -- Three texts have a map or a fault.
-use Rattle.std.proofs.Common.{ℕ, List, refl}
-use Rattle.olr_map.proofs.Common.{RoadMap, nodes_table, lines_table, bans_table, IsFaultOfTable}
-use Rattle.olr_map.specs.Files.{known, HasOutcome, AreLinesAccepted}
+use Rattle.olr_map.proofs.Common.{RoadMap, nodes_table, lines_table, bans_table, IsFaultOfTable, ℕ, List, refl, known, HasOutcome, AreLinesAccepted}
 use Rattle.olr_map.proofs.Checked.{of_file}
 use Rattle.olr_map.proofs.NodeFaults.{nodes_settled}
 use Rattle.olr_map.proofs.LineFaults.{lines_settled}

@@ -1,9 +1,6 @@
 -- A record of each of the three files spells a row that may be added, where no condition holds of
 -- it.
-use Rattle.std.proofs.Common.{◌≡◌, ℕ, zero, suc, ◌<◌, ◌≤◌, List, [], ◌∷◌, ◌++◌, length, Some, refl, ap, ◌∙◌, inl, inr, arith}
-use Rattle.std.specs.Prelude.{slice_get, slice_index_or, Contains}
-use Rattle.std.proofs.lemmas.Option.{slice_get-get_or}
-use Rattle.olr_map.proofs.Common.{IsLength, Coordinates, Ban, SpellsAt, Node, node_ids, IsNodeAt, RoadLine, line_ids, ArePoints, NamesLines, nodes_table, lines_table, bans_table}
+use Rattle.olr_map.proofs.Common.{IsLength, Coordinates, Ban, SpellsAt, Node, node_ids, IsNodeAt, RoadLine, line_ids, ArePoints, NamesLines, nodes_table, lines_table, bans_table, ◌≡◌, ℕ, zero, suc, ◌<◌, ◌≤◌, List, [], ◌∷◌, ◌++◌, length, Some, refl, ap, ◌∙◌, inl, inr, arith, slice_get, slice_index_or, Contains, slice_get-get_or}
 use Rattle.olr_map.proofs.TableOutcome.{IsDecided}
 
 pub nodes_decided : IsDecided nodes_table

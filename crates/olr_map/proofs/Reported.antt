@@ -1,14 +1,8 @@
 -- A fault that a reader found is the fault of its file, and a map that it made is that of the
 -- texts.
-use Rattle.std.proofs.Common.{rules, ◌≡◌, ℕ, List, Option, Some, None, refl, ap, inl, inr}
-use Rattle.std.specs.Prelude.{◌⊎◌, IfSome}
-use Rattle.olr_metric.specs.Counting.{one_more}
-use Rattle.olr_records.specs.declared.file.File.TheVariants.{Lines, Bans}
-use Rattle.olr_map.proofs.Common.{MapFault, Node, RoadLine, Reports, Table, IsFaultOfTable, IsSettled, RoadMap, lines_table, bans_table, IsNodeSet, IsLinesFault, IsLineSet, IsBansFault, IsBanSet, AreSoundBans}
+use Rattle.olr_base.specs.Counting.{one_more}
+use Rattle.olr_map.proofs.Common.{MapFault, Node, RoadLine, Reports, Table, IsFaultOfTable, IsSettled, RoadMap, lines_table, bans_table, IsNodeSet, IsLinesFault, IsLineSet, IsBansFault, IsBanSet, AreSoundBans, rules, ◌≡◌, ℕ, List, Option, Some, None, refl, ap, inl, inr, ◌⊎◌, IfSome, Lines, Bans, IsReadFault, HasText, FaultOfFile, not_read, of_text, Texts, file_of, IsFaultWithin, AreAccepted, AreLinesAccepted, IsMapLeft, IsFaultLeft, texts_of}
 use Rattle.olr_map.specs.declared.fault.MapFault.TheVariants as fault
-use Rattle.olr_map.specs.inner.Reading.{IsReadFault, HasText}
-use Rattle.olr_map.specs.inner.Ending.{FaultOfFile, not_read, of_text}
-use Rattle.olr_map.specs.Files.{Texts, file_of, IsFaultWithin, AreAccepted, AreLinesAccepted, IsMapLeft, IsFaultLeft, texts_of}
 use Rattle.olr_map.proofs.Checked.{of_file}
 use Rattle.olr_map.proofs.LineFaults.{lines_settled}
 use Rattle.olr_map.proofs.BanFaults.{bans_settled}

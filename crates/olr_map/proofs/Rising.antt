@@ -1,13 +1,8 @@
 -- Lists that rise by a number of each element: a place is the number of lesser elements, and the
 -- members decide the list.
-use Rattle.std.proofs.Common.{◌≡◌, ℕ, ◌<◌, ltb, List, map, length, Some, arith}
-use Rattle.std.specs.Prelude.{slice_get, filter, AllPairs}
-use Rattle.std.specs.List.Sorted.{IsStrictlyIncreasing, IsPermutation}
-use Rattle.std.proofs.lemmas.Bool.{lt-ltb, ltb-true}
-use Rattle.std.proofs.lemmas.List.{length-map, get_or-map}
+use Rattle.olr_map.proofs.Common.{◌≡◌, ℕ, ◌<◌, ltb, List, map, length, Some, arith, slice_get, filter, AllPairs, IsStrictlyIncreasing, IsPermutation, lt-ltb, ltb-true, length-map, get_or-map, IsPermutation-sym, Contains-permutation}
 use Rattle.std.proofs.lemmas.List.Kept.{AllPairs-from_increasing}
-use Rattle.std.proofs.lemmas.List.Sorted.{IsPermutation-sym, Contains-permutation}
-use Rattle.olr_metric.proofs.Rising.{same_list, place_counts}
+use Rattle.olr_base.proofs.Rising.{same_list, place_counts}
 
 pub rank_counts_lesser : (xs : List ℕ) (rank id : ℕ) → IsStrictlyIncreasing xs
     → slice_get xs rank ≡ Some id → length (filter (λ other. ltb other id) xs) ≡ rank

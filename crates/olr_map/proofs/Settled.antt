@@ -1,18 +1,9 @@
 -- The outcome of a table's file: its rows, or the fault of the first record that is faulty.
-use Rattle.std.proofs.Common.{rules, ◌≡◌, ℕ, suc, ◌+◌, ◌<◌, ◌≤◌, List, [], ◌∷◌, ◌++◌, length, take, drop, inl, inr, Option, Some, None, refl, sym, subst, ◌∙◌, append_assoc, arith}
-use Rattle.std.specs.Prelude.{slice_index, Contains, MatchOption}
-use Rattle.std.specs.List.{take-map}
 use Rattle.std.proofs.Math.Seq.{take-append_seam}
-use Rattle.std.proofs.lemmas.Bool.{cases_lt}
-use Rattle.std.proofs.lemmas.List.{length-append, get_or-map, get_or_append_left, get_or_push, length-take-le, append-nil, take-append-le}
-use Rattle.olr_map.proofs.Common.{Refuses, AllDiffer, Sorts, Stop, MapFault, Table, keys_of, checks_of, IsTableOf, RefusesRecord, IsFaultOfTable, IsSettled, Settles, repeat, stopped, Reports}
-use Rattle.olr_records.specs.Records.{records_of}
+use Rattle.olr_map.proofs.Common.{Refuses, AllDiffer, Sorts, Stop, MapFault, Table, keys_of, checks_of, IsTableOf, RefusesRecord, IsFaultOfTable, IsSettled, Settles, repeat, stopped, Reports, rules, ◌≡◌, ℕ, suc, ◌+◌, ◌<◌, ◌≤◌, List, [], ◌∷◌, ◌++◌, length, take, drop, inl, inr, Option, Some, None, refl, sym, subst, ◌∙◌, append_assoc, arith, slice_index, Contains, MatchOption, take-map, cases_lt, length-append, get_or-map, get_or_append_left, get_or_push, length-take-le, append-nil, take-append-le, records_of, sorts_differ, SpellRows, IsAmong, StopsIn, with_last, keys_read, no_memory, zip_take, zip_at}
 use Rattle.olr_index.specs.Repeats.{IsFirstRepeat}
-use Rattle.olr_index.proofs.Permuted.{sorts_differ}
 use Rattle.olr_map.specs.declared.fault.MapFault.TheVariants as fault
-use Rattle.olr_map.specs.inner.Settling.{SpellRows, IsAmong, StopsIn, with_last, keys_read, no_memory}
 use Rattle.olr_map.proofs.Checked.{keys_length, refuses_repeat, reports, refused_of_text}
-use Rattle.olr_map.proofs.Zips.{zip_take, zip_at}
 
 -- the first record whose key an earlier one has, among those that spell rows
 repeated : {Row : Type 0} {table : Table Row} → IsSettled table

@@ -1,11 +1,5 @@
 -- Elements with keys that differ can be sorted: there is a list of them by rising key.
-use Rattle.std.proofs.Common.{ℕ, zero, suc, ◌<◌, ◌≤◌, List, [], ◌∷◌, map, length, get_or, inl, inr, arith}
-use Rattle.std.specs.List.{insert}
-use Rattle.std.specs.List.Sorted.{IsNonDecreasingBy, IsPermutation}
-use Rattle.std.proofs.lemmas.Bool.{cases_lt}
-use Rattle.std.proofs.lemmas.List.Sorted.{IsPermutation-refl, IsPermutation-trans, IsPermutation-cons, IsPermutation-insert, IsNonDecreasingBy-insert}
-use Rattle.olr_index.proofs.Permuted.{keys_differ_permuted, keys_rise}
-use Rattle.olr_map.proofs.Common.{AllDiffer, Sorts}
+use Rattle.olr_map.proofs.Common.{AllDiffer, Sorts, ℕ, zero, suc, ◌<◌, ◌≤◌, List, [], ◌∷◌, map, length, get_or, inl, inr, arith, insert, IsNonDecreasingBy, IsPermutation, cases_lt, IsPermutation-refl, IsPermutation-trans, IsPermutation-cons, IsPermutation-insert, IsNonDecreasingBy-insert, keys_differ_permuted, keys_rise}
 
 module _ {A : Type 0} (key : A → ℕ) where
   -- a place for a number among keys: none before it is greater, and none behind it is less

@@ -1,12 +1,5 @@
 -- The nodes, the lines and the bans of three texts make a sound map.
-use Rattle.std.proofs.Common.{rules, ℕ, ◌≤◌, List, [], ◌∷◌, length, ap, ◌∙◌, inl, inr, arith}
-use Rattle.std.specs.Prelude.{All}
-use Rattle.std.specs.List.{AllZip}
-use Rattle.std.proofs.lemmas.List.{length-append}
-use Rattle.std.proofs.lemmas.List.Elements.{All-nil, All-cons, All-get_or, All-append}
-use Rattle.std.proofs.lemmas.List.Sorted.{All-permutation, length_permutation}
-use Rattle.std.proofs.lemmas.Option.{slice_get_within, get_or_from_slice_get}
-use Rattle.olr_map.proofs.Common.{Coordinates, IsInRange, Ban, IsItem, AreItems, IsShape, Node, IsNode, RoadLine, IsLine, IsEnd, IsAdjacent, SpellsAt, RoadMap, IsNodeSet, IsLineSet, IsBanSet, IsSoundNode, AreSoundNodes, IsSoundLine, JoinsNodes, AreSoundLines, AreSoundBans, IsSoundMap}
+use Rattle.olr_map.proofs.Common.{Coordinates, IsInRange, Ban, IsItem, AreItems, IsShape, Node, IsNode, RoadLine, IsLine, IsEnd, IsAdjacent, SpellsAt, RoadMap, IsNodeSet, IsLineSet, IsBanSet, IsSoundNode, AreSoundNodes, IsSoundLine, JoinsNodes, AreSoundLines, AreSoundBans, IsSoundMap, rules, ℕ, ◌≤◌, List, [], ◌∷◌, length, ap, ◌∙◌, inl, inr, arith, All, AllZip, length-append, All-nil, All-cons, All-get_or, All-append, All-permutation, length_permutation, slice_get_within, get_or_from_slice_get}
 
 -- what holds of each two that belong together gives what holds of each second one
 each_second : {A B : Type 0} (R : A → B → Type 0) (P : B → Type 0) → ((x : A) (y : B) → R x y → P y)

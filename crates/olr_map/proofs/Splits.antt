@@ -1,6 +1,5 @@
 -- A list split at an element, and what two splits of one list have to do with one another.
-use Rattle.std.proofs.Common.{◌≡◌, List, [], ◌∷◌, ◌++◌, refl}
-use Rattle.std.specs.List.{AllZip}
+use Rattle.olr_map.proofs.Common.{◌≡◌, List, [], ◌∷◌, ◌++◌, refl, AllZip}
 
 -- The elements at which a list is split twice: either it is one split, or one part in front goes on
 -- with the other's element.

@@ -1,15 +1,9 @@
 -- A text of a table has rows, or a fault: it can't be that it has neither.
-use Rattle.std.proofs.Common.{◌≡◌, ℕ, ◌+◌, ◌<◌, List, [], ◌∷◌, ◌++◌, length, refl, sym, ◌∙◌, append_assoc, inl, inr, arith}
-use Rattle.std.specs.Prelude.{Contains}
-use Rattle.std.proofs.lemmas.Bool.{cases_lt}
-use Rattle.std.proofs.lemmas.List.{append-nil, length-append, map-append, get_or_append_left, get_or_push, get_or_default}
-use Rattle.olr_map.proofs.Common.{AllPass, AllDiffer, MapFault, IsSettled, Table, keys_of, fields_of, others_of, checks_of, AreRows, IsTableOf, RefusesRecord, IsFaultOfTable}
-use Rattle.olr_metric.specs.Checks.{Passes}
-use Rattle.olr_metric.proofs.Checks.{decided as passes_or_fails, each_in_front, each_behind}
+use Rattle.olr_map.proofs.Common.{AllPass, AllDiffer, MapFault, IsSettled, Table, keys_of, fields_of, others_of, checks_of, AreRows, IsTableOf, RefusesRecord, IsFaultOfTable, ◌≡◌, ℕ, ◌+◌, ◌<◌, List, [], ◌∷◌, ◌++◌, length, refl, sym, ◌∙◌, append_assoc, inl, inr, arith, Contains, cases_lt, append-nil, length-append, map-append, get_or_append_left, get_or_push, get_or_default, Passes, zip_push}
+use Rattle.olr_base.proofs.Checks.{decided as passes_or_fails, each_in_front, each_behind}
 use Rattle.olr_map.specs.declared.fault.MapFault.TheVariants.{Header}
 use Rattle.olr_map.proofs.Checked.{keys_length}
 use Rattle.olr_map.proofs.Sorting.{sorted_rows}
-use Rattle.olr_map.proofs.Zips.{zip_push}
 
 -- A record that passes the checks on its fields and those of its file spells a row.
 abbrev pub IsDecided : {Row : Type 0} → Table Row → Type 0

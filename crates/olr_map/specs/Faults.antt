@@ -2,14 +2,15 @@
 -- an earlier one, and the checks that one file makes and the others don't. What all files check,
 -- and in which order, is in Table.antt.
 use Rattle.std.specs.Prelude.{ℕ, ◌⊎◌, List, [], ◌∷◌, Contains}
-use Rattle.olr_metric.specs.Checks.{Check, forbids}
-use Rattle.olr_metric.specs.Coordinates.{Coordinates}
+use Rattle.olr_base.specs.Checks.{Check, forbids}
+use Rattle.olr_base.specs.Coordinates.{Coordinates}
 use Rattle.olr_records.specs.Fields.{IsId, IsKind, IsLength, SpellsLongitude, SpellsLatitude}
 use Rattle.olr_records.specs.Shape.{IsShape}
-use Rattle.olr_map.specs.declared.ban.Ban.{Ban}
+use Rattle.olr_road.specs.declared.ban.Ban.{Ban}
 use Rattle.olr_map.specs.declared.fault.MapFault.{MapFault}
 use Rattle.olr_map.specs.declared.fault.MapFault.TheVariants.{UnknownNode, ZeroLength, Degenerate, UnknownLine, NotAdjacent}
-use Rattle.olr_map.specs.Rows.{SpellsAt, HasValue, Node, node_ids, RoadLine, line_ids, ArePoints, HasEqualNeighbours, ban_key, NamesLines, IsAdjacent}
+use Rattle.olr_map.specs.Rows.{SpellsAt, HasValue, ArePoints, NamesLines}
+use Rattle.olr_road.specs.RoadMap.{Node, node_ids, RoadLine, line_ids, HasEqualNeighbours, ban_key, IsAdjacent}
 
 -- ---- the columns of a record, each of which has to have a value
 

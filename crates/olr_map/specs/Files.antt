@@ -1,12 +1,13 @@
 -- What reading a map from the sources of its files gives, and what becomes of each source.
 use Rattle.std.specs.Prelude.{◌≡◌, ℕ, ⊤, ◌⊎◌, List, [], Option, Some, None, IfSome, Result, Ok, Err}
-use Rattle.olr_metric.specs.Counting.{one_more}
+use Rattle.olr_base.specs.Counting.{one_more}
 use Rattle.olr_records.specs.declared.file.File.{File}
 use Rattle.olr_records.specs.declared.file.File.TheVariants.{Nodes, Lines, Bans}
 use Rattle.olr_map.specs.declared.fault.MapFault.{MapFault}
 use Rattle.olr_map.specs.declared.fault.MapFault.TheVariants as fault
-use Rattle.olr_map.specs.Rows.{Node, RoadLine}
-use Rattle.olr_map.specs.RoadMap.{RoadMap, IsNodesFault, IsNodeSet, IsLinesFault, IsLineSet, IsBansFault, IsBanSet, AreSoundNodes, AreSoundLines, IsSoundMap}
+use Rattle.olr_road.specs.RoadMap.{Node, RoadLine}
+use Rattle.olr_road.specs.RoadMap.{RoadMap, AreSoundNodes, AreSoundLines, IsSoundMap}
+use Rattle.olr_map.specs.Tables.{IsNodesFault, IsNodeSet, IsLinesFault, IsLineSet, IsBansFault, IsBanSet}
 
 -- ---- the texts
 

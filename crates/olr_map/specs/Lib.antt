@@ -1,12 +1,6 @@
 pub mod Rows
 pub mod Faults
 pub mod Table
-pub mod RoadMap
-pub mod Place
-pub mod Steps
+pub mod Tables
 pub mod Files
-pub mod Canonical
-pub mod BansFrom
-pub mod Goals
-pub mod Axes
 pub mod inner

@@ -1,10 +1,11 @@
 -- What the records of the three files spell. The fields of a record are counted from 0.
-use Rattle.std.specs.Prelude.{◌≡◌, ℕ, ◌+◌, ◌*◌, ◌<◌, ◌≤◌, ⊤, List, [], ◌∷◌, ◌++◌, length, map, Option, Some, slice_get, codes}
+use Rattle.std.specs.Prelude.{◌≡◌, ℕ, ◌+◌, ◌≤◌, List, [], ◌∷◌, ◌++◌, length, Some, slice_get, codes}
 use Rattle.olr_records.specs.Records.{field_at}
-use Rattle.olr_metric.specs.Coordinates.{Coordinates}
+use Rattle.olr_base.specs.Coordinates.{Coordinates}
 use Rattle.olr_records.specs.Fields.{IsId, IsKind, IsLength, SpellsLongitude, SpellsLatitude}
 use Rattle.olr_records.specs.Shape.{IsShape}
-use Rattle.olr_map.specs.declared.ban.Ban.{Ban}
+use Rattle.olr_road.specs.declared.ban.Ban.{Ban}
+use Rattle.olr_road.specs.RoadMap.{Node, RoadLine, line_ids, HasEqualNeighbours, IsAdjacent}
 
 -- this field of a record spells this value
 pub record SpellsAt {A : Type 0} (Spells : List ℕ → A → Type 0) (fields : List (List ℕ)) (index : ℕ)
@@ -19,22 +20,9 @@ HasValue {A} Spells fields index = (value : A) × SpellsAt Spells fields index v
 
 -- ---- nodes
 
--- the most of them
-abbrev pub most_nodes : ℕ
-most_nodes = 100000
-
 -- the first record of the file of nodes
 abbrev pub node_header : List (List ℕ)
 node_header = codes "id" ∷ codes "lon" ∷ codes "lat" ∷ []
-
--- a node
-pub record Node : Type 0 where
-  pub id : ℕ
-  pub place : Coordinates
-
--- their ids
-abbrev pub node_ids : List Node → List ℕ
-node_ids nodes = map (λ (node : Node). node.id) nodes
 
 -- the record is that of the node
 pub record IsNode (fields : List (List ℕ)) (node : Node) : Type 0 where
@@ -45,29 +33,10 @@ pub record IsNode (fields : List (List ℕ)) (node : Node) : Type 0 where
 
 -- ---- lines
 
--- the most of them
-abbrev pub most_lines : ℕ
-most_lines = 200000
-
 -- the first record of the file of lines
 abbrev pub line_header : List (List ℕ)
 line_header = codes "id" ∷ codes "from" ∷ codes "to" ∷ codes "class" ∷ codes "form" ∷ codes "length"
     ∷ codes "shape" ∷ []
-
--- A line: its id; the ranks of the nodes at which it starts and ends; its class, its form of way,
--- its length in decimetres; and its points, both ends among them.
-pub record RoadLine : Type 0 where
-  pub id : ℕ
-  pub from : ℕ
-  pub to : ℕ
-  pub class : ℕ
-  pub form : ℕ
-  pub length : ℕ
-  pub points : List Coordinates
-
--- their ids
-abbrev pub line_ids : List RoadLine → List ℕ
-line_ids lines = map (λ (line : RoadLine). line.id) lines
 
 -- of nodes by rising id, the one of this rank has this id and lies here
 abbrev pub IsNodeAt : List Node → ℕ → ℕ → Coordinates → Type 0
@@ -92,13 +61,6 @@ pub record ArePoints (nodes : List Node) (fields : List (List ℕ)) (from to : �
   pub between : SpellsAt IsShape fields 6 shape
   pub joined : points ≡ first ∷ shape ++ last ∷ []
 
--- two neighbouring points are equal
-pub record HasEqualNeighbours (points : List Coordinates) : Type 0 where
-  pub front : List Coordinates
-  pub rest : List Coordinates
-  pub place : Coordinates
-  pub equal : points ≡ front ++ place ∷ place ∷ rest
-
 -- the record is that of the line, on these nodes by rising id
 pub record IsLine (nodes : List Node) (fields : List (List ℕ)) (line : RoadLine) : Type 0 where
   pub seven : Rattle.std.specs.Prelude.length fields ≡ Rattle.std.specs.Prelude.length line_header
@@ -112,23 +74,9 @@ pub record IsLine (nodes : List Node) (fields : List (List ℕ)) (line : RoadLin
 
 -- ---- bans on turns
 
--- the most of them
-abbrev pub most_bans : ℕ
-most_bans = 200000
-
 -- the first record of the file of bans
 abbrev pub ban_header : List (List ℕ)
 ban_header = codes "from" ∷ codes "to" ∷ []
-
--- The key of a ban: the ranks of its two lines, packed into one number. No map has 2 ^ 32 lines, so
--- bans are by rising key if they are by the rising rank of the line that they lead from, and those
--- from one line by the rising rank of the other.
-abbrev pub ban_key : Ban → ℕ
-ban_key ban = ban.from * 4294967296 + ban.to
-
--- their keys
-abbrev pub ban_keys : List Ban → List ℕ
-ban_keys bans = map ban_key bans
 
 -- this field of a record spells the id of the line of this rank
 pub record IsLineNamed (lines : List RoadLine) (fields : List (List ℕ)) (index rank : ℕ) : Type 0
@@ -141,14 +89,6 @@ pub record IsLineNamed (lines : List RoadLine) (fields : List (List ℕ)) (index
 pub record NamesLines (lines : List RoadLine) (fields : List (List ℕ)) (ban : Ban) : Type 0 where
   pub from : IsLineNamed lines fields 0 ban.from
   pub to : IsLineNamed lines fields 1 ban.to
-
--- the second line of a ban starts at the node at which the first one ends
-pub record IsAdjacent (lines : List RoadLine) (ban : Ban) : Type 0 where
-  pub first : RoadLine
-  pub second : RoadLine
-  pub from : slice_get lines ban.from ≡ Some first
-  pub to : slice_get lines ban.to ≡ Some second
-  pub meet : second.from ≡ first.to
 
 -- the record is that of the ban, on lines by rising id
 pub record IsBan (lines : List RoadLine) (fields : List (List ℕ)) (ban : Ban) : Type 0 where

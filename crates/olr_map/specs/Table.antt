@@ -2,7 +2,7 @@
 -- nodes, the lines and the bans are three tables; what holds of all is defined here once.
 use Rattle.std.specs.Prelude.{◌≡◌, ℕ, suc, ◌+◌, ◌<◌, ◌≤◌, ◌⊎◌, List, [], ◌∷◌, ◌++◌, length, map}
 use Rattle.std.specs.List.{AllZip}
-use Rattle.olr_metric.specs.Checks.{Check, needs, forbids, Refuses}
+use Rattle.olr_base.specs.Checks.{Check, needs, forbids, Refuses}
 use Rattle.olr_records.specs.declared.file.File.{File}
 use Rattle.olr_records.specs.Records.{records_of}
 use Rattle.olr_index.specs.Repeats.{AllDiffer, Sorts}

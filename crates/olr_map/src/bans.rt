@@ -1,38 +1,31 @@
 //! The bans of a file.
 
-ghost use Rattle.std.specs.Prelude.{◌≡◌, ◌+◌, ◌<◌, length, IfOk, IfErr, OnOk};
+ghost use Rattle.std.specs.Prelude.{◌+◌, ◌<◌, IfOk, IfErr, OnOk};
 ghost use Rattle.olr_map.specs.inner.Ending.{FaultOfFile};
 ghost use Rattle.olr_map.specs.Files.{IsReadWhole};
 ghost use Rattle.olr_map.specs.Rows.{IsBan};
-ghost use Rattle.olr_map.specs.RoadMap.{IsBansFault, IsBanSet};
-ghost use Rattle.olr_map.specs.inner.Reading.{lines_of, AreNamed, IsRankOf, StopsBan, HasText};
+ghost use Rattle.olr_map.specs.Tables.{IsBansFault, IsBanSet};
+ghost use Rattle.std.specs.List.Sorted.{IsStrictlyIncreasing};
+ghost use Rattle.olr_road.specs.RoadMap.{line_ids};
+ghost use Rattle.olr_map.specs.inner.Reading.{StopsBan, HasText};
 
-use crate::ban::Ban;
 use crate::fault::MapFault;
-use crate::line::LineSet;
 use crate::rows::named_lines;
 use crate::table::{Stop, TableFile, has_names, read_table};
-use olr_index::{Keyed, keys_of, rank_of_key, sort_or_repeat};
-use olr_metric::NoMemory;
+use olr_base::NoMemory;
+use olr_index::{Keyed, keys_of, sort_or_repeat};
 use olr_records::{File, Record, Source};
+use olr_road::{Ban, LineSet};
 use std::alloc::Global;
 
 /// The most bans of a map.
 const BANS: u32 = 200_000;
 
-/// The rank of the line of an id.
-fn find_line(lines: &LineSet, id: u64) -> Option<u32>
-    requires { AreNamed lines.now }
-    ensures { IsRankOf (lines_of lines.now) id result }
-{
-    rank_of_key(&lines.entries, id)
-}
-
 /// The ban of a record, or why the record is none; `number` is the record's, from 1.
 fn ban_of(row: &Record, lines: &LineSet, number: u32) -> Result<Ban, Stop>
-    requires { AreNamed lines.now }
-    ensures ban { IfOk result (IsBan (lines_of lines.now) row.now) }
-    ensures stop { IfErr result (StopsBan (lines_of lines.now) row.now number) }
+    requires { IsStrictlyIncreasing (line_ids lines.now) }
+    ensures ban { IfOk result (IsBan lines.now row.now) }
+    ensures stop { IfErr result (StopsBan lines.now row.now number) }
 {
     let (from, to) = match named_lines(row) {
         Ok(ids) => ids,
@@ -41,12 +34,12 @@ fn ban_of(row: &Record, lines: &LineSet, number: u32) -> Result<Ban, Stop>
             return Err(Stop { fault, key: None });
         }
     };
-    let (Some(from), Some(to)) = (find_line(lines, from), find_line(lines, to)) else {
+    let (Some(from), Some(to)) = (lines.find(from), lines.find(to)) else {
         let fault = MapFault::UnknownLine(number);
         return Err(Stop { fault, key: None });
     };
     let ban = Ban { from, to };
-    if lines.entries[from as usize].line.to != lines.entries[to as usize].line.from {
+    if lines.line(from).to != lines.line(to).from {
         let fault = MapFault::NotAdjacent(number);
         let key = Some(ban.key());
         return Err(Stop { fault, key });
@@ -63,10 +56,10 @@ struct BanFile<'a> {
 
 impl<'a> TableFile for BanFile<'a> {
     ghost use Rattle.std.specs.Prelude.{List};
-    ghost use Rattle.olr_map.specs.declared.ban.Ban.{Ban};
-    ghost use Rattle.olr_map.specs.Rows.{RoadLine};
-    ghost use Rattle.olr_map.specs.RoadMap.{bans_table};
-    ghost use Rattle.olr_map.specs.inner.Reading.{AreNamed};
+    ghost use Rattle.olr_road.specs.declared.ban.Ban.{Ban};
+    ghost use Rattle.std.specs.List.Sorted.{IsStrictlyIncreasing};
+    ghost use Rattle.olr_road.specs.RoadMap.{RoadLine, line_ids};
+    ghost use Rattle.olr_map.specs.Tables.{bans_table};
 
     ghost Row = { Ban };
 
@@ -74,11 +67,11 @@ impl<'a> TableFile for BanFile<'a> {
 
     ghost table_of = { bans_table };
 
-    ghost before = { λ file. lines_of file.lines.now };
+    ghost before = { λ file. file.lines.now };
 
     ghost rows = { λ file. file.bans.items };
 
-    ghost IsSound = { λ file. AreNamed file.lines.now };
+    ghost IsSound = { λ file. IsStrictlyIncreasing (line_ids file.lines.now) };
 
     fn file(&self) -> File {
         File::Bans
@@ -124,12 +117,12 @@ pub(crate) fn read_bans<S: Source>(
     source: &mut S,
     lines: &LineSet,
 ) -> Result<Vec<Ban>, MapFault>
-    requires { AreNamed lines.now }
+    requires { IsStrictlyIncreasing (line_ids lines.now) }
     ensures bans { IfOk result (λ bans. HasText (S.left source.old)
-        (λ text. IsBanSet (lines_of lines.now) text bans.items)) }
+        (λ text. IsBanSet lines.now text bans.items)) }
     ensures whole { OnOk result (IsReadWhole S.left S.failed source.old source.new) }
     ensures fault { IfErr result (FaultOfFile S.left S.failed source.old source.new
-        File.Bans (IsBansFault (lines_of lines.now))) }
+        File.Bans (IsBansFault lines.now)) }
 {
     let mut file = BanFile {
         lines,

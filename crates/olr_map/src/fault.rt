@@ -3,7 +3,7 @@
 ghost use Rattle.std.specs.Prelude.{◌≡◌};
 ghost use Rattle.olr_map.specs.declared.fault.MapFault.TheVariants as fault;
 
-use olr_metric::NoMemory;
+use olr_base::NoMemory;
 use olr_records::File;
 use std::alloc::AllocError;
 use thiserror::Error;

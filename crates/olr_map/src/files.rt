@@ -1,19 +1,17 @@
 //! The map of two files, or of three.
 
-ghost use Rattle.std.specs.Prelude.{◌≡◌, ◌≤◌, List, ℕ, Option, Some, None, [], IfOk, IfErr, All, length};
+ghost use Rattle.std.specs.Prelude.{◌≡◌, List, ℕ, Option, Some, None, [], IfOk, IfErr};
 ghost use Rattle.olr_records.specs.declared.file.File.TheVariants.{Bans};
-ghost use Rattle.olr_map.specs.inner.Reading.{nodes_of, lines_of, IsWithin};
+ghost use Rattle.olr_road.specs.Entries.{nodes_of};
 ghost use Rattle.olr_map.specs.Files.{texts_of, file_of, AreLinesAccepted, IsMapLeft, IsFaultLeft, LeavesSource, IsReadInOrder};
 
 use crate::bans::read_bans;
 use crate::fault::MapFault;
-use crate::line::LineSet;
 use crate::lines::read_lines;
-use crate::map::{Map, map_of};
-use crate::node::Node;
 use crate::node_index::index_nodes;
 use crate::nodes::read_nodes;
 use olr_records::{File, Source};
+use olr_road::{LineSet, Map, Node};
 use std::alloc::Global;
 
 /// The nodes and the lines of a map, each by rising id.
@@ -30,8 +28,7 @@ fn read_network<S1: Source, S2: Source>(
     lines: &mut S2,
 ) -> Result<Network, MapFault>
     ensures accepted { IfOk result (λ network. AreLinesAccepted (S1.left nodes.old) (S2.left lines.old)
-        (nodes_of network.nodes.items) (lines_of network.lines)) }
-    ensures within { IfOk result (λ network. All (IsWithin network.lines.points.items) network.lines.entries.items) }
+        (nodes_of network.nodes.items) network.lines) }
     ensures fault { IfErr result (λ why. (bans_left : Option (List ℕ))
         → IsFaultLeft (texts_of (S1.left nodes.old) (S2.left lines.old) bans_left) why) }
     ensures of_two { IfErr result (λ why. file_of why ≡ Some Bans → ⊥) }
@@ -84,8 +81,7 @@ pub fn read_map<S1: Source, S2: Source>(
     ensures in_order { IsReadInOrder S1.left S1.failed nodes.old nodes.new lines.old lines.new }
 {
     let network = read_network(alloc, nodes, lines)?;
-    let LineSet { entries, points } = network.lines;
-    let map = map_of(alloc, network.nodes, entries, points, Vec::new(alloc))?;
+    let map = Map::new(alloc, network.nodes, network.lines, Vec::new(alloc))?;
     Ok(map)
 }
 
@@ -122,7 +118,6 @@ pub fn read_map_with_bans<S1: Source, S2: Source, S3: Source>(
 {
     let network = read_network(alloc, nodes, lines)?;
     let bans = read_bans(alloc, bans, &network.lines)?;
-    let LineSet { entries, points } = network.lines;
-    let map = map_of(alloc, network.nodes, entries, points, bans)?;
+    let map = Map::new(alloc, network.nodes, network.lines, bans)?;
     Ok(map)
 }

@@ -1,25 +1,25 @@
 //! The lines of a file.
 
-ghost use Rattle.std.specs.Prelude.{◌≡◌, ℕ, ◌+◌, ◌<◌, ◌≤◌, ◌^◌, ⊤, List, [], ◌∷◌, ◌++◌};
+ghost use Rattle.std.specs.Prelude.{◌≡◌, ℕ, ◌+◌, ◌<◌, ◌≤◌, ⊤, List, [], ◌∷◌, ◌++◌};
 ghost use Rattle.std.specs.Prelude.{map, length};
-ghost use Rattle.std.specs.Prelude.{All, IfOk, IfErr, OnOk, MatchBool, MatchOption, MatchResult};
-ghost use Rattle.olr_metric.specs.Coordinates.{Coordinates, coordinates_of};
+ghost use Rattle.std.specs.Prelude.{IfOk, IfErr, OnOk, MatchBool, MatchResult};
+ghost use Rattle.olr_base.specs.Coordinates.{coordinates_of};
 ghost use Rattle.olr_map.specs.inner.Ending.{FaultOfFile};
 ghost use Rattle.olr_map.specs.Files.{IsReadWhole};
-ghost use Rattle.olr_map.specs.Rows.{IsLine, HasEqualNeighbours, Node};
-ghost use Rattle.olr_map.specs.RoadMap.{lines_table, IsLinesFault, IsLineSet};
-ghost use Rattle.olr_map.specs.inner.Settling.{AddsRow, StopsAt};
-ghost use Rattle.olr_map.specs.inner.Reading.{nodes_of, line_in, lines_of, IsWithin, AreSound};
+ghost use Rattle.olr_map.specs.Rows.{IsLine};
+ghost use Rattle.olr_road.specs.RoadMap.{HasEqualNeighbours, Node, line_of};
+ghost use Rattle.olr_map.specs.Tables.{lines_table, IsLinesFault, IsLineSet};
+ghost use Rattle.olr_road.specs.Entries.{nodes_of};
 ghost use Rattle.olr_map.specs.inner.Reading.{SpellsLine, HasEnds, IsLineError, IsLateFault, HasText};
 
 use crate::fault::MapFault;
-use crate::line::{Entry, Line, LineSet};
 use crate::node_index::{NodeIndex, find_node};
 use crate::rows::{LineRow, RowError, numbers_of, shape_at};
 use crate::table::{Stop, TableFile, has_names, read_table};
+use olr_base::{Degrees, NoMemory};
 use olr_index::{keys_of, sort_or_repeat};
-use olr_metric::{Degrees, NoMemory};
 use olr_records::{File, Record, Source};
+use olr_road::{Line, LineSet};
 use std::alloc::Global;
 
 /// The most lines of a map.
@@ -54,16 +54,16 @@ fn has_equal_neighbours(points: &[Degrees]) -> bool
     false
 }
 
-/// Appends the points of a line.
-fn append_points(
+/// Puts the points of a line into `points`, in place of those that it has.
+fn join_points(
     points: &mut Vec<Degrees>,
     first: Degrees,
     shape: &[Degrees],
     last: Degrees,
 ) -> Result<(), NoMemory>
-    ensures { OnOk result
-        (points.new.items ≡ points.old.items ++ (first ∷ shape.now ++ last ∷ [])) }
+    ensures { OnOk result (points.new.items ≡ first ∷ shape.now ++ last ∷ []) }
 {
+    points.clear();
     points.push(first)?;
     points.extend_from_slice(shape)?;
     points.push(last)?;
@@ -118,26 +118,22 @@ fn read_line(
     }
 }
 
-/// Makes a line of a record's row. Its points are appended to those of the lines before it.
+/// Makes a line of a record's row. Its points go into `points`, in place of those that it has.
 fn make_line(
     row: &LineRow,
     ends: Option<Ends>,
     shape: &[Degrees],
     number: u32,
     points: &mut Vec<Degrees>,
-) -> Result<Result<Entry, MapFault>, NoMemory>
-    requires short { length shape.now ≤ 64 }
-    requires room { length points.old.items + 66 < 2 ^ 32 }
+) -> Result<Result<Line, MapFault>, NoMemory>
+    requires { length shape.now ≤ 64 }
     ensures line { IfOk result (λ made. (nodes : List Node) (fields : List (List ℕ))
         → SpellsLine fields (map coordinates_of shape.now) row.now → HasEnds nodes row.now ends
         → MatchResult made
-        (λ entry. IsLine nodes fields (line_in points.new.items entry))
+        (λ line. IsLine nodes fields (line_of line (map coordinates_of points.new.items)))
         (IsLateFault nodes fields number)) }
-    ensures grows { OnOk result
-        ((more : List Degrees) × (points.new.items ≡ points.old.items ++ more)) }
-    ensures at_most { OnOk result (length points.new.items ≤ length points.old.items + 66) }
-    ensures within { IfOk result
-        (λ made. MatchResult made (λ entry. IsWithin points.new.items entry) (λ _. ⊤)) }
+    ensures counts { IfOk result (λ made. MatchResult made
+        (λ line. (1 ≤ length points.new.items) × (length points.new.items ≤ 66)) (λ _. ⊤)) }
 {
     let Some(ends) = ends else {
         return Ok(Err(MapFault::UnknownNode(number)));
@@ -145,59 +141,18 @@ fn make_line(
     if row.length == 0 {
         return Ok(Err(MapFault::ZeroLength(number)));
     }
-    let start = points.len();
-    append_points(points, ends.first, shape, ends.last)?;
-    if has_equal_neighbours(&points[start..]) {
+    join_points(points, ends.first, shape, ends.last)?;
+    if has_equal_neighbours(points) {
         return Ok(Err(MapFault::Degenerate(number)));
     }
-    let line = Line {
+    Ok(Ok(Line {
         id: row.id,
         from: ends.from,
         to: ends.to,
         class: row.class,
         form: row.form,
         length: row.length,
-    };
-    Ok(Ok(Entry {
-        line,
-        start: start as u32,
-        end: points.len() as u32,
     }))
-}
-
-/// Appends the line of a record, or answers why the record is no line.
-fn add_line(
-    row: &Record,
-    nodes: &NodeIndex,
-    lines: &mut LineSet,
-    shape: &mut Vec<Degrees>,
-) -> Result<Option<Stop>, NoMemory>
-    requires room { length lines.old.entries.items < 200000 }
-    requires sound { AreSound lines.old }
-    ensures { IfOk result (λ stop. MatchOption stop
-        (AddsRow (lines_table (nodes_of nodes.now)) row.now
-        (lines_of lines.old) (lines_of lines.new) × AreSound lines.new)
-        (StopsAt (lines_table (nodes_of nodes.now)) row.now
-        (lines_of lines.old) (lines_of lines.new))) }
-{
-    let number = lines.entries.len() as u32 + 1;
-    let (numbers, ends) = match read_line(row, nodes, shape)? {
-        Ok(line) => line,
-        Err(error) => {
-            let fault = error.in_record(File::Lines, number);
-            return Ok(Some(Stop { fault, key: None }));
-        }
-    };
-    match make_line(&numbers, ends, shape, number, &mut lines.points)? {
-        Ok(entry) => {
-            lines.entries.push(entry)?;
-            Ok(None)
-        }
-        Err(fault) => {
-            let key = Some(numbers.id);
-            Ok(Some(Stop { fault, key }))
-        }
-    }
 }
 
 /// The file of lines.
@@ -207,10 +162,13 @@ struct LineFile<'a> {
     lines: LineSet,
     /// The shape of the record at hand.
     shape: Vec<Degrees>,
+    /// The points of its line.
+    points: Vec<Degrees>,
 }
 
 impl<'a> TableFile for LineFile<'a> {
-    ghost use Rattle.olr_map.specs.Rows.{Node, RoadLine};
+    ghost use Rattle.std.specs.Prelude.{⊤};
+    ghost use Rattle.olr_road.specs.RoadMap.{Node, RoadLine};
 
     ghost Row = { RoadLine };
 
@@ -220,9 +178,9 @@ impl<'a> TableFile for LineFile<'a> {
 
     ghost before = { λ file. nodes_of file.nodes.now };
 
-    ghost rows = { λ file. lines_of file.lines };
+    ghost rows = { λ file. file.lines };
 
-    ghost IsSound = { λ file. AreSound file.lines };
+    ghost IsSound = { λ _. ⊤ };
 
     fn file(&self) -> File {
         File::Lines
@@ -238,17 +196,33 @@ impl<'a> TableFile for LineFile<'a> {
     }
 
     fn add(&mut self, row: &Record) -> Result<Option<Stop>, NoMemory> {
-        let stop = add_line(row, self.nodes, &mut self.lines, &mut self.shape)?;
-        Ok(stop)
+        let number = self.lines.count() + 1;
+        let (numbers, ends) = match read_line(row, self.nodes, &mut self.shape)? {
+            Ok(line) => line,
+            Err(error) => {
+                let fault = error.in_record(File::Lines, number);
+                return Ok(Some(Stop { fault, key: None }));
+            }
+        };
+        match make_line(&numbers, ends, &self.shape, number, &mut self.points)? {
+            Ok(line) => {
+                self.lines.push(line, &self.points)?;
+                Ok(None)
+            }
+            Err(fault) => {
+                let key = Some(numbers.id);
+                Ok(Some(Stop { fault, key }))
+            }
+        }
     }
 
     fn keys(&self, alloc: Global) -> Result<Vec<u64>, NoMemory> {
-        let keys = keys_of(alloc, &self.lines.entries)?;
-        Ok(keys)
+        let ids = self.lines.ids(alloc)?;
+        Ok(ids)
     }
 
     fn sort(&mut self, alloc: Global) -> Result<Option<usize>, NoMemory> {
-        let repeat = sort_or_repeat(alloc, &mut self.lines.entries)?;
+        let repeat = self.lines.sort_or_repeat(alloc)?;
         Ok(repeat)
     }
 }
@@ -258,6 +232,7 @@ impl<'a> TableFile for LineFile<'a> {
 /// # Errors
 ///
 /// The fault of the text, [`MapFault::ReadFailed`] or [`MapFault::NoMemory`].
+#[tactic(auto, using(crate::proofs::LineFaults::lines_settled))]
 pub(crate) fn read_lines<S: Source>(
     alloc: Global,
     source: &mut S,
@@ -265,19 +240,16 @@ pub(crate) fn read_lines<S: Source>(
     nodes: &NodeIndex,
 ) -> Result<LineSet, MapFault>
     ensures lines { IfOk result (λ rows. HasText (S.left source.old)
-        (λ text. IsLineSet (nodes_of nodes.now) text (lines_of rows))) }
-    ensures within { IfOk result (λ rows. All (IsWithin rows.points.items) rows.entries.items) }
+        (λ text. IsLineSet (nodes_of nodes.now) text rows)) }
     ensures whole { OnOk result (IsReadWhole S.left S.failed source.old source.new) }
     ensures fault { IfErr result (FaultOfFile S.left S.failed source.old source.new
         File.Lines (IsLinesFault (nodes_of nodes.now))) }
 {
     let mut file = LineFile {
         nodes,
-        lines: LineSet {
-            entries: Vec::new(alloc),
-            points: Vec::new(alloc),
-        },
+        lines: LineSet::new(alloc),
         shape: Vec::new(alloc),
+        points: Vec::new(alloc),
     };
     read_table(alloc, source, text, &mut file)?;
     Ok(file.lines)

@@ -2,13 +2,14 @@
 
 ghost use Rattle.std.specs.Prelude.{◌≡◌, ◌≤◌, length, IfOk, MatchOption, Contains};
 ghost use Rattle.std.specs.List.Sorted.{IsStrictlyIncreasing};
-ghost use Rattle.olr_metric.specs.Coordinates.{coordinates_of};
-ghost use Rattle.olr_map.specs.Rows.{IsNodeAt, node_ids};
-ghost use Rattle.olr_map.specs.inner.Reading.{nodes_of};
+ghost use Rattle.olr_base.specs.Coordinates.{coordinates_of};
+ghost use Rattle.olr_map.specs.Rows.{IsNodeAt};
+ghost use Rattle.olr_road.specs.RoadMap.{node_ids};
+ghost use Rattle.olr_road.specs.Entries.{nodes_of};
 
-use crate::node::Node;
+use olr_base::{Degrees, NoMemory};
 use olr_index::KeyIndex;
-use olr_metric::{Degrees, NoMemory};
+use olr_road::Node;
 use std::alloc::Global;
 
 /// Nodes by rising id, found by id.
@@ -19,6 +20,7 @@ pub(crate) type NodeIndex = KeyIndex<Node>;
 /// # Errors
 ///
 /// [`NoMemory`] where the allocator refused memory.
+#[tactic(auto, using(olr_road::proofs::Sets::ids_of_rows))]
 pub(crate) fn index_nodes(alloc: Global, rows: Vec<Node>) -> Result<NodeIndex, NoMemory>
     requires rise { IsStrictlyIncreasing (node_ids (nodes_of rows.items)) }
     requires at_most { length rows.items ≤ 100000 }
@@ -29,6 +31,7 @@ pub(crate) fn index_nodes(alloc: Global, rows: Vec<Node>) -> Result<NodeIndex, N
 }
 
 /// The rank and the place of the node of an id.
+#[tactic(auto, using(olr_road::proofs::Sets::ids_of_rows))]
 pub(crate) fn find_node(nodes: &NodeIndex, id: u64) -> Option<(u32, Degrees)>
     ensures { MatchOption result
         (Contains (node_ids (nodes_of nodes.now)) id → ⊥)

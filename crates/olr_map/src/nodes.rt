@@ -1,18 +1,19 @@
 //! The nodes of a file.
 
-ghost use Rattle.std.specs.Prelude.{◌≡◌, length, ◌≤◌, IfOk, IfErr, OnOk};
+ghost use Rattle.std.specs.Prelude.{IfOk, IfErr, OnOk};
 ghost use Rattle.olr_map.specs.inner.Ending.{FaultOfFile};
 ghost use Rattle.olr_map.specs.Files.{IsReadWhole};
-ghost use Rattle.olr_map.specs.inner.Reading.{nodes_of, HasText};
-ghost use Rattle.olr_map.specs.RoadMap.{IsNodesFault, IsNodeSet};
+ghost use Rattle.olr_road.specs.Entries.{nodes_of};
+ghost use Rattle.olr_map.specs.inner.Reading.{HasText};
+ghost use Rattle.olr_map.specs.Tables.{IsNodesFault, IsNodeSet};
 
 use crate::fault::MapFault;
-use crate::node::Node;
 use crate::rows::read_node;
 use crate::table::{Stop, TableFile, has_names, read_table};
+use olr_base::NoMemory;
 use olr_index::{keys_of, sort_or_repeat};
-use olr_metric::NoMemory;
 use olr_records::{File, Record, Source};
+use olr_road::Node;
 use std::alloc::Global;
 
 /// The most nodes of a map.
@@ -26,8 +27,8 @@ struct NodeFile {
 
 impl TableFile for NodeFile {
     ghost use Rattle.std.specs.Prelude.{⊤};
-    ghost use Rattle.olr_map.specs.Rows.{Node as NodeOfText};
-    ghost use Rattle.olr_map.specs.RoadMap.{nodes_table};
+    ghost use Rattle.olr_road.specs.RoadMap.{Node as NodeOfText};
+    ghost use Rattle.olr_map.specs.Tables.{nodes_table};
 
     ghost Row = { NodeOfText };
 
@@ -67,11 +68,13 @@ impl TableFile for NodeFile {
         }
     }
 
+    #[tactic(auto, using(olr_road::proofs::Sets::ids_of_rows))]
     fn keys(&self, alloc: Global) -> Result<Vec<u64>, NoMemory> {
         let keys = keys_of(alloc, &self.nodes)?;
         Ok(keys)
     }
 
+    #[tactic(auto, using(olr_road::proofs::Sets::option_cases, olr_road::proofs::Sets::ids_of_rows, olr_road::proofs::Sets::sorted_nodes))]
     fn sort(&mut self, alloc: Global) -> Result<Option<usize>, NoMemory> {
         let repeat = sort_or_repeat(alloc, &mut self.nodes)?;
         Ok(repeat)

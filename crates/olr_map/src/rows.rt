@@ -1,18 +1,18 @@
 //! What each record of the three files means by itself.
 
-ghost use Rattle.std.specs.Prelude.{◌≡◌, List, map, IfOk, IfErr, MatchBool, MatchOption, MatchResult};
-ghost use Rattle.olr_metric.specs.Coordinates.{coordinates_of};
+ghost use Rattle.std.specs.Prelude.{◌≡◌, map, IfOk, IfErr, MatchBool, MatchOption};
+ghost use Rattle.olr_base.specs.Coordinates.{coordinates_of};
 ghost use Rattle.olr_records.specs.Fields.{IsId, IsKind, IsLength, SpellsLongitude, SpellsLatitude};
 ghost use Rattle.olr_records.specs.Shape.{IsShape};
 ghost use Rattle.olr_map.specs.Rows.{SpellsAt, HasValue, IsNode};
-ghost use Rattle.olr_map.specs.RoadMap.{node_of};
+ghost use Rattle.olr_road.specs.RoadMap.{node_of};
 ghost use Rattle.olr_map.specs.inner.Reading.{IsNodeError, IsLineError, IsBanError, fault_of};
-ghost use Rattle.olr_map.specs.inner.Reading.{SpellsNumbers, SpellsLine, SpellsIds};
+ghost use Rattle.olr_map.specs.inner.Reading.{SpellsNumbers, SpellsIds};
 
 use crate::fault::MapFault;
-use crate::node::Node;
-use olr_metric::{Degrees, NoMemory};
+use olr_base::{Degrees, NoMemory};
 use olr_records::{File, Record, id_of, kind_of, latitude_of, length_of, longitude_of, read_shape};
+use olr_road::Node;
 
 /// The numbers of a line, as its record spells them.
 #[derive(Clone, Copy, Drop)]

@@ -1,7 +1,7 @@
 //! What is done with each file of a map, whatever its rows are: it is read whole, its header is
 //! looked at, its records are read up to the first faulty one, and its rows are sorted.
 
-ghost use Rattle.std.specs.Prelude.{◌≡◌, ◌≤◌, ◌<◌, ℕ, List, [], ◌∷◌, Some, None, length, map};
+ghost use Rattle.std.specs.Prelude.{◌≡◌, ◌≤◌, ◌<◌, List, [], ◌∷◌, Some, None, length, map};
 ghost use Rattle.std.specs.Prelude.{IfOk, IfErr, OnOk, MatchBool, MatchOption};
 ghost use Rattle.olr_index.specs.Repeats.{Sorts, IsFirstRepeat};
 ghost use Rattle.olr_map.specs.inner.Ending.{FaultOfFile};
@@ -13,8 +13,8 @@ ghost use Rattle.olr_map.specs.Table.{Table, keys_of, LacksHeader, IsTableOf, Is
 
 use crate::fault::MapFault;
 use crate::reading::read_fault;
+use olr_base::NoMemory;
 use olr_index::first_repeat;
-use olr_metric::NoMemory;
 use olr_records::{File, Record, Records, Source, read_whole};
 use std::alloc::Global;
 

@@ -1,12 +1,5 @@
 -- The keys of the table of layers are those of the matchings of their reference.
-use Rattle.std.proofs.Common.{◌≡◌, ℕ, zero, suc, ◌+◌, ◌-◌, ◌<◌, List, [], ◌∷◌, length, get_or, refl, sym, ◌∙◌, ap, subst, arith, Option, None, Some, option_map, slice_get, slice_index_or}
-use Rattle.std.proofs.lemmas.Option.{same_Some, slice_get-get_or, slice_get_within}
-use Rattle.olr_matching.proofs.Common.{AreLayersOn, Candidate, class_limit, IsOfRank, LayersValue, LeadsOn, leg_penalty, Next, points_of, RoadMap}
-use Rattle.olr_candidates.specs.Laws.{OneListOfPoint}
-use Rattle.olr_keys.specs.Matching.{IsCompletion}
-use Rattle.olr_keys.specs.Table.{leg_at, penalty_at}
-use Rattle.olr_matching.specs.Admissible.{Admits, HasCandidate, IsMatching, IsRestBehind, KeysAreOfMatchings}
-use Rattle.olr_matching.specs.LayersLaws.{IsAdmittedPenalty}
+use Rattle.olr_matching.proofs.Common.{AreLayersOn, Candidate, class_limit, IsOfRank, LayersValue, LeadsOn, leg_penalty, Next, points_of, RoadMap, ◌≡◌, ℕ, zero, suc, ◌+◌, ◌-◌, ◌<◌, List, [], ◌∷◌, length, get_or, refl, sym, ◌∙◌, ap, subst, arith, Option, None, Some, option_map, slice_get, slice_index_or, same_Some, slice_get-get_or, slice_get_within, OneListOfPoint, IsCompletion, leg_at, penalty_at, Admits, HasCandidate, IsMatching, IsRestBehind, KeysAreOfMatchings, IsAdmittedPenalty}
 use Rattle.olr_matching.proofs.Admitted.{one_length}
 use Rattle.olr_matching.proofs.Keys.{candidate_of_penalty}
 use Rattle.olr_matching.proofs.LegLaws.{layers_count, leg_of_ranks, penalties_are}

@@ -1,8 +1,5 @@
 -- What a leg admits.
-use Rattle.std.proofs.Common.{◌≡◌, ℕ, ◌≤◌, arith}
-use Rattle.olr_matching.proofs.Common.{Next, Place, RoadMap, Tolerances}
-use Rattle.olr_matching.specs.Leg.{greatest_admitted}
-use Rattle.olr_route.specs.Least.{IsLeastLength}
+use Rattle.olr_matching.proofs.Common.{Next, Place, RoadMap, Tolerances, ◌≡◌, ℕ, ◌≤◌, arith, greatest_admitted, IsLeastLength}
 
 -- no leg admits a length of more than 310,032 decimetres
 pub greatest_at_most : (tolerances : Tolerances) (next : Next)

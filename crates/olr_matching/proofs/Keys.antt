@@ -1,12 +1,6 @@
 -- The ranks of a key of the answers name a candidate of each layer, and each leg admits the two
 -- between which it leads.
-use Rattle.std.proofs.Common.{◌≡◌, ℕ, zero, suc, ◌+◌, ◌-◌, ◌<◌, List, [], ◌∷◌, length, map, refl, sym, subst, ap, ◌∙◌, arith, Option, Some, None, option_map, slice_get, slice_index_or}
-use Rattle.std.proofs.lemmas.Option.{same_Some, slice_get-map}
-use Rattle.olr_matching.proofs.Common.{Candidate, leg_penalty, points_of, RoadMap}
-use Rattle.olr_keys.specs.Matching.{IsCompletion}
-use Rattle.olr_keys.specs.Table.{Penalties, leg_at, penalty_at}
-use Rattle.olr_matching.specs.Layers.{LayersValue, AreLayersOn, length_at, penalties_of}
-use Rattle.olr_matching.specs.Matched.{AreRanks, IsOfRank}
+use Rattle.olr_matching.proofs.Common.{Candidate, leg_penalty, points_of, RoadMap, ◌≡◌, ℕ, zero, suc, ◌+◌, ◌-◌, ◌<◌, List, [], ◌∷◌, length, map, refl, sym, subst, ap, ◌∙◌, arith, Option, Some, None, option_map, slice_get, slice_index_or, same_Some, slice_get-map, IsCompletion, Penalties, leg_at, penalty_at, LayersValue, AreLayersOn, length_at, penalties_of, AreRanks, IsOfRank}
 use Rattle.olr_matching.proofs.LegLaws.{layer_is, leg_is}
 use Rattle.olr_matching.proofs.Lists.{list_inside}
 use Rattle.olr_matching.proofs.Points.{leads_on}

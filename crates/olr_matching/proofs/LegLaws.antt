@@ -1,14 +1,6 @@
 -- The legs of layers: their penalties in the table, and the range of their lengths.
-use Rattle.std.proofs.Common.{◌≡◌, ℕ, ◌+◌, ◌-◌, ◌*◌, ◌≤◌, List, [], ◌∷◌, length, map, get_or, refl, sym, ◌∙◌, ap, add-one, arith, Option, None, Some, option_map, slice_index_or, unwrap_or}
 use Rattle.std.proofs.Math.ListN.{get_or-map as map_at}
-use Rattle.std.proofs.lemmas.List.{length-map}
-use Rattle.std.proofs.lemmas.List.Sums.{sum_by-cons}
-use Rattle.std.proofs.lemmas.Option.{slice_get-map}
-use Rattle.olr_matching.proofs.Common.{Candidate, IsAdmittedLength, IsDeparture, leg_penalty, Next, Piece, Place, RoadMap, Tolerances}
-use Rattle.olr_keys.specs.Table.{Penalties, count_of, leg_at}
-use Rattle.olr_matching.specs.Layers.{AreLayersOn, IsCandidateOf, LayersValue, LeadsOn, leg_penalties, penalties_of}
-use Rattle.olr_matching.specs.LayersLaws.{AdmittedLengthsAreInRange, IsAdmittedPenalty, LegsAreAdmitted, PenaltiesAreOfCandidates}
-use Rattle.olr_matching.proofs.Admitted.{greatest_at_most}
+use Rattle.olr_matching.proofs.Common.{Candidate, IsAdmittedLength, IsDeparture, leg_penalty, Next, Piece, Place, RoadMap, Tolerances, ◌≡◌, ℕ, ◌+◌, ◌-◌, ◌*◌, ◌≤◌, List, [], ◌∷◌, length, map, get_or, refl, sym, ◌∙◌, ap, add-one, arith, Option, None, Some, option_map, slice_index_or, unwrap_or, length-map, sum_by-cons, slice_get-map, Penalties, count_of, leg_at, AreLayersOn, IsCandidateOf, LayersValue, LeadsOn, leg_penalties, penalties_of, IsAdmittedPenalty, LegsAreAdmitted, PenaltiesAreOfCandidates}
 use Rattle.olr_route.specs.Walk.{IsWalk, length_at, piece_length, pieces_from, walk_length}
 
 -- ---- the table
@@ -104,9 +96,3 @@ positive road class from to (next ∷ behind) departure walk =
           length_at road from.line;
     } in
     omega (arith, sum_by-cons piece_length first (pieces_from road next 0 behind to.at))
-
-pub in_range : AdmittedLengthsAreInRange
-in_range road tolerances next from to length departure admitted = (
-  omega (arith, positive road _ from to admitted.is_least.behind departure admitted.is_least.is),
-  omega (arith, greatest_at_most tolerances next),
-)

@@ -1,9 +1,5 @@
 -- The legs of a matching, one after the other.
-use Rattle.std.proofs.Common.{◌≡◌, ℕ, ◌+◌, ◌<◌, List, [], ◌∷◌, ◌++◌, length, sym, subst, ap, ◌∙◌, arith, Some, slice_get, slice_index_or}
-use Rattle.std.proofs.lemmas.Option.{get_or_from_slice_get, slice_get-get_or, slice_get_within}
-use Rattle.olr_matching.proofs.Common.{Candidate, LayersValue, Leg, RoadMap}
-use Rattle.olr_keys.specs.Key.{KeyValue}
-use Rattle.olr_matching.specs.Matched.{AreCandidatesAt, IsLegAt, IsLegOfPair, IsMatchedBy}
+use Rattle.olr_matching.proofs.Common.{Candidate, LayersValue, Leg, RoadMap, ◌≡◌, ℕ, ◌+◌, ◌<◌, List, [], ◌∷◌, ◌++◌, length, sym, subst, ap, ◌∙◌, arith, Some, slice_get, slice_index_or, get_or_from_slice_get, slice_get-get_or, slice_get_within, KeyValue, AreCandidatesAt, IsLegAt, IsLegOfPair, IsMatchedBy}
 use Rattle.olr_matching.specs.declared.matched.Matched.{Matched}
 use Rattle.olr_matching.proofs.Lists.{push_each, same_some}
 

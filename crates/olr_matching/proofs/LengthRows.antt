@@ -1,12 +1,5 @@
 -- Rows of lengths, and the searches that tell them.
-use Rattle.std.proofs.Common.{ℕ, ◌+◌, ◌*◌, ◌<◌, ◌≤◌, List, [], ◌∷◌, ◌++◌, length, get_or, sym, subst, ap, ◌∙◌, arith, All, Option, None, add-mul, mul-le-mul_right, one-mul}
-use Rattle.std.proofs.lemmas.List.{get_or-append-add, get_or_append_left, get_or_at, get_or-map, length-append, length-map}
-use Rattle.std.proofs.lemmas.Option.{slice_get_within}
-use Rattle.olr_matching.proofs.Common.{Candidate, IsAdmittedLength, Next, Place, Reference, RoadMap, Tolerances}
-use Rattle.olr_matching.specs.LegOnMap.{IsLegFrom}
-use Rattle.olr_matching.specs.Lengths.{AreLengthsBetween, AreLengthsOfLeg, AreLengthsTo}
-use Rattle.olr_matching.specs.Searches.{places_of}
-use Rattle.olr_matching.specs.declared.leg_on_map.LegOnMap.{LegOnMap}
+use Rattle.olr_matching.proofs.Common.{Candidate, IsAdmittedLength, Next, Place, Reference, RoadMap, Tolerances, ℕ, ◌+◌, ◌*◌, ◌<◌, ◌≤◌, List, [], ◌∷◌, ◌++◌, length, get_or, sym, subst, ap, ◌∙◌, arith, All, Option, None, add-mul, mul-le-mul_right, one-mul, get_or-append-add, get_or_append_left, get_or_at, get_or-map, length-append, length-map, slice_get_within, IsLegFrom, AreLengthsBetween, AreLengthsOfLeg, AreLengthsTo, places_of, LegOnMap}
 use Rattle.olr_matching.proofs.Lists.{push_each}
 use Rattle.olr_matching.proofs.Pairs.{one_next}
 

@@ -13,7 +13,3 @@ pub mod One
 pub mod Admissible
 pub mod Totals
 pub mod LengthRows
-mod DigestRows
-mod OneRequest
-mod OneLine
-mod DigestBytes

@@ -1,12 +1,9 @@
 -- Lists by their indices.
-use Rattle.std.proofs.Common.{◌≡◌, ℕ, suc, ◌+◌, ◌<◌, List, [], ◌∷◌, ◌++◌, length, get_or, take, inl, inr, refl, sym, subst, ap, ◌∙◌, arith, below_more, Option, Some, slice_get, slice_index_or, All}
-use Rattle.std.specs.List.{AllZip}
+use Rattle.olr_matching.proofs.Common.{◌≡◌, ℕ, suc, ◌+◌, ◌<◌, List, [], ◌∷◌, ◌++◌, length, get_or, take, inl, inr, refl, sym, subst, ap, ◌∙◌, arith, below_more, Option, Some, slice_get, slice_index_or, All, AllZip, length-append, take_more, get_or_append_left, get_or_at, get_or_from_slice_get, same_Some, slice_get-get_or, slice_get_within}
 use Rattle.std.proofs.Math.ListN.{get_or-eq_default}
 use Rattle.std.proofs.Math.Seq.{get_or-append_seam}
 use Rattle.std.proofs.lemmas.Bool.{cases_lt}
-use Rattle.std.proofs.lemmas.List.{length-append, take_more, get_or_append_left, get_or_at}
-use Rattle.olr_map.proofs.Zips.{zip_push}
-use Rattle.std.proofs.lemmas.Option.{get_or_from_slice_get, same_Some, slice_get-get_or, slice_get_within}
+use Rattle.olr_road.proofs.Zips.{zip_push}
 
 pub same_some : {X : Type 0} (o : Option X) (x y : X) → o ≡ Some x → o ≡ Some y → x ≡ y
 same_some o x y one other = same_Some x y (sym one ∙ other)

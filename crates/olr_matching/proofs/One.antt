@@ -1,10 +1,5 @@
 -- A key has one value of parts at most.
-use Rattle.std.proofs.Common.{◌≡◌, ℕ, List, sym, ap, ◌∙◌, arith, slice_index_or}
-use Rattle.std.proofs.lemmas.Option.{slice_get-get_or, slice_get_within}
-use Rattle.olr_matching.proofs.Common.{Candidate, IsSoundMap, LayersValue, Leg, leg_penalty, Next, Place, RoadMap, Tolerances}
-use Rattle.olr_route.specs.Route.{IsRoute}
-use Rattle.olr_route.specs.Walk.{pieces_of}
-use Rattle.olr_matching.specs.Matched.{AreCandidatesAt, AreLegsBetween, IsLegAt, IsLegOf, OneMatched}
+use Rattle.olr_matching.proofs.Common.{Candidate, IsSoundMap, LayersValue, Leg, leg_penalty, Next, Place, RoadMap, Tolerances, ◌≡◌, ℕ, List, sym, ap, ◌∙◌, arith, slice_index_or, slice_get-get_or, slice_get_within, IsRoute, pieces_of, AreCandidatesAt, AreLegsBetween, IsLegAt, IsLegOf, OneMatched}
 use Rattle.olr_matching.proofs.Admitted.{one_length}
 use Rattle.olr_matching.proofs.Lists.{by_index, same_some}
 use Rattle.olr_matching.proofs.Pairs.{one_next}

@@ -1,13 +1,6 @@
 -- A reference and tolerances have one value of layers on a map at most.
-use Rattle.std.proofs.Common.{◌≡◌, ℕ, ◌+◌, ◌*◌, ◌/◌, ◌%◌, ◌<◌, List, [], length, get_or, refl, sym, ◌∙◌, ap, subst, inl, inr, arith, Option, None, Some, option_map, slice_get}
 use Rattle.std.proofs.Math.Nat.{div-add-mod, div-lt_iff_lt-mul, eq-zero-or-pos, mod-lt}
-use Rattle.std.proofs.lemmas.List.{ext_get_or, length-map}
-use Rattle.std.proofs.lemmas.Option.{slice_get-get_or}
-use Rattle.olr_matching.proofs.Common.{AreLayersOn, Candidate, class_limit, IsAdmittedLength, LayersValue, LeadsOn, leg_penalties, leg_penalty, Next, Place, RoadMap, Tolerances}
-use Rattle.olr_candidates.specs.Laws.{OneLists}
-use Rattle.olr_candidates.specs.Points.{AreLists}
-use Rattle.olr_keys.specs.Table.{Penalties}
-use Rattle.olr_matching.specs.LayersLaws.{OneLayers}
+use Rattle.olr_matching.proofs.Common.{AreLayersOn, Candidate, class_limit, IsAdmittedLength, LayersValue, LeadsOn, leg_penalties, leg_penalty, Next, Place, RoadMap, Tolerances, ◌≡◌, ℕ, ◌+◌, ◌*◌, ◌/◌, ◌%◌, ◌<◌, List, [], length, get_or, refl, sym, ◌∙◌, ap, subst, inl, inr, arith, Option, None, Some, option_map, slice_get, ext_get_or, length-map, slice_get-get_or, OneLists, AreLists, Penalties, OneLayers}
 use Rattle.olr_matching.proofs.Admitted.{one_length}
 use Rattle.olr_matching.proofs.LegLaws.{count_is, layers_count}
 use Rattle.olr_matching.proofs.LengthRows.{no_candidate}

@@ -1,21 +1,5 @@
 -- Pairs of candidates that a leg admits, and the route between them.
-use Rattle.std.proofs.Common.{◌≡◌, ℕ, ◌+◌, ◌-◌, ◌<◌, ◌≤◌, List, [], length, sym, subst, ap, ◌∙◌, arith, Some, slice_get, slice_index_or}
-use Rattle.std.proofs.lemmas.Option.{MatchOption-at_some, get_or_from_slice_get, slice_get-get_or}
-use Rattle.olr_matching.proofs.Common.{Candidate, IsDeparture, IsPlace, Next, Piece, points_of, Reference, RoadMap, Tolerances}
-use Rattle.olr_binary.specs.declared.point.Point.{Point}
-use Rattle.olr_candidates.specs.Laws.{ArePlaces, AreDepartures}
-use Rattle.olr_candidates.specs.Points.{AreCandidatesOf}
-use Rattle.olr_route.specs.Least.{HasNoWalkWithin}
-use Rattle.olr_route.specs.Reach.{Lengths}
-use Rattle.olr_route.specs.Route.{IsRouteWithin}
-use Rattle.olr_route.specs.Walk.{walk_length}
-use Rattle.olr_matching.specs.Layers.{LayersValue, AreLayersOn, IsCandidateOf, LeadsOn, length_at}
-use Rattle.olr_matching.specs.Leg.{IsAdmitted, class_limit, greatest_admitted, leg_penalty}
-use Rattle.olr_matching.specs.LegOnMap.{IsLegFrom}
-use Rattle.olr_matching.specs.Matched.{IsOfRank, IsPair, IsRouteOfPair, IsLegOfPair}
-use Rattle.olr_matching.specs.Routes.{IsAdmittedPair}
-use Rattle.olr_matching.specs.Searches.{IsSearchFor}
-use Rattle.olr_matching.specs.declared.leg_on_map.LegOnMap.{LegOnMap}
+use Rattle.olr_matching.proofs.Common.{Candidate, IsDeparture, IsPlace, Next, Piece, points_of, Reference, RoadMap, Tolerances, ◌≡◌, ℕ, ◌+◌, ◌-◌, ◌<◌, ◌≤◌, List, [], length, sym, subst, ap, ◌∙◌, arith, Some, slice_get, slice_index_or, MatchOption-at_some, get_or_from_slice_get, slice_get-get_or, Point, ArePlaces, AreDepartures, AreCandidatesOf, HasNoWalkWithin, Lengths, IsRouteWithin, walk_length, LayersValue, AreLayersOn, IsCandidateOf, LeadsOn, length_at, IsAdmitted, class_limit, greatest_admitted, leg_penalty, IsLegFrom, IsOfRank, IsPair, IsRouteOfPair, IsLegOfPair, IsAdmittedPair, IsSearchFor, LegOnMap}
 use Rattle.olr_matching.specs.declared.pair.Pair.{Pair}
 use Rattle.olr_matching.proofs.Lists.{same_some, list_inside, all_at}
 

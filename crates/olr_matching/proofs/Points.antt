@@ -1,11 +1,6 @@
 -- The points of a reference, and their candidates.
-use Rattle.std.proofs.Common.{◌≡◌, ℕ, ◌+◌, ◌<◌, ◌≤◌, List, [], length, get_or, refl, inl, inr, arith, MatchOption, Option, None, Some, slice_get}
-use Rattle.std.proofs.lemmas.Option.{slice_get-get_or, slice_get_cases}
-use Rattle.olr_matching.proofs.Common.{Candidate, LeadsOn, Next, Reference, RoadLine, Tolerances}
-use Rattle.olr_binary.specs.declared.point.Point.{Point}
+use Rattle.olr_matching.proofs.Common.{Candidate, LeadsOn, Next, Reference, RoadLine, Tolerances, ◌≡◌, ℕ, ◌+◌, ◌<◌, ◌≤◌, List, [], length, get_or, refl, inl, inr, arith, MatchOption, Option, None, Some, slice_get, slice_get-get_or, slice_get_cases, Point, AreLinked, IsReference, points_of, AreLists, IsListOf}
 use Rattle.olr_binary.specs.declared.reference.Reference.TheVariants.{Line, PointAlong}
-use Rattle.olr_binary.specs.Reference.{AreLinked, IsReference, points_of}
-use Rattle.olr_candidates.specs.Points.{AreLists, IsListOf}
 
 -- what a list has at a place before its end
 pub some_at : {X : Type 0} (xs : List X) (i : ℕ) → i < length xs → (x : X)

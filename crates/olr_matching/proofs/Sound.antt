@@ -1,11 +1,5 @@
 -- What holds of the parts of every matching.
-use Rattle.std.proofs.Common.{◌≡◌, ℕ, ◌+◌, List, length, sym, ap, ◌∙◌, zero-add, arith, None, Some, slice_get, slice_index_or}
-use Rattle.std.proofs.lemmas.Option.{slice_get-get_or, slice_get_within}
-use Rattle.std.proofs.lemmas.List.{length-map}
-use Rattle.olr_matching.proofs.Common.{Candidate, class_limit, IsDeparture, IsPlace, IsSoundMap, LayersValue, Leg, penalties_of, Piece, Place, points_of, RoadMap}
-use Rattle.olr_candidates.specs.Laws.{ArePlaces, AreDepartures}
-use Rattle.olr_route.specs.Route.{AreRoutePieces, IsRouteWithin}
-use Rattle.olr_matching.specs.Matched.{AreCandidatesAt, AreSound, IsLegAt, IsOfRank, IsSoundLeg}
+use Rattle.olr_matching.proofs.Common.{Candidate, class_limit, IsDeparture, IsPlace, IsSoundMap, LayersValue, Leg, penalties_of, Piece, Place, points_of, RoadMap, ◌≡◌, ℕ, ◌+◌, List, length, sym, ap, ◌∙◌, zero-add, arith, None, Some, slice_get, slice_index_or, slice_get-get_or, slice_get_within, length-map, ArePlaces, AreDepartures, AreRoutePieces, IsRouteWithin, AreCandidatesAt, AreSound, IsLegAt, IsOfRank, IsSoundLeg}
 use Rattle.olr_matching.proofs.Admitted.{greatest_at_most, one_length}
 use Rattle.olr_matching.proofs.Keys.{ranks_count}
 use Rattle.olr_matching.proofs.Pairs.{is_place, is_departure}

@@ -1,18 +1,8 @@
 -- The penalties of candidates and legs are a table, and with it the layers of a reference.
-use Rattle.std.proofs.Common.{◌≡◌, ℕ, ◌+◌, ◌<◌, ◌≤◌, inl, inr, List, [], length, map, get_or, refl, sym, ◌∙◌, ap, arith, AllPairs, IfSome, Option, None, Some, option_map, eq-or-lt_of_le}
-use Rattle.std.specs.Global.{Vec}
 use Rattle.std.specs.List.Sorted.{IsNonDecreasing}
-use Rattle.std.proofs.lemmas.List.{get_or-map, length-map}
-use Rattle.std.proofs.lemmas.List.Elements.{All-map}
-use Rattle.std.proofs.lemmas.Option.{get_or_from_slice_get, slice_get-get_or, slice_get_within}
-use Rattle.olr_matching.proofs.Common.{AreLayersOn, Candidate, IsSoundMap, LayersValue, LeadsOn, leg_penalties, leg_penalty, lengths_of, Next, penalties_of, Reference, RoadMap, Tolerances}
-use Rattle.olr_binary.specs.Reference.{IsReference}
+use Rattle.olr_matching.proofs.Common.{AreLayersOn, Candidate, IsSoundMap, LayersValue, LeadsOn, leg_penalties, leg_penalty, lengths_of, Next, penalties_of, Reference, RoadMap, Tolerances, ◌≡◌, ℕ, ◌+◌, ◌<◌, ◌≤◌, inl, inr, List, [], length, map, get_or, refl, sym, ◌∙◌, ap, arith, AllPairs, IfSome, Option, None, Some, option_map, eq-or-lt_of_le, Vec, get_or-map, length-map, All-map, get_or_from_slice_get, slice_get-get_or, slice_get_within, IsReference, PenaltyAtMost, AreLists, IsListOf, AreLengthsBetween, AreLengthsOfLegs, ArePenaltiesOfLegs}
 use Rattle.olr_candidates.specs.Candidates.{IsBefore}
-use Rattle.olr_candidates.specs.Laws.{PenaltyAtMost}
-use Rattle.olr_candidates.specs.Points.{AreLists, IsListOf}
 use Rattle.olr_keys.specs.Table.{AreLegs, IsLayer, IsTable, Penalties, penalties_of as vectors_of}
-use Rattle.olr_matching.specs.Lengths.{AreLengthsBetween, AreLengthsOfLegs}
-use Rattle.olr_matching.specs.Penalties.{ArePenaltiesOfLegs}
 use Rattle.olr_matching.proofs.LegLaws.{count_is}
 use Rattle.olr_matching.proofs.LengthRows.{no_candidate}
 use Rattle.olr_matching.proofs.Points.{at_least_two, at_most_32, leads_on, leads_within}

@@ -1,12 +1,5 @@
 -- The total of a key is the sum of the penalties of its parts.
-use Rattle.std.proofs.Common.{◌≡◌, ℕ, suc, ◌+◌, List, [], ◌∷◌, length, refl, sym, ◌∙◌, ap, subst, arith, Some, slice_get, sum_by}
-use Rattle.std.proofs.lemmas.List.Sums.{sum_by-cons}
-use Rattle.std.proofs.lemmas.Option.{same_Some}
-use Rattle.olr_matching.proofs.Common.{AreLayersOn, Candidate, LayersValue, Leg, RoadMap}
-use Rattle.olr_candidates.specs.Laws.{OneListOfPoint}
-use Rattle.olr_keys.specs.Table.{leg_at}
-use Rattle.olr_matching.specs.Admissible.{Admits, IsMatching, IsRestBehind, TotalsAreOfParts}
-use Rattle.olr_matching.specs.Matched.{AreLegsBetween, IsOfRank}
+use Rattle.olr_matching.proofs.Common.{AreLayersOn, Candidate, LayersValue, Leg, RoadMap, ◌≡◌, ℕ, suc, ◌+◌, List, [], ◌∷◌, length, refl, sym, ◌∙◌, ap, subst, arith, Some, slice_get, sum_by, sum_by-cons, same_Some, OneListOfPoint, leg_at, Admits, IsMatching, IsRestBehind, TotalsAreOfParts, AreLegsBetween, IsOfRank}
 use Rattle.olr_matching.proofs.Admissible.{leg_of, matching, of_rank}
 
 module _ (road : RoadMap) (layers : LayersValue) (are : AreLayersOn road layers)

@@ -1,7 +1,7 @@
 -- Laws on the layers of a reference. Each is the contract of a public function that does nothing at
 -- run time; its body only names the laws on which it rests.
-use Rattle.std.specs.Prelude.{◌≡◌, ℕ, ◌+◌, ◌≤◌, Option, MatchOption, [], option_map, slice_get, slice_index_or}
-use Rattle.olr_matching.specs.Common.{Candidate, IsDeparture, Next, Place, RoadMap, Tolerances}
+use Rattle.std.specs.Prelude.{◌≡◌, ℕ, ◌+◌, Option, MatchOption, [], option_map, slice_get, slice_index_or}
+use Rattle.olr_matching.specs.Common.{Candidate, Next, Place, RoadMap, Tolerances}
 use Rattle.olr_keys.specs.Table.{leg_at, penalty_at}
 use Rattle.olr_matching.specs.Layers.{AreLayersOn, IsCandidateOf, LayersValue, LeadsOn}
 use Rattle.olr_matching.specs.Leg.{IsAdmitted, leg_penalty}
@@ -36,9 +36,3 @@ LegsAreAdmitted = (road : RoadMap) (layers : LayersValue) (layer : ℕ) (next : 
     → IsCandidateOf layers.candidates (layer + 1) second to
     → IsAdmittedPenalty road layers.tolerances next from.place to.place
     (leg_at layers.penalties (layer + 1) (first + 1) (second + 1))
-
--- a length that a leg admits is 1 to 310,032 decimetres
-abbrev pub AdmittedLengthsAreInRange : Type 0
-AdmittedLengthsAreInRange = (road : RoadMap) (tolerances : Tolerances) (next : Next)
-    (from to : Place) (length : ℕ) → IsDeparture road from
-    → IsAdmitted road tolerances next from to length → (1 ≤ length) × (length ≤ 310032)

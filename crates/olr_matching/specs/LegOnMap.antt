@@ -1,7 +1,7 @@
 -- A leg of a reference on a map, between the candidates of its two points.
 use Rattle.std.specs.Prelude.{◌≡◌, ℕ, ◌+◌, List, [], All, slice_index_or}
 use Rattle.olr_matching.specs.Common.{Candidate, Reference, RoadMap, Tolerances}
-use Rattle.olr_map.specs.Place.{IsDeparture, IsPlace}
+use Rattle.olr_road.specs.Place.{IsDeparture, IsPlace}
 use Rattle.olr_matching.specs.Layers.{LeadsOn}
 use Rattle.olr_matching.specs.declared.leg_on_map.LegOnMap.{LegOnMap}
 

@@ -41,7 +41,7 @@ pub record AreLengthsOfLegs (road : RoadMap) (tolerances : Tolerances) (referenc
       → AreLengthsOfLeg road tolerances reference candidates layer (slice_index_or lengths layer [])
 
 -- some leg admits no pair of the candidates of its points: none of them has a length
-pub record HasShutLeg (road : RoadMap) (tolerances : Tolerances) (reference : Reference)
+pub record HasLegWithoutPair (road : RoadMap) (tolerances : Tolerances) (reference : Reference)
     (candidates : List (List Candidate)) : Type 0 where
   pub layer : ℕ
   pub within : layer + 1 < length candidates
@@ -50,6 +50,6 @@ pub record HasShutLeg (road : RoadMap) (tolerances : Tolerances) (reference : Re
   pub none : All (λ (length : Option ℕ). length ≡ None) lengths
 
 -- each of the legs with these lengths admits a pair of candidates
-abbrev pub AreOpen : List (List (Option ℕ)) → Type 0
-AreOpen lengths = All (λ (leg : List (Option ℕ)). All (λ (length : Option ℕ). length ≡ None) leg
+abbrev pub AdmitPairs : List (List (Option ℕ)) → Type 0
+AdmitPairs lengths = All (λ (leg : List (Option ℕ)). All (λ (length : Option ℕ). length ≡ None) leg
     → ⊥) lengths

@@ -10,6 +10,3 @@ pub mod LegOnMap
 pub mod Searches
 pub mod Routes
 pub mod Admissible
-pub mod Fingerprint
-pub mod FingerprintLaws
-pub mod Digest

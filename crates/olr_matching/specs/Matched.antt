@@ -5,8 +5,8 @@ use Rattle.std.specs.List.{sum_by}
 use Rattle.olr_matching.specs.Common.{Candidate, Next, Piece, Place, points_of, Reference, Tolerances}
 use Rattle.olr_keys.specs.Key.{KeyValue}
 use Rattle.olr_keys.specs.Matching.{IsKey}
-use Rattle.olr_map.specs.Place.{IsPlace}
-use Rattle.olr_map.specs.RoadMap.{RoadMap, IsSoundMap}
+use Rattle.olr_road.specs.Place.{IsPlace}
+use Rattle.olr_road.specs.RoadMap.{RoadMap, IsSoundMap}
 use Rattle.olr_route.specs.Route.{IsPieceOn, IsRouteWithin}
 use Rattle.olr_route.specs.Walk.{piece_length}
 use Rattle.olr_matching.specs.Layers.{LayersValue, AreLayersOn, IsCandidateOf, LeadsOn, length_at}

@@ -1,7 +1,7 @@
 -- Searches for the lengths of a leg, and those of a reference on a map that are kept.
 use Rattle.std.specs.Prelude.{◌≡◌, ℕ, ◌<◌, List, All, HoldsAt, length, map}
 use Rattle.olr_matching.specs.Common.{Candidate, IsDeparture, Place, RoadMap}
-use Rattle.olr_route.specs.Reach.{AreLengthsOn, Lengths, Tells}
+use Rattle.olr_route.specs.Reach.{AreLengthsOn, Lengths, Covers}
 use Rattle.olr_route.specs.Sharing.{Serves}
 use Rattle.olr_matching.specs.Leg.{class_limit, greatest_admitted}
 use Rattle.olr_matching.specs.declared.leg_on_map.LegOnMap.{LegOnMap}
@@ -23,7 +23,7 @@ pub record IsSearchFor (leg : LegOnMap) (from : Place) (reach : Lengths) : Type 
   pub limit : reach.limit ≡ greatest_admitted leg.tolerances leg.next
   pub departure : IsDeparture leg.map.now from
   pub serves : Serves leg.map.now reach.class reach.from from
-  pub tells : All (λ (second : Candidate). Tells reach second.place.line) leg.seconds.now
+  pub covers : All (λ (second : Candidate). Covers reach second.place.line) leg.seconds.now
 
 -- one of the searches that are kept, by its index, tells the lengths of a leg from a place
 abbrev pub IsFound : LegOnMap → Place → List Lengths → ℕ → Type 0

@@ -4,7 +4,7 @@ ghost use Rattle.std.specs.Prelude.{◌≡◌, IfErr, IfOk, MatchOption};
 ghost use Rattle.olr_binary.specs.Reference.{IsReference};
 ghost use Rattle.olr_candidates.specs.Points.{AreLists, IsLayersFault, lists_of};
 ghost use Rattle.olr_matching.specs.Layers.{AreLayersOn, lengths_of};
-ghost use Rattle.olr_matching.specs.Lengths.{AreLengthsOfLegs, AreOpen, HasShutLeg};
+ghost use Rattle.olr_matching.specs.Lengths.{AreLengthsOfLegs, AdmitPairs, HasLegWithoutPair};
 ghost use Rattle.olr_matching.specs.Searches.{AreSearchesOn};
 
 use crate::layers::Layers;
@@ -12,13 +12,13 @@ use crate::lengths::lengths_of_legs;
 use crate::penalties::{penalties_of_legs, penalties_of_points};
 use crate::searches::Searches;
 use arrayvec::ArrayVec;
+use olr_base::NoMemory;
 use olr_binary::Reference;
 use olr_candidates::{
     Candidate, LayersFault, MAX_CANDIDATES, Tolerances, bounds, candidates_of_points,
 };
 use olr_keys::Table;
-use olr_map::{Map, sound};
-use olr_metric::NoMemory;
+use olr_road::{Map, sound};
 use std::alloc::{AllocError, Global};
 
 /// The same reference again.
@@ -136,7 +136,7 @@ impl Layers {
     /// # Errors
     ///
     /// [`NoMemory`] where the allocator refused memory.
-    pub fn with_open_legs(
+    pub fn with_admitting_legs(
         alloc: Global,
         map: &Map,
         reference: &Reference,
@@ -148,9 +148,9 @@ impl Layers {
             (lists_of candidates.items) }
 
         ensures { IfOk result (λ layers. MatchOption layers
-            (HasShutLeg map.now tolerances.now reference.now (lists_of candidates.items))
+            (HasLegWithoutPair map.now tolerances.now reference.now (lists_of candidates.items))
             (λ layers. AreLayersOn map.now layers × (layers.reference ≡ reference.now)
-            × (layers.tolerances ≡ tolerances.now) × AreOpen layers.lengths)) }
+            × (layers.tolerances ≡ tolerances.now) × AdmitPairs layers.lengths)) }
     {
         let Some(lengths) = lengths_of_legs(
             alloc,

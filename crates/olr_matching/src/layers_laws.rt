@@ -2,7 +2,7 @@
 //! run time; its body only names the laws on which it rests.
 
 ghost use Rattle.olr_matching.specs.Admissible.{KeysAreOfMatchings, TotalsAreOfParts};
-ghost use Rattle.olr_matching.specs.LayersLaws.{AdmittedLengthsAreInRange, LegsAreAdmitted, OneLayers, PenaltiesAreOfCandidates};
+ghost use Rattle.olr_matching.specs.LayersLaws.{LegsAreAdmitted, OneLayers, PenaltiesAreOfCandidates};
 
 use olr_candidates::{one_list_of_point, one_lists};
 
@@ -18,11 +18,6 @@ pub fn one_layers()
 pub fn table_of_layers()
     ensures candidates { PenaltiesAreOfCandidates }
     ensures legs { LegsAreAdmitted }
-{}
-
-/// A length that a leg admits is 1 to 310,032 decimetres.
-pub fn admitted_lengths_in_range()
-    ensures { AdmittedLengthsAreInRange }
 {}
 
 /// The keys of the table of the layers are exactly those of the matchings of their reference: one

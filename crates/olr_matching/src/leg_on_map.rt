@@ -10,7 +10,7 @@ use crate::leg::{self, next_of};
 use arrayvec::ArrayVec;
 use olr_binary::{Next, Reference};
 use olr_candidates::{Candidate, MAX_CANDIDATES, Tolerances, places};
-use olr_map::Map;
+use olr_road::Map;
 
 /// A leg of a reference on a map, between the candidates of its two points.
 #[derive(Clone, Copy)]

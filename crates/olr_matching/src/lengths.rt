@@ -4,32 +4,32 @@
 ghost use Rattle.std.specs.Prelude.{◌≡◌, ◌++◌, ◌+◌, ◌<◌, ◌↔◌, ℕ, List, Option, length, All, IfOk, IsTrue, MatchOption, None};
 ghost use Rattle.olr_binary.specs.Reference.{IsReference};
 ghost use Rattle.olr_candidates.specs.Points.{AreLists, lists_of};
-ghost use Rattle.olr_map.specs.Place.{IsPlace};
+ghost use Rattle.olr_road.specs.Place.{IsPlace};
 ghost use Rattle.olr_matching.specs.Leg.{IsAdmittedLength};
 ghost use Rattle.olr_matching.specs.Layers.{lengths_of};
-ghost use Rattle.olr_matching.specs.Lengths.{AreLengthsBetween, AreLengthsOfLegs, AreLengthsTo, AreOpen, HasShutLeg};
+ghost use Rattle.olr_matching.specs.Lengths.{AreLengthsBetween, AreLengthsOfLegs, AreLengthsTo, AdmitPairs, HasLegWithoutPair};
 ghost use Rattle.olr_matching.specs.LegOnMap.{EndsAreOnMap};
 ghost use Rattle.olr_matching.specs.Searches.{AreSearchesOn, IsSearchFor};
-ghost use Rattle.olr_route.specs.Reach.{Tells};
+ghost use Rattle.olr_route.specs.Reach.{Covers};
 
 use crate::leg::least_admitted;
 use crate::leg_on_map::{LegOnMap, leg_at};
 use crate::searches::Searches;
 use arrayvec::ArrayVec;
+use olr_base::NoMemory;
 use olr_binary::Reference;
 use olr_candidates::{Candidate, MAX_CANDIDATES, Tolerances};
-use olr_map::{Map, Place};
-use olr_metric::NoMemory;
+use olr_road::{Map, Place};
 use olr_route::{Reach, one_least_length};
 use std::alloc::Global;
 
-/// The length in decimetres with which a leg admits a place, from which a search tells the lengths,
+/// The length in decimetres with which a leg admits a place, from which a search has the lengths,
 /// and another one, 1 to 310,032; none where it doesn't admit them.
 #[tactic(auto, using(crate::proofs::Admitted::greatest_at_most))]
 fn admitted_length(leg: &LegOnMap<'_>, reach: &Reach, from: Place, to: Place) -> Option<u32>
     requires search { IsSearchFor leg.now from reach.now }
     requires on_map { IsPlace leg.now.map.now to }
-    requires tells { Tells reach.now to.line }
+    requires covers { Covers reach.now to.line }
 
     ensures { IsAdmittedLength leg.now.map.now leg.now.tolerances leg.now.next from to result }
 {
@@ -41,7 +41,7 @@ fn admitted_length(leg: &LegOnMap<'_>, reach: &Reach, from: Place, to: Place) ->
     Some(length as u32)
 }
 
-/// Adds the lengths of a leg from a place, from which a search tells them, to each second
+/// Adds the lengths of a leg from a place, from which a search has them, to each second
 /// candidate.
 fn push_row(
     leg: &LegOnMap<'_>,
@@ -89,14 +89,14 @@ fn lengths_of_leg(
 }
 
 /// Whether a leg with these lengths admits no pair of candidates.
-fn is_shut(lengths: &[Option<u32>]) -> bool
+fn admits_none(lengths: &[Option<u32>]) -> bool
     ensures { IsTrue result ↔ All (λ length. length ≡ None) lengths.now }
 {
     lengths.iter().all(|length| length.is_none())
 }
 
 /// The lengths of all legs of a reference, leg by leg, between the candidates of its points. If it
-/// `stops_at_shut`, there is none where a leg admits no pair of candidates, and the legs behind
+/// `stops_early`, there is none where a leg admits no pair of candidates, and the legs behind
 /// that one aren't looked at.
 ///
 /// There is at most one search of the map for each leg and each first candidate of it, until all
@@ -111,7 +111,7 @@ pub(crate) fn lengths_of_legs(
     reference: &Reference,
     tolerances: &Tolerances,
     candidates: &[ArrayVec<Candidate, MAX_CANDIDATES>],
-    stops_at_shut: bool,
+    stops_early: bool,
     searches: &mut Searches,
 ) -> Result<Option<Vec<Vec<Option<u32>>>>, NoMemory>
     requires reference { IsReference reference.now }
@@ -119,18 +119,18 @@ pub(crate) fn lengths_of_legs(
     requires searches { AreSearchesOn map.now searches.old }
 
     ensures lengths { IfOk result (λ lengths. MatchOption lengths
-        (IsTrue stops_at_shut
-        × HasShutLeg map.now tolerances.now reference.now (lists_of candidates.now))
+        (IsTrue stops_early
+        × HasLegWithoutPair map.now tolerances.now reference.now (lists_of candidates.now))
         (λ lengths. AreLengthsOfLegs map.now tolerances.now reference.now (lists_of candidates.now)
         (lengths_of lengths.items)
-        × (IsTrue stops_at_shut → AreOpen (lengths_of lengths.items)))) }
+        × (IsTrue stops_early → AdmitPairs (lengths_of lengths.items)))) }
     ensures searches { AreSearchesOn map.now searches.new }
 {
     let mut lengths = Vec::new(alloc);
     for layer in 0..candidates.len() - 1 {
         let leg = leg_at(map, reference, tolerances, candidates, layer);
         let of_leg = lengths_of_leg(alloc, &leg, searches)?;
-        if stops_at_shut && is_shut(&of_leg) {
+        if stops_early && admits_none(&of_leg) {
             return Ok(None);
         }
         lengths.push(of_leg)?;

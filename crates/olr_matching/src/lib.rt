@@ -13,18 +13,12 @@
 //! - [`matched`]: the parts of a matching; [`resolving`]: those of one key.
 //! - [`pair`]: pairs of candidates; [`routes`]: the routes of pairs, kept for the parts of many
 //!   keys.
-//! - [`fingerprint_lines`]: the lines of a text that names the inputs of a request; [`digest`]: the
-//!   fingerprint of these inputs, the SHA-256 digest of that text. A cursor carries it, so that a
-//!   later request sees whether the cursor comes from the same inputs.
 //!
-//! Beside them, [`layers_laws`] states what holds of all layers, and [`fingerprint_laws`] that the
-//! text of a fingerprint decides the inputs.
+//! Beside them, [`layers_laws`] states what holds of all layers. The fingerprint of a request's
+//! inputs is that of `olr_fingerprint`.
 #![tactic(auto)]
 
 mod building;
-mod digest;
-mod fingerprint_laws;
-mod fingerprint_lines;
 mod layers;
 mod layers_laws;
 mod leg;
@@ -37,18 +31,17 @@ mod resolving;
 mod routes;
 mod searches;
 
-pub use digest::fingerprint;
-pub use fingerprint_laws::{fingerprint_is_mark, one_request_by_text, reference_is_one_line};
 pub use layers::Layers;
-pub use layers_laws::{admitted_lengths_in_range, keys_of_matchings, one_layers, table_of_layers};
+pub use layers_laws::{keys_of_matchings, one_layers, table_of_layers};
 pub use leg::{class_limit, greatest_admitted, least_admitted, likely_greatest, next_of};
 pub use matched::{Leg, Matched, matchings_are_sound, one_matched};
 pub use olr_candidates::LayersFault;
+pub use olr_fingerprint::fingerprint;
 pub use olr_keys::{
     BadCursor, BadPage, BoundFinder, Cursor, CursorOfOther, CursorRead, Finder, Key, Mark, Page,
     PageFault, PageSize, ProductFinder, Rows, Table, TotalsFinder, all_pages, is_table,
     keys_are_in_range, next_key, no_page_behind_others, one_chain, one_cursor, one_list, one_page,
-    or_shifted, page, pages_join, reads_back, same_inputs, sizes_agree, totals_are_below_width,
+    or_shifted, page, pages_join, reads_back, same_inputs, totals_are_below_width,
 };
 pub use routes::Routes;
 pub use searches::{Searches, lengths_to_candidates};

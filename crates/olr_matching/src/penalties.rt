@@ -9,9 +9,9 @@ ghost use Rattle.olr_matching.specs.Penalties.{ArePenaltiesOfLegs};
 
 use crate::leg::{leg_penalty, next_of};
 use arrayvec::ArrayVec;
+use olr_base::NoMemory;
 use olr_binary::{Next, Reference};
 use olr_candidates::{Candidate, MAX_CANDIDATES};
-use olr_metric::NoMemory;
 use std::alloc::Global;
 
 /// The penalties of candidates, in their order.
@@ -66,6 +66,7 @@ fn leg_penalties(
 }
 
 /// The penalties of all legs of a reference, leg by leg, for these lengths in decimetres.
+#[tactic(auto, using(crate::proofs::Points::leads_on))]
 pub(crate) fn penalties_of_legs(
     alloc: Global,
     reference: &Reference,

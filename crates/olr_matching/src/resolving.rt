@@ -14,11 +14,11 @@ use crate::matched::Matched;
 use crate::pair::Pair;
 use crate::routes::Routes;
 use arrayvec::ArrayVec;
+use olr_base::NoMemory;
 use olr_binary::MAX_POINTS;
 use olr_candidates::Candidate;
 use olr_keys::Key;
-use olr_map::Map;
-use olr_metric::NoMemory;
+use olr_road::Map;
 use std::alloc::Global;
 
 impl Layers {

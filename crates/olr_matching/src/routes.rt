@@ -13,10 +13,10 @@ use crate::leg::{leg_penalty, next_of};
 use crate::matched::{Leg, Matched};
 use crate::pair::{Pair, pair_at, slot};
 use crate::searches::Searches;
+use olr_base::NoMemory;
 use olr_binary::MAX_POINTS;
 use olr_keys::Key;
-use olr_map::Map;
-use olr_metric::NoMemory;
+use olr_road::Map;
 use olr_route::Piece;
 use std::alloc::Global;
 use std::collections::HashMap;
@@ -108,6 +108,7 @@ impl<'a> Routes<'a> {
     /// # Errors
     ///
     /// [`NoMemory`] where the allocator refused memory.
+    #[tactic(auto, using(crate::proofs::Lists::zip_more))]
     pub fn matched(&mut self, alloc: Global, keys: &[Key]) -> Result<Vec<Matched>, NoMemory>
         requires { All (IsKey self.old.layers.penalties) keys.now }
         ensures matched { IfOk result (λ all.

@@ -1,19 +1,19 @@
 //! Searches for the lengths of a leg, and those of a reference on a map that are kept.
 
 ghost use Rattle.std.specs.Prelude.{◌≡◌, ◌<◌, [], All, HoldsAt, IfOk, IfSome, IsTrue, length};
-ghost use Rattle.olr_map.specs.Place.{IsDeparture, IsPlace};
-ghost use Rattle.olr_map.specs.RoadMap.{RoadMap};
-ghost use Rattle.olr_map.specs.declared.place.Place.{Place};
+ghost use Rattle.olr_road.specs.Place.{IsDeparture, IsPlace};
+ghost use Rattle.olr_road.specs.RoadMap.{RoadMap};
+ghost use Rattle.olr_road.specs.declared.place.Place.{Place};
 ghost use Rattle.olr_matching.specs.LegOnMap.{EndsAreOnMap};
 ghost use Rattle.olr_matching.specs.Searches.{AreSearchesOn, IsFound, IsSearchFor, places_of};
 ghost use Rattle.olr_matching.specs.declared.leg_on_map.LegOnMap.{LegOnMap};
-ghost use Rattle.olr_route.specs.Reach.{AreLengthsOn, Tells};
+ghost use Rattle.olr_route.specs.Reach.{AreLengthsOn, Covers};
 
 use crate::leg::likely_greatest;
 use crate::leg_on_map::LegOnMap;
+use olr_base::NoMemory;
 use olr_candidates::{Candidate, MAX_CANDIDATES};
-use olr_map::{Map, Place};
-use olr_metric::NoMemory;
+use olr_road::{Map, Place};
 use olr_route::{Reach, lengths_to, shares_search};
 use std::alloc::Global;
 use std::marker::Model;
@@ -79,25 +79,25 @@ pub fn lengths_to_candidates(
     ensures asked { IfOk result (λ reach.
         (reach.class ≡ class) × (reach.from ≡ from) × (reach.limit ≡ limit)) }
     ensures held { IfOk result (λ reach. AreLengthsOn map.now reach) }
-    ensures tells { IfOk result (λ reach.
-        All (λ candidate. Tells reach candidate.place.line) candidates.now) }
+    ensures covers { IfOk result (λ reach.
+        All (λ candidate. Covers reach candidate.place.line) candidates.now) }
 {
     let targets = places_of(alloc, candidates)?;
     let reach = lengths_to(alloc, map, class, from, near, limit, &targets)?;
     Ok(reach)
 }
 
-/// Whether a search tells the length to each of these candidates.
-fn tells_all(reach: &Reach, candidates: &[Candidate]) -> bool
+/// Whether a search covers each of these candidates.
+fn covers_all(reach: &Reach, candidates: &[Candidate]) -> bool
     ensures { IsTrue result
-        → All (λ candidate. Tells reach.now candidate.place.line) candidates.now }
+        → All (λ candidate. Covers reach.now candidate.place.line) candidates.now }
 {
     candidates
         .iter()
-        .all(|candidate| reach.tells(candidate.place))
+        .all(|candidate| reach.covers(candidate.place))
 }
 
-/// Whether a search tells the lengths of a leg from a place.
+/// Whether a search has the lengths of a leg from a place.
 fn is_for(reach: &Reach, leg: &LegOnMap<'_>, from: Place) -> bool
     requires held { AreLengthsOn leg.now.map.now reach.now }
     requires ends { EndsAreOnMap leg.now }
@@ -109,7 +109,7 @@ fn is_for(reach: &Reach, leg: &LegOnMap<'_>, from: Place) -> bool
     if class != leg.class_limit() || limit != leg.greatest_admitted() {
         return false;
     }
-    shares_search(leg.map, class, start, from) && tells_all(reach, leg.seconds)
+    shares_search(leg.map, class, start, from) && covers_all(reach, leg.seconds)
 }
 
 impl Searches {
@@ -132,7 +132,7 @@ impl Searches {
         &self.kept[index]
     }
 
-    /// The index of a search that tells the lengths of a leg from a place, if one is kept.
+    /// The index of a search that has the lengths of a leg from a place, if one is kept.
     fn find(&self, leg: &LegOnMap<'_>, from: Place) -> Option<usize>
         requires searches { AreSearchesOn leg.now.map.now self.now }
         requires ends { EndsAreOnMap leg.now }
@@ -173,7 +173,7 @@ impl Searches {
         Ok(index)
     }
 
-    /// The index of a search that tells the lengths of a leg from a place. Where none is kept, it
+    /// The index of a search that has the lengths of a leg from a place. Where none is kept, it
     /// makes one from there, which ends once it has reached all second candidates, and keeps it.
     ///
     /// # Errors

@@ -1,12 +1,6 @@
 -- The bytes at hand in a chunk, and the first LF among them.
-use Rattle.std.proofs.Common.{◌≡◌, ◌≢◌, ℕ, suc, ◌+◌, ◌-◌, ◌<◌, ◌≤◌, List, [], ◌∷◌, ◌++◌, length, get_or, take, drop, refl, sym, ap, ◌∙◌, ◌↔◌, arith, add-one, take-append-drop}
-use Rattle.std.specs.Prelude.{Contains, Bool, IsTrue, Option, Some, None, is_some, slice_range}
-use Rattle.std.proofs.lemmas.Bool.{eq-eqb, eqb-true}
-use Rattle.std.proofs.lemmas.List.{get_or-take, length-take, length-drop, drop-take, drop-drop, get_or_default}
-use Rattle.std.proofs.lemmas.List.Elements.{All-from_get_or, All-contains}
-use Rattle.std.proofs.Math.Seq.{drop-cons}
+use Rattle.olr_messages.proofs.Common.{◌≡◌, ◌≢◌, ℕ, suc, ◌+◌, ◌-◌, ◌<◌, ◌≤◌, List, [], ◌∷◌, ◌++◌, length, get_or, take, drop, refl, sym, ap, ◌∙◌, ◌↔◌, arith, add-one, take-append-drop, Contains, Bool, IsTrue, Option, Some, None, is_some, slice_range, eq-eqb, eqb-true, get_or-take, length-take, length-drop, drop-take, drop-drop, get_or_default, All-from_get_or, All-contains, drop-cons, HasNoLf}
 use Rattle.memchr.specs.Find.{IsFirstByte, NoneBefore, Nowhere, Passes, is_byte}
-use Rattle.olr_messages.specs.Messages.{HasNoLf}
 
 -- no LF is found
 pub no_lf_found : (hand : List ℕ) → Nowhere (Passes (is_byte 10) hand) 0 (length hand)

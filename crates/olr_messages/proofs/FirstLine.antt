@@ -1,10 +1,5 @@
 -- The first line of an input.
-use Rattle.std.proofs.Common.{◌≡◌, ◌≢◌, ℕ, List, [], ◌∷◌, ◌++◌, refl, sym, ap, ◌∙◌, append_assoc, append-nil, inl, inr, Option, Some, None}
-use Rattle.std.specs.Io.KnownBytes.{Consumes, IsAtEnd}
-use Rattle.std.proofs.lemmas.Bool.Decides.{eqb_tells}
-use Rattle.std.proofs.lemmas.List.Elements.{All-head, All-tail}
-use Rattle.olr_messages.specs.Lines.{lines_of, onto}
-use Rattle.olr_messages.specs.Messages.{HasNoLf, IsNext}
+use Rattle.olr_messages.proofs.Common.{◌≡◌, ◌≢◌, ℕ, List, [], ◌∷◌, ◌++◌, refl, sym, ap, ◌∙◌, append_assoc, append-nil, inl, inr, Option, Some, None, Consumes, IsAtEnd, eqb_tells, All-head, All-tail, lines_of, onto, HasNoLf, IsNext}
 
 -- a byte that isn't LF goes to the front of the first line
 lines_of-other : (byte : ℕ) (rest : List ℕ) → byte ≢ 10

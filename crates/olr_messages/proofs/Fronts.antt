@@ -1,12 +1,5 @@
 -- The front of a line, and why it tells the message of the line.
-use Rattle.std.proofs.Common.{◌≡◌, ℕ, zero, suc, ◌+◌, ◌-◌, ◌<◌, ◌≤◌, min, List, [], ◌∷◌, ◌++◌, length, length-append, take, get_or, append-nil, refl, sym, ap, ◌∙◌, inl, inr, arith}
-use Rattle.std.proofs.lemmas.Bool.{cases_lt, eq-eqb}
-use Rattle.std.proofs.lemmas.Bool.Decides.{eqb_tells}
-use Rattle.std.proofs.lemmas.List.{length-take, take_all, take-append-le}
-use Rattle.std.proofs.Math.Seq.{get_or-append-add, take-append-add, take-append_seam}
-use Rattle.olr_messages.specs.Content.{IsMessage, Message, Empty, Long}
-use Rattle.olr_messages.specs.Lines.{record_of}
-use Rattle.olr_messages.specs.Messages.{front_of}
+use Rattle.olr_messages.proofs.Common.{◌≡◌, ℕ, zero, suc, ◌+◌, ◌-◌, ◌<◌, ◌≤◌, min, List, [], ◌∷◌, ◌++◌, length, take, get_or, refl, sym, ap, ◌∙◌, inl, inr, arith, cases_lt, eqb_tells, length-take, take_all, take-append-le, take-append-add, IsMessage, Message, Empty, Long, record_of, front_of}
 
 take-take-append : (n : ℕ) (xs ys : List ℕ) → take n (take n xs ++ ys) ≡ take n (xs ++ ys)
 take-take-append n xs ys = elim (cases_lt n (length xs)) [
@@ -53,17 +46,6 @@ unfolding front_of
 front_none line none = take_none 65538 line (omega arith) none
 
 -- ---- the message of a line
-
--- a line that ends with a CR
-pub record_of-cr : (bytes : List ℕ) → record_of (bytes ++ 13 ∷ []) ≡ bytes
-record_of-cr bytes =
-    let line = bytes ++ 13 ∷ [] in
-    let size : length line - 1 ≡ length bytes = omega (arith, length-append bytes (13 ∷ [])) in
-    let place : length bytes ≡ length bytes + 0 = omega arith in
-    let last = ap (λ (k : ℕ). get_or line k 0) (size ∙ place)
-    ∙ get_or-append-add bytes (13 ∷ []) 0 0 in
-    let ends = eq-eqb (get_or line (length line - 1) 0) 13 last in
-    rw ends (ap (λ (k : ℕ). take k line) size ∙ take-append_seam bytes (13 ∷ []))
 
 -- a line has one byte more than its record at most
 record_short : (line : List ℕ) → length line ≤ length (record_of line) + 1

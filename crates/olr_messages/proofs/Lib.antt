@@ -1,3 +1,4 @@
+mod Common
 pub mod FirstLine
 pub mod Fronts
 pub mod Tabs

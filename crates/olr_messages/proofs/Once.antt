@@ -1,9 +1,7 @@
 -- A record says one thing.
-use Rattle.std.proofs.Common.{◌≡◌, ◌≢◌, ℕ, ◌<◌, List, [], length, refl, sym, ap, ◌∙◌, arith, Option, Some, None}
-use Rattle.std.specs.Prelude.{All, IsUtf8}
+use Rattle.olr_messages.proofs.Common.{◌≡◌, ◌≢◌, ℕ, ◌<◌, List, [], length, refl, sym, ap, ◌∙◌, arith, Option, Some, None, All, IsUtf8, IsMessage, IsSplitAtTab, Message, Empty, Long, NotText, Text}
 use Rattle.std.proofs.lemmas.Str.{IsUtf8-nil}
 use Rattle.olr_records.proofs.Cuts.{Avoids, one_way, not_avoided}
-use Rattle.olr_messages.specs.Content.{IsMessage, IsSplitAtTab, Message, Empty, Long, NotText, Text}
 
 avoids_tab : (bytes : List ℕ) → All (λ byte. byte ≢ 9) bytes → Avoids 9 bytes
 avoids_tab bytes free k inside = free k 0 inside

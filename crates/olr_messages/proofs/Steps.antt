@@ -1,12 +1,6 @@
 -- From the parts of a step to the next line.
-use Rattle.std.proofs.Common.{◌≡◌, ◌≢◌, ℕ, ◌+◌, ◌-◌, ◌^◌, ◌≤◌, List, [], ◌∷◌, ◌++◌, length, refl, sym, ap, ◌∙◌, append_assoc, length-append, inl, inr, arith, Option, Some, None}
-use Rattle.std.specs.Prelude.{Bool, true, false, ◌==◌, Contains, MatchBool, not}
-use Rattle.std.specs.Io.KnownBytes.{Consumes, IsAtEnd, Keeps, prepend_known}
+use Rattle.olr_messages.proofs.Common.{◌≡◌, ◌≢◌, ℕ, ◌+◌, ◌-◌, ◌^◌, ◌≤◌, List, [], ◌∷◌, ◌++◌, length, refl, sym, ap, ◌∙◌, append_assoc, length-append, inl, inr, arith, Option, Some, None, Bool, true, false, ◌==◌, Contains, MatchBool, not, Consumes, IsAtEnd, Keeps, prepend_known, eqb_tells, All-append, All-contains, All-nil, one_more, HasNoLf, IsCutOff, IsGiven, IsOver, Reading, ReadsAll, ReadsLine, ReadsToLf, front_of, left_of}
 use Rattle.std.proofs.KnownBytes.{Consumes-nil, Consumes-trans}
-use Rattle.std.proofs.lemmas.Bool.Decides.{eqb_tells}
-use Rattle.std.proofs.lemmas.List.Elements.{All-append, All-contains, All-nil}
-use Rattle.olr_metric.specs.Counting.{one_more}
-use Rattle.olr_messages.specs.Messages.{HasNoLf, IsCutOff, IsGiven, IsOver, Reading, ReadsAll, ReadsLine, ReadsToLf, front_of, left_of}
 use Rattle.olr_messages.proofs.Fronts.{front_none, front_of-front_of}
 use Rattle.olr_messages.proofs.FirstLine.{next_of_end, next_of_lf}
 

@@ -1,7 +1,7 @@
 -- What contracts see of the messages of an input, and what a step to the next line does.
 use Rattle.std.specs.Prelude.{◌≡◌, ◌≢◌, ℕ, ◌+◌, ◌-◌, ◌^◌, ◌<◌, ◌≤◌, ◌⊎◌, List, [], ◌∷◌, ◌++◌, length, take, Bool, Option, None, Some, All, MatchBool}
 use Rattle.std.specs.Io.KnownBytes.{Consumes, IsAtEnd, prepend_known}
-use Rattle.olr_metric.specs.Counting.{one_more}
+use Rattle.olr_base.specs.Counting.{one_more}
 use Rattle.olr_messages.specs.Lines.{lines_of}
 
 -- the messages of an input, at one of its lines

@@ -20,6 +20,7 @@ pub fn record_before_cr()
 {}
 
 /// A line says one thing.
+#[tactic(auto, using(crate::proofs::Once::message_once))]
 pub fn one_message()
     ensures { (line : List ℕ) (message other : Message) → IsMessageOfLine line message
         → IsMessageOfLine line other → message ≡ other }

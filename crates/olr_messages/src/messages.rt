@@ -3,14 +3,14 @@
 ghost use Rattle.std.specs.Prelude.{◌≡◌, ◌<◌, ◌≤◌, ◌↔◌, ◌++◌, ℕ, true, List, [], length, vec_capacity};
 ghost use Rattle.std.specs.Prelude.{Contains, IfOk, IsTrue, MatchBool, OnErr, OnOk};
 ghost use Rattle.std.specs.Io.KnownBytes.{Keeps};
-ghost use Rattle.olr_metric.specs.Counting.{Counts};
+ghost use Rattle.olr_base.specs.Counting.{Counts};
 ghost use Rattle.olr_messages.specs.Content.{IsMessageOfLine, message_of};
 ghost use Rattle.olr_messages.specs.Messages.{front_of, left_of, ReadsLine, IsOver, IsCutOff};
 ghost use Rattle.olr_messages.specs.Messages.{IsGiven, ReadsToLf, ReadsAll};
 
 use crate::content::{Content, content_of_line};
 use memchr::memchr;
-use olr_metric::{Failed, NoMemory};
+use olr_base::{Failed, NoMemory};
 use olr_records::Source;
 use std::alloc::Global;
 use std::marker::Model;
@@ -33,6 +33,7 @@ const HELD: usize = 65_538;
 const LF: u8 = b'\n';
 
 /// Appends bytes to the front of a line, as far as it is held.
+#[tactic(auto, using(crate::proofs::Fronts::held_front))]
 fn hold(line: &mut Vec<u8>, part: &[u8])
     requires is_front { length line.old.items ≤ HELD }
     requires room { HELD ≤ vec_capacity line.old }
@@ -91,6 +92,7 @@ impl Messages {
 
     /// Whether the bytes at hand hold the next line as a whole, with its LF.
     /// [`next`](Messages::next) doesn't ask the source for more then.
+    #[tactic(auto, using(crate::proofs::Chunks::holds_lf))]
     pub fn holds_whole(&self) -> bool
         ensures { IsTrue result ↔ Contains self.now.at_hand LF }
     {
@@ -140,6 +142,7 @@ impl Messages {
     }
 
     /// What the record of the line says.
+    #[tactic(auto, using(crate::proofs::Fronts::message_of_front))]
     pub fn content(&self) -> Content<'_>
         ensures { (line : List ℕ) → self.now.front ≡ front_of line
             → IsMessageOfLine line (message_of result) }

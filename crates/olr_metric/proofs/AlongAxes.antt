@@ -1,11 +1,5 @@
 -- A distance is at least the difference of the coordinates along either axis.
-use Rattle.std.proofs.Common.{ℕ, ◌+◌, ◌*◌, ◌≤◌, arith, ◌-ℤ◌, inl, inr}
-use Rattle.std.specs.Prelude.{nat_abs}
-use Rattle.std.proofs.lemmas.Bool.{cases_lt}
-use Rattle.std.proofs.lemmas.Nat.{mul-le}
-use Rattle.olr_metric.specs.declared.spot.Spot.{Spot}
-use Rattle.olr_metric.specs.Root.{root}
-use Rattle.olr_metric.specs.Spot.{distance}
+use Rattle.olr_metric.proofs.Common.{ℕ, ◌+◌, ◌*◌, ◌≤◌, arith, ◌-ℤ◌, inl, inr, nat_abs, cases_lt, mul-le, Spot, root, distance}
 use Rattle.olr_metric.proofs.Roots.{root_is}
 
 root_within : (x y : ℕ) → y ≤ root (x * x + y * y)

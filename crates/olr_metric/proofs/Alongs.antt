@@ -1,11 +1,5 @@
 -- The segment at an arc.
-use Rattle.std.proofs.Common.{◌≡◌, ℕ, suc, ◌+◌, ◌-◌, ◌<◌, ◌≤◌, arith, add-one, List, length, Some, inl, inr, sym, ◌≢◌}
-use Rattle.std.specs.Prelude.{slice_get}
-use Rattle.std.proofs.lemmas.Bool.{cases_lt}
-use Rattle.olr_metric.specs.declared.spot.Spot.{Spot}
-use Rattle.olr_metric.specs.Spot.{distance}
-use Rattle.olr_metric.specs.Polyline.{arc_at, IsPolyline, IsSegmentAt, IsAlong}
-use Rattle.olr_metric.specs.Segment.{spot_between}
+use Rattle.olr_metric.proofs.Common.{◌≡◌, ℕ, suc, ◌+◌, ◌-◌, ◌<◌, ◌≤◌, arith, add-one, List, length, Some, inl, inr, sym, ◌≢◌, slice_get, cases_lt, Spot, distance, arc_at, IsPolyline, IsSegmentAt, IsAlong, spot_between}
 use Rattle.olr_metric.proofs.Arcs.{arc_segment}
 use Rattle.olr_metric.proofs.Nearests.{spot_at, start_at, end_at}
 

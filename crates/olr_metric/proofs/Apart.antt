@@ -1,8 +1,5 @@
 -- How far spots of the plane lie apart.
-use Rattle.std.proofs.Common.{ℕ, ◌+◌, ◌*◌, ◌^◌, ◌<◌, ◌≤◌, arith, ℤ, ◌-ℤ◌}
-use Rattle.std.specs.Prelude.{nat_abs}
-use Rattle.std.proofs.lemmas.Int.{ints}
-use Rattle.std.proofs.lemmas.Nat.{mul-le}
+use Rattle.olr_metric.proofs.Common.{ℕ, ◌+◌, ◌*◌, ◌^◌, ◌<◌, ◌≤◌, arith, ℤ, ◌-ℤ◌, nat_abs, ints, mul-le}
 
 -- numbers of at most 2^33 in amount
 pub apart : (x y : ℤ) → nat_abs x ≤ 2 ^ 33 → nat_abs y ≤ 2 ^ 33 → nat_abs (x -ℤ y) ≤ 2 ^ 34

@@ -1,11 +1,6 @@
 -- The arcs of a polyline's spots.
-use Rattle.std.proofs.Common.{◌≡◌, ℕ, zero, suc, ◌+◌, ◌-◌, ◌<◌, ◌≤◌, arith, add-one, List, [], ◌∷◌, length, get_or, Some, refl, sym, ap}
-use Rattle.std.specs.Prelude.{slice_get}
+use Rattle.olr_metric.proofs.Common.{◌≡◌, ℕ, zero, suc, ◌+◌, ◌-◌, ◌<◌, ◌≤◌, arith, add-one, List, [], ◌∷◌, length, get_or, Some, refl, sym, ap, slice_get, same_Some, none-some, slice_get-get_or, Spot, distance, arc, arc_at, IsPolyline}
 use Rattle.std.proofs.Math.Seq.{take-length}
-use Rattle.std.proofs.lemmas.Option.{same_Some, none-some, slice_get-get_or}
-use Rattle.olr_metric.specs.declared.spot.Spot.{Spot}
-use Rattle.olr_metric.specs.Spot.{distance}
-use Rattle.olr_metric.specs.Polyline.{arc, arc_at, IsPolyline}
 use Rattle.olr_metric.proofs.SpotDistances.{distance_positive}
 
 -- the end of a segment is as much further as the segment is long

@@ -1,11 +1,5 @@
 -- The directions of the first quarter, from north (included) to east (excluded), and their sectors.
-use Rattle.std.proofs.Common.{◌≡◌, ℕ, zero, suc, ◌+◌, ◌-◌, ◌*◌, ◌/◌, ◌%◌, ◌<◌, ◌≤◌, arith, rules, add-one, pos, neg_ℤ, ◌≤ℤ◌, ◌<ℤ◌, refl, inl, inr}
-use Rattle.std.proofs.lemmas.Int.{ints, by_lt_z}
-use Rattle.std.proofs.lemmas.Bool.{cases_lt}
-use Rattle.std.proofs.lemmas.Nat.{mul-le}
-use Rattle.std.proofs.Math.IntN.{neg_ℤ-neg_ℤ}
-use Rattle.olr_metric.specs.Sector.{Direction, cross, turned, ray, ray_to, IsSector}
-use Rattle.olr_metric.proofs.Neither.{neither_less}
+use Rattle.olr_metric.proofs.Common.{◌≡◌, ℕ, zero, suc, ◌+◌, ◌-◌, ◌*◌, ◌/◌, ◌%◌, ◌<◌, ◌≤◌, arith, rules, add-one, pos, neg_ℤ, ◌≤ℤ◌, ◌<ℤ◌, refl, inl, inr, ints, by_lt_z, cases_lt, mul-le, neg_ℤ-neg_ℤ, Direction, cross, turned, ray, ray_to, IsSector, neither_less}
 use Rattle.olr_metric.proofs.BearingTurns.{ray_turned, cross_turned, ray_turned_by, negative_times}
 
 -- A ray of the first quarter and the one behind it, which goes no less far east and no further

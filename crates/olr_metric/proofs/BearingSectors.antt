@@ -1,8 +1,5 @@
 -- Each direction lies in one sector.
-use Rattle.std.proofs.Common.{◌≡◌, ◌≢◌, ℕ, zero, suc, ◌+◌, ◌%◌, ◌*◌, ◌<◌, arith, ℤ, pos, negsuc, neg_ℤ, ◌≤ℤ◌, ◌<ℤ◌, refl, sym, subst}
-use Rattle.std.specs.Prelude.{nat_abs}
-use Rattle.std.proofs.lemmas.Int.{ints}
-use Rattle.olr_metric.specs.Sector.{Direction, zero_direction, towards, cross, turned, turns, ray, ray_to, IsSector}
+use Rattle.olr_metric.proofs.Common.{◌≡◌, ◌≢◌, ℕ, zero, suc, ◌+◌, ◌%◌, ◌*◌, ◌<◌, arith, ℤ, pos, negsuc, neg_ℤ, ◌≤ℤ◌, ◌<ℤ◌, refl, sym, nat_abs, ints, Direction, zero_direction, towards, cross, turned, turns, ray, ray_to, IsSector}
 use Rattle.olr_metric.proofs.BearingTurns.{sector_turned, turned_round}
 use Rattle.olr_metric.proofs.BearingQuarter.{some_in_quarter, one_in_quarter}
 

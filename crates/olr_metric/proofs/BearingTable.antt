@@ -1,12 +1,8 @@
 -- The table of the rays of the first quarter.
-use Rattle.std.proofs.Common.{◌≡◌, ℕ, ◌*◌, ◌/◌, ◌%◌, ◌<◌, ◌≤◌, arith, pos, ◌≤ℤ◌, leb, get_or}
-use Rattle.std.specs.Prelude.{Decides}
-use Rattle.std.proofs.lemmas.Int.{ints}
+use Rattle.olr_metric.proofs.Common.{◌≡◌, ℕ, ◌*◌, ◌/◌, ◌%◌, ◌<◌, ◌≤◌, arith, pos, ◌≤ℤ◌, leb, get_or, Decides, ints, leb-true, cross, zero_direction, ray, ray_to, first_rays}
 use Rattle.std.proofs.lemmas.Bool.Decides.{Decides-like, nat_tests}
-use Rattle.std.proofs.lemmas.Bool.{leb-true}
 use Rattle.std.proofs.Math.ListN.{get_or-map}
 use Rattle.olr_metric.specs.declared.bearing.TheConstants.{RAYS}
-use Rattle.olr_metric.specs.Sector.{cross, zero_direction, ray, ray_to, first_rays}
 
 from_table : (s : ℕ) → get_or first_rays s zero_direction
     ≡ ray_to (get_or RAYS s (0, 0)).0 (get_or RAYS s (0, 0)).1

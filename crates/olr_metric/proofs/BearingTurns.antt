@@ -1,9 +1,5 @@
 -- Quarter turns of directions, of rays and of sectors.
-use Rattle.std.proofs.Common.{◌≡◌, ℕ, zero, suc, ◌+◌, ◌*◌, ◌/◌, ◌%◌, ◌<◌, arith, ℤ, pos, negsuc, neg_ℤ, ◌-ℤ◌, ◌*ℤ◌, refl, sym, ap, inl, inr, ◌∙◌}
-use Rattle.std.proofs.lemmas.Int.{ints}
-use Rattle.std.proofs.lemmas.Bool.{cases_lt}
-use Rattle.std.proofs.Math.IntN.{neg_ℤ-neg_ℤ, *ℤ-zero, *ℤ-negsuc, *ℤ_comm}
-use Rattle.olr_metric.specs.Sector.{Direction, cross, turned, turns, ray, IsSector}
+use Rattle.olr_metric.proofs.Common.{◌≡◌, ℕ, zero, suc, ◌+◌, ◌*◌, ◌/◌, ◌%◌, ◌<◌, arith, ℤ, pos, negsuc, neg_ℤ, ◌-ℤ◌, ◌*ℤ◌, refl, sym, ap, inl, inr, ◌∙◌, ints, cases_lt, neg_ℤ-neg_ℤ, *ℤ-zero, *ℤ-negsuc, *ℤ_comm, Direction, cross, turned, turns, ray, IsSector}
 
 -- a ray is a quarter turn clockwise of the one eight before
 pub ray_turned : (s : ℕ) → ray (s + 8) ≡ turned (ray s)

@@ -1,9 +1,5 @@
 -- What lies between two numbers.
-use Rattle.std.proofs.Common.{◌≡◌, ℕ, zero, suc, ◌*◌, ◌/◌, ◌^◌, ◌<◌, ◌≤◌, arith, ℤ, pos, negsuc, ◌+ℤ◌, ◌-ℤ◌, ◌*ℤ◌, ◌≤ℤ◌, to_z, of_z, w64, refl}
-use Rattle.std.specs.Prelude.{nat_abs, neg_ℤ}
-use Rattle.std.proofs.lemmas.Int.{ints, by_lt_z}
-use Rattle.olr_metric.specs.Floor.{floor}
-use Rattle.olr_metric.specs.Segment.{between, IsBetween}
+use Rattle.olr_metric.proofs.Common.{◌≡◌, ℕ, zero, suc, ◌*◌, ◌/◌, ◌^◌, ◌<◌, ◌≤◌, arith, ℤ, pos, negsuc, ◌+ℤ◌, ◌-ℤ◌, ◌*ℤ◌, ◌≤ℤ◌, to_z, of_z, w64, refl, nat_abs, neg_ℤ, ints, by_lt_z, floor, between, IsBetween}
 use Rattle.olr_metric.proofs.Floors.{share_near, share_at_most, small_is}
 
 step_up : (a b f : ℤ) (n : ℕ) → b -ℤ a ≡ pos n → nat_abs f ≤ n → pos 0 ≤ℤ f → IsBetween a b (a +ℤ f)

@@ -1,10 +1,5 @@
 -- Where feet lie.
-use Rattle.std.proofs.Common.{◌≡◌, ℕ, ◌<◌, ◌≤◌, arith, ℤ, pos, false}
-use Rattle.std.specs.Prelude.{nat_abs, int_le}
-use Rattle.std.proofs.lemmas.Bool.{cond_both}
-use Rattle.std.proofs.lemmas.Int.{ints}
-use Rattle.olr_metric.specs.declared.spot.Spot.{Spot}
-use Rattle.olr_metric.specs.Segment.{between, spot_between, dot_product, foot, IsBetween}
+use Rattle.olr_metric.proofs.Common.{◌≡◌, ℕ, ◌<◌, ◌≤◌, arith, ℤ, pos, false, nat_abs, int_le, cond_both, ints, Spot, between, spot_between, dot_product, foot, IsBetween}
 use Rattle.olr_metric.proofs.Betweens.{lies_between}
 
 at_start : {a b : ℤ} → IsBetween a b a

@@ -1,10 +1,5 @@
 -- Division rounded down.
-use Rattle.std.proofs.Common.{◌≡◌, ℕ, suc, ◌*◌, ◌<◌, ◌≤◌, arith, ℤ, pos, negsuc, ◌*ℤ◌, ◌^◌, to_z, of_z, w64, FitsSigned}
-use Rattle.std.specs.Prelude.{nat_abs}
-use Rattle.std.specs.Int.{w128}
-use Rattle.std.proofs.lemmas.Int.{unsigned_abs-mul, fits_signed_from_abs, to_z-of_z}
-use Rattle.std.proofs.lemmas.Nat.{div_below, mul-le}
-use Rattle.olr_metric.specs.Floor.{floor}
+use Rattle.olr_metric.proofs.Common.{◌≡◌, ℕ, suc, ◌*◌, ◌<◌, ◌≤◌, arith, ℤ, pos, negsuc, ◌*ℤ◌, ◌^◌, to_z, of_z, w64, FitsSigned, nat_abs, w128, unsigned_abs-mul, fits_signed_from_abs, to_z-of_z, div_below, mul-le, floor}
 
 -- a quotient of what is at most m times the divisor is at most m, in amount
 pub floor_near : (z : ℤ) (d m : ℕ) → 0 < d → nat_abs z ≤ m * d → nat_abs (floor z d) ≤ m

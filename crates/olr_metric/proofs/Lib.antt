@@ -1,7 +1,4 @@
-pub mod Neither
-pub mod Checks
-pub mod Contained
-pub mod Rising
+mod Common
 mod Roots
 mod Apart
 mod Floors
@@ -16,7 +13,6 @@ mod AlongAxes
 mod Feet
 mod Rectangles
 mod OnePlace
-mod Ends
 mod OneSpot
 mod BearingTurns
 mod BearingQuarter

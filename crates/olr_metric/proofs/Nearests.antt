@@ -1,13 +1,5 @@
 -- The nearest of the first segments of a polyline.
-use Rattle.std.proofs.Common.{◌≡◌, ℕ, suc, ◌+◌, ◌<◌, ◌≤◌, arith, add-one, List, length, Some, subst, inl, inr, pos, get_or, min, ap, ◌∙◌, ◌*◌, ◌-ℤ◌, refl}
-use Rattle.std.specs.Prelude.{slice_get}
-use Rattle.std.proofs.lemmas.Bool.{cases_lt}
-use Rattle.std.proofs.lemmas.Option.{slice_get_within, slice_get-get_or, get_or_from_slice_get}
-use Rattle.olr_metric.specs.declared.spot.Spot.{Spot}
-use Rattle.olr_metric.specs.Spot.{square, distance}
-use Rattle.olr_metric.specs.Segment.{foot}
-use Rattle.olr_metric.specs.Polyline.{arc, arc_at, IsSegment, IsNearestSegment, IsNearest}
-use Rattle.olr_metric.specs.declared.polyline.Near.{Near}
+use Rattle.olr_metric.proofs.Common.{◌≡◌, ℕ, suc, ◌+◌, ◌<◌, ◌≤◌, arith, add-one, List, length, Some, inl, inr, pos, get_or, min, ap, ◌∙◌, ◌*◌, ◌-ℤ◌, refl, slice_get, cases_lt, slice_get_within, slice_get-get_or, get_or_from_slice_get, Spot, square, distance, foot, arc, arc_at, IsSegment, IsNearestSegment, IsNearest, Near}
 use Rattle.olr_metric.proofs.Arcs.{end_within}
 use Rattle.olr_metric.proofs.Roots.{root_at_least}
 

@@ -1,16 +1,6 @@
 -- Unequal places are unequal spots.
-use Rattle.std.proofs.Common.{◌≡◌, ℕ, zero, suc, ◌+◌, ◌-◌, ◌*◌, ◌/◌, ◌<◌, ◌≤◌, arith, ℤ, pos, negsuc, ◌-ℤ◌, ◌*ℤ◌, ap, ◌∙◌, sym, subst, ◌%◌}
-use Rattle.std.specs.Prelude.{nat_abs, neg_ℤ}
-use Rattle.std.proofs.Math.IntN.{pos-ne-negsuc}
-use Rattle.std.proofs.lemmas.Int.{ints}
-use Rattle.std.proofs.lemmas.Nat.{mul-le, le-div, div-add-mod', mod_below}
-use Rattle.olr_metric.specs.declared.spot.Spot.{Spot}
-use Rattle.olr_metric.specs.Coordinates.{Coordinates}
-use Rattle.olr_metric.specs.Floor.{floor}
-use Rattle.olr_metric.specs.Plane.{scale_of, spot_of}
-use Rattle.olr_metric.specs.Range.{IsLatitude}
-use Rattle.olr_metric.specs.Spot.{square}
-use Rattle.olr_metric.proofs.Neither.{neither_less}
+use Rattle.olr_metric.proofs.Common.{◌≡◌, ℕ, zero, suc, ◌+◌, ◌-◌, ◌*◌, ◌/◌, ◌<◌, ◌≤◌, arith, ℤ, pos, negsuc, ◌-ℤ◌, ◌*ℤ◌, ap, ◌∙◌, sym, nat_abs, neg_ℤ, pos-ne-negsuc, ints, mul-le, le-div, div-add-mod', mod_below, floor, scale_of, spot_of, IsLatitude, square, neither_less}
+use Rattle.olr_base.specs.Coordinates.{Coordinates}
 
 scale_at_least : (lat : ℤ) → IsLatitude lat → 1752 ≤ scale_of lat
 scale_at_least lat is =

@@ -1,12 +1,5 @@
 -- A polyline is nearest to a spot at one place, and has one spot at an arc.
-use Rattle.std.proofs.Common.{◌≡◌, ℕ, ◌<◌, arith, List, sym, ap, ◌∙◌}
-use Rattle.std.proofs.lemmas.Option.{same_Some}
-use Rattle.olr_metric.specs.declared.spot.Spot.{Spot}
-use Rattle.olr_metric.specs.declared.polyline.Near.{Near}
-use Rattle.olr_metric.specs.Spot.{distance}
-use Rattle.olr_metric.specs.Segment.{foot}
-use Rattle.olr_metric.specs.Polyline.{IsAlong, IsNearest, IsSegment}
-use Rattle.olr_metric.proofs.Neither.{neither_less}
+use Rattle.olr_metric.proofs.Common.{◌≡◌, ℕ, ◌<◌, arith, List, sym, ap, ◌∙◌, same_Some, Spot, Near, distance, foot, IsAlong, IsNearest, IsSegment, neither_less}
 
 -- the ends of the segment of a number
 record SameEnds (a b c d : Spot) : Type 0 where

@@ -1,11 +1,5 @@
 -- Amounts in the plane of a reference.
-use Rattle.std.proofs.Common.{ℕ, ◌+◌, ◌*◌, ◌-◌, ◌^◌, ◌≤◌, arith, ℤ, ◌-ℤ◌}
-use Rattle.std.specs.Prelude.{nat_abs}
-use Rattle.std.proofs.lemmas.Int.{ints}
-use Rattle.std.proofs.lemmas.Nat.{mul-le, div_below}
-use Rattle.olr_metric.specs.Range.{IsLongitude}
-use Rattle.olr_metric.specs.Spot.{square}
-use Rattle.olr_metric.specs.Plane.{scale_of}
+use Rattle.olr_metric.proofs.Common.{ℕ, ◌+◌, ◌*◌, ◌-◌, ◌^◌, ◌≤◌, arith, ℤ, ◌-ℤ◌, nat_abs, ints, mul-le, div_below, IsLongitude, square, scale_of}
 
 pub scale_at_most : (lat : ℤ) → scale_of lat ≤ 10000
 scale_at_most lat =

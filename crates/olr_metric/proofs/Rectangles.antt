@@ -1,10 +1,5 @@
 -- How far a spot lies from the rectangle of which a segment is a diagonal.
-use Rattle.std.proofs.Common.{ℕ, ◌+◌, ◌*◌, ◌≤◌, arith, ℤ, ◌-ℤ◌, refl}
-use Rattle.std.specs.Prelude.{nat_abs}
-use Rattle.std.proofs.lemmas.Nat.{mul-le}
-use Rattle.olr_metric.specs.declared.spot.Spot.{Spot}
-use Rattle.olr_metric.specs.Segment.{foot, IsBetween}
-use Rattle.olr_metric.specs.Spot.{square}
+use Rattle.olr_metric.proofs.Common.{ℕ, ◌+◌, ◌*◌, ◌≤◌, arith, ℤ, ◌-ℤ◌, refl, nat_abs, mul-le, Spot, foot, IsBetween, square}
 use Rattle.olr_metric.proofs.Feet.{foot_between}
 
 -- the foot is no nearer than the rectangle

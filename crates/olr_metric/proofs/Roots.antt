@@ -1,9 +1,5 @@
 -- The whole square root.
-use Rattle.std.proofs.Common.{◌≡◌, ℕ, zero, suc, ◌+◌, ◌*◌, ◌<◌, ◌≤◌, min, nat_le, inl, inr, arith, refl}
-use Rattle.std.proofs.lemmas.Bool.{cond_both, leb-true, leb-false, cases_lt}
-use Rattle.std.proofs.lemmas.Nat.{mul-le}
-use Rattle.olr_metric.specs.Root.{root, root_within, IsRoot}
-use Rattle.olr_metric.proofs.Neither.{neither_less}
+use Rattle.olr_metric.proofs.Common.{◌≡◌, ℕ, zero, suc, ◌+◌, ◌*◌, ◌<◌, ◌≤◌, min, nat_le, inl, inr, arith, refl, cond_both, leb-true, leb-false, cases_lt, mul-le, root, root_within, IsRoot, neither_less}
 
 -- its square is small enough
 within_square : (n k : ℕ) → root_within n k * root_within n k ≤ n

@@ -1,11 +1,5 @@
 -- The distance of spots.
-use Rattle.std.proofs.Common.{◌≡◌, ◌≢◌, ℕ, zero, suc, ◌+◌, ◌*◌, ◌<◌, arith, ℤ, ◌-ℤ◌, inl, inr, refl, subst}
-use Rattle.std.specs.Prelude.{nat_abs}
-use Rattle.std.proofs.lemmas.Int.{ints}
-use Rattle.std.proofs.lemmas.Bool.{cases_eq}
-use Rattle.olr_metric.specs.declared.spot.Spot.{Spot}
-use Rattle.olr_metric.specs.Root.{root, root_within}
-use Rattle.olr_metric.specs.Spot.{distance}
+use Rattle.olr_metric.proofs.Common.{◌≡◌, ◌≢◌, ℕ, zero, suc, ◌+◌, ◌*◌, ◌<◌, arith, ℤ, ◌-ℤ◌, inl, inr, refl, nat_abs, ints, cases_eq, Spot, root, root_within, distance}
 use Rattle.olr_metric.proofs.Roots.{root_is}
 
 pub same_spot : (a b : Spot) → a.x ≡ b.x → a.y ≡ b.y → a ≡ b

@@ -1,8 +1,5 @@
 -- Sums of two products.
-use Rattle.std.proofs.Common.{◌≡◌, ℕ, ◌^◌, ◌+◌, ◌≤◌, arith, ℤ, ◌+ℤ◌, to_z, of_z, FitsSigned, refl, ◌∙◌}
-use Rattle.std.specs.Prelude.{nat_abs}
-use Rattle.std.specs.Int.{w128}
-use Rattle.std.proofs.lemmas.Int.{ints, to_z-of_z, fits_signed_from_abs}
+use Rattle.olr_metric.proofs.Common.{◌≡◌, ℕ, ◌^◌, ◌+◌, ◌≤◌, arith, ℤ, ◌+ℤ◌, to_z, of_z, FitsSigned, refl, ◌∙◌, nat_abs, w128, ints, to_z-of_z, fits_signed_from_abs}
 
 sum_near : (x y : ℤ) {m : ℕ} → nat_abs x ≤ m → nat_abs y ≤ m → nat_abs (x +ℤ y) ≤ m + m
 sum_near x y near_x near_y = omega (arith, ints)

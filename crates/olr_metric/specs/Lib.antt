@@ -1,7 +1,5 @@
-pub mod Range
-pub mod Coordinates
-pub mod Checks
-pub mod Counting
+pub use Rattle.olr_base.specs.Range
+pub use Rattle.olr_base.specs.Coordinates
 pub mod Floor
 pub mod Root
 pub mod Spot

@@ -1,7 +1,7 @@
 -- The plane of a reference, in centimetres from its origin.
 use Rattle.std.specs.Prelude.{ℕ, ℤ, pos, ◌+◌, ◌-◌, ◌*◌, ◌/◌, ◌-ℤ◌, ◌*ℤ◌}
 use Rattle.olr_metric.specs.declared.spot.Spot.{Spot}
-use Rattle.olr_metric.specs.Coordinates.{Coordinates}
+use Rattle.olr_base.specs.Coordinates.{Coordinates}
 use Rattle.olr_metric.specs.Floor.{floor}
 use Rattle.olr_metric.specs.Spot.{square}
 

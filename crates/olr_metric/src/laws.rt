@@ -1,22 +1,14 @@
 //! Laws of lengths in the plane. Each is the contract of an empty function.
 
-ghost use Rattle.std.specs.Prelude.{◌≡◌, ◌↔◌, ℕ, ◌-◌, ◌≤◌, ℤ, ◌-ℤ◌, List, Some, length, nat_abs, slice_get};
+ghost use Rattle.std.specs.Prelude.{◌≡◌, ◌↔◌, ℕ, ◌-◌, ◌≤◌, ℤ, ◌-ℤ◌, List, nat_abs};
 ghost use Rattle.olr_metric.specs.declared.spot.Spot.{Spot};
 ghost use Rattle.olr_metric.specs.declared.polyline.Near.{Near};
-ghost use Rattle.olr_metric.specs.Coordinates.{Coordinates};
+ghost use Rattle.olr_base.specs.Coordinates.{Coordinates};
 ghost use Rattle.olr_metric.specs.Plane.{spot_of};
-ghost use Rattle.olr_metric.specs.Polyline.{arc, IsAlong, IsNearest, IsPolyline};
-ghost use Rattle.olr_metric.specs.Range.{IsLatitude};
-ghost use Rattle.olr_metric.specs.Root.{root, IsRoot};
+ghost use Rattle.olr_metric.specs.Polyline.{arc, IsAlong, IsNearest};
+ghost use Rattle.olr_base.specs.Range.{IsLatitude};
 ghost use Rattle.olr_metric.specs.Segment.{foot, IsBetween};
 ghost use Rattle.olr_metric.specs.Spot.{distance};
-
-/// The rounded square root of n is the one number whose square is at most n while the square of the
-/// next number is greater.
-pub fn one_root()
-    ensures is_root { (n : ℕ) → IsRoot n (root n) }
-    ensures alone { (n r : ℕ) → IsRoot n r → r ≡ root n }
-{}
 
 /// Only equal spots are at distance 0, and the distance is symmetric.
 pub fn distances()
@@ -25,16 +17,19 @@ pub fn distances()
 {}
 
 /// A distance is at least the difference of the y coordinates.
+#[tactic(auto, using(crate::proofs::AlongAxes::north_within))]
 pub fn no_shorter_than_north()
     ensures { (a b : Spot) → nat_abs (a.y -ℤ b.y) ≤ distance a b }
 {}
 
 /// A distance is at least the difference of the x coordinates.
+#[tactic(auto, using(crate::proofs::AlongAxes::east_within))]
 pub fn no_shorter_than_east()
     ensures { (a b : Spot) → nat_abs (a.x -ℤ b.x) ≤ distance a b }
 {}
 
 /// Unequal coordinates have unequal spots in a plane.
+#[tactic(auto, using(crate::proofs::OnePlace::one_place))]
 pub fn one_place_a_spot()
     ensures { (origin a b : Coordinates) → IsLatitude origin.lat
         → spot_of origin a ≡ spot_of origin b → a ≡ b }
@@ -44,14 +39,6 @@ pub fn one_place_a_spot()
 pub fn foot_on_segment()
     ensures x { (p a b : Spot) → IsBetween a.x b.x (foot p a b).x }
     ensures y { (p a b : Spot) → IsBetween a.y b.y (foot p a b).y }
-{}
-
-/// The spot at arc 0 is the start of the polyline, and the one at its whole arc is its end.
-pub fn ends_of_polyline()
-    ensures start { (spots : List Spot) (spot : Spot) → IsPolyline spots
-        → IsAlong spots 0 spot → slice_get spots 0 ≡ Some spot }
-    ensures end { (spots : List Spot) (spot : Spot) → IsPolyline spots
-        → IsAlong spots (arc spots) spot → slice_get spots (length spots - 1) ≡ Some spot }
 {}
 
 /// A polyline has one nearest spot to another, and one spot at an arc.

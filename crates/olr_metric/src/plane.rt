@@ -2,13 +2,13 @@
 
 ghost use Rattle.std.specs.Prelude.{◌≡◌, ◌*◌, ◌^◌, ◌<◌, ◌≤◌, pos, ◌-ℤ◌, ◌*ℤ◌, nat_abs};
 ghost use Rattle.olr_metric.specs.Floor.{floor};
-ghost use Rattle.olr_metric.specs.Coordinates.{coordinates_of};
+ghost use Rattle.olr_base.specs.Coordinates.{coordinates_of};
 ghost use Rattle.olr_metric.specs.Plane.{scale_of, spot_of};
-ghost use Rattle.olr_metric.specs.Range.{IsLatitude};
+ghost use Rattle.olr_base.specs.Range.{IsLatitude};
 ghost use Rattle.olr_metric.specs.Spot.{IsInPlane};
 
-use crate::degrees::Degrees;
 use crate::spot::Spot;
+use olr_base::Degrees;
 use std::marker::Model;
 
 /// The plane of a reference, with its origin at the reference's first point.
@@ -24,7 +24,7 @@ pub struct Plane {
 impl Model for Plane {
     ghost use Rattle.std.specs.Prelude.{◌≡◌};
     ghost use Rattle.std.proofs.Common.{ap, sym};
-    ghost use Rattle.olr_metric.specs.declared.degrees.Degrees.{Degrees};
+    ghost use Rattle.olr_base.specs.declared.degrees.Degrees.{Degrees};
     ghost use Rattle.olr_metric.specs.Plane.{scale_of};
 
     ghost Value = { Degrees };

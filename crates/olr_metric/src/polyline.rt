@@ -23,6 +23,7 @@ pub struct Near {
 
 /// The length of the part of a polyline before one of its spots, in centimetres. Spots are numbered
 /// from 0.
+#[tactic(auto, using(crate::proofs::Arcs::arc_more))]
 fn arc_to(spots: &[Spot], last: usize) -> u64
     requires in_plane { All IsInPlane spots.now }
     requires at_most { length spots.now ≤ 66 }
@@ -38,6 +39,7 @@ fn arc_to(spots: &[Spot], last: usize) -> u64
 }
 
 /// The length of a polyline in centimetres: the sum of the distances of neighbours.
+#[tactic(auto, using(crate::proofs::Arcs::arc_positive, crate::proofs::Arcs::arc_all))]
 pub fn arc(spots: &[Spot]) -> u64
     requires { IsPolyline spots.now }
     ensures arc { result ≡ arc spots.now }
@@ -124,6 +126,7 @@ fn nearest_segment(spots: &[Spot], p: Spot) -> NearestSegment
 }
 
 /// The lesser of the distances from a spot to two others, in centimetres.
+#[tactic(auto, using(crate::proofs::Roots::root_min))]
 fn lesser_distance(from: Spot, a: Spot, b: Spot) -> u64
     requires from { IsInPlane from }
     requires a { IsInPlane a }
@@ -136,6 +139,7 @@ fn lesser_distance(from: Spot, a: Spot, b: Spot) -> u64
 
 /// Where a polyline is nearest to a spot: at the spot's foot on the nearest segment, the first of
 /// those equally near. All lengths are in centimetres, rounded down.
+#[tactic(auto, using(crate::proofs::Nearests::is_nearest, crate::proofs::Nearests::arc_is_within))]
 pub fn nearest(spots: &[Spot], p: Spot) -> Near
     requires polyline { IsPolyline spots.now }
     requires p { IsInPlane p }
@@ -181,6 +185,7 @@ fn segment_at(spots: &[Spot], s: u64) -> (usize, u64)
 }
 
 /// The spot of a segment at a length from its start, in centimetres.
+#[tactic(auto, using(crate::proofs::SpotDistances::distance_positive))]
 fn along_segment(a: Spot, b: Spot, s: u64) -> Spot
     requires a { IsInPlane a }
     requires b { IsInPlane b }

@@ -1,14 +1,8 @@
--- What pieces miss of others, and what closeness is.
-use Rattle.std.proofs.Common.{◌≡◌, ℕ, zero, suc, ◌+◌, ◌<◌, ◌≤◌, true, false, List, [], ◌∷◌, ◌++◌, length, refl, sym, ap, subst, inl, inr, arith, ◌&&◌, ◌==◌, nat_le}
-use Rattle.std.specs.Prelude.{Contains, Decides}
-use Rattle.std.proofs.lemmas.Bool.{cases_Bool, cases_eq, or_cases, or_left, or_right, le-leb, leb-true, both_ways, false≢true}
-use Rattle.std.proofs.lemmas.Bool.Decides.{Decides-and, Decides-like, Decides-eqb}
-use Rattle.std.proofs.lemmas.List.Elements.{All-contains, All-weaker, All-nil, All-cons, All-head, Contains-append_left, Contains-append_right, Contains-append_cases}
+-- What pieces miss of others, and the test of closeness.
 use Rattle.olr_route.specs.Walk.{piece_length}
-use Rattle.olr_places.proofs.Common.{Piece, stretch, Step, steps_in, steps_of, covers, has_step, longest_run, missing_of}
-use Rattle.olr_map.specs.declared.place.Place.{Place}
-use Rattle.olr_places.specs.Closeness.{IsNear, is_near, line, point}
-use Rattle.olr_places.specs.Laws.{CloseAtZero, CloseStaysClose, IsReflexive, IsSymmetric, MissingIsComputed, TestsCloseness}
+use Rattle.olr_places.proofs.Common.{Piece, stretch, Step, steps_in, steps_of, covers, has_step, longest_run, missing_of, ◌≡◌, ℕ, zero, suc, ◌+◌, ◌<◌, ◌≤◌, true, false, List, [], ◌∷◌, length, refl, sym, ap, subst, inl, inr, arith, ◌&&◌, ◌==◌, nat_le, Contains, Decides, cases_Bool, cases_eq, or_cases, or_left, or_right, le-leb, leb-true, both_ways, false≢true, Decides-and, Decides-like, Decides-eqb, All-contains, All-weaker, All-head, Contains-append_left, Contains-append_right, Contains-append_cases, Ground, IsClose, IsNear, is_near, line, point}
+use Rattle.olr_road.specs.declared.place.Place.{Place}
+use Rattle.olr_places.specs.Laws.{MissingIsComputed, TestsCloseness}
 use Rattle.olr_places.specs.Missing.{IsMissingRun, MissesAtMost}
 use Rattle.olr_places.proofs.Covering.{all_stretch, has_parts, has_from, step_at}
 use Rattle.olr_places.proofs.Runs.{longest_is, none_is_longer}
@@ -73,7 +67,7 @@ is_covered (piece ∷ pieces) step has =
       | inr later ↦ or_right (has_step step piece) _ (is_covered pieces step later)
     ]
 
-missing_is : (pieces : List Piece) (step : Step) → covers pieces step ≡ false
+pub missing_is : (pieces : List Piece) (step : Step) → covers pieces step ≡ false
     → ¬ (Contains (steps_of pieces) step)
 missing_is pieces step not_covered has =
     both_ways (covers pieces step) not_covered (is_covered pieces step has)
@@ -149,22 +143,7 @@ tests apart (point earliest latest) (point other_earliest other_latest) =
     (decides_near apart earliest other_earliest)
     (decides_near apart latest other_latest)
 
--- ---- laws
-
-near_too : (apart : ℕ) (one other : Place) → IsNear apart one other → IsNear apart other one
-near_too apart one other is = record {
-  on_line = sym is.on_line;
-  behind = is.before;
-  before =
-      is.behind;
-}
-
-pub symmetric : IsSymmetric
-symmetric apart (line one) (line other) is = (is.1, is.0)
-symmetric apart (line one) (point earliest latest) is = absurd is
-symmetric apart (point earliest latest) (line one) is = absurd is
-symmetric apart (point earliest latest) (point other_earliest other_latest) is =
-    (near_too _ _ _ is.0, near_too _ _ _ is.1)
+-- ---- a matching is close to itself
 
 -- the steps of a run are steps
 in_run : {part other run : List Step} {step : Step} → IsMissingRun part other (step ∷ run)
@@ -172,7 +151,7 @@ in_run : {part other run : List Step} {step : Step} → IsMissingRun part other 
 in_run is = rw is.neighbours (Contains-append_right is.before _ _ (zero, omega arith, refl))
 
 -- where each step of another part is a step of this one, nothing is missing
-none_missing : (part other : List Step) → ((step : Step) → Contains other step → Contains part step)
+pub none_missing : (part other : List Step) → ((step : Step) → Contains other step → Contains part step)
     → MissesAtMost part other 0
 none_missing part other all [] is = omega arith
 none_missing part other all (step ∷ run) is =
@@ -182,84 +161,9 @@ none_missing part other all (step ∷ run) is =
 near_itself : (apart : ℕ) (one : Place) → IsNear apart one one
 near_itself apart one = record { on_line = refl; behind = omega arith; before = omega arith }
 
-pub reflexive : IsReflexive
+pub reflexive : (apart : ℕ) (one : Ground) → IsClose apart one one
 reflexive apart (line one) =
     let none : MissesAtMost (steps_of one) (steps_of one) apart = λ run is.
     omega (arith, none_missing (steps_of one) (steps_of one) (λ step has. has) run is) in
     (none, none)
 reflexive apart (point earliest latest) = (near_itself apart earliest, near_itself apart latest)
-
-still_few : (part other : List Step) (less apart : ℕ) → less ≤ apart → MissesAtMost part other less
-    → MissesAtMost part other apart
-still_few part other less apart more misses run is = omega (arith, misses run is)
-
-still_near : (less apart : ℕ) (one other : Place) → less ≤ apart → IsNear less one other
-    → IsNear apart one other
-still_near less apart one other more is =
-    record {
-      on_line = is.on_line;
-      behind = omega arith;
-      before =
-          omega arith;
-    }
-
-pub stays : CloseStaysClose
-stays less apart (line one) (line other) more is = (
-  still_few (steps_of one) (steps_of other) less apart more is.0,
-  still_few (steps_of other) (steps_of one) less apart more is.1,
-)
-stays less apart (line one) (point earliest latest) more is = absurd is
-stays less apart (point earliest latest) (line one) more is = absurd is
-stays less apart (point earliest latest) (point other_earliest other_latest) more is = (
-  still_near less apart earliest other_earliest more is.0,
-  still_near less apart latest
-      other_latest more is.1,
-)
-
--- steps with one of them in the middle
-record IsSplit (steps : List Step) (step : Step) : Type 0 where
-  before : List Step
-  behind : List Step
-  whole : steps ≡ before ++ ((step ∷ []) ++ behind)
-
-split_at : (steps : List Step) (step : Step) → Contains steps step → IsSplit steps step
-split_at [] step has = absurd (omega arith)
-split_at (first ∷ steps) step (zero, inside, same) =
-    record { before = []; behind = steps; whole = ap (λ (one : Step). one ∷ steps) same }
-split_at (first ∷ steps) step (suc k, inside, same) =
-    let rest = split_at steps step (k, omega arith, same) in
-    record {
-      before = first ∷ rest.before;
-      behind = rest.behind;
-      whole =
-          ap (λ (l : List Step). first ∷ l) rest.whole;
-    }
-
--- where nothing of other pieces is missing, each of their steps is a step of these
-all_of : (pieces other : List Piece) → MissesAtMost (steps_of pieces) (steps_of other) 0
-    → (step : Step) → Contains (steps_of other) step → Contains (steps_of pieces) step
-all_of pieces other misses step has = elim (cases_Bool (covers pieces step)) [
-  | inl covered ↦ covered_is pieces step covered
-  | inr missing ↦
-      let split = split_at (steps_of other) step has in
-      absurd (omega (
-        arith,
-        misses (step ∷ []) (record {
-          before = split.before;
-          behind = split.behind;
-          neighbours = split.whole;
-          missing = All-cons (λ (one : Step). ¬ (Contains (steps_of pieces) one)) step []
-              (missing_is pieces step missing)
-              (All-nil (λ (one : Step). ¬ (Contains (steps_of pieces) one)));
-        }),
-      ))
-]
-
-pub at_zero : CloseAtZero
-at_zero one other = (
-  λ is step. (all_of other one is.1 step, all_of one other is.0 step),
-  λ same. (
-    none_missing (steps_of one) (steps_of other) (λ step. (same step).1),
-    none_missing (steps_of other) (steps_of one) (λ step. (same step).0),
-  ),
-)

@@ -1,13 +1,6 @@
 -- The steps on a line that pieces cover, by the pieces of this line.
-use Rattle.std.proofs.Common.{◌≡◌, ℕ, zero, suc, ◌+◌, ◌-◌, ◌<◌, ◌≤◌, ◌⊎◌, Bool, true, false, List, ◌∷◌, length, get_or, take, drop, All, refl, sym, ap, subst, ◌∙◌, inl, inr, arith, MatchBool, ◌&&◌, ◌==◌, nat_lt, nat_le}
 use Rattle.std.specs.List.Sorted.{IsPartitionPoint}
-use Rattle.std.specs.Prelude.{Any, Contains}
-use Rattle.std.proofs.lemmas.Bool.{cases_lt, and_parts, eqb-true, leb-true, ltb-true}
-use Rattle.std.proofs.lemmas.Bool.Decides.{nat_tests}
-use Rattle.std.proofs.lemmas.List.{get_or-drop, get_or-take, length-drop, length-take-le}
-use Rattle.std.proofs.lemmas.List.Elements.{All-nil, All-cons, All-from_get_or, All-get_or}
-use Rattle.std.proofs.lemmas.List.Folds.{list_any_none, list_any_at}
-use Rattle.olr_places.proofs.Common.{Piece, stretch, Step, AreCovered, covers, has_step}
+use Rattle.olr_places.proofs.Common.{Piece, stretch, Step, AreCovered, covers, has_step, ◌≡◌, ℕ, zero, suc, ◌+◌, ◌-◌, ◌<◌, ◌≤◌, ◌⊎◌, Bool, true, false, List, ◌∷◌, length, get_or, take, drop, All, refl, sym, ap, subst, ◌∙◌, inl, inr, arith, MatchBool, ◌&&◌, ◌==◌, nat_lt, nat_le, Any, Contains, cases_lt, and_parts, eqb-true, leb-true, ltb-true, nat_tests, get_or-drop, get_or-take, length-drop, length-take-le, All-nil, All-cons, All-from_get_or, All-get_or, list_any_none, list_any_at}
 
 -- ---- one piece
 
@@ -93,12 +86,6 @@ pub behind_among : (pieces : List Piece) (first : Piece) (behind : List Piece)
 behind_among pieces first behind is = rw is (behind_first _ _)
 
 -- ---- pieces of which each step is covered
-
-pub part_covered : (part pieces : List Piece)
-    → ((step : Step) → covers pieces step ≡ covers part step) → AreCovered pieces part
-part_covered part pieces same piece there step has =
-    same step ∙ list_any_at (has_step step) part there.0 piece there.1 (ap (has_step step) there.2
-    ∙ has)
 
 pub piece_covered : (pieces some : List Piece) (piece : Piece) → AreCovered pieces some
     → Contains some piece → piece.from ≤ piece.to

@@ -1,8 +1,5 @@
 -- The first of a list's elements that passes a test.
-use Rattle.std.proofs.Common.{◌≡◌, ℕ, zero, suc, ◌+◌, ◌<◌, ◌≤◌, Bool, true, false, List, [], ◌∷◌, length, map, take, get_or, All, refl, ap, sym, subst, ◌∙◌, arith}
-use Rattle.std.specs.List.{list_any, position_or_len}
-use Rattle.std.proofs.lemmas.List.{take_all}
-use Rattle.std.proofs.lemmas.List.Elements.{All-head, All-tail}
+use Rattle.olr_places.proofs.Common.{◌≡◌, ℕ, zero, suc, ◌+◌, ◌<◌, ◌≤◌, Bool, true, false, List, [], ◌∷◌, length, map, take, get_or, All, refl, ap, sym, subst, ◌∙◌, arith, list_any, position_or_len, take_all, All-head, All-tail}
 
 module _ {X Y : Type 0} (f : X → Y) (p : Y → Bool) where
   abbrev Fails : X → Type 0

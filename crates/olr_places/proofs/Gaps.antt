@@ -1,6 +1,5 @@
 -- Gaps, with one matching more behind.
-use Rattle.std.proofs.Common.{◌≡◌, ◌-◌, ◌≤◌, List, [], ◌∷◌, ◌++◌, length, refl, arith}
-use Rattle.olr_places.proofs.Common.{KeyValue, gap_of, Entry}
+use Rattle.olr_places.proofs.Common.{KeyValue, gap_of, Entry, ◌≡◌, ◌-◌, ◌≤◌, List, [], ◌∷◌, ◌++◌, length, refl, arith}
 
 -- the gap of a matching is the same with one more behind the others
 pub gap_stays : (before : List Entry) (one : Entry) (key : KeyValue) → 1 ≤ length before

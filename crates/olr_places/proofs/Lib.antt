@@ -1,15 +1,11 @@
 pub mod Common
 mod Runs
 mod Covering
-mod CloseLaws
-mod Looks
-mod OneLooking
-mod InOrder
-mod Verdicts
+pub mod CloseLaws
 mod FirstPlace
 mod Members
-mod Gaps
-mod Opening
+pub mod Gaps
+pub mod Opening
 mod LookSteps
 mod Progress
 mod Outputs

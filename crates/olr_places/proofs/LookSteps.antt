@@ -1,12 +1,6 @@
 -- One step of looking at matchings, whatever was looked at before.
-use Rattle.std.proofs.Common.{◌≡◌, ◌≢◌, ℕ, zero, suc, ◌+◌, ◌-◌, ◌<◌, ◌≤◌, Bool, true, false, List, [], ◌∷◌, ◌++◌, length, length-append, map, get_or, All, Option, Some, None, filter, refl, ap, sym, ◌∙◌, inl, inr, arith, append_assoc, ◌==◌, nat_le, nat_lt}
-use Rattle.std.proofs.lemmas.Bool.{cases_Bool, lt-leb}
-use Rattle.std.proofs.lemmas.List.{append-nil, length-map, map-append}
-use Rattle.std.proofs.lemmas.List.Elements.{All-cons, All-head, All-push, All-tail, filter-append}
-use Rattle.olr_places.proofs.Common.{KeyValue, last_of, Looked, belongs, gap_of, is_within, listed_of, looking, looking_on, openers_of, place_of, AreCounted, ArePlacesOf, entry_of, Entry, keys_of, margin_of, Ending, Beyond, Cut, PlaceLimits, Looking, Opener}
+use Rattle.olr_places.proofs.Common.{KeyValue, last_of, Looked, belongs, gap_of, is_within, listed_of, looking, looking_on, openers_of, place_of, AreCounted, ArePlacesOf, entry_of, Entry, keys_of, margin_of, Ending, Beyond, Cut, PlaceLimits, Looking, Opener, ◌≡◌, ◌≢◌, ℕ, zero, suc, ◌+◌, ◌-◌, ◌<◌, ◌≤◌, Bool, true, false, List, [], ◌∷◌, ◌++◌, length, length-append, map, get_or, All, Option, Some, None, filter, refl, ap, sym, ◌∙◌, inl, inr, arith, append_assoc, ◌==◌, nat_le, nat_lt, cases_Bool, lt-leb, append-nil, length-map, map-append, All-cons, All-head, All-push, All-tail, filter-append, IsCounted, HasEnded, Stands, gap_behind, gap_in, margin_in, one_more_at, places_in}
 use Rattle.olr_places.specs.Looking.{members_of}
-use Rattle.olr_places.specs.Places.{IsCounted}
-use Rattle.olr_places.specs.Steps.{HasEnded, Stands, gap_behind, gap_in, margin_in, one_more_at, places_in}
 use Rattle.olr_places.proofs.Gaps.{gap_of_next, gap_stays}
 use Rattle.olr_places.proofs.Members.{agree, at_most, count_of, none_here, none_past, one_here, with_one}
 use Rattle.olr_places.proofs.Opening.{all_placed, close_itself, first_behind, first_opens, first_stays, openers_more, openers_same}

@@ -1,9 +1,6 @@
 -- How many matchings belong to a place, with one matching more.
-use Rattle.std.proofs.Common.{◌≡◌, ◌≢◌, ℕ, ◌+◌, ◌<◌, ◌≤◌, List, [], ◌∷◌, ◌++◌, length, length-append, All, filter, refl, ap, ◌∙◌, inl, inr, arith, ◌==◌}
-use Rattle.std.proofs.lemmas.Bool.{cases_eq, eq-eqb, ne_eqb}
-use Rattle.std.proofs.lemmas.List.Elements.{All-head, All-tail, filter-append}
 use Rattle.std.proofs.lemmas.List.Sums.{count_by-le-length, length-filter}
-use Rattle.olr_places.proofs.Common.{Entry}
+use Rattle.olr_places.proofs.Common.{Entry, ◌≡◌, ◌≢◌, ℕ, ◌+◌, ◌<◌, ◌≤◌, List, [], ◌∷◌, ◌++◌, length, length-append, All, filter, refl, ap, ◌∙◌, inl, inr, arith, ◌==◌, cases_eq, eq-eqb, ne_eqb, All-head, All-tail, filter-append}
 
 -- how many of these have a number
 abbrev pub count_of : (Entry → ℕ) → List Entry → ℕ → ℕ

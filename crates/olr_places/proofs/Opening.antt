@@ -1,12 +1,5 @@
 -- Which matchings open a place, with one matching more, and the place that each belongs to.
-use Rattle.std.proofs.Common.{◌≡◌, ◌+◌, ◌<◌, Bool, true, false, List, [], ◌∷◌, ◌++◌, length, All, refl, sym, ◌∙◌, inl, inr, arith, if◌then◌else◌, append_assoc}
-use Rattle.std.specs.List.{list_any, position_or_len}
-use Rattle.std.proofs.lemmas.Bool.{cases_Bool, false≢true, ne_eqb}
-use Rattle.std.proofs.lemmas.List.{append-nil}
-use Rattle.std.proofs.lemmas.List.Elements.{All-nil, All-cons, All-weaker}
-use Rattle.std.proofs.lemmas.List.Folds.{list_any-append, position_or_len_push}
-use Rattle.olr_places.proofs.Common.{belongs, is_close_to, openers_of, openers_on, place_of, Entry, PlaceLimits}
-use Rattle.olr_places.specs.Closeness.{ground_of}
+use Rattle.olr_places.proofs.Common.{belongs, is_close_to, openers_of, openers_on, place_of, Entry, PlaceLimits, ◌≡◌, ◌+◌, ◌<◌, Bool, true, false, List, [], ◌∷◌, ◌++◌, length, All, refl, sym, ◌∙◌, inl, inr, arith, if◌then◌else◌, append_assoc, list_any, position_or_len, cases_Bool, false≢true, ne_eqb, append-nil, All-nil, All-cons, All-weaker, list_any-append, position_or_len_push, ground_of}
 use Rattle.olr_places.proofs.CloseLaws.{reflexive, tests}
 
 -- whether one passes, by the place of the first one

@@ -1,11 +1,7 @@
 -- What is shown of places, by what is kept of the matchings that were looked at.
-use Rattle.std.proofs.Common.{◌≡◌, ℕ, ◌+◌, List, [], ◌∷◌, ◌++◌, length, map, None, refl, sym, ap, ◌∙◌}
-use Rattle.std.proofs.lemmas.List.{length-map}
-use Rattle.olr_places.proofs.Common.{RoadMap, Looked, listed_of, AreCounted, ArePlacesOf, object_of, opener_object, openers_rows, entry_of, Entry, verdict_of, PlaceLimits, Opener, Places}
+use Rattle.olr_places.proofs.Common.{RoadMap, Looked, listed_of, AreCounted, ArePlacesOf, object_of, opener_object, openers_rows, entry_of, Entry, verdict_of, PlaceLimits, Opener, Places, ◌≡◌, ℕ, ◌+◌, List, [], ◌∷◌, ◌++◌, length, map, None, refl, sym, ap, ◌∙◌, length-map, verdict_in, all_place_rows, next_after, next_of, places_text, summary_rows}
 use Rattle.olr_report.specs.TextRows.{end_row}
 use Rattle.olr_places.specs.Json.{place_objects, places_object}
-use Rattle.olr_places.specs.Places.{verdict_in}
-use Rattle.olr_places.specs.Text.{all_place_rows, next_after, next_of, places_text, summary_rows}
 
 module _ (road : RoadMap) (limits : PlaceLimits) (matchings : List Entry) where
   rows_same : (start : ℕ) (openers : List Opener) → AreCounted limits matchings start openers

@@ -1,13 +1,7 @@
 -- Looking at the matchings of a reference, key by key.
-use Rattle.std.proofs.Common.{◌≡◌, All, List, [], ◌∷◌, ◌++◌, length, drop, Option, Some, None, refl, sym, ◌∙◌, append_assoc, arith}
-use Rattle.std.specs.Prelude.{AllPairs, slice_get}
-use Rattle.std.proofs.lemmas.Bool.{eq-eqb}
-use Rattle.std.proofs.lemmas.List.{append-nil, map-append}
-use Rattle.std.proofs.lemmas.List.Elements.{All-nil, All-push}
 use Rattle.olr_keys.proofs.PageLists.{after_keys, first_and_others, next_is, position_within}
 use Rattle.olr_keys.specs.Finder.{IsNext, IsPosition}
-use Rattle.olr_places.proofs.Common.{KeyValue, IsBefore, IsRestAfter, RoadMap, LayersValue, ArePlacesOf, IsLooked, IsOpenerAt, Looked, entry_of, looking_on, IsEntryAt, Entry, keys_of, Ending, Cut, NoMore, PlaceLimits, Looking, Opener}
-use Rattle.olr_places.specs.Steps.{LooksAt, Stands, gap_in, places_in}
+use Rattle.olr_places.proofs.Common.{KeyValue, IsBefore, IsRestAfter, RoadMap, LayersValue, ArePlacesOf, IsLooked, IsOpenerAt, Looked, entry_of, looking_on, IsEntryAt, Entry, keys_of, Ending, Cut, NoMore, PlaceLimits, Looking, Opener, ◌≡◌, All, List, [], ◌∷◌, ◌++◌, length, drop, Option, Some, None, refl, sym, ◌∙◌, append_assoc, arith, AllPairs, slice_get, eq-eqb, append-nil, map-append, All-nil, All-push, LooksAt, Stands, gap_in, places_in}
 use Rattle.olr_places.proofs.LookSteps.{ends_here}
 
 module _ (limits : PlaceLimits) (road : RoadMap) (layers : LayersValue) (answers : List KeyValue)

@@ -1,10 +1,6 @@
 -- The longest run of neighbouring steps that aren't covered: as a number that is computed, and as a
 -- run that is the longest one.
-use Rattle.std.proofs.Common.{◌≡◌, ℕ, zero, suc, ◌+◌, ◌-◌, ◌<◌, ◌≤◌, Bool, true, false, List, [], ◌∷◌, ◌++◌, length, max, All, refl, sym, ap, subst, ◌∙◌, inl, inr, arith, if◌then◌else◌, nat_le, append_assoc}
-use Rattle.std.proofs.lemmas.Bool.{cases_Bool, cases_lt, le-leb, lt-leb}
-use Rattle.std.proofs.lemmas.List.{length_push}
-use Rattle.std.proofs.lemmas.List.Elements.{All-nil, All-head, All-push, All-tail}
-use Rattle.olr_places.proofs.Common.{stretch, Step, Piece, covers, longest_run, missing_of}
+use Rattle.olr_places.proofs.Common.{stretch, Step, longest_run, ◌≡◌, ℕ, zero, suc, ◌+◌, ◌-◌, ◌<◌, ◌≤◌, Bool, true, false, List, [], ◌∷◌, ◌++◌, length, max, All, refl, sym, ap, subst, ◌∙◌, inl, inr, arith, if◌then◌else◌, nat_le, append_assoc, cases_Bool, cases_lt, le-leb, lt-leb, length_push, All-nil, All-head, All-push, All-tail}
 use Rattle.olr_report.proofs.StepLists.{length-stretch, stretch-add}
 
 module _ (covered : Step → Bool) where
@@ -186,9 +182,3 @@ same_runs covered other same run (step ∷ steps) =
     let now = same_runs covered other same 0 steps in
     let later = same_runs covered other same (run + 1) steps in
     rw (same step, now, later) refl
-
-pub missing_same : (pieces other behind : List Piece)
-    → ((step : Step) → covers pieces step ≡ covers other step)
-    → missing_of pieces behind ≡ missing_of other behind
-missing_same pieces other behind same =
-    same_runs _ _ same 0 _

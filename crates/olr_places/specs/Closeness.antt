@@ -1,7 +1,7 @@
 -- Which matchings are close: those that cover the same stretch of road, but for parts of a given
 -- length. Lengths and positions are in decimetres.
 use Rattle.std.specs.Prelude.{◌≡◌, ℕ, ◌+◌, ◌≤◌, Bool, false, ◌&&◌, ◌==◌, nat_le, List, [], Option, unwrap_or}
-use Rattle.olr_map.specs.declared.place.Place.{Place}
+use Rattle.olr_road.specs.declared.place.Place.{Place}
 use Rattle.olr_route.specs.declared.piece.Piece.{Piece}
 use Rattle.olr_report.specs.Location.{LocatedLine, LocatedPoint, LocatedValue}
 use Rattle.olr_report.specs.Steps.{steps_of}

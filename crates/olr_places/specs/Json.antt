@@ -4,7 +4,7 @@ use Rattle.std.specs.Prelude.{ℕ, ◌+◌, List, [], ◌∷◌, length, None, c
 use Rattle.serde_json.specs.Data.{Data, string, array, object, no_members, member}
 use Rattle.serde_json.specs.View.{items_of}
 use Rattle.olr_text.specs.JsonValues.{whole, whole_or_null}
-use Rattle.olr_map.specs.RoadMap.{RoadMap}
+use Rattle.olr_road.specs.RoadMap.{RoadMap}
 use Rattle.olr_report.specs.Entries.{Entry}
 use Rattle.olr_report.specs.Json.{entry_object, next_value}
 use Rattle.olr_places.specs.Looking.{Looked, gap_of, listed_of, members_of}

@@ -1,9 +1,10 @@
--- Laws on closeness. Each is the contract of a public function that does nothing at run time.
-use Rattle.std.specs.Prelude.{ℕ, ◌≤◌, ◌↔◌, List, Contains, Decides}
+-- The law on the test of closeness: the contract of a public function that does nothing at run
+-- time.
+use Rattle.std.specs.Prelude.{ℕ, List, Decides}
 use Rattle.olr_route.specs.declared.piece.Piece.{Piece}
-use Rattle.olr_report.specs.Steps.{Step, steps_of}
+use Rattle.olr_report.specs.Steps.{steps_of}
 use Rattle.olr_places.specs.Missing.{IsMissing, missing_of}
-use Rattle.olr_places.specs.Closeness.{Ground, IsClose, is_close, line}
+use Rattle.olr_places.specs.Closeness.{Ground, IsClose, is_close}
 
 -- the number that is computed from pieces is what they miss
 abbrev pub MissingIsComputed : Type 0
@@ -14,22 +15,3 @@ MissingIsComputed = (part other : List Piece)
 abbrev pub TestsCloseness : Type 0
 TestsCloseness = (apart : ℕ) (one other : Ground)
     → Decides (is_close apart one other) (IsClose apart one other)
-
--- of two matchings each is close to the other, or none is
-abbrev pub IsSymmetric : Type 0
-IsSymmetric = (apart : ℕ) (one other : Ground) → IsClose apart one other → IsClose apart other one
-
--- each matching is close to itself
-abbrev pub IsReflexive : Type 0
-IsReflexive = (apart : ℕ) (one : Ground) → IsClose apart one one
-
--- matchings that are close are also close where they may be further apart
-abbrev pub CloseStaysClose : Type 0
-CloseStaysClose = (less apart : ℕ) (one other : Ground) → less ≤ apart → IsClose less one other
-    → IsClose apart one other
-
--- two matchings of a line that may be 0 apart are close exactly where their outer parts have the
--- same steps
-abbrev pub CloseAtZero : Type 0
-CloseAtZero = (one other : List Piece) → IsClose 0 (line one) (line other)
-    ↔ ((step : Step) → Contains (steps_of one) step ↔ Contains (steps_of other) step)

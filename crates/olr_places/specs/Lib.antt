@@ -1,12 +1,11 @@
 pub mod Limits
 pub mod Missing
 pub mod Closeness
-pub mod Extents
+pub mod CoveredRoads
 pub mod Laws
 pub mod Looking
 pub mod Verdict
 pub mod Text
 pub mod Json
-pub mod VerdictLaws
 pub mod Places
 pub mod Steps

@@ -3,7 +3,7 @@ use Rattle.std.specs.Prelude.{◌≡◌, ℕ, ◌+◌, List, [], ◌∷◌, ◌+
 use Rattle.serde_json.specs.Data.{Data, string, object, no_members, member}
 use Rattle.olr_text.specs.JsonValues.{array_of, whole, whole_or_null}
 use Rattle.olr_keys.specs.Page.{last_of}
-use Rattle.olr_map.specs.RoadMap.{RoadMap}
+use Rattle.olr_road.specs.RoadMap.{RoadMap}
 use Rattle.olr_matching.specs.Layers.{LayersValue}
 use Rattle.olr_report.specs.Entries.{Entry, IsEntryAt, IsOnMap, keys_of}
 use Rattle.olr_report.specs.Json.{next_value}
@@ -23,7 +23,7 @@ entry_of opener = record {
   key = opener.key;
   matched = opener.matched;
   route = opener.route.items;
-  located = located_value opener.extent.located;
+  located = located_value opener.covered.located;
 }
 
 -- it is the matching of its key, and lies on lines of the map

@@ -5,7 +5,7 @@ use Rattle.std.specs.Prelude.{ℕ, ◌+◌, List, [], ◌∷◌, ◌++◌, lengt
 use Rattle.olr_keys.specs.Cursor.{key_text}
 use Rattle.olr_keys.specs.Key.{KeyValue}
 use Rattle.olr_keys.specs.Page.{last_of}
-use Rattle.olr_map.specs.RoadMap.{RoadMap}
+use Rattle.olr_road.specs.RoadMap.{RoadMap}
 use Rattle.olr_report.specs.Entries.{Entry, keys_of}
 use Rattle.olr_report.specs.Location.{LocatedLine, LocatedPoint, LocatedValue}
 use Rattle.olr_report.specs.TextRows.{end_row, part_row, place_row}
@@ -29,15 +29,15 @@ head_row number gap members key =
 
 -- the stretch of road of a matching: the outer part of a line, or the earliest and the latest place
 -- of a point along a line
-abbrev pub extent_rows : RoadMap → LocatedValue → List ℕ
-extent_rows road (LocatedLine outer inner) = part_row road (codes "outer") outer
-extent_rows road (LocatedPoint earliest latest) =
+abbrev pub covered_rows : RoadMap → LocatedValue → List ℕ
+covered_rows road (LocatedLine outer inner) = part_row road (codes "outer") outer
+covered_rows road (LocatedPoint earliest latest) =
     place_row road (codes "earliest") earliest ++ place_row road (codes "latest") latest
 
 -- the rows of a place, by its opener: the first one, and the stretch of road
 abbrev pub place_rows : RoadMap → ℕ → ℕ → ℕ → Entry → List ℕ
 place_rows road number gap members opener =
-    head_row number gap members opener.key ++ extent_rows road opener.located
+    head_row number gap members opener.key ++ covered_rows road opener.located
 
 -- the rows of places of these matchings, the first of which has this index
 abbrev pub all_place_rows : RoadMap → PlaceLimits → List Entry → ℕ → List Entry → List ℕ

@@ -1,13 +1,13 @@
-//! The steps of a part of a route, for look-ups.
+//! The pieces of a part of a route, sorted by line for look-ups.
 
-ghost use Rattle.std.specs.Prelude.{◌≡◌, ◌-◌, ◌<◌, ◌≤◌, ◌⊎◌, All, Any, IfOk, MatchBool, length, slice_range};
+ghost use Rattle.std.specs.Prelude.{◌≡◌, ◌-◌, ◌<◌, ◌≤◌, ◌⊎◌, All, Any, IfOk, MatchBool, length};
 ghost use Rattle.std.specs.List.Sorted.{IsNonDecreasingBy, IsPartitionPoint};
 ghost use Rattle.olr_report.proofs.StepLists.{stretch};
 ghost use Rattle.olr_report.specs.Steps.{Step};
 ghost use Rattle.olr_places.specs.Missing.{covers};
 ghost use Rattle.olr_route.specs.declared.piece.Piece.{Piece};
 
-use olr_metric::NoMemory;
+use olr_base::NoMemory;
 use olr_route::Piece;
 use std::alloc::Global;
 

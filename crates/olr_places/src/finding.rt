@@ -9,17 +9,17 @@ ghost use Rattle.olr_matching.specs.Searches.{AreSearchesOn};
 ghost use Rattle.olr_places.specs.Looking.{IsLooked, Looked};
 ghost use Rattle.olr_places.specs.Places.{AreOnMap, ArePlacesOf, IsOpenerAt};
 
+use crate::covered_road::CoveredRoad;
 use crate::ending::Ending;
-use crate::extent::Extent;
 use crate::limits::PlaceLimits;
 use crate::looking::Looking;
 use crate::opener::Opener;
 use crate::places::Places;
+use olr_base::NoMemory;
 use olr_keys::{Finder, Key, TotalsFinder};
-use olr_map::{Map, sound};
 use olr_matching::{Layers, Routes, Searches, matchings_are_sound};
-use olr_metric::NoMemory;
 use olr_report::{Entry, entry_of, sound_parts_can_be_shown};
+use olr_road::{Map, sound};
 use std::alloc::Global;
 use std::slice;
 
@@ -47,7 +47,7 @@ fn opener_of(alloc: Global, routes: &mut Routes<'_>, key: Key) -> Result<Opener,
         key,
         matched,
         route,
-        extent: Extent::new(alloc, location)?,
+        covered: CoveredRoad::new(alloc, location)?,
         gap: 0,
         members: 1,
     })

@@ -11,9 +11,9 @@ ghost use Rattle.olr_places.specs.declared.limits.PlaceLimits.{PlaceLimits};
 
 use crate::opener::Opener;
 use crate::places::Places;
-use olr_map::Map;
-use olr_metric::NoMemory;
+use olr_base::NoMemory;
 use olr_report::{OnMap, ShownMatching, next_cursor};
+use olr_road::Map;
 use olr_text::{ToJson, send_object, to_json_line};
 use serde::Serializer;
 use std::alloc::Global;
@@ -27,7 +27,7 @@ impl ToJson<OnMap<'_>> for Opener {
             key: &self.key,
             matched: &self.matched,
             route: &self.route,
-            location: self.extent.location(),
+            location: self.covered.location(),
         };
         send_object!(on, out, {
             "gap": self.gap,

@@ -1,12 +1,12 @@
 //! How matchings are told apart, and how far they are looked at.
 
-ghost use Rattle.std.specs.Prelude.{◌≡◌, ◌≤◌, IfErr, IfOk};
-ghost use Rattle.olr_places.specs.declared.limits.Number.TheVariants.{Apart, Look, Most, Within};
+ghost use Rattle.std.specs.Prelude.{◌≡◌, IfErr, IfOk};
+ghost use Rattle.olr_places.specs.declared.limits.PlaceLimit.TheVariants.{Apart, Look, Most, Within};
 ghost use Rattle.olr_places.specs.Limits.{IsFirstOutOfRange, IsInRange, by_name};
 
 /// The name of a number.
 #[derive(Clone, Copy, Debug, PartialEq, Eq)]
-pub enum Number {
+pub enum PlaceLimit {
     /// By how many neighbouring decimetres matchings of one place may differ.
     Apart,
     /// The greatest gap with which a place is listed.
@@ -19,7 +19,7 @@ pub enum Number {
 
 /// A number is out of its range.
 #[derive(Clone, Copy, Debug, PartialEq, Eq)]
-pub struct BadNumber(pub Number);
+pub struct BadNumber(pub PlaceLimit);
 
 /// How matchings are told apart, and how far they are looked at.
 #[derive(Clone, Copy, Debug, PartialEq, Eq)]
@@ -71,16 +71,16 @@ impl PlaceLimits {
             IsFirstOutOfRange (by_name apart within look most) bad.0) }
     {
         if apart > 1_000_000 {
-            return Err(BadNumber(Number::Apart));
+            return Err(BadNumber(PlaceLimit::Apart));
         }
         if within > 14_620 {
-            return Err(BadNumber(Number::Within));
+            return Err(BadNumber(PlaceLimit::Within));
         }
         if look < 1 || look > 1_000_000 {
-            return Err(BadNumber(Number::Look));
+            return Err(BadNumber(PlaceLimit::Look));
         }
         if most < 1 || most > 100 {
-            return Err(BadNumber(Number::Most));
+            return Err(BadNumber(PlaceLimit::Most));
         }
         Ok(PlaceLimits {
             apart,

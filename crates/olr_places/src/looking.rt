@@ -1,7 +1,7 @@
 //! Looking at matchings, one after the other: which of them open a place, and where this ends.
 
 ghost use Rattle.std.specs.Prelude.{◌≡◌, ◌+◌, ◌-◌, ◌^◌, ◌<◌, All, IfNone, IfOk, OnOk, Some, [], length};
-ghost use Rattle.olr_map.specs.RoadMap.{RoadMap};
+ghost use Rattle.olr_road.specs.RoadMap.{RoadMap};
 ghost use Rattle.olr_matching.specs.Layers.{LayersValue};
 ghost use Rattle.olr_places.specs.Places.{IsOpenerAt};
 ghost use Rattle.olr_places.specs.Steps.{LooksAt, Stands, gap_behind, margin_in, one_more_at, places_in, with_gap};
@@ -11,8 +11,8 @@ use crate::ending::Ending;
 use crate::limits::PlaceLimits;
 use crate::opener::{Opener, copy_of, place_of};
 use crate::places::Places;
+use olr_base::NoMemory;
 use olr_keys::Key;
-use olr_metric::NoMemory;
 use std::alloc::Global;
 
 /// What is kept of the matchings that were looked at so far.

@@ -4,7 +4,7 @@ ghost use Rattle.std.specs.Prelude.{◌≡◌, ◌+◌, ◌-◌, ◌^◌, ◌++�
 ghost use Rattle.std.specs.Prelude.{MatchOption, false, if◌then◌else◌, nat_le};
 ghost use Rattle.std.specs.List.Sorted.{IsNonDecreasingBy};
 ghost use Rattle.olr_report.specs.Steps.{Step, steps_in};
-ghost use Rattle.olr_places.specs.Extents.{IsCoverOf};
+ghost use Rattle.olr_places.specs.CoveredRoads.{IsCoverOf};
 ghost use Rattle.olr_places.specs.Missing.{AreCovered, covers, longest_run, missing_of};
 ghost use Rattle.olr_route.specs.declared.piece.Piece.{Piece};
 
@@ -24,7 +24,7 @@ fn run_after(before: u64, stretch: Stretch, at: u32) -> u64
 }
 
 /// How many steps at the end of a piece are missing, with those before it where all of its own
-/// are. None where as many neighbouring ones are missing that they are more than `most`.
+/// are. `None` once a run exceeds `most`.
 fn run_behind(cover: &Cover, piece: &Piece, before: u64, most: u32) -> Option<u64>
     requires rises { IsNonDecreasingBy (λ (piece : Piece). piece.line) cover.now.pieces.items }
     requires at_most { before ≤ most }

@@ -4,11 +4,11 @@ ghost use Rattle.std.specs.Prelude.{◌≡◌, ◌<◌, IfOk, IfSome, MatchOptio
 ghost use Rattle.olr_places.specs.Looking.{belongs, place_of};
 ghost use Rattle.olr_places.specs.Places.{entry_of};
 
-use crate::extent::Extent;
+use crate::covered_road::CoveredRoad;
 use crate::limits::PlaceLimits;
+use olr_base::NoMemory;
 use olr_keys::Key;
 use olr_matching::Matched;
-use olr_metric::NoMemory;
 use olr_route::Piece;
 
 /// A matching that opened a place.
@@ -21,7 +21,7 @@ pub struct Opener {
     /// The joined route of its legs.
     pub route: Vec<Piece>,
     /// Its location, with the stretch of road that it covers.
-    pub extent: Extent,
+    pub covered: CoveredRoad,
     /// Its total less that of the first matching, in penalty points.
     pub gap: u32,
     /// How many of the matchings that were looked at belong to its place, itself too.
@@ -45,7 +45,7 @@ pub(crate) fn place_of(openers: &[Opener], opener: &Opener, limits: &PlaceLimits
         × (place_of limits.now (map entry_of openers.now) (entry_of opener.now) ≡ index)) }
 {
     for (index, one) in openers.iter().enumerate() {
-        if opener.extent.is_close(&one.extent, limits.apart) {
+        if opener.covered.is_close(&one.covered, limits.apart) {
             return Some(index);
         }
     }

@@ -3,7 +3,7 @@
 ghost use Rattle.std.specs.Prelude.{◌≡◌, ◌++◌, ◌+◌, All, IfOk, OnOk, string_bytes};
 ghost use Rattle.olr_places.specs.Looking.{Looked};
 ghost use Rattle.olr_places.specs.Places.{AreOnMap, ArePlacesOf, entry_of, openers_rows};
-ghost use Rattle.olr_places.specs.Text.{extent_rows, head_row, place_rows, places_text, summary_rows};
+ghost use Rattle.olr_places.specs.Text.{covered_rows, head_row, place_rows, places_text, summary_rows};
 ghost use Rattle.olr_places.specs.declared.limits.PlaceLimits.{PlaceLimits};
 ghost use Rattle.olr_report.specs.Entries.{HasLocation, IsOnMap};
 ghost use Rattle.olr_report.specs.Location.{located_value};
@@ -11,19 +11,19 @@ ghost use Rattle.olr_report.specs.Location.{located_value};
 use crate::ending::Verdict;
 use crate::opener::Opener;
 use crate::places::Places;
+use olr_base::NoMemory;
 use olr_keys::Cursor;
-use olr_map::Map;
-use olr_metric::NoMemory;
 use olr_report::{Located, push_end, push_part, push_place};
+use olr_road::Map;
 use olr_text::Decimal;
 use std::alloc::Global;
 use std::fmt::Write;
 
 /// Adds the rows of the stretch of road that a matching covers.
-fn push_extent(text: &mut String, map: &Map, location: &Located) -> Result<(), NoMemory>
+fn push_covered(text: &mut String, map: &Map, location: &Located) -> Result<(), NoMemory>
     requires { HasLocation map.now (located_value location.now) }
     ensures { OnOk result (string_bytes text.new
-        ≡ string_bytes text.old ++ extent_rows map.now (located_value location.now)) }
+        ≡ string_bytes text.old ++ covered_rows map.now (located_value location.now)) }
 {
     match location {
         Located::Line { outer, .. } => {
@@ -59,7 +59,7 @@ fn push_opener(text: &mut String, map: &Map, number: usize, opener: &Opener) -> 
         ++ place_rows map.now number opener.now.gap opener.now.members (entry_of opener.now)) }
 {
     push_head(text, number, opener)?;
-    push_extent(text, map, &opener.extent.located)?;
+    push_covered(text, map, &opener.covered.located)?;
     Ok(())
 }
 
@@ -105,6 +105,7 @@ fn push_summary(
 /// # Errors
 ///
 /// [`NoMemory`] where the allocator refused memory.
+#[tactic(auto, using(crate::proofs::Outputs::text_is))]
 pub fn places_text(alloc: Global, map: &Map, places: &Places) -> Result<String, NoMemory>
     requires { AreOnMap map.now places.now }
     ensures { IfOk result (λ text. (limits : PlaceLimits) (looked : Looked)

@@ -1,6 +1,5 @@
 -- A text in front of a byte is the same one, however it is taken apart there.
-use Rattle.std.proofs.Common.{◌≡◌, ◌≢◌, ℕ, suc, ◌<◌, List, [], ◌∷◌, ◌++◌, length, refl, ap, arith}
-use Rattle.std.specs.Prelude.{slice_index}
+use Rattle.olr_records.proofs.Common.{◌≡◌, ◌≢◌, ℕ, suc, ◌<◌, List, [], ◌∷◌, ◌++◌, length, refl, ap, arith, slice_index}
 use Rattle.std.proofs.lemmas.List.Elements.{All-append, All-cons, All-contains, All-from_get_or, Contains-append_right}
 
 -- a byte doesn't occur in a text

@@ -1,15 +1,8 @@
 -- The digits of a number, one after the other.
-use Rattle.std.proofs.Common.{◌≡◌, ℕ, ◌+◌, ◌-◌, ◌*◌, ◌^◌, ◌<◌, ◌≤◌, List, ◌++◌, length, take, drop, get_or, sym, ap, ◌∙◌, subst, inl, inr, Option, Some, None, arith}
+use Rattle.olr_records.proofs.Common.{◌≡◌, ℕ, ◌+◌, ◌-◌, ◌*◌, ◌^◌, ◌<◌, ◌≤◌, List, ◌++◌, length, take, drop, get_or, sym, ap, ◌∙◌, subst, inl, inr, Option, Some, None, arith, digits_value, AllDigits, length-take-le, length-append, length-drop, digit_at, digits_value_short, numerals_by_value, tells_digits, digits_value_more, get_or-append, IsNumber, IsSeparator, behind, Begins}
 use Rattle.std.specs.Char.{IsAsciiDigit, IsNotAsciiDigit}
-use Rattle.std.specs.Str.Parse.{digits_value, AllDigits}
-use Rattle.std.proofs.lemmas.List.{length-take-le, length-append, length-drop}
 use Rattle.std.proofs.lemmas.Str.{digit_value_digit}
-use Rattle.std.proofs.lemmas.Str.Parse.{digit_at, digits_value_short, numerals_by_value, tells_digits}
-use Rattle.std.proofs.lemmas.Int.Digits.{digits_value_more}
-use Rattle.std.proofs.Math.ListN.{get_or-append}
 use Rattle.std.proofs.Math.Seq.{get_or-take, get_or-append-add, drop-append_seam, take-length}
-use Rattle.olr_records.specs.Fields.{IsNumber}
-use Rattle.olr_records.specs.Front.{IsSeparator, behind, Begins}
 
 -- k digits at most spell less than 10^k
 pub small : (text : List ℕ) (i k : ℕ) → i ≤ length text → i ≤ k → AllDigits 10 (take i text)

@@ -1,9 +1,5 @@
 -- The items of a shape, each spelled in one way.
-use Rattle.std.proofs.Common.{◌≡◌, ℕ, ℤ, List, [], ◌∷◌, ◌++◌, Option, Some, None, refl, sym, ap, ◌∙◌, inl, inr, append_assoc, arith}
-use Rattle.olr_metric.specs.Coordinates.{Coordinates}
-use Rattle.olr_records.specs.Fields.{IsSignedNumber, SpellsLongitude, SpellsLatitude}
-use Rattle.olr_records.specs.Front.{behind, Begins}
-use Rattle.olr_records.specs.Shape.{IsItem, AreItems}
+use Rattle.olr_records.proofs.Common.{◌≡◌, ℕ, ℤ, List, [], ◌∷◌, ◌++◌, Option, Some, None, refl, sym, ap, ◌∙◌, inl, inr, append_assoc, arith, Coordinates, IsSignedNumber, SpellsLongitude, SpellsLatitude, behind, Begins, IsItem, AreItems}
 use Rattle.olr_records.proofs.Cuts.{Avoids, behind_first, one_way, not_avoided, avoids_parts}
 use Rattle.olr_records.proofs.Signs.{signed_avoids, begins_once, whole_begins}
 

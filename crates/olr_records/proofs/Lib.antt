@@ -1,3 +1,4 @@
+mod Common
 pub mod RecordSteps
 pub mod ReaderSteps
 pub mod Digits

@@ -1,11 +1,7 @@
 -- What one read of a record leaves of the records of a reader over the bytes of a text.
-use Rattle.std.proofs.Common.{◌≡◌, ℕ, ◌+◌, Bool, true, false, cond, List, [], ◌∷◌, length, Some, None, refl, sym, ap, ◌∙◌, arith, inl, inr, add-one}
-use Rattle.std.specs.Prelude.{Option, MatchBool, not}
+use Rattle.olr_records.proofs.Common.{◌≡◌, ℕ, ◌+◌, Bool, true, false, cond, List, [], ◌∷◌, length, Some, None, refl, sym, ap, ◌∙◌, arith, inl, inr, add-one, Option, MatchBool, not, Read, next_record, ends_at_end, default_config, records_from, records_next, strip_bom, NextIs, ReadRecord, Ready, source_of, pending_of, has_failed, is_flexible, took_first, reader_state, State}
 use Rattle.std.proofs.lemmas.Bool.{cases_Bool}
 use denote.Ref.{Bor}
-use Rattle.csv.specs.Machine.{Read, next_record, ends_at_end}
-use Rattle.csv.specs.Reading.{default_config, records_from, records_next, strip_bom, NextIs, ReadRecord, Ready, source_of, pending_of, has_failed, is_flexible, took_first, reader_state}
-use Rattle.csv.specs.declared.parser.State.{State}
 use Rattle.csv.specs.declared.parser.State.TheVariants as st
 use Rattle.csv.specs.declared.reader.Reader.{Reader}
 use Rattle.olr_records.specs.Records.{known, records_of, records_in, records_left, records_until, IsPlain}

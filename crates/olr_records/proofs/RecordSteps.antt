@@ -1,9 +1,5 @@
 -- Reading the records of a text one after the other, by the machine that `csv` states.
-use Rattle.std.proofs.Common.{◌≡◌, ℕ, zero, suc, ◌<◌, Bool, true, false, cond, List, [], ◌∷◌, length, Some, None, refl, ap, inl, inr, ◌⊎◌, arith}
-use Rattle.std.specs.Prelude.{Option}
-use Rattle.csv.specs.Machine.{Read, step, next_record, is_end, ends_at_end}
-use Rattle.csv.specs.Reading.{default_config, records_from, records_next}
-use Rattle.csv.specs.declared.parser.State.{State}
+use Rattle.olr_records.proofs.Common.{◌≡◌, ℕ, zero, suc, ◌<◌, Bool, true, false, cond, List, [], ◌∷◌, length, Some, None, refl, ap, inl, inr, ◌⊎◌, arith, Option, Read, step, next_record, is_end, ends_at_end, default_config, records_from, records_next, State}
 use Rattle.csv.specs.declared.parser.State.TheVariants as st
 
 -- after the end of a record no further record is at hand

@@ -1,13 +1,7 @@
 -- A number with a sign or without one, in front of a text.
-use Rattle.std.proofs.Common.{◌≡◌, ◌≢◌, ℕ, zero, suc, ◌^◌, ◌<◌, List, ◌∷◌, ◌++◌, get_or, Option, Some, None, Bor, option_map, refl, sym, inl, inr, ap, subst, ◌∙◌, append-nil, arith, ℤ, pos, ◌-ℤ◌, FitsSigned, to_z, of_z, w64}
-use Rattle.std.specs.Prelude.{neg_ℤ}
-use Rattle.std.specs.Str.Parse.{digits_value}
+use Rattle.olr_records.proofs.Common.{◌≡◌, ◌≢◌, ℕ, zero, suc, ◌^◌, ◌<◌, List, ◌∷◌, ◌++◌, get_or, Option, Some, None, Bor, option_map, refl, sym, inl, inr, ap, subst, ◌∙◌, append-nil, arith, ℤ, pos, ◌-ℤ◌, FitsSigned, to_z, of_z, w64, neg_ℤ, get_or-append, digit_at, IsNumber, IsSignedNumber, IsSeparator, behind, Begins}
 use Rattle.std.proofs.Math.IntN.{+ℤ_idl}
 use Rattle.std.proofs.Math.Facts.{to_z_pos, to_z-of_z}
-use Rattle.std.proofs.Math.ListN.{get_or-append}
-use Rattle.std.proofs.lemmas.Str.Parse.{digit_at}
-use Rattle.olr_records.specs.Fields.{IsNumber, IsSignedNumber}
-use Rattle.olr_records.specs.Front.{IsSeparator, behind, Begins}
 use Rattle.olr_records.proofs.Cuts.{Avoids, behind_first, one_way, not_avoided}
 
 -- ---- what is none

@@ -2,7 +2,7 @@
 -- (docs/SPECIFICATION.md, "The files of a map").
 use Rattle.std.specs.Prelude.{◌≡◌, ℕ, ◌≤◌, List, ◌∷◌, length, ℤ, pos, neg_ℤ, ◌⊎◌}
 use Rattle.std.specs.Str.Parse.{IsNumeral, digits_value}
-use Rattle.olr_metric.specs.Range.{IsLongitude, IsLatitude}
+use Rattle.olr_base.specs.Range.{IsLongitude, IsLatitude}
 
 -- a number: 1 to 16 decimal digits and nothing else; zeros may lead
 pub record IsNumber (text : List ℕ) (n : ℕ) : Type 0 where

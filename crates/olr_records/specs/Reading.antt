@@ -2,7 +2,7 @@
 -- failures.
 use Rattle.std.specs.Prelude.{◌≡◌, ℕ, List, Option}
 use Rattle.std.specs.Io.KnownBytes.{Consumes, IsAtEnd}
-use Rattle.olr_metric.specs.Counting.{one_more}
+use Rattle.olr_base.specs.Counting.{one_more}
 use Rattle.olr_records.specs.declared.reading.ReadFault.{ReadFault}
 use Rattle.olr_records.specs.declared.reading.ReadFault.TheVariants.{Failed, NoMemory}
 

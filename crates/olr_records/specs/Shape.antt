@@ -1,6 +1,6 @@
 -- The shape of a line: the places between its ends.
 use Rattle.std.specs.Prelude.{◌≡◌, ℕ, ◌≤◌, List, [], ◌∷◌, ◌++◌, length, ◌⊎◌}
-use Rattle.olr_metric.specs.Coordinates.{Coordinates}
+use Rattle.olr_base.specs.Coordinates.{Coordinates}
 use Rattle.olr_records.specs.Fields.{SpellsLongitude, SpellsLatitude}
 
 -- an item: a longitude, one space, a latitude

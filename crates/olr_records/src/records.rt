@@ -8,7 +8,7 @@ ghost use Rattle.std.specs.Prelude.{IfOk, OnErr, MatchBool};
 ghost use Rattle.olr_records.specs.Records.{field_at, records_of};
 
 use csv::{ByteRecord, Reader, ReaderBuilder};
-use olr_metric::NoMemory;
+use olr_base::NoMemory;
 use std::alloc::Global;
 use std::marker::Model;
 

@@ -1,12 +1,12 @@
 //! The shape of a line: the places between its ends, as a field spells them.
 
 ghost use Rattle.std.specs.Prelude.{◌≡◌, ℕ, List, [], Option, IfOk, MatchBool, MatchOption, map, option_map};
-ghost use Rattle.olr_metric.specs.Coordinates.{Coordinates, coordinates_of};
+ghost use Rattle.olr_base.specs.Coordinates.{Coordinates, coordinates_of};
 ghost use Rattle.olr_records.specs.Front.{Begins};
 ghost use Rattle.olr_records.specs.Shape.{IsItem, AreFewItems, IsShape};
 
 use crate::front::{latitude_before, longitude_before};
-use olr_metric::{Degrees, NoMemory};
+use olr_base::{Degrees, NoMemory};
 
 /// The most items of a shape.
 const ITEMS: u32 = 64;

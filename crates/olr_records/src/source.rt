@@ -3,10 +3,10 @@
 ghost use Rattle.std.specs.Prelude.{◌≡◌, ℕ, List, Option};
 ghost use Rattle.std.specs.Io.{ReadsAtMost};
 ghost use Rattle.std.specs.Io.KnownBytes.{ReadConsumes};
-ghost use Rattle.olr_metric.specs.Counting.{Counts};
+ghost use Rattle.olr_base.specs.Counting.{Counts};
 ghost use Rattle.olr_records.specs.In.{reader_of, failures_of};
 
-use olr_metric::Failed;
+use olr_base::Failed;
 use std::io::Read;
 
 /// A device that gives bytes.

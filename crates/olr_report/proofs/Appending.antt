@@ -1,10 +1,7 @@
 -- A piece added to the end of joined pieces.
-use Rattle.std.proofs.Common.{◌≡◌, ℕ, ◌+◌, ◌-◌, ◌<◌, ◌≤◌, Some, List, [], ◌∷◌, ◌++◌, length, take, get_or, set, refl, sym, ◌∙◌, append_assoc, arith, flat_map}
 use Rattle.std.proofs.lemmas.List.{append-nil, flat_map_more, length-set, take_all, take_more, take_more_set}
 use Rattle.std.proofs.lemmas.List.Concat.{flat_map-append}
-use Rattle.std.proofs.lemmas.List.Elements.{All-nil, All-pop, All-push}
-use Rattle.olr_report.proofs.Common.{Piece, Step, steps_in, steps_of}
-use Rattle.olr_report.specs.Joined.{AreApart, IsJoined, IsNotEmpty, IsRouteOver, Touches}
+use Rattle.olr_report.proofs.Common.{Piece, Step, steps_in, steps_of, ◌≡◌, ℕ, ◌+◌, ◌-◌, ◌<◌, ◌≤◌, Some, List, [], ◌∷◌, ◌++◌, length, take, get_or, set, refl, sym, ◌∙◌, append_assoc, arith, flat_map, All-nil, All-pop, All-push, AreApart, IsJoined, IsNotEmpty, IsRouteOver, Touches}
 use Rattle.olr_report.proofs.StepLists.{touching_steps}
 
 -- ---- steps
@@ -151,10 +148,6 @@ first_piece (last ∷ route) more piece none more_is not_empty = absurd (omega a
 
 -- ---- pieces one after the other
 
-pub route_of_itself : (steps : List Step) (route : List Piece) → IsRouteOver steps route
-    → IsRouteOver (steps_of route) route
-route_of_itself steps route is = record { joined = is.joined; steps_are = refl }
-
 pub no_pieces : (route : List Piece) → route ≡ [] → IsRouteOver [] route
 no_pieces route none =
     rw none (record {
@@ -162,16 +155,6 @@ no_pieces route none =
       steps_are =
           refl;
     })
-
--- a route over steps, with more steps behind it
-pub steps_more : (before more after : List Step) (route new : List Piece) → IsRouteOver before route
-    → before ++ more ≡ after
-    → IsRouteOver (steps_of route ++ more) new
-    → IsRouteOver after new
-steps_more before more after route new is same longer = record {
-  joined = longer.joined;
-  steps_are = cc;
-}
 
 -- the steps of one element more of a list
 pub steps_taken : {X : Type 0} (steps : X → List Step) (before : List Step) (all : List X) (i : ℕ)

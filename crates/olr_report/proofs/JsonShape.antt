@@ -1,10 +1,5 @@
 -- The value of an entry nests three deep.
-use Rattle.std.proofs.Common.{◌≤◌, ℕ, List, arith, rules}
-use Rattle.olr_report.proofs.Common.{Entry, KeyValue, Matched, Piece, RoadMap}
-use Rattle.olr_report.specs.Json.{entry_object, matching_object}
-use Rattle.olr_report.specs.Location.{LocatedLine, LocatedPoint, LocatedValue}
-use Rattle.olr_text.specs.JsonValues.{NestsWithin}
-use Rattle.olr_text.proofs.Nesting.{items_nest, option_nests}
+use Rattle.olr_report.proofs.Common.{Entry, KeyValue, Matched, Piece, RoadMap, ◌≤◌, ℕ, List, arith, rules, entry_object, matching_object, LocatedLine, LocatedPoint, LocatedValue, NestsWithin, items_nest, option_nests}
 
 module _ (road : RoadMap) (most : ℕ) (enough : 3 ≤ most) where
   matching_nests : (key : KeyValue) (matched : Matched) (route : List Piece)

@@ -1,9 +1,6 @@
 -- The lengths of legs and of their joined route.
-use Rattle.std.proofs.Common.{◌≡◌, ℕ, ◌+◌, ◌*◌, ◌^◌, ◌<◌, ◌≤◌, List, [], ◌∷◌, ◌++◌, length, take, get_or, ap, length-append, arith, All, sum_by}
-use Rattle.std.proofs.lemmas.List.Elements.{All-get_or}
 use Rattle.olr_binary.specs.Reference.{IsReference}
-use Rattle.olr_report.proofs.Common.{IsJoinedRoute, Leg, Line, Piece, piece_length, PointAlong, Reference, steps_of, steps_of_legs}
-use Rattle.olr_report.specs.Location.{AreLegsOf, IsMeasured}
+use Rattle.olr_report.proofs.Common.{IsJoinedRoute, Leg, Line, Piece, piece_length, PointAlong, Reference, steps_of, steps_of_legs, ◌≡◌, ℕ, ◌+◌, ◌*◌, ◌^◌, ◌<◌, ◌≤◌, List, [], ◌∷◌, ◌++◌, length, take, get_or, ap, length-append, arith, All, sum_by, All-get_or, AreLegsOf, IsMeasured}
 use Rattle.olr_report.proofs.Appending.{steps_taken}
 use Rattle.olr_report.proofs.StepLists.{length-steps_of}
 

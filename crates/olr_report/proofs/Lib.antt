@@ -6,7 +6,6 @@ mod Parts
 mod PlacesOnSteps
 mod LegLengths
 mod Within
-mod SomeRoute
 mod SoundParts
 mod Lines
 mod Shown

@@ -1,12 +1,6 @@
 -- The lines of joined routes, trimmed parts and places are those of the pieces of the legs.
-use Rattle.std.proofs.Common.{◌≡◌, ℕ, zero, suc, ◌-◌, ◌<◌, List, [], ◌∷◌, ◌++◌, length, map, drop, slice_get, Option, Some, None, All, option_map, refl, subst, ap, ◌∙◌, arith, slice_range}
 use Rattle.std.specs.List.{range_with_len}
-use Rattle.std.proofs.lemmas.List.Elements.{All-nil, All-cons, All-head, All-tail, All-append, All-same, All-take, All-drop}
-use Rattle.std.proofs.lemmas.Option.{same_Some, none-some}
-use Rattle.olr_report.proofs.Common.{IsJoinedRoute, IsNotEmpty, IsRouteOver, Leg, Line, Piece, Place, PointAlong, Reference, RoadMap}
-use Rattle.olr_report.specs.Entries.{HasLine, HasPieces, HasPart, HasLocation}
-use Rattle.olr_report.specs.Location.{IsLocation, IsPartBetween, LocatedLine, LocatedPoint, LocatedValue}
-use Rattle.olr_report.specs.Steps.{Step, steps_in, steps_of, steps_of_legs, start_of, end_of, place_at}
+use Rattle.olr_report.proofs.Common.{IsJoinedRoute, IsNotEmpty, IsRouteOver, Leg, Line, Piece, Place, PointAlong, Reference, RoadMap, ◌≡◌, ℕ, zero, suc, ◌-◌, ◌<◌, List, [], ◌∷◌, ◌++◌, length, map, drop, slice_get, Option, Some, None, All, option_map, refl, subst, ap, ◌∙◌, arith, slice_range, All-nil, All-cons, All-head, All-tail, All-append, All-same, All-take, All-drop, same_Some, none-some, HasLine, HasPieces, HasPart, HasLocation, IsLocation, IsPartBetween, LocatedLine, LocatedPoint, LocatedValue, Step, steps_in, steps_of, steps_of_legs, start_of, end_of, place_at}
 
 module _ (road : RoadMap) where
   abbrev IsStepOn : Step → Type 0

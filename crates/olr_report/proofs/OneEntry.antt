@@ -1,15 +1,9 @@
 -- A key has one entry at most: its parts are one value, and the joined route of its legs and the
 -- location of a reference on it are determined by the legs.
-use Rattle.std.proofs.Common.{◌≡◌, ℕ, List, [], ◌∷◌, map, Option, Some, None, refl, sym, ap, ◌∙◌, All, arith}
-use Rattle.std.proofs.lemmas.List.Elements.{All-head, All-tail}
-use Rattle.olr_map.specs.RoadMap.{IsSoundMap}
+use Rattle.olr_road.specs.RoadMap.{IsSoundMap}
 use Rattle.olr_matching.specs.Layers.{LayersValue}
-use Rattle.olr_matching.specs.Matched.{OneMatched}
-use Rattle.olr_report.proofs.Common.{Entry, IsEntryOf, IsRouteOver, Leg, Line, Piece, Place, PointAlong, Reference, RoadMap, Step, steps_of_legs}
-use Rattle.olr_report.specs.Entries.{IsEntryAt, keys_of}
+use Rattle.olr_report.proofs.Common.{Entry, IsEntryOf, IsRouteOver, Leg, Line, Piece, Place, PointAlong, Reference, RoadMap, Step, steps_of_legs, ◌≡◌, ℕ, List, [], ◌∷◌, map, Option, Some, None, refl, sym, ap, ◌∙◌, All, arith, All-head, All-tail, OneMatched, IsEntryAt, keys_of, IsJoinedRoute, IsLocation, IsPartBetween, LocatedLine, LocatedPoint, LocatedValue}
 use Rattle.olr_report.specs.EntryLaws.{OneEntries, OneEntry, OneOfParts}
-use Rattle.olr_report.specs.Joined.{IsJoinedRoute}
-use Rattle.olr_report.specs.Location.{IsLocation, IsPartBetween, LocatedLine, LocatedPoint, LocatedValue}
 
 abbrev OneRoute : Type 0
 OneRoute = (steps : List Step) (a b : List Piece) → IsRouteOver steps a → IsRouteOver steps b

@@ -1,10 +1,6 @@
 -- There is at most one list of joined pieces that has the same steps.
-use Rattle.std.proofs.Common.{◌≡◌, ℕ, zero, suc, ◌+◌, ◌<◌, Some, List, [], ◌∷◌, ◌++◌, length, inl, inr, refl, sym, ap, ◌∙◌, subst, add-zero, arith, slice_get}
 use Rattle.std.proofs.lemmas.Bool.{cases_lt}
-use Rattle.std.proofs.lemmas.List.{append_cancel_left}
-use Rattle.std.proofs.lemmas.List.Elements.{All-head, All-tail}
-use Rattle.std.proofs.lemmas.Option.{none-some, same_Some}
-use Rattle.olr_report.proofs.Common.{AreApart, IsJoined, IsNotEmpty, IsRouteOver, Piece, piece_length, Step, steps_in, steps_of}
+use Rattle.olr_report.proofs.Common.{AreApart, IsJoined, IsNotEmpty, IsRouteOver, Piece, piece_length, Step, steps_in, steps_of, ◌≡◌, ℕ, zero, suc, ◌+◌, ◌<◌, Some, List, [], ◌∷◌, ◌++◌, length, inl, inr, refl, sym, ap, ◌∙◌, subst, add-zero, arith, slice_get, append_cancel_left, All-head, All-tail, none-some, same_Some}
 use Rattle.olr_report.proofs.StepLists.{stretch, length-steps_in}
 
 -- ---- the step at an index

@@ -1,8 +1,6 @@
 -- The entries of the first keys of a page, one more after the other.
-use Rattle.std.proofs.Common.{◌≡◌, ℕ, ◌+◌, ◌<◌, ◌≤◌, List, [], ◌∷◌, ◌++◌, length, map, take, get_or, sym, ap, ◌∙◌}
 use Rattle.std.proofs.lemmas.List.{map_push, take_all, take_more}
-use Rattle.std.proofs.lemmas.List.Elements.{All-same, All-push}
-use Rattle.olr_report.proofs.Common.{AreEntriesOf, Entry, entry_of, IsEntryOf, KeyValue, Matched, Reference}
+use Rattle.olr_report.proofs.Common.{AreEntriesOf, Entry, entry_of, IsEntryOf, KeyValue, Matched, Reference, ◌≡◌, ℕ, ◌+◌, ◌<◌, ◌≤◌, List, [], ◌∷◌, ◌++◌, length, map, take, get_or, sym, ap, ◌∙◌, All-same, All-push}
 use Rattle.olr_report.specs.declared.page_entries.Entry.{Entry as Returned}
 
 -- what each entry has, where that of the first ones is the beginning of a list

@@ -1,7 +1,5 @@
 -- A part of a route, while its pieces are gone through.
-use Rattle.std.proofs.Common.{◌≡◌, ℕ, ◌+◌, ◌-◌, ◌<◌, ◌≤◌, List, [], ◌++◌, length, take, drop, get_or, ap, append_assoc, arith}
-use Rattle.std.proofs.lemmas.List.{append-nil, drop_all, drop_more, length-drop, length-take, nil_from_length}
-use Rattle.olr_report.proofs.Common.{IsJoined, IsRouteOver, Piece, piece_length, Step, steps_in, steps_of}
+use Rattle.olr_report.proofs.Common.{IsJoined, IsRouteOver, Piece, piece_length, Step, steps_in, steps_of, ◌≡◌, ℕ, ◌+◌, ◌-◌, ◌<◌, ◌≤◌, List, [], ◌++◌, length, take, drop, get_or, ap, append_assoc, arith, append-nil, drop_all, drop_more, length-drop, length-take, nil_from_length}
 use Rattle.olr_report.proofs.StepLists.{length-steps_in, part-append}
 
 -- The joined pieces, and then the part of the rest behind its first `skip` decimetres, at most

@@ -1,8 +1,6 @@
 -- Texts of pieces: joined by one space.
 use Rattle.std.proofs.Common.{◌≡◌, ℕ, ◌+◌, ◌<◌, List, [], ◌∷◌, ◌++◌, length, get_or, drop, codes, refl, sym, ap, ◌∙◌, append_assoc, append-nil}
-use Rattle.std.proofs.lemmas.List.{drop_more}
-use Rattle.olr_report.proofs.Common.{Piece, RoadMap}
-use Rattle.olr_report.specs.TextRows.{piece_text, pieces_text}
+use Rattle.olr_report.proofs.Common.{Piece, RoadMap, drop_more, piece_text, pieces_text}
 
 -- the text of pieces, of which the first has a separator before it
 abbrev pub pieces_after : RoadMap → List ℕ → List Piece → List ℕ

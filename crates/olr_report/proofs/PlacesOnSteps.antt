@@ -1,10 +1,5 @@
 -- The place at a distance along pieces, while they are gone through.
-use Rattle.std.proofs.Common.{◌≡◌, ℕ, zero, suc, ◌+◌, ◌-◌, ◌<◌, ◌≤◌, Option, Some, List, ◌++◌, length, drop, get_or, ap, ◌∙◌, arith, All, option_map, sum_by}
-use Rattle.std.proofs.lemmas.List.{drop_all, drop_more}
-use Rattle.std.proofs.lemmas.List.Elements.{All-get_or}
-use Rattle.std.proofs.lemmas.List.Sums.{sum_by-drop_more}
-use Rattle.olr_report.proofs.Common.{IsNotEmpty, Piece, piece_length, Place}
-use Rattle.olr_report.specs.Steps.{Step, end_of, place_at, steps_in, steps_of}
+use Rattle.olr_report.proofs.Common.{IsNotEmpty, Piece, piece_length, Place, ◌≡◌, ℕ, zero, suc, ◌+◌, ◌-◌, ◌<◌, ◌≤◌, Option, Some, List, ◌++◌, length, drop, get_or, ap, ◌∙◌, arith, All, option_map, sum_by, drop_all, drop_more, All-get_or, sum_by-drop_more, Step, end_of, place_at, steps_in, steps_of}
 use Rattle.olr_report.proofs.OneRoute.{step_behind, step_inside}
 
 -- ---- one piece and the steps behind it

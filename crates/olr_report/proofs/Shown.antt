@@ -1,8 +1,5 @@
 -- The entries of a page lie on the map.
-use Rattle.std.proofs.Common.{List, [], ◌∷◌, map, All}
-use Rattle.std.proofs.lemmas.List.Elements.{All-nil, All-cons, All-head, All-tail, All-same}
-use Rattle.olr_report.proofs.Common.{KeyValue, Matched, Reference, RoadMap}
-use Rattle.olr_report.specs.Entries.{Entry, entry_of, IsEntryOf, AreEntriesOf, IsOnMap, HasMatched, CanBeShown}
+use Rattle.olr_report.proofs.Common.{KeyValue, Matched, Reference, RoadMap, List, [], ◌∷◌, map, All, All-nil, All-cons, All-head, All-tail, All-same, Entry, entry_of, IsEntryOf, AreEntriesOf, IsOnMap, HasMatched, CanBeShown}
 use Rattle.olr_report.specs.declared.page_entries.Entry.{Entry as Returned}
 use Rattle.olr_report.proofs.Lines.{route_of, location_of}
 

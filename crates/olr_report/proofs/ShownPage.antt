@@ -1,13 +1,7 @@
 -- The values that are written of a matching and of a page are their objects.
-use Rattle.std.proofs.Common.{◌≡◌, ℕ, Bor, List, [], ◌∷◌, map, Option, None, Some, option_map, codes, refl, ap, ◌∙◌}
-use Rattle.std.specs.Global.{Vec}
 use Rattle.arrayvec.specs.ArrayString.{ArrayString}
-use Rattle.serde_json.specs.Data.{Data, Members, member, no_members, object, string}
-use Rattle.olr_text.specs.JsonValues.{array_of, or_null, whole}
 use Rattle.olr_keys.specs.Cursor.{cursor_text}
-use Rattle.olr_report.proofs.Common.{entry_of, KeyValue, Leg, Located, Mark, Matched, Piece, RoadMap}
-use Rattle.olr_report.specs.Json.{candidate_object, entry_object, leg_object, located_members, matching_object, next_value, page_object, part_value, pieces_array}
-use Rattle.olr_report.specs.Location.{located_value, pieces_if_any}
+use Rattle.olr_report.proofs.Common.{entry_of, KeyValue, Leg, Located, Mark, Matched, Piece, RoadMap, ◌≡◌, ℕ, Bor, List, [], ◌∷◌, map, Option, None, Some, option_map, codes, refl, ap, ◌∙◌, Vec, Data, Members, member, no_members, object, string, array_of, or_null, whole, candidate_object, entry_object, leg_object, located_members, matching_object, next_value, page_object, part_value, pieces_array, located_value, pieces_if_any}
 use Rattle.olr_report.specs.declared.locating.Located.TheVariants.{Line, Point}
 use Rattle.olr_report.specs.declared.page_entries.Entry.{Entry}
 

@@ -1,12 +1,6 @@
 -- What holds of the parts of every matching: its legs are those between the points of the
 -- reference.
-use Rattle.std.proofs.Common.{arith, All}
-use Rattle.std.proofs.lemmas.List.Elements.{All-weaker}
-use Rattle.olr_report.proofs.Common.{Leg, Matched, Reference, RoadMap}
-use Rattle.olr_matching.specs.Matched.{IsSoundLeg, IsSoundMatched}
-use Rattle.olr_route.specs.Route.{IsPieceOn}
-use Rattle.olr_report.specs.Joined.{IsForwards}
-use Rattle.olr_report.specs.Location.{AreLegsOf, IsMeasured}
+use Rattle.olr_report.proofs.Common.{Leg, Matched, Reference, RoadMap, arith, All, All-weaker, IsSoundLeg, IsSoundMatched, IsPieceOn, IsForwards, AreLegsOf, IsMeasured}
 
 measured : (road : RoadMap) (leg : Leg) → IsSoundLeg road leg → IsMeasured leg
 measured road leg is = record {

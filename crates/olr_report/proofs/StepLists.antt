@@ -1,10 +1,7 @@
 -- Lists of steps: their lengths, and how they are cut and joined.
-use Rattle.std.proofs.Common.{◌≡◌, ℕ, zero, suc, ◌+◌, ◌-◌, ◌≤◌, min, List, [], ◌∷◌, ◌++◌, length, take, drop, map, refl, sym, ap, ◌∙◌, length-append, zero-add, add-zero, arith}
 use Rattle.std.specs.List.{range_with_len, sum_by}
-use Rattle.std.proofs.lemmas.List.{drop_at, drop_min, take_min, length-take}
 use Rattle.std.proofs.lemmas.List.FromFn.{length-map-range_with_len, take-map-range_with_len}
-use Rattle.std.proofs.lemmas.List.Sums.{sum_by-cons}
-use Rattle.olr_report.proofs.Common.{Piece, piece_length, Step, steps_in, steps_of}
+use Rattle.olr_report.proofs.Common.{Piece, piece_length, Step, steps_in, steps_of, ◌≡◌, ℕ, zero, suc, ◌+◌, ◌-◌, ◌≤◌, min, List, [], ◌∷◌, ◌++◌, length, take, drop, map, refl, sym, ap, ◌∙◌, length-append, zero-add, add-zero, arith, drop_at, drop_min, take_min, length-take, sum_by-cons}
 
 -- ---- any list
 

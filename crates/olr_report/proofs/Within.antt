@@ -1,8 +1,6 @@
 -- The inner part of a line lies within the outer one.
-use Rattle.std.proofs.Common.{◌≡◌, ℕ, ◌+◌, ◌-◌, ◌*◌, ◌≤◌, List, ◌++◌, length, take, drop, refl, sym, ap, ◌∙◌, append_assoc, arith, None, Option, Some, slice_range, drop-drop, take-add}
-use Rattle.olr_report.proofs.Common.{Piece, Step, steps_of, steps_of_legs}
+use Rattle.olr_report.proofs.Common.{Piece, Step, steps_of, steps_of_legs, ◌≡◌, ℕ, ◌+◌, ◌-◌, ◌*◌, ◌≤◌, List, ◌++◌, length, take, drop, refl, sym, ap, ◌∙◌, append_assoc, arith, None, Option, Some, slice_range, drop-drop, take-add, IsPartBetween, earliest_offset, first_length, last_length, latest_offset}
 use Rattle.olr_report.specs.PartLaws.{InnerLiesWithinOuter}
-use Rattle.olr_report.specs.Location.{IsPartBetween, earliest_offset, first_length, last_length, latest_offset}
 
 -- the earliest distance of an offset isn't behind its latest
 in_order : (share : Option ℕ) (length : ℕ)

@@ -4,8 +4,8 @@ pub use Rattle.olr_candidates.specs.declared.candidate.Candidate.{Candidate}
 pub use Rattle.olr_keys.specs.Key.{KeyValue}
 pub use Rattle.olr_keys.specs.Page.{PageValue}
 pub use Rattle.olr_keys.specs.declared.mark.Mark.{Mark}
-pub use Rattle.olr_map.specs.RoadMap.{RoadMap}
-pub use Rattle.olr_map.specs.declared.place.Place.{Place}
+pub use Rattle.olr_road.specs.RoadMap.{RoadMap}
+pub use Rattle.olr_road.specs.declared.place.Place.{Place}
 pub use Rattle.olr_matching.specs.declared.matched.Leg.{Leg}
 pub use Rattle.olr_matching.specs.declared.matched.Matched.{Matched}
 pub use Rattle.olr_route.specs.declared.piece.Piece.{Piece}

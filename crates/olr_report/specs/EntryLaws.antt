@@ -1,7 +1,7 @@
 -- Laws on the entries of matchings. Each is the contract of a public function that does nothing at
 -- run time.
 use Rattle.std.specs.Prelude.{◌≡◌, List}
-use Rattle.olr_map.specs.RoadMap.{IsSoundMap}
+use Rattle.olr_road.specs.RoadMap.{IsSoundMap}
 use Rattle.olr_matching.specs.Layers.{LayersValue}
 use Rattle.olr_matching.specs.Matched.{IsSoundMatched}
 use Rattle.olr_report.specs.Common.{KeyValue, Matched, Reference, RoadMap}

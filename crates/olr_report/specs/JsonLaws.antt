@@ -1,5 +1,5 @@
--- Two texts that are the JSON of one page; and what a reader finds in such a text, a law that is the
--- contract of a public function which does nothing at run time.
+-- Two texts that are the JSON of one page; and what a reader finds in such a text, a law that is
+-- the contract of a public function which does nothing at run time.
 use Rattle.std.specs.Prelude.{◌≡◌, ℕ, List, ◌++◌, Option, Some, codes}
 use Rattle.serde_json.specs.Data.{Data}
 use Rattle.serde_json.specs.Find.{get}

@@ -2,7 +2,6 @@
 -- that does nothing at run time.
 use Rattle.std.specs.Prelude.{◌≡◌, ℕ, List, ◌++◌, Option, Some}
 use Rattle.olr_report.specs.Common.{Leg, Piece}
-use Rattle.olr_report.specs.Joined.{IsRouteOver}
 use Rattle.olr_report.specs.Location.{IsLineLocation}
 use Rattle.olr_report.specs.Steps.{Step, steps_of}
 
@@ -14,8 +13,3 @@ InnerLiesWithinOuter = (legs : List Leg) (positive negative : Option ℕ)
     → IsLineLocation legs positive negative outer (Some inner)
     → (part : List Piece) × (before : List Step) × (behind : List Step) × (outer ≡ Some part)
     × (steps_of part ≡ before ++ steps_of inner ++ behind)
-
--- Each list of steps has joined pieces. So legs always have a joined route, and so has each part of
--- a route.
-abbrev pub SomeRouteOver : Type 0
-SomeRouteOver = (steps : List Step) → (pieces : List Piece) × IsRouteOver steps pieces

@@ -7,7 +7,7 @@ ghost use Rattle.olr_report.specs.Steps.{place_at, steps_of};
 ghost use Rattle.olr_route.specs.Walk.{piece_length};
 
 use crate::pieces::length_of;
-use olr_map::Place;
+use olr_road::Place;
 use olr_route::Piece;
 
 /// The place at a distance from the start of a piece, in decimetres.

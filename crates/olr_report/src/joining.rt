@@ -6,8 +6,8 @@ ghost use Rattle.olr_report.specs.Joined.{AreForwards, IsForwards, IsJoinedRoute
 ghost use Rattle.olr_report.specs.Steps.{steps_of};
 
 use crate::pieces::append;
+use olr_base::NoMemory;
 use olr_matching::Leg;
-use olr_metric::NoMemory;
 use olr_route::Piece;
 use std::alloc::Global;
 

@@ -11,10 +11,10 @@ use crate::along::place_on;
 use crate::joining::join;
 use crate::offsets::{earliest, latest};
 use crate::trimming::trim;
+use olr_base::NoMemory;
 use olr_binary::Reference;
-use olr_map::Place;
 use olr_matching::Leg;
-use olr_metric::NoMemory;
+use olr_road::Place;
 use olr_route::Piece;
 use std::alloc::Global;
 
@@ -38,6 +38,7 @@ pub enum Located {
 }
 
 /// The sum of the lengths of legs, in decimetres.
+#[tactic(auto, using(crate::proofs::LegLengths::total_more))]
 fn total_length(legs: &[Leg]) -> u64
     requires at_most { length legs.now < 32 }
     requires measured { All IsMeasured legs.now }

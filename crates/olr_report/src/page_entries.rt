@@ -2,16 +2,16 @@
 
 ghost use Rattle.std.specs.Prelude.{◌≡◌, length, map, All, IfOk};
 ghost use Rattle.olr_binary.specs.Reference.{IsReference};
-ghost use Rattle.olr_map.specs.RoadMap.{RoadMap};
+ghost use Rattle.olr_road.specs.RoadMap.{RoadMap};
 ghost use Rattle.olr_report.specs.Entries.{entry_of, HasMatched, IsEntryOf, IsOnMap, AreEntriesOf};
 ghost use Rattle.olr_report.specs.Location.{AreLegsOf};
 
 use crate::joining::join;
 use crate::locating::{Located, location_on};
+use olr_base::NoMemory;
 use olr_binary::Reference;
 use olr_keys::{Key, Page};
 use olr_matching::Matched;
-use olr_metric::NoMemory;
 use olr_route::Piece;
 use std::alloc::Global;
 

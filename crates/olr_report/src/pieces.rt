@@ -5,7 +5,7 @@ ghost use Rattle.olr_report.specs.Joined.{IsForwards, IsRouteOver, Touches};
 ghost use Rattle.olr_report.specs.Steps.{steps_in, steps_of};
 ghost use Rattle.olr_route.specs.Walk.{piece_length};
 
-use olr_metric::NoMemory;
+use olr_base::NoMemory;
 use olr_route::Piece;
 
 /// The length of a piece, in decimetres.

@@ -8,11 +8,11 @@ ghost use Rattle.olr_report.specs.Text.{IsPageText, next_after};
 
 use crate::page_entries::entries;
 use crate::text_rows::{push_end, push_entries};
+use olr_base::NoMemory;
 use olr_binary::Reference;
 use olr_keys::{Key, Mark, Page};
-use olr_map::Map;
 use olr_matching::Matched;
-use olr_metric::NoMemory;
+use olr_road::Map;
 use std::alloc::Global;
 
 /// The key after which the next page begins: the last one of the page, where more remain.

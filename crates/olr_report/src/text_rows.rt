@@ -13,11 +13,11 @@ ghost use Rattle.olr_report.specs.TextRows.{place_row, location_rows, entry_rows
 
 use crate::locating::Located;
 use crate::page_entries::Entry;
+use olr_base::NoMemory;
 use olr_candidates::Candidate;
 use olr_keys::{Cursor, Key, Mark};
-use olr_map::{Map, Place};
 use olr_matching::Leg;
-use olr_metric::NoMemory;
+use olr_road::{Map, Place};
 use olr_route::Piece;
 use olr_text::Decimal;
 use std::fmt::Write;

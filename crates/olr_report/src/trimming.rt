@@ -5,7 +5,7 @@ ghost use Rattle.olr_report.specs.Joined.{IsForwards, IsTrimmedPart};
 ghost use Rattle.olr_report.specs.Steps.{steps_in, steps_of};
 
 use crate::pieces::{append, length_of};
-use olr_metric::NoMemory;
+use olr_base::NoMemory;
 use olr_route::Piece;
 use std::alloc::Global;
 

@@ -1,11 +1,5 @@
 -- What an arrival at a node changes: the first one, and a later one.
-use Rattle.std.proofs.Common.{◌≡◌, ◌≢◌, ℕ, ◌+◌, ◌^◌, ◌<◌, ◌≤◌, ◌⊎◌, Bool, List, length, Option, Some, None, inl, inr, subst, ap, sym, ◌∙◌, refl, arith}
-use Rattle.std.specs.Prelude.{All, Contains, IsSome, nat_eq, option_map, slice_get, unwrap_or}
-use Rattle.std.specs.HashMap.{get}
-use Rattle.std.proofs.lemmas.Bool.{cases_eq}
-use Rattle.olr_route.proofs.Common.{RoadMap, origins_of, IsStepOf, line_ranks, items_in, EndsAt, StartsAt, Arrival, Search, Starts, State, AreNodes, AreVisited, banned_at, HasArrived, IsArrived, IsDone, own_reached, WaitsIn, node_length, table_in, IsAllowed, length_at}
-use Rattle.olr_route.specs.Dijkstra.{AreAheadReached, IsDoneAt, still_banned, steps_at}
-use Rattle.olr_route.specs.NodeLengths.{length_of}
+use Rattle.olr_route.proofs.Common.{RoadMap, origins_of, IsStepOf, line_ranks, items_in, EndsAt, StartsAt, Arrival, Search, Starts, State, AreNodes, AreVisited, banned_at, HasArrived, IsArrived, IsDone, own_reached, WaitsIn, node_length, table_in, IsAllowed, length_at, ◌≡◌, ◌≢◌, ℕ, ◌+◌, ◌^◌, ◌<◌, ◌≤◌, ◌⊎◌, Bool, List, length, Option, Some, None, inl, inr, ap, sym, ◌∙◌, refl, arith, All, Contains, IsSome, nat_eq, option_map, slice_get, unwrap_or, get, cases_eq, AreAheadReached, IsDoneAt, still_banned, steps_at, length_of}
 use Rattle.olr_route.specs.Starts.{start_length}
 use Rattle.olr_route.proofs.Relaxing.{total_at, worth}
 use Rattle.olr_route.proofs.Lines.{starts_there, turn_there}

@@ -1,11 +1,5 @@
 -- What a search tells of the lines that it was asked for, and of the places of a map.
-use Rattle.std.proofs.Common.{refl, ap, ◌≡◌, ℕ, ◌<◌, ◌≤◌, List, [], All, length, get_or, map, Option, Some, None, inl, inr, subst, arith}
-use Rattle.std.specs.Prelude.{Contains, IsSome, unwrap_or}
-use Rattle.std.proofs.lemmas.List.{get_or-map, length-map}
-use Rattle.std.proofs.lemmas.List.Elements.{All-map}
-use Rattle.std.proofs.lemmas.Option.{slice_get-get_or, slice_get_within}
-use Rattle.olr_route.proofs.Common.{IsDeparture, IsPlace, RoadMap, IsSoundMap, Place, Arrival, Search, AreAllReached, AreReachedFirst, HasEnded, IsArrived, AreLengthsOn, Lengths, IsAskedFor, IsLeastLength, IsLengthWithin, start_of}
-use Rattle.olr_route.specs.Reach.{length_to_start}
+use Rattle.olr_route.proofs.Common.{IsDeparture, IsPlace, RoadMap, IsSoundMap, Place, Arrival, Search, AreAllReached, AreReachedFirst, HasEnded, IsArrived, AreLengthsOn, Lengths, IsAskedFor, IsLeastLength, IsLengthWithin, start_of, refl, ◌≡◌, ℕ, ◌<◌, ◌≤◌, List, [], All, length, get_or, map, Option, Some, None, inl, inr, subst, arith, Contains, IsSome, unwrap_or, get_or-map, length-map, All-map, slice_get-get_or, slice_get_within, length_to_start}
 use Rattle.olr_route.proofs.Walks.{found, walks_known}
 
 -- what was reached still is

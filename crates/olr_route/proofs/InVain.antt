@@ -1,8 +1,6 @@
 -- Arrivals from which no line that is asked for can be reached within the limit.
-use Rattle.std.proofs.Common.{◌≡◌, ℕ, zero, suc, ◌+◌, ◌<◌, List, [], ◌∷◌, Option, Some, subst, refl, arith}
-use Rattle.std.specs.Prelude.{option_map, slice_get, slice_index}
-use Rattle.olr_map.specs.Goals.{AreGoalsOn, GoalLines, Joins}
-use Rattle.olr_route.proofs.Common.{RoadMap, RoadLine, Search, MayGoOn, EndsAt, IsAskedFor, walk_length, start_of, LeadTo}
+use Rattle.olr_road.specs.Goals.{AreGoalsOn, GoalLines, Joins}
+use Rattle.olr_route.proofs.Common.{RoadMap, RoadLine, Search, MayGoOn, EndsAt, IsAskedFor, walk_length, start_of, LeadTo, ◌≡◌, ℕ, zero, suc, ◌+◌, ◌<◌, List, [], ◌∷◌, Option, Some, subst, refl, arith, option_map, slice_get, slice_index}
 use Rattle.olr_route.proofs.Lines.{length_here, meets_there}
 use Rattle.olr_route.proofs.Walks.{behind_first, rest_last, rest_more}
 

@@ -1,14 +1,8 @@
 -- What holds of all walks, and of the pieces of a route.
-use Rattle.std.proofs.Common.{◌≡◌, ℕ, ◌<◌, ◌≤◌, List, [], ◌∷◌, ◌++◌, length, ap, sym, ◌∙◌, refl, arith, Some, subst}
-use Rattle.std.proofs.lemmas.Option.{slice_get_within}
-use Rattle.olr_route.proofs.Common.{IsPlace, IsDeparture, IsSoundMap, RoadMap, Place, Piece, length_at, walk_length, IsWalk, start_of, IsLeastLength, RoadLine}
-use Rattle.olr_route.specs.Walk.{AreTurns, last_line, pieces_from}
-use Rattle.olr_route.specs.Route.{id_at, ids_of, IsRoute, IsUpTo, IsRouteWithin, IsPieceOn, AreJoined, AreRoutePieces}
+use Rattle.olr_route.proofs.Common.{IsPlace, IsDeparture, IsSoundMap, RoadMap, Place, Piece, length_at, walk_length, IsWalk, start_of, IsLeastLength, RoadLine, ◌≡◌, ℕ, ◌<◌, ◌≤◌, List, [], ◌∷◌, ◌++◌, length, ap, sym, ◌∙◌, refl, arith, Some, subst, slice_get_within, AreTurns, last_line, pieces_from, id_at, ids_of, IsRoute, IsUpTo, IsRouteWithin, IsPieceOn, AreJoined, AreRoutePieces, slice_get, All, All-nil, All-cons}
 use Rattle.olr_route.proofs.Lines.{length_here, long_before_turn}
 use Rattle.olr_route.proofs.TightPaths.{ids_rise}
 use Rattle.olr_route.proofs.Walks.{long_walk, rest_last, rest_more}
-use Rattle.std.specs.Prelude.{slice_get, All}
-use Rattle.std.proofs.lemmas.List.Elements.{All-nil, All-cons}
 
 -- ---- lengths
 
@@ -16,30 +10,6 @@ pub least_once : (road : RoadMap) (class : ℕ) (from to : Place) (a b : ℕ)
     → IsLeastLength road class from to a → IsLeastLength road class from to b → a ≡ b
 least_once road class from to a b is other =
     omega (arith, is.least other.behind other.is, other.least is.behind is.is)
-
-wider_walk : (road : RoadMap) (class wider : ℕ) (from to : Place) (behind : List ℕ) → class ≤ wider
-    → IsWalk road class from to behind → IsWalk road wider from to behind
-wider_walk road class wider from to behind more is = record {
-  on = record {
-    turns = is.on.turns;
-    ends = is.on.ends;
-    drivable = λ k d inside positive.
-        let clear = is.on.drivable k d inside positive in
-        record { line = clear.line; at = clear.at; within = omega arith };
-  };
-  forwards = is.forwards;
-}
-
-pub no_longer_with_more : (road : RoadMap) (class wider : ℕ) (from to : Place) (a b : ℕ)
-    → class ≤ wider → IsLeastLength road class from to a → IsLeastLength road wider from to b
-    → b ≤ a
-no_longer_with_more road class wider from to a b more is other =
-    omega (
-      arith,
-      is.long,
-      other.least is.behind
-          (wider_walk _ _ _ _ _ _ more is.is),
-    )
 
 -- ---- a walk that goes on is longer
 

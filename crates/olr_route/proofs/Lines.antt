@@ -1,22 +1,12 @@
 -- The line of a rank, the lines that start where it ends, and the bans on turns from it.
-use Rattle.std.proofs.Common.{◌≡◌, ℕ, zero, suc, ◌+◌, ◌<◌, List, [], ◌∷◌, get_or, length, Option, Some, None, subst, ap, sym, ◌∙◌, refl, arith, false, ◌≤◌, map, Result, Ok, Err}
-use Rattle.std.specs.Prelude.{slice_get, option_map, unwrap_or, Contains, nat_eq, Decides, MatchBool}
-use Rattle.std.proofs.lemmas.Grind.{common_steps}
-use Rattle.std.proofs.lemmas.Option.{same_Some, get_or_from_slice_get, slice_get_within, slice_get-map}
-use Rattle.olr_route.proofs.Common.{IsPlace, RoadLine, RoadMap, IsSoundMap, origins_of, IsStepOver, IsTurn, IsAllowed, IsOpen, length_at, start_of, IsLinesOf, EndsAt, StartsAt}
-use Rattle.olr_map.specs.RoadMap.{head_of, IsSoundLine, ban_of}
-use Rattle.olr_map.specs.declared.line.Line.{Line}
+use Rattle.olr_route.proofs.Common.{IsPlace, RoadLine, RoadMap, IsSoundMap, origins_of, IsStepOver, IsTurn, IsAllowed, IsOpen, length_at, start_of, IsLinesOf, EndsAt, StartsAt, ◌≡◌, ℕ, zero, suc, ◌+◌, ◌<◌, List, [], ◌∷◌, get_or, length, Option, Some, None, subst, ap, sym, ◌∙◌, refl, arith, false, ◌≤◌, map, Result, Ok, Err, slice_get, option_map, unwrap_or, Contains, nat_eq, Decides, MatchBool, common_steps, same_Some, get_or_from_slice_get, slice_get_within, slice_get-map, head_of, IsSoundLine, ban_of, All-contains, Contains-get_or, nat_cmp, get_or-map, get_or_default, length-map, Ban, HasNoBan}
+use Rattle.olr_road.specs.declared.line.Line.{Line}
 use Rattle.olr_route.specs.Turn.{IsNoneTo}
-use Rattle.std.proofs.lemmas.List.Elements.{All-contains, Contains-get_or}
 use Rattle.std.specs.List.Sorted.{IsBinarySearchResult, IsSearchInRange, IsStrictlyIncreasing}
-use Rattle.std.specs.Ordering.{nat_cmp}
 use Rattle.std.specs.Result.{is_err}
 use Rattle.olr_index.proofs.Finding.{found_by_key}
 use Rattle.std.proofs.lemmas.Bool.Decides.{nat_tests}
-use Rattle.std.proofs.lemmas.List.{get_or-map, get_or_default, length-map}
-use Rattle.olr_map.specs.BansFrom.{AreBansFrom}
-use Rattle.olr_map.specs.declared.ban.Ban.{Ban}
-use Rattle.olr_route.specs.Sharing.{HasNoBan}
+use Rattle.olr_road.specs.BansFrom.{AreBansFrom}
 
 pub line_at : (lines : List RoadLine) (rank : ℕ) → rank < length lines → (line : RoadLine)
     × (slice_get lines rank ≡ Some line)

@@ -1,10 +1,6 @@
 -- Pages of lengths, and what a page or a length more changes.
-use Rattle.std.proofs.Common.{◌≡◌, ◌≢◌, ◌+◌, ◌*◌, ◌/◌, ◌%◌, ◌<◌, ◌≤◌, ◌++◌, ◌-◌, ℕ, zero, suc, List, length, take, None, inl, inr, ap, sym, ◌∙◌, refl, arith}
-use Rattle.std.specs.Prelude.{slice_index}
+use Rattle.olr_route.proofs.Common.{◌≡◌, ◌+◌, ◌*◌, ◌/◌, ◌%◌, ◌<◌, ◌≤◌, ◌++◌, ◌-◌, ℕ, zero, suc, List, length, take, None, inl, inr, ap, sym, ◌∙◌, refl, arith, slice_index, get_or-append-add, get_or-append_right, get_or_past, get_or-set_other, get_or-set_same, get_or_append_left, length-replicate, take_all, cases_eq, cases_lt, ArePages, length_of, place_of}
 use Rattle.std.proofs.Math.ListN.{set, replicate}
-use Rattle.std.proofs.lemmas.List.{get_or-append-add, get_or-append_right, get_or_past, get_or-set_other, get_or-set_same, get_or_append_left, length-replicate, length-set, take_all}
-use Rattle.std.proofs.lemmas.Bool.{cases_eq, cases_lt}
-use Rattle.olr_route.specs.NodeLengths.{ArePages, length_of, place_of}
 
 zeros : (count place : ℕ) → slice_index (replicate {A = ℕ} count 0) place ≡ 0
 zeros zero place = refl
@@ -63,21 +59,6 @@ wider pages count more less is block =
           ∙ zeros (count - length pages) (block - length pages)
           ∙ sym (get_or_past pages block 0 past)
     ]
-
--- a length more
-module _ (pages lengths : List ℕ) (are : ArePages pages lengths) (node at_start place : ℕ)
-    (at : place ≡ place_of pages node) (some : 0 < slice_index pages (node / 16)) where
-  inside : place < length lengths
-  inside = omega (arith, are.each (node / 16))
-
-  pub pages_after : ArePages pages (set lengths place at_start)
-  pages_after = record {
-    whole = ap (λ n. n % 16) (length-set lengths place at_start) ∙ are.whole;
-    each = λ block. omega (arith, are.each block, length-set lengths place at_start);
-    apart = are.apart;
-    none = λ other within. get_or-set_other lengths place other at_start 0
-        (λ same. absurd (omega arith)) ∙ are.none other within;
-  }
 
 -- a page more, of a block that had none, changes no length
 module _ (pages lengths : List ℕ) (are : ArePages pages lengths) (block : ℕ)

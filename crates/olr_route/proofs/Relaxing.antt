@@ -1,10 +1,5 @@
 -- A length that is kept lowers the sum of all lengths.
-use Rattle.std.proofs.Common.{◌≡◌, ◌≢◌, ℕ, zero, suc, ◌+◌, ◌<◌, ◌≤◌, Bool, true, List, Option, Some, None, inl, inr, subst, ap, sym, ◌∙◌, refl, arith, length}
-use Rattle.std.specs.Prelude.{unwrap_or, ◌||◌}
-use Rattle.std.proofs.lemmas.Bool.{cases_lt}
-use Rattle.std.proofs.lemmas.Option.{slice_get_within}
-use Rattle.olr_route.proofs.Common.{Search, Starts, AreSound, IsLowered, IsOffered, Reaches, table_in, IsKnownWithin, IsRelaxed, rest_of_line, length_at, start_of}
-use Rattle.olr_route.specs.Steps.{total}
+use Rattle.olr_route.proofs.Common.{Search, Starts, AreSound, IsLowered, IsOffered, Reaches, table_in, IsKnownWithin, IsRelaxed, rest_of_line, start_of, ◌≡◌, ◌≢◌, ℕ, zero, suc, ◌+◌, ◌<◌, ◌≤◌, Bool, true, List, Option, Some, None, inl, inr, subst, ap, sym, ◌∙◌, refl, arith, length, unwrap_or, ◌||◌, cases_lt, slice_get_within, total}
 use Rattle.olr_route.proofs.Walks.{useful_within, within_more}
 
 pub same_length : (a b : ℕ) (known : Option ℕ) → known ≡ Some a → known ≡ Some b → a ≡ b

@@ -1,12 +1,6 @@
 -- Walks to a place: their last piece, and the one along a line alone. From another departure that
 -- shares the search a walk goes over the same lines behind the first, and so does the route.
-use Rattle.std.proofs.Common.{◌≡◌, ℕ, ◌-◌, ◌<◌, ◌≤◌, List, [], ◌∷◌, Option, Some, None, inl, inr, subst, ap, sym, ◌∙◌, refl, arith, ◌+◌}
-use Rattle.std.specs.Prelude.{MatchOption}
-use Rattle.std.proofs.lemmas.List.Elements.{All-cons, All-nil}
-use Rattle.olr_route.proofs.Common.{IsPlace, IsDeparture, RoadMap, IsSoundMap, RoadLine, Place, Groups, Piece, Search, IsLeastLength, IsLengthWithin, HasWalksTo, rest_of_line, IsOpen, IsTurn, length_at, walk_length, pieces_of, IsDrivable, IsWalk, start_of, LeadTo}
-use Rattle.olr_route.specs.Route.{IsRouteWithin, IsRoute}
-use Rattle.olr_route.specs.Sharing.{LeadOnAlike, Serves}
-use Rattle.olr_route.specs.Shortest.{AreOnShortestPaths, FollowsFirstTight}
+use Rattle.olr_route.proofs.Common.{IsPlace, IsDeparture, RoadMap, IsSoundMap, RoadLine, Place, Groups, Piece, Search, IsLeastLength, IsLengthWithin, HasWalksTo, rest_of_line, IsOpen, IsTurn, length_at, walk_length, pieces_of, IsDrivable, IsWalk, start_of, LeadTo, ◌≡◌, ℕ, ◌-◌, ◌<◌, ◌≤◌, List, [], ◌∷◌, Option, Some, None, inl, inr, subst, ap, sym, ◌∙◌, refl, arith, ◌+◌, MatchOption, All-cons, All-nil, IsRouteWithin, IsRoute, LeadOnAlike, Serves, AreOnShortestPaths, FollowsFirstTight}
 use Rattle.olr_route.proofs.Lines.{length_here, long_before_turn, one_line}
 use Rattle.olr_route.proofs.TightPaths.{first_route}
 use Rattle.olr_route.proofs.Walks.{as_walk, behind_first, departure_length, first_open, last_piece, lead_more, rest_last, rest_more}

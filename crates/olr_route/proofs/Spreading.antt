@@ -1,20 +1,11 @@
 -- Lines in groups, and the lines on a shortest path to the target, found backwards from it, group
 -- by group.
-use Rattle.std.proofs.Common.{◌≡◌, ℕ, [], false, Option, None, Some, ap, refl, arith, Vec, Global, ◌⊎◌, inl, inr, List, ◌∷◌, ◌++◌, sym, subst, ◌∙◌, add-one, drop, drop-cons, get_or, length, ◌+◌, ◌<◌, ◌≤◌}
-use Rattle.std.specs.BTreeMap.{get, is_at, UpdatesBy}
+use Rattle.std.specs.BTreeMap.{get, UpdatesBy}
 use Rattle.std.specs.Option.{IsSome, is_some}
-use Rattle.std.specs.Ordering.{is_lt}
 use Rattle.std.specs.declared.cmp.Ordering.TheVariants.{Less}
-use Rattle.std.proofs.lemmas.Grind.{common_steps}
-use Rattle.olr_route.proofs.Common.{Groups, by_key, group_of, items_in, IsLinesOf, RoadMap, IsSoundMap, RoadLine, Place, Search, EndsAt, StartsAt, AreWithin, rest_of_line, length_at, start_of}
+use Rattle.olr_route.proofs.Common.{Groups, by_key, group_of, items_in, IsLinesOf, RoadMap, IsSoundMap, Place, Search, EndsAt, StartsAt, AreWithin, rest_of_line, length_at, start_of, ◌≡◌, ℕ, [], false, Option, None, Some, ap, refl, arith, Vec, Global, ◌⊎◌, inl, inr, List, ◌∷◌, ◌++◌, sym, subst, ◌∙◌, add-one, drop, drop-cons, get_or, length, ◌+◌, ◌<◌, ◌≤◌, is_lt, common_steps, Contains, IsSome, option_map, slice_get, Contains-append_left, Contains-push, Contains-push_cases, All-get_or, IsIn, AreGroups, AreOnShortestPaths, IsOnPath, IsTightIn, IsTightPath, LeadsOn, length-map, same_Some, slice_get-map, slice_get_within, destinations_of}
 use Rattle.olr_route.specs.Groups.{HasGroup, IsBefore, IsAdded, IsLastBefore}
-use Rattle.std.specs.Prelude.{Contains, IsSome, option_map, slice_get}
-use Rattle.std.proofs.lemmas.List.Elements.{Contains-append_left, Contains-push, Contains-push_cases, All-get_or}
-use Rattle.olr_route.specs.Shortest.{IsIn, AreGroups, AreOnShortestPaths, IsOnPath, IsTightIn, IsTightPath, LeadsOn}
 use Rattle.std.proofs.Math.Seq.{drop-length}
-use Rattle.std.proofs.lemmas.List.{length-map}
-use Rattle.std.proofs.lemmas.Option.{same_Some, slice_get-map, slice_get_within}
-use Rattle.olr_map.specs.RoadMap.{destinations_of}
 use Rattle.olr_route.proofs.Lines.{length_here, long_at, origin_inside, starts_there}
 use Rattle.olr_route.proofs.Relaxing.{same_length}
 use Rattle.olr_route.proofs.Underway.{in_front}

@@ -1,11 +1,6 @@
 -- The tight turns from the end of a place's line, by the groups of lines.
-use Rattle.std.proofs.Common.{◌≡◌, ℕ, ◌+◌, ◌<◌, ◌≤◌, Bool, true, false, List, [], length, get_or, Option, None, Some, sym, subst, refl, ◌∙◌, arith}
-use Rattle.std.specs.Prelude.{Contains, MatchBool}
 use Rattle.std.specs.List.{AllWithin, HoldsAt}
-use Rattle.std.proofs.lemmas.List.Elements.{Contains-get_or}
-use Rattle.std.proofs.lemmas.Option.{same_Some}
-use Rattle.olr_route.proofs.Common.{RoadMap, Place, Groups, Search, group_of, rest_of_line, IsAllowed, IsOpen, EndsAt}
-use Rattle.olr_route.specs.Shortest.{AreGroups, AreTightAhead, HasUpTo, IsFirstTight, IsTightIn}
+use Rattle.olr_route.proofs.Common.{RoadMap, Place, Groups, Search, group_of, rest_of_line, IsAllowed, IsOpen, EndsAt, ◌≡◌, ℕ, ◌+◌, ◌<◌, ◌≤◌, Bool, true, false, List, [], length, get_or, Option, None, Some, sym, subst, refl, ◌∙◌, arith, Contains, MatchBool, Contains-get_or, same_Some, AreGroups, AreTightAhead, HasUpTo, IsFirstTight, IsTightIn}
 use Rattle.olr_route.proofs.Lines.{starts_there, turn_there}
 
 -- ---- one group

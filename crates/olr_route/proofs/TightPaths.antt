@@ -1,19 +1,11 @@
 -- Walks of least length to the start of a line are just the tight paths to it. Taking the first
 -- tight turn again and again gives the first of them by the ids of its lines, and its pieces.
-use Rattle.std.proofs.Common.{◌≡◌, ℕ, zero, suc, ◌+◌, ◌<◌, ◌≤◌, List, [], ◌∷◌, Option, Some, None, subst, ap, sym, ◌∙◌, refl, arith, ◌++◌, length, get_or, inl, inr}
-use Rattle.olr_route.proofs.Common.{IsDeparture, RoadMap, IsSoundMap, Place, Piece, length_at, pieces_of, walk_length, IsWalk, start_of, LeadTo, IsLeastLength, IsLengthWithin, HasWalksTo, ReachesStart, rest_of_line, RoadLine, Groups, Search}
-use Rattle.olr_route.specs.Shortest.{IsTightPath, AreFirstTight, AreGroups, FollowsFirstTight, IsFirstTight, AreOnShortestPaths, IsTightIn}
+use Rattle.olr_route.proofs.Common.{IsDeparture, RoadMap, IsSoundMap, Place, Piece, length_at, pieces_of, walk_length, IsWalk, start_of, LeadTo, IsLeastLength, IsLengthWithin, HasWalksTo, ReachesStart, rest_of_line, RoadLine, Groups, Search, ◌≡◌, ℕ, zero, suc, ◌+◌, ◌<◌, ◌≤◌, List, [], ◌∷◌, Option, Some, None, subst, ap, sym, ◌∙◌, refl, arith, ◌++◌, length, get_or, inl, inr, IsTightPath, AreFirstTight, AreGroups, FollowsFirstTight, IsFirstTight, AreOnShortestPaths, IsTightIn, unwrap_or, append_assoc, length-map, line_ids, cases_lt, slice_get-map, unwrap_or-slice_get, slice_get_within, id_at, ids_of, IsRoute, IsUpTo}
 use Rattle.olr_route.proofs.Lines.{long_before_turn, long_at}
 use Rattle.olr_route.proofs.Walks.{as_walk, at_once, behind_first, first_open, lead_more, long_walk, rest_last, rest_more}
 pub use Rattle.olr_route.proofs.Walks.{departure_length}
 use Rattle.olr_route.proofs.Relaxing.{same_length}
-use Rattle.std.specs.Prelude.{unwrap_or}
-use Rattle.std.proofs.lemmas.List.{append_assoc, length-map}
-use Rattle.olr_map.specs.Rows.{line_ids}
-use Rattle.std.proofs.lemmas.Bool.{cases_lt}
 use Rattle.std.proofs.lemmas.Map.Keys.{below_from_sorted, sorted_from_strictly_increasing}
-use Rattle.std.proofs.lemmas.Option.{slice_get-map, unwrap_or-slice_get, slice_get_within}
-use Rattle.olr_route.specs.Route.{id_at, ids_of, IsRoute, IsUpTo}
 
 -- ids rise with ranks
 id_is : (road : RoadMap) (rank : ℕ) → id_at road rank ≡ get_or (line_ids road.lines) rank 0

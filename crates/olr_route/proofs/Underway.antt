@@ -1,11 +1,6 @@
 -- Dijkstra's search by the order of its arrivals. None that is still to come is nearer than the
 -- last one, so what is reached has its least length.
-use Rattle.std.proofs.Common.{◌≡◌, ℕ, zero, suc, ◌+◌, ◌<◌, ◌≤◌, ◌⊎◌, List, [], ◌∷◌, All, length, Option, Some, None, inl, inr, subst, sym, ◌∙◌, refl, arith}
-use Rattle.std.specs.Prelude.{Contains, IsPermutation, IsSome}
-use Rattle.std.proofs.lemmas.List.Elements.{All-contains}
-use Rattle.std.proofs.lemmas.List.Sorted.{Contains-permutation, IsPermutation-sym}
-use Rattle.olr_route.proofs.Common.{RoadMap, Place, Arrival, Search, AreAllReached, HasEnded, IsArrivalOver, IsArrived, IsPushed, MayGoOn, IsTurn, IsOpen, AreWithin, ReachesStart, IsKnownWithin, IsUseful, rest_of_line, length_at}
-use Rattle.olr_route.specs.Dijkstra.{Awaits, asked_of}
+use Rattle.olr_route.proofs.Common.{RoadMap, Place, Arrival, Search, AreAllReached, HasEnded, IsArrivalOver, IsArrived, IsPushed, MayGoOn, IsTurn, IsOpen, AreWithin, ReachesStart, IsKnownWithin, IsUseful, rest_of_line, length_at, ◌≡◌, ℕ, zero, suc, ◌+◌, ◌<◌, ◌≤◌, ◌⊎◌, List, [], ◌∷◌, All, length, Option, Some, None, inl, inr, subst, sym, ◌∙◌, refl, arith, Contains, IsPermutation, IsSome, All-contains, Contains-permutation, IsPermutation-sym, Awaits, asked_of}
 use Rattle.olr_route.proofs.Walks.{useful_more, useful_within}
 
 known_within : (known : Option ℕ) (bound : ℕ) → IsSome known

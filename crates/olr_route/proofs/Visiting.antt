@@ -1,14 +1,8 @@
 -- Lines that are visited from the end of a line, one after the other, and put into the queue by
 -- their steps.
-use Rattle.std.proofs.Common.{◌≡◌, ℕ, ◌+◌, ◌<◌, ◌≤◌, List, [], ◌∷◌, length, get_or, Option, Some, None, ap, subst, ◌∙◌, sym, refl, arith, Bool, false, ◌⊎◌, ◌++◌, inl, inr, length-append}
-use Rattle.std.specs.Prelude.{Contains, IsPermutation, nat_eq, slice_get}
-use Rattle.olr_route.proofs.Common.{RoadMap, IsStepOf, line_ranks, Step, Search, IsAllowed, IsArrivalOver, IsStepOver, AreVisited, IsDone, IsPushed, WaitsIn, own_reached, length_at, Arrival, State}
-use Rattle.olr_map.specs.Steps.{step_of}
+use Rattle.olr_route.proofs.Common.{RoadMap, IsStepOf, line_ranks, Step, Search, IsAllowed, IsArrivalOver, IsStepOver, AreVisited, IsDone, IsPushed, WaitsIn, own_reached, length_at, Arrival, State, ◌≡◌, ℕ, ◌+◌, ◌<◌, ◌≤◌, List, [], ◌∷◌, length, get_or, Option, Some, None, ap, subst, ◌∙◌, sym, refl, arith, Bool, false, ◌⊎◌, ◌++◌, inl, inr, length-append, Contains, IsPermutation, nat_eq, slice_get, get, get_or-map, length-map, map_push, Contains-append_left, Contains-append_right, Contains-push, Contains-push_cases, Contains-permutation, IsPermutation-sym, length_permutation}
+use Rattle.olr_road.specs.Steps.{step_of}
 use Rattle.olr_route.proofs.Lines.{key_differs, of_value}
-use Rattle.std.specs.HashMap.{get}
-use Rattle.std.proofs.lemmas.List.{get_or-map, length-map, map_push}
-use Rattle.std.proofs.lemmas.List.Elements.{Contains-append_left, Contains-append_right, Contains-push, Contains-push_cases}
-use Rattle.std.proofs.lemmas.List.Sorted.{Contains-permutation, IsPermutation-sym, length_permutation}
 use Rattle.olr_route.proofs.Underway.{in_front}
 
 -- ---- steps

@@ -1,11 +1,7 @@
 -- The start of a line is reached after some length just where a walk to that start has this length.
 -- So a search in which every line is relaxed holds the least lengths.
-use Rattle.std.proofs.Common.{◌≡◌, ℕ, zero, suc, ◌+◌, ◌-◌, ◌<◌, List, [], ◌∷◌, subst, sym, ◌∙◌, refl, ap, arith, ◌≤◌, Option, Some, None}
-use Rattle.std.proofs.lemmas.List.Elements.{All-cons, All-nil}
 use Rattle.std.proofs.lemmas.List.Sums.{sum_by-cons}
-use Rattle.olr_route.proofs.Common.{RoadMap, IsSoundMap, Place, Piece, IsOpen, IsTurn, length_at, pieces_of, walk_length, IsDrivable, IsWalk, start_of, LeadTo, ReachesStart, rest_of_line, IsAskedFor, IsKnownWithin, IsRelaxed, IsUseful, IsDeparture, IsLengthWithin, HasWalksTo}
-use Rattle.olr_route.specs.Walk.{piece_length}
-use Rattle.olr_route.specs.Steps.{IsSearch}
+use Rattle.olr_route.proofs.Common.{RoadMap, IsSoundMap, Place, Piece, IsOpen, IsTurn, length_at, pieces_of, walk_length, IsDrivable, IsWalk, start_of, LeadTo, ReachesStart, rest_of_line, IsAskedFor, IsKnownWithin, IsRelaxed, IsUseful, IsDeparture, IsLengthWithin, HasWalksTo, ◌≡◌, ℕ, zero, suc, ◌+◌, ◌-◌, ◌<◌, List, [], ◌∷◌, subst, sym, ◌∙◌, refl, ap, arith, ◌≤◌, Option, Some, None, All-cons, All-nil, piece_length, IsSearch}
 use Rattle.olr_route.proofs.Lines.{long_before_turn, length_here}
 
 pub departure_length : (road : RoadMap) (place : Place) → IsDeparture road place

@@ -1,6 +1,6 @@
 -- Bellman and Ford's search: lengths are offered to lines, and each line keeps the least one.
 use Rattle.std.specs.Prelude.{◌≡◌, ℕ, ◌+◌, ◌≤◌, Bool, false, cond, length, Some}
-use Rattle.olr_map.specs.declared.place.Place.{Place}
+use Rattle.olr_road.specs.declared.place.Place.{Place}
 use Rattle.olr_route.specs.declared.search.Search.{Search}
 use Rattle.olr_route.specs.declared.starts.Starts.{Starts}
 use Rattle.olr_route.specs.Starts.{table_in}

@@ -3,11 +3,11 @@
 -- keeps its length.
 use Rattle.std.specs.Prelude.{◌≡◌, ℕ, ◌+◌, ◌^◌, ◌<◌, ◌≤◌, ◌⊎◌, Bool, true, false, List, All, length, slice_get, option_map, Option, Some, None, IsSome, IfSome, Contains, nat_eq}
 use Rattle.std.specs.HashMap.{get}
-use Rattle.olr_map.specs.Goals.{AreGoalsOn, GoalLines}
-use Rattle.olr_map.specs.declared.place.Place.{Place}
-use Rattle.olr_map.specs.declared.step.Step.{Step}
-use Rattle.olr_map.specs.RoadMap.{RoadMap}
-use Rattle.olr_map.specs.Steps.{IsStepOf, line_ranks}
+use Rattle.olr_road.specs.Goals.{AreGoalsOn, GoalLines}
+use Rattle.olr_road.specs.declared.place.Place.{Place}
+use Rattle.olr_road.specs.declared.step.Step.{Step}
+use Rattle.olr_road.specs.RoadMap.{RoadMap}
+use Rattle.olr_road.specs.Steps.{IsStepOf, line_ranks}
 use Rattle.olr_route.specs.Groups.{items_in}
 use Rattle.olr_route.specs.Nodes.{EndsAt, StartsAt}
 use Rattle.olr_route.specs.declared.arrival.Arrival.{Arrival}

@@ -1,7 +1,7 @@
 -- The least length of the walks from one place to another, in decimetres.
 use Rattle.std.specs.Prelude.{◌≡◌, ℕ, ◌<◌, ◌≤◌, List, Option, MatchOption}
-use Rattle.olr_map.specs.RoadMap.{RoadMap}
-use Rattle.olr_map.specs.declared.place.Place.{Place}
+use Rattle.olr_road.specs.RoadMap.{RoadMap}
+use Rattle.olr_road.specs.declared.place.Place.{Place}
 use Rattle.olr_route.specs.Walk.{IsWalk, walk_length}
 
 -- Some walk has this length, and none is shorter. A walk is given by the lines behind its first one

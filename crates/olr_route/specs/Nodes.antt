@@ -1,7 +1,7 @@
 -- The nodes at which a line of a road map starts and ends.
 use Rattle.std.specs.Prelude.{◌≡◌, ℕ, Some, slice_get}
-use Rattle.olr_map.specs.RoadMap.{RoadMap, origins_of}
-use Rattle.olr_map.specs.Rows.{RoadLine}
+use Rattle.olr_road.specs.RoadMap.{RoadMap, origins_of}
+use Rattle.olr_road.specs.RoadMap.{RoadLine}
 
 -- the line starts at the node
 abbrev pub StartsAt : RoadMap → ℕ → ℕ → Type 0

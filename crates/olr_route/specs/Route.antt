@@ -1,9 +1,9 @@
 -- The route from one place to another: the one walk of least length that is chosen.
 use Rattle.std.specs.Prelude.{◌≡◌, ℕ, ◌<◌, ◌≤◌, ◌⊎◌, ⊤, List, [], ◌∷◌, map, Some, slice_get, option_map, unwrap_or, All}
 use Rattle.std.specs.List.{sum_by}
-use Rattle.olr_map.specs.RoadMap.{RoadMap}
-use Rattle.olr_map.specs.Rows.{RoadLine}
-use Rattle.olr_map.specs.declared.place.Place.{Place}
+use Rattle.olr_road.specs.RoadMap.{RoadMap}
+use Rattle.olr_road.specs.RoadMap.{RoadLine}
+use Rattle.olr_road.specs.declared.place.Place.{Place}
 use Rattle.olr_route.specs.declared.piece.Piece.{Piece}
 use Rattle.olr_route.specs.Turn.{IsTurn}
 use Rattle.olr_route.specs.Walk.{length_at, IsWalk, pieces_of, piece_length, walk_length}

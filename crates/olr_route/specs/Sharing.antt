@@ -1,8 +1,8 @@
 -- Departures that share a search. Walks that leave their lines go on over the same lines, so the
 -- lengths from one of them tell those from the other.
 use Rattle.std.specs.Prelude.{◌≡◌, ℕ, ◌≤◌, ◌⊎◌}
-use Rattle.olr_map.specs.RoadMap.{RoadMap}
-use Rattle.olr_map.specs.declared.place.Place.{Place}
+use Rattle.olr_road.specs.RoadMap.{RoadMap}
+use Rattle.olr_road.specs.declared.place.Place.{Place}
 use Rattle.olr_route.specs.Steps.{rest_of_line}
 use Rattle.olr_route.specs.Turn.{IsAllowed, IsOpen}
 

@@ -3,7 +3,7 @@
 -- is kept for its node is the line's.
 use Rattle.std.specs.Prelude.{ℕ, Option, Some, None, unwrap_or, slice_get, nat_eq}
 use Rattle.std.specs.HashMap.{get}
-use Rattle.olr_map.specs.RoadMap.{RoadMap, origins_of}
+use Rattle.olr_road.specs.RoadMap.{RoadMap, origins_of}
 use Rattle.olr_route.specs.declared.starts.Starts.{Starts}
 use Rattle.olr_route.specs.NodeLengths.{length_of}
 

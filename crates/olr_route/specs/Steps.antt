@@ -1,8 +1,8 @@
 -- What a search for least lengths knows before it ends. A table gives, for each line to whose start
 -- a walk was found, the length of that walk in decimetres.
 use Rattle.std.specs.Prelude.{◌≡◌, ℕ, zero, suc, ◌+◌, ◌-◌, ◌≤◌, ⊤, List, Option, None, Some, Contains, MatchOption, unwrap_or}
-use Rattle.olr_map.specs.RoadMap.{RoadMap}
-use Rattle.olr_map.specs.declared.place.Place.{Place}
+use Rattle.olr_road.specs.RoadMap.{RoadMap}
+use Rattle.olr_road.specs.declared.place.Place.{Place}
 use Rattle.olr_route.specs.Turn.{IsTurn, IsOpen}
 use Rattle.olr_route.specs.Walk.{length_at, walk_length, start_of, LeadTo}
 

@@ -1,9 +1,9 @@
 -- How lines of a map follow one another, and what a class limit lets through. Lines are named by
 -- their ranks.
 use Rattle.std.specs.Prelude.{◌≡◌, ℕ, ◌≤◌, List, Some, slice_get, Contains}
-use Rattle.olr_map.specs.declared.ban.Ban.{Ban}
-use Rattle.olr_map.specs.RoadMap.{RoadMap, ban_of}
-use Rattle.olr_map.specs.Rows.{RoadLine}
+use Rattle.olr_road.specs.declared.ban.Ban.{Ban}
+use Rattle.olr_road.specs.RoadMap.{RoadMap, ban_of}
+use Rattle.olr_road.specs.RoadMap.{RoadLine}
 
 -- the turn from line `a` to line `b` isn't banned
 abbrev pub IsAllowed : RoadMap → ℕ → ℕ → Type 0

@@ -3,9 +3,9 @@
 -- lengths and positions are in decimetres.
 use Rattle.std.specs.Prelude.{◌≡◌, ℕ, ◌-◌, ◌<◌, ⊤, List, [], ◌∷◌, slice_get, option_map, unwrap_or, All}
 use Rattle.std.specs.List.{sum_by}
-use Rattle.olr_map.specs.RoadMap.{RoadMap}
-use Rattle.olr_map.specs.Rows.{RoadLine}
-use Rattle.olr_map.specs.declared.place.Place.{Place}
+use Rattle.olr_road.specs.RoadMap.{RoadMap}
+use Rattle.olr_road.specs.RoadMap.{RoadLine}
+use Rattle.olr_road.specs.declared.place.Place.{Place}
 use Rattle.olr_route.specs.declared.piece.Piece.{Piece}
 use Rattle.olr_route.specs.Turn.{IsTurn, IsOpen}
 

@@ -8,7 +8,7 @@
 ghost use Rattle.std.specs.Prelude.{◌≡◌, ◌≢◌, ◌<◌, [], ℕ, All, Contains, IfOk, IsTrue, None, Some};
 ghost use Rattle.std.specs.Prelude.{false, nat_eq};
 ghost use Rattle.std.specs.HashMap.{get};
-ghost use Rattle.olr_map.specs.Steps.{IsStepOf, line_ranks};
+ghost use Rattle.olr_road.specs.Steps.{IsStepOf, line_ranks};
 ghost use Rattle.olr_route.specs.Dijkstra.{AreNodes, AreVisited, HasArrived, HasGoalsOnMap};
 ghost use Rattle.olr_route.specs.Dijkstra.{IsDone, steps_at};
 ghost use Rattle.olr_route.specs.Nodes.{EndsAt};
@@ -17,8 +17,8 @@ use crate::arrival::Arrival;
 use crate::search::Search;
 use crate::state::State;
 use crate::turn::is_allowed_by;
-use olr_map::{Step, sound};
-use olr_metric::NoMemory;
+use olr_base::NoMemory;
+use olr_road::{Step, sound};
 use std::alloc::Global;
 use std::mem;
 

@@ -1,9 +1,9 @@
 //! The least lengths up to a limit, all in decimetres, by Bellman and Ford's search of the map.
 
 ghost use Rattle.std.specs.Prelude.{◌≡◌, ◌<◌, ◌≤◌, ℕ, length, IfOk};
-ghost use Rattle.olr_map.specs.Place.{IsDeparture, IsPlace};
+ghost use Rattle.olr_road.specs.Place.{IsDeparture, IsPlace};
 ghost use Rattle.olr_route.specs.BellmanFord.{AreSound, IsLowered, IsOffered, IsReached, Reaches};
-ghost use Rattle.olr_route.specs.Reach.{AreLengthsOn, Tells};
+ghost use Rattle.olr_route.specs.Reach.{AreLengthsOn, Covers};
 ghost use Rattle.olr_route.specs.Starts.{table_in};
 ghost use Rattle.olr_route.specs.Steps.{IsKnownWithin};
 ghost use Rattle.olr_route.specs.Walk.{start_of};
@@ -13,8 +13,8 @@ use crate::reach::Reach;
 use crate::search::Search;
 use crate::starts::Starts;
 use crate::turn::is_allowed;
-use olr_map::{Map, Place, sound};
-use olr_metric::NoMemory;
+use olr_base::NoMemory;
+use olr_road::{Map, Place, sound};
 use std::alloc::Global;
 
 /// Offers a length to the start of a line, and keeps it where no length as short is known. Returns
@@ -103,7 +103,7 @@ pub fn lengths_by_rounds(
     ensures asked { IfOk result (λ reach.
         (reach.class ≡ class) × (reach.from ≡ from) × (reach.limit ≡ limit)) }
     ensures held { IfOk result (λ reach. AreLengthsOn map.now reach) }
-    ensures tells { IfOk result (λ reach. (line : ℕ) → Tells reach line) }
+    ensures covers { IfOk result (λ reach. (line : ℕ) → Covers reach line) }
 {
     sound(map);
     let search = Search {

@@ -4,10 +4,10 @@
 
 ghost use Rattle.std.specs.Prelude.{◌≡◌, ◌<◌, ◌≤◌, ℕ, [], All, IfOk, None, Some, length, map};
 ghost use Rattle.std.specs.Prelude.{unwrap_or};
-ghost use Rattle.olr_map.specs.Place.{IsDeparture, IsPlace};
+ghost use Rattle.olr_road.specs.Place.{IsDeparture, IsPlace};
 ghost use Rattle.olr_route.specs.Dijkstra.{AreReachedFirst, HasEnded, HasGoalsOnMap, IsPushed};
 ghost use Rattle.olr_route.specs.Dijkstra.{asked_of};
-ghost use Rattle.olr_route.specs.Reach.{AreLengthsOn, Tells};
+ghost use Rattle.olr_route.specs.Reach.{AreLengthsOn, Covers};
 ghost use Rattle.olr_route.specs.Starts.{table_in};
 ghost use Rattle.olr_route.specs.Steps.{rest_of_line};
 
@@ -16,8 +16,8 @@ use crate::reach::Reach;
 use crate::search::Search;
 use crate::starts::Starts;
 use crate::state::State;
-use olr_map::{Map, Place, Step, sound};
-use olr_metric::NoMemory;
+use olr_base::NoMemory;
+use olr_road::{Map, Place, Step, sound};
 use std::alloc::Global;
 
 /// With a limit of at least this, in decimetres, a search tries a nearer one first.
@@ -162,7 +162,7 @@ pub fn lengths_from(
     ensures asked { IfOk result (λ reach.
         (reach.class ≡ class) × (reach.from ≡ from) × (reach.limit ≡ limit)) }
     ensures held { IfOk result (λ reach. AreLengthsOn map.now reach) }
-    ensures tells { IfOk result (λ reach. (line : ℕ) → Tells reach line) }
+    ensures covers { IfOk result (λ reach. (line : ℕ) → Covers reach line) }
 {
     sound(map);
     let asked = Search {
@@ -184,8 +184,8 @@ fn lines_of(alloc: Global, places: &[Place]) -> Result<Vec<u32>, NoMemory>
 }
 
 /// The least lengths from a place to some others, as [`lengths_from`] finds them: the search goes
-/// towards them and ends once it has reached the start of the line of each target, so it tells the
-/// lengths to them ([`Reach::tells`]) and to no other places. Targets have to be on the map
+/// towards them and ends once it has reached the start of the line of each target, so it covers
+/// them ([`Reach::covers`]) and no other places. Targets have to be on the map
 /// ([`is_on_map`](crate::is_on_map)). `near` changes only the time: where it narrows the search,
 /// that goes up to `near` first, and up to the limit if a target isn't reached, so the first part
 /// was in vain then.
@@ -208,8 +208,8 @@ pub fn lengths_to(
     ensures asked { IfOk result (λ reach.
         (reach.class ≡ class) × (reach.from ≡ from) × (reach.limit ≡ limit)) }
     ensures held { IfOk result (λ reach. AreLengthsOn map.now reach) }
-    ensures tells { IfOk result (λ reach.
-        All (λ target. Tells reach target.line) targets.now) }
+    ensures covers { IfOk result (λ reach.
+        All (λ target. Covers reach target.line) targets.now) }
 {
     sound(map);
     let lines = lines_of(alloc, targets)?;

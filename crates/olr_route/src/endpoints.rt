@@ -1,10 +1,10 @@
 //! Tests on the two places that a route joins.
 
 ghost use Rattle.std.specs.Prelude.{◌≡◌, ◌<◌, length, Decides};
-ghost use Rattle.olr_map.specs.Place.{IsDeparture, IsPlace};
+ghost use Rattle.olr_road.specs.Place.{IsDeparture, IsPlace};
 ghost use Rattle.olr_route.specs.Walk.{IsDrivable};
 
-use olr_map::{Map, Place};
+use olr_road::{Map, Place};
 
 /// Whether a place is on the map: on one of its lines, at most at that line's end.
 pub fn is_on_map(map: &Map, place: Place) -> bool

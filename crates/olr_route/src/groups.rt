@@ -3,7 +3,7 @@
 ghost use Rattle.std.specs.Prelude.{◌≡◌, ℕ, [], IfOk};
 ghost use Rattle.olr_route.specs.Groups.{group_of, HasGroup, IsAdded, IsLastBefore};
 
-use olr_metric::NoMemory;
+use olr_base::NoMemory;
 use std::alloc::Global;
 use std::collections::BTreeMap;
 

@@ -1,9 +1,9 @@
 //! Laws on walks, without code: each is the contract of an empty function.
 
-ghost use Rattle.std.specs.Prelude.{◌≡◌, ◌++◌, ◌≤◌, List, ℕ, []};
-ghost use Rattle.olr_map.specs.Place.{IsDeparture, IsPlace};
-ghost use Rattle.olr_map.specs.RoadMap.{IsSoundMap, RoadMap};
-ghost use Rattle.olr_map.specs.declared.place.Place.{Place};
+ghost use Rattle.std.specs.Prelude.{◌≡◌, ◌++◌, List, ℕ, []};
+ghost use Rattle.olr_road.specs.Place.{IsDeparture, IsPlace};
+ghost use Rattle.olr_road.specs.RoadMap.{IsSoundMap, RoadMap};
+ghost use Rattle.olr_road.specs.declared.place.Place.{Place};
 ghost use Rattle.olr_route.specs.Least.{IsLeastLength};
 ghost use Rattle.olr_route.specs.Route.{AreRoutePieces, IsRoute, IsRouteWithin};
 ghost use Rattle.olr_route.specs.declared.piece.Piece.{Piece};
@@ -16,16 +16,6 @@ pub fn one_least_length()
         → IsLeastLength road class from to a
         → IsLeastLength road class from to b
         → a ≡ b }
-{}
-
-/// A class limit that lets more lines through makes no least length longer.
-#[tactic(auto, using(crate::proofs::LawsOfWalks::no_longer_with_more))]
-pub fn no_longer_with_more_lines()
-    ensures { (road : RoadMap) (class wider : ℕ) (from to : Place) (a b : ℕ)
-        → class ≤ wider
-        → IsLeastLength road class from to a
-        → IsLeastLength road wider from to b
-        → b ≤ a }
 {}
 
 /// No walk is a beginning of another one of the same length between the same places.

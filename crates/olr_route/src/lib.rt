@@ -50,10 +50,7 @@ mod turn;
 pub use bellman_ford::lengths_by_rounds;
 pub use dijkstra::{lengths_from, lengths_to};
 pub use endpoints::{is_before_end, is_on_map};
-pub use laws::{
-    no_beginning_of_another, no_longer_with_more_lines, one_least_length, one_route,
-    pieces_of_route,
-};
+pub use laws::{no_beginning_of_another, one_least_length, one_route, pieces_of_route};
 pub use piece::Piece;
 pub use reach::Reach;
 pub use routes::route;

@@ -1,7 +1,7 @@
 //! The end of a line, and the length there.
 
 ghost use Rattle.std.specs.Prelude.{◌≡◌, ◌+◌, ◌<◌, ◌≤◌, MatchOption};
-ghost use Rattle.olr_map.specs.Place.{IsPlace};
+ghost use Rattle.olr_road.specs.Place.{IsPlace};
 ghost use Rattle.olr_route.specs.Dijkstra.{HasGoalsOnMap, MayGoOn};
 ghost use Rattle.olr_route.specs.Nodes.{EndsAt};
 ghost use Rattle.olr_route.specs.Steps.{rest_of_line};
@@ -9,7 +9,7 @@ ghost use Rattle.olr_route.specs.Turn.{IsOpen};
 
 use crate::arrival::Arrival;
 use crate::search::Search;
-use olr_map::{Place, Step};
+use olr_road::{Place, Step};
 
 /// The sum of two lengths, where it is at most the limit.
 pub(crate) fn sum_within(length: u64, more: u64, limit: u64) -> Option<u64>

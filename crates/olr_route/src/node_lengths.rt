@@ -3,7 +3,7 @@
 ghost use Rattle.std.specs.Prelude.{◌≡◌, ◌≢◌, ◌<◌, ◌≤◌, ◌/◌, ℕ, IfOk, None, Some, length, slice_index};
 ghost use Rattle.olr_route.specs.NodeLengths.{length_of};
 
-use olr_metric::NoMemory;
+use olr_base::NoMemory;
 use std::alloc::Global;
 use std::marker::Model;
 

@@ -1,15 +1,15 @@
 //! The lengths from a place. Lengths and limits are in decimetres.
 
 ghost use Rattle.std.specs.Prelude.{◌≡◌, Decides, None, option_map};
-ghost use Rattle.olr_map.specs.Place.{IsPlace};
-ghost use Rattle.olr_map.specs.RoadMap.{RoadMap};
+ghost use Rattle.olr_road.specs.Place.{IsPlace};
+ghost use Rattle.olr_road.specs.RoadMap.{RoadMap};
 ghost use Rattle.olr_route.specs.Least.{IsLengthWithin};
-ghost use Rattle.olr_route.specs.Reach.{AreLengthsOn, Tells, length_to_start};
+ghost use Rattle.olr_route.specs.Reach.{AreLengthsOn, Covers, length_to_start};
 ghost use Rattle.olr_route.specs.Starts.{table_in};
 
 use crate::search::Search;
 use crate::starts::Starts;
-use olr_map::{Map, Place};
+use olr_road::{Map, Place};
 use std::marker::Model;
 
 /// The least lengths in decimetres from a place of a map to the starts of its lines, or of those
@@ -79,9 +79,10 @@ impl Reach {
         (self.class, self.from, self.limit)
     }
 
-    /// Whether it tells the length to a place: it was asked for that to the start of its line.
-    pub fn tells(&self, to: Place) -> bool
-        ensures { Decides result (Tells self.now to.line) }
+    /// Whether it has the length to a place: the search ran for all lines, or this line was a
+    /// target.
+    pub fn covers(&self, to: Place) -> bool
+        ensures { Decides result (Covers self.now to.line) }
     {
         match &self.asked {
             None => true,
@@ -118,7 +119,7 @@ impl Reach {
     }
 
     /// The lines whose start is reached, each with a length to it: the least one where the search
-    /// tells it.
+    /// covers it.
     pub(crate) fn starts(&self) -> &Starts
         ensures { (road : RoadMap) → table_in road result.now ≡ length_to_start road self.now }
     {
@@ -127,13 +128,13 @@ impl Reach {
 
     /// The least length to a place, in decimetres, where it is at most the limit; else none. The
     /// place has to be on the map ([`is_on_map`](crate::is_on_map)) and one of those that the
-    /// search tells of ([`Reach::tells`]), and the map the one that the lengths were made from. At
+    /// search covers ([`Reach::covers`]), and the map the one that the lengths were made from. At
     /// the start of a line the class of that line doesn't matter. From a place to itself, or to one
     /// behind it on the same line, only walks that leave the line and come back count.
     pub fn length_to(&self, map: &Map, to: Place) -> Option<u64>
         requires held { AreLengthsOn map.now self.now }
         requires on_map { IsPlace map.now to }
-        requires tells { Tells self.now to.line }
+        requires covers { Covers self.now to.line }
 
         ensures { IsLengthWithin map.now self.now.class self.now.from to self.now.limit result }
     {

@@ -1,10 +1,10 @@
 //! The route from one place to another. Lengths and limits are in decimetres.
 
 ghost use Rattle.std.specs.Prelude.{◌≡◌, IfOk, MatchOption};
-ghost use Rattle.olr_map.specs.Place.{IsDeparture, IsPlace};
+ghost use Rattle.olr_road.specs.Place.{IsDeparture, IsPlace};
 ghost use Rattle.olr_route.specs.Shortest.{AreGroups, FollowsFirstTight};
 ghost use Rattle.olr_route.specs.Least.{HasNoWalkWithin};
-ghost use Rattle.olr_route.specs.Reach.{AreLengthsOn, Tells};
+ghost use Rattle.olr_route.specs.Reach.{AreLengthsOn, Covers};
 ghost use Rattle.olr_route.specs.Route.{IsRouteWithin};
 ghost use Rattle.olr_route.specs.Sharing.{Serves};
 ghost use Rattle.olr_route.specs.Walk.{length_at};
@@ -18,8 +18,8 @@ use crate::search::Search;
 use crate::sharing::rest_of_line;
 use crate::shortest::lines_on_shortest_paths;
 use crate::tight_turns::first_tight_turn;
-use olr_map::{Map, Place, sound};
-use olr_metric::NoMemory;
+use olr_base::NoMemory;
+use olr_road::{Map, Place, sound};
 use std::alloc::Global;
 
 /// The piece from a place to the end of its line.
@@ -96,7 +96,7 @@ impl Reach {
         requires from { IsDeparture map.now from }
         requires serves { Serves map.now self.now.class self.now.from from }
         requires on_map { IsPlace map.now to }
-        requires tells { Tells self.now to.line }
+        requires covers { Covers self.now to.line }
 
         ensures { IfOk result (λ route. MatchOption route
             (HasNoWalkWithin map.now self.now.class from to self.now.limit)
@@ -122,8 +122,8 @@ impl Reach {
 
     /// The route to a place, from the lengths that are at hand: what [`route`] answers for their
     /// class limit, their place and their limit. The place has to be on the map
-    /// ([`is_on_map`](crate::is_on_map)) and one of those that the search tells of
-    /// ([`Reach::tells`]), and the map the one that the lengths were made from.
+    /// ([`is_on_map`](crate::is_on_map)) and one of those that the search covers
+    /// ([`Reach::covers`]), and the map the one that the lengths were made from.
     ///
     /// Its time is in proportion to the lines that end where a line on a shortest path to the place
     /// starts, and the bans on turns from them, times a logarithm, however many lines the search
@@ -142,7 +142,7 @@ impl Reach {
     ) -> Result<Option<Vec<Piece>>, NoMemory>
         requires held { AreLengthsOn map.now self.now }
         requires on_map { IsPlace map.now to }
-        requires tells { Tells self.now to.line }
+        requires covers { Covers self.now to.line }
 
         ensures { IfOk result (λ route. MatchOption route
             (HasNoWalkWithin map.now self.now.class self.now.from to self.now.limit)

@@ -1,6 +1,6 @@
 //! What is asked of a search.
 
-use olr_map::{Goals, Map, Place};
+use olr_road::{Goals, Map, Place};
 
 /// What is asked of a search: the map, the greatest class of lines to drive on, the place from
 /// which it starts, the limit to lengths in decimetres, and the lines to whose starts lengths are

@@ -1,16 +1,16 @@
 //! Departures that share a search, and so their lengths. Lengths and limits are in decimetres.
 
 ghost use Rattle.std.specs.Prelude.{◌≡◌, ◌<◌, length, Decides};
-ghost use Rattle.olr_map.specs.Place.{IsDeparture, IsPlace};
+ghost use Rattle.olr_road.specs.Place.{IsDeparture, IsPlace};
 ghost use Rattle.olr_route.specs.Least.{IsLengthWithin};
-ghost use Rattle.olr_route.specs.Reach.{AreLengthsOn, Tells};
+ghost use Rattle.olr_route.specs.Reach.{AreLengthsOn, Covers};
 ghost use Rattle.olr_route.specs.Sharing.{LeadOnAlike, Serves};
 ghost use Rattle.olr_route.specs.Steps.{rest_of_line};
 
 use crate::endpoints::{is_ahead, is_open_up_to};
 use crate::line_end::sum_within;
 use crate::reach::Reach;
-use olr_map::{Map, Place, sound};
+use olr_road::{Map, Place, sound};
 
 /// A sufficient test for two lines that the same lines may follow under a class limit: both are let
 /// through, they end at one node, and no turn from the end of either is banned.
@@ -59,14 +59,14 @@ impl Reach {
     /// The least length from a place that the search serves ([`shares_search`]), in decimetres,
     /// where it is at most the limit; else none: what [`Reach::length_to`] of a search from there
     /// answers. `to` has to be on the map ([`is_on_map`](crate::is_on_map)) and one of the places
-    /// that the search tells of ([`Reach::tells`]), and the map the one that the lengths were made
+    /// that the search covers ([`Reach::covers`]), and the map the one that the lengths were made
     /// from.
     pub fn length_from(&self, map: &Map, from: Place, to: Place) -> Option<u64>
         requires held { AreLengthsOn map.now self.now }
         requires from { IsDeparture map.now from }
         requires serves { Serves map.now self.now.class self.now.from from }
         requires on_map { IsPlace map.now to }
-        requires tells { Tells self.now to.line }
+        requires covers { Covers self.now to.line }
 
         ensures { IsLengthWithin map.now self.now.class from to self.now.limit result }
     {

@@ -9,8 +9,8 @@ use crate::groups::Groups;
 use crate::search::Search;
 use crate::starts::Starts;
 use crate::tight_turns::has_tight_turn;
-use olr_map::{Place, sound};
-use olr_metric::NoMemory;
+use olr_base::NoMemory;
+use olr_road::{Place, sound};
 use std::alloc::Global;
 
 /// The least length to the start of a line, if that and the line's own length are the length

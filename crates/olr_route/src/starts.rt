@@ -2,13 +2,13 @@
 
 ghost use Rattle.std.specs.Prelude.{◌≡◌, ◌<◌, ℕ, length, nat_eq, IfOk, None};
 ghost use Rattle.std.specs.HashMap.{get};
-ghost use Rattle.olr_map.specs.RoadMap.{RoadMap};
+ghost use Rattle.olr_road.specs.RoadMap.{RoadMap};
 ghost use Rattle.olr_route.specs.NodeLengths.{length_of};
 ghost use Rattle.olr_route.specs.Starts.{table_in};
 
 use crate::node_lengths::NodeLengths;
-use olr_map::Map;
-use olr_metric::NoMemory;
+use olr_base::NoMemory;
+use olr_road::Map;
 use std::alloc::Global;
 use std::collections::HashMap;
 

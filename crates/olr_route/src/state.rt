@@ -1,8 +1,8 @@
 //! How far a search has come.
 
 ghost use Rattle.std.specs.Prelude.{◌≡◌, ◌+◌, [], ℕ, IfOk, MatchBool, None, ⊤};
-ghost use Rattle.olr_map.specs.RoadMap.{RoadMap};
-ghost use Rattle.olr_map.specs.Steps.{IsStepOf};
+ghost use Rattle.olr_road.specs.RoadMap.{RoadMap};
+ghost use Rattle.olr_road.specs.Steps.{IsStepOf};
 ghost use Rattle.olr_route.specs.Dijkstra.{AreNodes, HasGoalsOnMap, IsDone, IsDoneAt, IsPushed};
 ghost use Rattle.olr_route.specs.Starts.{table_in};
 ghost use Rattle.olr_route.specs.Walk.{length_at};
@@ -10,8 +10,8 @@ ghost use Rattle.olr_route.specs.Walk.{length_at};
 use crate::queue::Queue;
 use crate::search::Search;
 use crate::starts::Starts;
-use olr_map::{Map, Step};
-use olr_metric::NoMemory;
+use olr_base::NoMemory;
+use olr_road::{Map, Step};
 use std::alloc::Global;
 use std::collections::HashMap;
 

@@ -2,7 +2,7 @@
 //! that end. Lengths and limits are in decimetres.
 
 ghost use Rattle.std.specs.Prelude.{ℕ, Decides, MatchBool};
-ghost use Rattle.olr_map.specs.Place.{IsPlace};
+ghost use Rattle.olr_road.specs.Place.{IsPlace};
 ghost use Rattle.olr_route.specs.Shortest.{AreGroups, AreTightAhead, HasUpTo, IsFirstTight};
 ghost use Rattle.olr_route.specs.Shortest.{IsTightIn};
 
@@ -10,7 +10,7 @@ use crate::groups::Groups;
 use crate::line_end::length_at_end;
 use crate::search::Search;
 use crate::turn::is_allowed;
-use olr_map::Place;
+use olr_road::Place;
 
 /// The lines of `groups` that start where a place's line ends, and to whose start the least length
 /// is that to this end. Those turns to them that aren't banned are the tight ones. `so_far` is the

@@ -4,7 +4,7 @@ ghost use Rattle.std.specs.Prelude.{map, MatchBool};
 ghost use Rattle.std.specs.List.Sorted.{IsStrictlyIncreasing};
 ghost use Rattle.olr_route.specs.Turn.{IsAllowed, IsNoneTo};
 
-use olr_map::{Ban, Map};
+use olr_road::{Ban, Map};
 
 /// Whether the turn from the end of a line to a line isn't banned.
 pub(crate) fn is_allowed(map: &Map, line: u32, next: u32) -> bool

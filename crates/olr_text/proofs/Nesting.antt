@@ -1,5 +1,5 @@
 -- How deep the values of JSON nest that are made of others.
-use Rattle.std.proofs.Common.{◌<◌, ◌-◌, ℕ, List, [], ◌∷◌, map, Option, None, Some}
+use Rattle.std.proofs.Common.{ℕ, List, [], ◌∷◌, map, Option, None, Some}
 use Rattle.serde_json.specs.Data.{Data}
 use Rattle.serde_json.specs.View.{items_of}
 use Rattle.olr_text.specs.JsonValues.{ItemsNestWithin, NestsWithin, or_null}

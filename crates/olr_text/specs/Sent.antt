@@ -1,5 +1,5 @@
 -- The events that stand for a value of JSON whose text reads as this value.
-use Rattle.std.specs.Prelude.{◌≡◌, ℕ, ◌+◌, ◌^◌, ◌<◌, pos, negsuc, List, Some}
+use Rattle.std.specs.Prelude.{◌≡◌, ◌+◌, ◌^◌, ◌<◌, pos, negsuc, Some}
 use Rattle.serde.specs.Event as event
 use Rattle.serde.specs.Event.{Log, Logs}
 use Rattle.serde.specs.declared.name.Case.TheVariants.{AsIs}

@@ -8,7 +8,7 @@ ghost use Rattle.olr_text.specs.JsonValues.{IsJsonLine, NestsWithin, array_of, i
 ghost use Rattle.olr_text.specs.Sent.{AreOrdered, Sends, SendsMembers};
 
 use arrayvec::{ArrayString, ArrayVec};
-use olr_metric::NoMemory;
+use olr_base::NoMemory;
 use serde::{Described, Serialize, Serializer};
 use std::alloc::Global;
 

@@ -4,7 +4,7 @@
 //! of their legs, one by one and together. A call that is made once more is named on the standard
 //! error. `attacks/again.py` refuses each allocation in turn, and compares what is printed.
 
-ghost use Rattle.std.specs.Prelude.{◌≡◌, All, IsTrue};
+ghost use Rattle.std.specs.Prelude.{All, IsTrue};
 ghost use Rattle.olr_keys.specs.Matching.{IsKey};
 ghost use Rattle.olr_matching.specs.Layers.{AreLayersOn};
 
@@ -15,8 +15,8 @@ use olr_candidates::Tolerances;
 use olr_keys::{
     BoundFinder, Cursor, Finder, Key, Page, PageSize, ProductFinder, TotalsFinder, page,
 };
-use olr_map::Map;
 use olr_matching::{Layers, Matched, Routes};
+use olr_road::Map;
 
 /// The most calls of one kind.
 const MOST: u32 = 100;

@@ -1,12 +1,12 @@
 //! The least lengths from places that are spread over a map.
 
 ghost use Rattle.std.specs.Prelude.{ℕ, IfSome};
-ghost use Rattle.olr_map.specs.Place.{IsDeparture};
-ghost use Rattle.olr_route.specs.Reach.{AreLengthsOn, Tells};
+ghost use Rattle.olr_road.specs.Place.{IsDeparture};
+ghost use Rattle.olr_route.specs.Reach.{AreLengthsOn, Covers};
 
 use crate::NO_MEMORY;
 use anyhow::{Context, Result};
-use olr_map::{Map, Place};
+use olr_road::{Map, Place};
 use olr_route::{Reach, is_before_end, is_on_map, lengths_from};
 use std::alloc::Global;
 use std::time::Instant;
@@ -30,7 +30,7 @@ fn place_of(map: &Map, number: u8) -> Option<Place>
 /// Adds how many starts of lines are reached, and the sum of the lengths to them in decimetres.
 fn add(map: &Map, reach: &Reach, sums: &mut (u64, u64))
     requires held { AreLengthsOn map.now reach.now }
-    requires tells { (line : ℕ) → Tells reach.now line }
+    requires covers { (line : ℕ) → Covers reach.now line }
 {
     for line in 0..map.count() {
         let start = Place { line, at: 0 };

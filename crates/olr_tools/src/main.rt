@@ -10,7 +10,8 @@ mod rows;
 mod widest;
 
 use anyhow::{Context, Result, bail};
-use olr_map::{In, Map, read_map, read_map_with_bans};
+use olr_map::{In, read_map, read_map_with_bans};
+use olr_road::Map;
 use std::{env, fs};
 
 /// What the words may be.

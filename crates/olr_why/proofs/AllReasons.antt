@@ -1,12 +1,6 @@
 -- The verdict and the legs of a reference, by what is known of its layers.
-use Rattle.std.proofs.Common.{ℕ, List, refl}
-use Rattle.olr_why.proofs.Common.{AreLayersOn, Crowded, LayersValue, LegReason, Reference, RoadMap, Tolerances, Verdict}
-use Rattle.olr_candidates.specs.Laws.{NoListOfPointAndTooMany, NoListsAndTooMany}
-use Rattle.olr_candidates.specs.Points.{IsLayersFault}
+use Rattle.olr_why.proofs.Common.{AreLayersOn, Crowded, LayersValue, LegReason, Reference, RoadMap, Tolerances, Verdict, ℕ, List, refl, NoListOfPointAndTooMany, NoListsAndTooMany, IsLayersFault, AreLegReasons, AreLegsFor, IsVerdict}
 use Rattle.olr_candidates.specs.declared.fault.LayersFault.TheVariants.{TooManyCandidates}
-use Rattle.olr_why.specs.Legs.{AreLegReasons}
-use Rattle.olr_why.specs.Reasons.{AreLegsFor}
-use Rattle.olr_why.specs.Verdict.{IsVerdict}
 
 pub crowded_verdict : NoListOfPointAndTooMany
     → (road : RoadMap) (tolerances : Tolerances) (reference : Reference) (number : ℕ)

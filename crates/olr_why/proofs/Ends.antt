@@ -1,16 +1,7 @@
 -- Where tuples end by the layers of a reference, and by the places of its candidates: so there is a
 -- tuple of the first points exactly where one ends at their last one.
-use Rattle.std.proofs.Common.{◌≡◌, ℕ, zero, suc, add-one, ◌+◌, ◌-◌, ◌<◌, ◌≤◌, List, [], ◌∷◌, length, refl, subst, arith}
-use Rattle.std.specs.Prelude.{⊤, Any, Contains, slice_index_or}
-use Rattle.std.proofs.lemmas.Option.{slice_get_within}
-use Rattle.olr_why.proofs.Common.{Candidate, points_of, RoadMap}
-use Rattle.olr_matching.specs.Layers.{AreLayersOn, IsCandidateOf, LayersValue, length_at}
-use Rattle.olr_matching.proofs.Points.{at_least_two}
-use Rattle.olr_why.specs.Chain.{AdmitsPlaces, HasMatching, HasTuple}
-use Rattle.olr_why.specs.inner.Ends.{AreEnds, IsEnd, IsJoined}
-use Rattle.olr_why.specs.Verdict.{HasNoTuple, IsFirst}
+use Rattle.olr_why.proofs.Common.{Candidate, points_of, RoadMap, ◌≡◌, ℕ, zero, suc, add-one, ◌+◌, ◌-◌, ◌<◌, ◌≤◌, List, [], ◌∷◌, length, refl, subst, arith, ⊤, Any, Contains, slice_index_or, slice_get_within, AreLayersOn, IsCandidateOf, LayersValue, length_at, at_least_two, AdmitsPlaces, HasMatching, HasTuple, AreEnds, IsEnd, IsJoined, HasNoTuple, IsFirst, some_at}
 use Rattle.olr_why.proofs.Lists.{AreBelow, is_some_from, some_of}
-use Rattle.olr_matching.proofs.Points.{some_at}
 use Rattle.olr_why.proofs.Places.{admits, candidate_in_layer, length_of, place_in_layer}
 use Rattle.olr_why.proofs.Tuples.{EndsAt, ends_at_candidate, fewer, last_of, tuple_to}
 

@@ -1,17 +1,12 @@
 -- The least value of a tolerance that is enough lies between two values, which come closer with
 -- each trial. So does the greatest one below the given one with which no point has too many
 -- candidates.
-use Rattle.std.proofs.Common.{◌≡◌, ◌≢◌, ℕ, ◌+◌, ◌<◌, ◌≤◌, None, Some, inl, inr, arith, Option, MatchOption}
-use Rattle.std.proofs.lemmas.Bool.{cases_lt}
-use Rattle.olr_why.proofs.Common.{KeyValue, Lowest, MatchingHasKey, Name, NoMatching, OneCandidateALine, Reference, RoadMap, Tolerances}
-use Rattle.olr_candidates.specs.Tolerances.{greatest_of, order_of, least_of}
-use Rattle.olr_why.specs.Remedies.{IsEnough, IsLeastEnough, value_of, IsGreatestUncrowded, IsUncrowdedWith}
-use Rattle.olr_why.specs.inner.Trying.{IsBracket, IsNoneUpTo, IsTrialWith, IsGreatest, IsMatchingWith}
+use Rattle.olr_why.proofs.Common.{KeyValue, Lowest, MatchingHasKey, Tolerance, NoMatching, OneCandidateALine, Reference, RoadMap, Tolerances, ◌≡◌, ◌≢◌, ℕ, ◌+◌, ◌<◌, ◌≤◌, None, Some, inl, inr, arith, Option, MatchOption, cases_lt, greatest_of, order_of, least_of, IsEnough, IsLeastEnough, value_of, IsGreatestUncrowded, IsUncrowdedWith, IsBracket, IsNoneUpTo, IsTrialWith, IsGreatest, IsMatchingWith}
 use Rattle.olr_why.specs.declared.bracket.Bracket.{Bracket}
 use Rattle.olr_why.specs.declared.trial.Trial.TheVariants.{Crowded, Matching}
 use Rattle.olr_why.proofs.Tried.{crowded_up_is_none, least_enough, none_up_to, value_in_range, crowded_from}
 
-module _ (road : RoadMap) (reference : Reference) (given : Tolerances) (name : Name) where
+module _ (road : RoadMap) (reference : Reference) (given : Tolerances) (name : Tolerance) where
   -- no value above the given one is enough
   abbrev pub IsNoneAbove : Type 0
   IsNoneAbove = (value : ℕ) → value_of given name < value → IsEnough road given reference name value
@@ -22,7 +17,7 @@ module _ (road : RoadMap) (reference : Reference) (given : Tolerances) (name : N
   AreAllCrowded = (value : ℕ) → value < value_of given name
       → IsUncrowdedWith road given reference name value → ⊥
 
-module _ {road : RoadMap} {reference : Reference} {given : Tolerances} {name : Name} where
+module _ {road : RoadMap} {reference : Reference} {given : Tolerances} {name : Tolerance} where
   -- where none is enough up to the greatest value, none is
   pub none_up_to_greatest : IsNoneUpTo road given reference name (greatest_of name)
       → IsNoneAbove road reference given name

@@ -1,17 +1,10 @@
 -- A point without candidates, a leg without pairs, and how many pairs a leg has, by the layers of
 -- their reference.
-use Rattle.std.proofs.Common.{◌≡◌, ℕ, ◌+◌, ◌*◌, ◌/◌, ◌%◌, ◌<◌, List, [], length, arith, Option, Some, Any, IsSome, slice_index_or, ◌≤◌}
-use Rattle.std.proofs.Math.Nat.{div-add-mod, div-lt_iff_lt-mul, mod-lt}
-use Rattle.std.proofs.lemmas.Option.{slice_get_within}
-use Rattle.olr_why.proofs.Common.{AdmitsPlaces, Candidate, leads_on, points_of, RoadMap, Next}
-use Rattle.olr_matching.specs.Layers.{AreLayersOn, LayersValue, length_at, LeadsOn}
-use Rattle.olr_matching.proofs.OneLayers.{long, not_empty}
-use Rattle.olr_why.specs.Verdict.{AdmitsNone, HasNoCandidate}
+use Rattle.olr_why.proofs.Common.{AdmitsPlaces, Candidate, leads_on, points_of, RoadMap, Next, ◌≡◌, ℕ, ◌+◌, ◌*◌, ◌/◌, ◌%◌, ◌<◌, List, [], length, arith, Option, Some, Any, IsSome, slice_index_or, ◌≤◌, div-add-mod, div-lt_iff_lt-mul, mod-lt, slice_get_within, AreLayersOn, LayersValue, length_at, LeadsOn, long, not_empty, AdmitsNone, HasNoCandidate, count_is, layers_count}
 use Rattle.olr_why.proofs.Lists.{any_some, some_at}
 use Rattle.olr_matching.proofs.Points.{some_at as at_index}
 use Rattle.olr_why.proofs.Places.{admits, candidate_in_layer, length_of, place_in_layer}
 use Rattle.std.proofs.lemmas.Nat.{mul-le}
-use Rattle.olr_matching.proofs.LegLaws.{count_is, layers_count}
 
 module _ {road : RoadMap} {layers : LayersValue} (are : AreLayersOn road layers) where
   -- ---- points

@@ -1,10 +1,6 @@
 -- Options, and lists by their indices.
-use Rattle.std.proofs.Common.{◌≡◌, ℕ, ◌+◌, ◌<◌, List, [], ◌∷◌, ◌++◌, length, refl, sym, ◌∙◌, ap, subst, inl, inr, arith, ◌↔◌, Bool, true, false, Option, None, Some, MatchOption, Any, Contains, IsSome, is_some, slice_get, slice_index_or}
+use Rattle.olr_why.proofs.Common.{◌≡◌, ℕ, ◌+◌, ◌<◌, List, [], ◌∷◌, ◌++◌, length, refl, sym, ◌∙◌, ap, subst, inl, inr, arith, ◌↔◌, Bool, true, false, Option, None, Some, MatchOption, Any, Contains, IsSome, is_some, slice_get, slice_index_or, cases_lt, get_or_default, length_push, Contains-append_left, Contains-push, Contains-push_cases, push_each}
 use Rattle.std.proofs.Math.ListN.{get_or-eq_default}
-use Rattle.std.proofs.lemmas.Bool.{cases_lt}
-use Rattle.std.proofs.lemmas.List.{get_or_default, length_push}
-use Rattle.std.proofs.lemmas.List.Elements.{Contains-append_left, Contains-push, Contains-push_cases}
-use Rattle.olr_matching.proofs.Lists.{push_each}
 
 pub some_of : {X : Type 0} (o : Option X) → IsSome o → (x : X) × (o ≡ Some x)
 some_of None is = absurd cc

@@ -1,10 +1,7 @@
 -- A tuple of candidates of all points and a matching by ranks are the same, so there is one exactly
 -- where the table of the layers has a key.
-use Rattle.std.proofs.Common.{◌≡◌, ℕ, ◌+◌, ◌-◌, List, [], ◌∷◌, length, refl, subst, arith, Some, slice_get, slice_index_or}
-use Rattle.olr_why.proofs.Common.{AdmitsPlaces, AreAdmitted, AreAdmittedBehind, AreLayersOn, Candidate, HasMatching, IsCandidatePlace, KeyValue, LayersValue, MatchingHasKey, Place, points_of, RoadMap}
+use Rattle.olr_why.proofs.Common.{AdmitsPlaces, AreAdmitted, AreAdmittedBehind, AreLayersOn, Candidate, HasMatching, IsCandidatePlace, KeyValue, LayersValue, MatchingHasKey, Place, points_of, RoadMap, ◌≡◌, ℕ, ◌+◌, ◌-◌, List, [], ◌∷◌, length, refl, subst, arith, Some, slice_get, slice_index_or, leg_penalty, at_least_two}
 use Rattle.olr_matching.specs.Admissible.{Admits, HasCandidate, IsMatching, IsRestBehind, KeysAreOfMatchings}
-use Rattle.olr_matching.specs.Leg.{leg_penalty}
-use Rattle.olr_matching.proofs.Points.{at_least_two}
 use Rattle.olr_why.proofs.Places.{candidate_in_layer, is_point, list_of_point, place_of}
 
 module _ {road : RoadMap} {layers : LayersValue} (are : AreLayersOn road layers) where

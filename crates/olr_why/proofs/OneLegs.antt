@@ -1,19 +1,8 @@
 -- A pair of candidates of a leg has one length and one better class limit; so a leg has one list of
 -- pairs, and the legs of a reference are the same in all reasons.
-use Rattle.std.proofs.Common.{◌≡◌, ℕ, ◌+◌, ◌*◌, ◌/◌, ◌%◌, ◌<◌, ◌⊎◌, List, length, inl, inr, refl, sym, ◌∙◌, ap, arith, Option, None, Some, eq-zero-or-pos}
-use Rattle.std.proofs.Math.Nat.{div-add-mod, div-lt_iff_lt-mul, mod-lt}
-use Rattle.std.proofs.lemmas.Bool.{cases_lt}
-use Rattle.std.proofs.lemmas.Option.{slice_get_within}
-use Rattle.olr_why.proofs.Common.{Better, Candidate, class_limit, greatest_admitted, Next, PairLength, Place, RoadMap, Tolerances, Crowded, LayersValue, LegReason, OneLayers, Reference, Verdict}
+use Rattle.olr_why.proofs.Common.{Better, Candidate, class_limit, greatest_admitted, Next, PairLength, Place, RoadMap, Tolerances, Crowded, LayersValue, LegReason, OneLayers, Reference, Verdict, ◌≡◌, ℕ, ◌+◌, ◌*◌, ◌/◌, ◌%◌, ◌<◌, ◌⊎◌, List, length, inl, inr, refl, sym, ◌∙◌, ap, arith, Option, None, Some, eq-zero-or-pos, div-add-mod, div-lt_iff_lt-mul, mod-lt, cases_lt, slice_get_within, by_index, not_empty, some_at, IsLengthWithin, ArePairs, IsBetter, IsPairLength, IsUpTo, far, AreLegReasons, IsLegReason, one_next, AreLegs, AreLegsFor}
 use Rattle.olr_matching.proofs.Admitted.{one_length as one_least}
-use Rattle.olr_matching.proofs.Lists.{by_index}
-use Rattle.olr_matching.proofs.OneLayers.{not_empty}
-use Rattle.olr_matching.proofs.Points.{some_at}
-use Rattle.olr_route.specs.Least.{IsLengthWithin}
-use Rattle.olr_why.specs.Legs.{ArePairs, IsBetter, IsPairLength, IsUpTo, far, AreLegReasons, IsLegReason}
 use Rattle.olr_why.proofs.Lists.{one_option}
-use Rattle.olr_matching.proofs.Pairs.{one_next}
-use Rattle.olr_why.specs.Reasons.{AreLegs, AreLegsFor}
 
 up_to_or_not : (length : Option ℕ) (greatest : ℕ) → IsUpTo length greatest
     ⊎ (IsUpTo length greatest → ⊥)

@@ -1,14 +1,6 @@
 -- What would help a reference is the same in all reasons.
-use Rattle.std.proofs.Common.{◌≡◌, ℕ, ◌<◌, List, refl, sym, ◌∙◌, ap, arith, MatchOption, Option, Some, slice_get}
-use Rattle.olr_why.proofs.Common.{KeyValue, MatchingHasKey, Name, OneLayers, Reference, RoadMap, Tolerances, Verdict}
-use Rattle.olr_candidates.proofs.Values.{one_changed}
-use Rattle.olr_keys.specs.Laws.{OneList}
-use Rattle.olr_matching.proofs.Lists.{same_some}
-use Rattle.olr_why.specs.Chain.{HasMatching, IsFirstMatching}
-use Rattle.olr_why.specs.Remedies.{AreRemedies, AreWider, IsGreatestUncrowded, IsLeastEnough, IsNarrower, IsRemedyWithoutBans, IsWider, by_trust, narrowed, without_bans}
-use Rattle.olr_why.specs.declared.remedy.Change.TheVariants.{Tolerance}
-use Rattle.olr_why.specs.declared.remedy.Remedy.{Remedy}
-use Rattle.olr_why.specs.declared.verdict.Verdict.TheVariants.{Crowded, Match}
+use Rattle.olr_why.proofs.Common.{KeyValue, MatchingHasKey, Tolerance, OneLayers, Reference, RoadMap, Tolerances, Verdict, ◌≡◌, ℕ, ◌<◌, List, refl, sym, ◌∙◌, ap, arith, MatchOption, Option, Some, slice_get, one_changed, OneList, same_some, HasMatching, IsFirstMatching, AreRemedies, AreWider, IsGreatestUncrowded, IsLeastEnough, IsNarrower, IsRemedyWithoutBans, IsWider, by_trust, narrowed, without_bans, Remedy, Crowded, Match}
+use Rattle.olr_why.specs.declared.remedy.Change.TheVariants.{Set}
 use Rattle.olr_why.proofs.Lists.{one_option}
 use Rattle.olr_why.proofs.OfNames.{one_of_names}
 use Rattle.olr_why.proofs.Tried.{has_matching}
@@ -43,7 +35,7 @@ module _ (one_layers : OneLayers) (one_list : OneList) (has_key : MatchingHasKey
   module _ (road : RoadMap) (given : Tolerances) where
     -- ---- a greater value
 
-    one_least_enough : {name : Name} {value : ℕ} {a b : KeyValue}
+    one_least_enough : {name : Tolerance} {value : ℕ} {a b : KeyValue}
         → IsLeastEnough road given reference name value a
         → IsLeastEnough road given reference name value b → a ≡ b
     one_least_enough {a} {b} one other =
@@ -51,7 +43,7 @@ module _ (one_layers : OneLayers) (one_list : OneList) (has_key : MatchingHasKey
         (rw (one_changed one.enough.is_changed other.enough.is_changed) at one.first)
         other.first
 
-    one_wider : (name : Name) (a b : Option Remedy) → IsWider road given reference name a
+    one_wider : (name : Tolerance) (a b : Option Remedy) → IsWider road given reference name a
         → IsWider road given reference name b → a ≡ b
     one_wider name a b = one_option a b (λ remedy is none. none is.0 is.4.above is.4.enough) λ x y
         is also.
@@ -59,7 +51,7 @@ module _ (one_layers : OneLayers) (one_list : OneList) (has_key : MatchingHasKey
         (λ more. is.4.least also.0 also.4.above more also.4.enough) in
         let keys = one_least_enough (rw values at is.4) also.4 in
         λ i. record {
-          change = (is.2 ∙ ap (Tolerance name) values ∙ sym also.2) i;
+          change = (is.2 ∙ ap (Set name) values ∙ sym also.2) i;
           matching =
               (is.3 ∙ ap Some keys ∙ sym also.3) i;
         }
@@ -80,7 +72,7 @@ module _ (one_layers : OneLayers) (one_list : OneList) (has_key : MatchingHasKey
 
     -- ---- a lesser value
 
-    one_greatest : {name : Name} {value : ℕ} (a b : Option KeyValue)
+    one_greatest : {name : Tolerance} {value : ℕ} (a b : Option KeyValue)
         → IsGreatestUncrowded road given reference name value a
         → IsGreatestUncrowded road given reference name value b → a ≡ b
     one_greatest a b one other =
@@ -88,7 +80,7 @@ module _ (one_layers : OneLayers) (one_list : OneList) (has_key : MatchingHasKey
         (rw (one_changed one.enough.is_changed other.enough.is_changed) at one.first)
         other.first
 
-    one_narrower : (name : Name) (a b : Option Remedy) → IsNarrower road given reference name a
+    one_narrower : (name : Tolerance) (a b : Option Remedy) → IsNarrower road given reference name a
         → IsNarrower road given reference name b → a ≡ b
     one_narrower name a b = one_option a b (λ remedy is none. none is.0 is.2.below is.2.enough) λ x
         y is also.
@@ -96,7 +88,7 @@ module _ (one_layers : OneLayers) (one_list : OneList) (has_key : MatchingHasKey
         (λ more. also.2.greatest is.0 more is.2.below is.2.enough) in
         let matchings = one_greatest x.matching y.matching (rw values at is.2) also.2 in
         λ i. record {
-          change = (is.1 ∙ ap (Tolerance name) values ∙ sym also.1) i;
+          change = (is.1 ∙ ap (Set name) values ∙ sym also.1) i;
           matching =
               matchings i;
         }

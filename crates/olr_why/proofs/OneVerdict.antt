@@ -1,13 +1,6 @@
 -- A reference has one verdict; it is that there is a matching exactly where the table of its layers
 -- has answers.
-use Rattle.std.proofs.Common.{◌≡◌, ◌≢◌, ℕ, List, [], ◌∷◌, length, refl, inl, inr, ap, arith}
-use Rattle.std.proofs.lemmas.Bool.{cases_lt}
-use Rattle.std.proofs.lemmas.Option.{slice_get_within}
-use Rattle.olr_why.proofs.Common.{AreAnswers, AreLayersOn, HasMatching, IsUncrowded, KeyValue, LayersValue, NoListsAndTooMany, Penalties, points_of, Reference, RoadMap, Tolerances, Verdict}
-use Rattle.olr_keys.specs.Matching.{IsKey}
-use Rattle.olr_why.specs.Laws.{MatchHasAnswers, MatchingHasKey}
-use Rattle.olr_why.specs.Verdict.{HasNoTuple, HaveCandidates, HavePairs, IsFirst, IsVerdict}
-use Rattle.olr_why.specs.declared.verdict.Verdict.TheVariants.{Chain, Crowded, Leg, Match, Point}
+use Rattle.olr_why.proofs.Common.{AreAnswers, AreLayersOn, HasMatching, IsUncrowded, KeyValue, LayersValue, NoListsAndTooMany, Penalties, points_of, Reference, RoadMap, Tolerances, Verdict, ◌≡◌, ◌≢◌, ℕ, List, [], ◌∷◌, length, refl, inl, inr, ap, arith, cases_lt, slice_get_within, IsKey, MatchHasAnswers, MatchingHasKey, HasNoTuple, HaveCandidates, HavePairs, IsFirst, IsVerdict, Chain, Crowded, Leg, Match, Point}
 use Rattle.olr_why.proofs.Tuples.{candidate_of, fewer, pair_of}
 
 -- there is one least number

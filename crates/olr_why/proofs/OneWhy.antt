@@ -1,13 +1,7 @@
 -- The map, the reference, the tolerances and the count of nearest lines determine the points and
 -- all reasons.
-use Rattle.std.proofs.Common.{◌≡◌, ℕ, List, length, sym, ◌∙◌, ap, Option}
-use Rattle.olr_why.proofs.Common.{PointReason, Reference, RoadMap, Tolerances, OneLayers}
-use Rattle.olr_candidates.specs.Laws.{NoListOfPointAndTooMany, OneListOfNearest, OneListOfPoint}
-use Rattle.olr_why.specs.Reasons.{ArePointReasons, IsCountOf}
-use Rattle.olr_matching.proofs.Lists.{by_index}
+use Rattle.olr_why.proofs.Common.{PointReason, Reference, RoadMap, Tolerances, OneLayers, ◌≡◌, ℕ, List, length, sym, ◌∙◌, ap, Option, NoListOfPointAndTooMany, OneListOfNearest, OneListOfPoint, ArePointReasons, IsCountOf, by_index, OneList, MatchingHasKey, OneVerdict, OneWhy}
 use Rattle.olr_why.proofs.Lists.{one_option}
-use Rattle.olr_keys.specs.Laws.{OneList}
-use Rattle.olr_why.specs.Laws.{MatchingHasKey, OneVerdict, OneWhy}
 use Rattle.olr_why.proofs.OneLegs.{one_legs}
 use Rattle.olr_why.proofs.OneRemedies.{one_remedies}
 

@@ -1,9 +1,5 @@
 -- What one class limit more tells of a pair.
-use Rattle.std.proofs.Common.{◌≡◌, ℕ, ◌+◌, ◌<◌, inl, inr, refl, arith, Bool, false, Decides, IsSome, Option, None, Some}
-use Rattle.std.proofs.lemmas.Bool.{cases_lt}
-use Rattle.olr_why.proofs.Common.{Better, class_limit, greatest_admitted, Next, PairLength, Place, RoadMap, Tolerances}
-use Rattle.olr_why.specs.Legs.{IsBetter, IsPairLength, IsShorterUnder}
-use Rattle.olr_why.specs.inner.Pairs.{IsAnswered}
+use Rattle.olr_why.proofs.Common.{Better, class_limit, greatest_admitted, Next, PairLength, Place, RoadMap, Tolerances, ◌≡◌, ℕ, ◌+◌, ◌<◌, inl, inr, refl, arith, Bool, false, Decides, IsSome, Option, None, Some, cases_lt, IsBetter, IsPairLength, IsShorterUnder, IsAnswered}
 use Rattle.olr_why.proofs.Lists.{not_both}
 
 -- what isn't something is nothing

@@ -1,11 +1,5 @@
 -- Lists of pairs: those of a first candidate by their indices, and those of all, row by row.
-use Rattle.std.proofs.Common.{◌≡◌, ℕ, ◌+◌, ◌*◌, ◌<◌, ◌≤◌, List, [], ◌∷◌, ◌++◌, length, get_or, sym, ◌∙◌, ap, arith, All, None, Some, slice_get, add-mul, mul-le-mul_right, one-mul}
-use Rattle.std.proofs.lemmas.List.{get_or-append-add, get_or_append_left, length-append}
-use Rattle.std.proofs.lemmas.Option.{get_or_from_slice_get, slice_get-get_or, slice_get_within}
-use Rattle.olr_matching.proofs.Lists.{push_each}
-use Rattle.olr_why.proofs.Common.{all_at, Candidate, greatest_admitted, PairLength, Place}
-use Rattle.olr_why.specs.Legs.{ArePairs, IsPairLength}
-use Rattle.olr_why.specs.inner.Pairs.{ArePairsFrom, IsAnswered, IsPair, IsPairAt}
+use Rattle.olr_why.proofs.Common.{all_at, Candidate, greatest_admitted, PairLength, Place, ◌≡◌, ℕ, ◌+◌, ◌*◌, ◌<◌, ◌≤◌, List, [], ◌∷◌, ◌++◌, length, get_or, sym, ◌∙◌, ap, arith, All, None, Some, slice_get, add-mul, mul-le-mul_right, one-mul, get_or-append-add, get_or_append_left, length-append, get_or_from_slice_get, slice_get-get_or, slice_get_within, push_each, ArePairs, IsPairLength, ArePairsFrom, IsAnswered, IsPair, IsPairAt}
 use Rattle.olr_why.specs.declared.pairs.LegOnMap.{LegOnMap}
 use Rattle.olr_why.proofs.PairLengths.{still_answered}
 

@@ -1,15 +1,6 @@
 -- The places of the candidates of a point, and which pairs of them a leg admits, by the layers of
 -- their reference.
-use Rattle.std.proofs.Common.{◌≡◌, ℕ, ◌+◌, ◌<◌, List, [], length, refl, sym, ◌∙◌, ap, subst, arith, Option, Some, None, ◌==◌, Contains, slice_get, slice_index_or}
-use Rattle.std.proofs.lemmas.Option.{same_Some, slice_get-get_or, slice_get_within}
-use Rattle.olr_why.proofs.Common.{AdmitsPlaces, all_at, Candidate, IsCandidatePlace, leads_on, Next, Penalties, Place, points_of, Reference, RoadMap, Tolerances}
-use Rattle.olr_candidates.specs.Candidates.{IsCandidateAt, IsOneOf}
-use Rattle.olr_candidates.specs.Points.{AreCandidatesOf}
-use Rattle.olr_matching.specs.Layers.{AreLayersOn, IsCandidateOf, LayersValue, length_at}
-use Rattle.olr_matching.specs.Leg.{IsAdmitted, IsAdmittedLength}
-use Rattle.olr_matching.proofs.LegLaws.{layers_count}
-use Rattle.olr_matching.proofs.Pairs.{candidates_at}
-use Rattle.olr_metric.specs.Coordinates.{Coordinates, coordinates_of}
+use Rattle.olr_why.proofs.Common.{AdmitsPlaces, all_at, Candidate, IsCandidatePlace, leads_on, Next, Penalties, Place, points_of, Reference, RoadMap, Tolerances, ◌≡◌, ℕ, ◌+◌, ◌<◌, List, [], length, refl, sym, ◌∙◌, ap, subst, arith, Option, Some, None, ◌==◌, Contains, slice_get, slice_index_or, same_Some, slice_get-get_or, slice_get_within, IsCandidateAt, IsOneOf, AreCandidatesOf, AreLayersOn, IsCandidateOf, LayersValue, length_at, IsAdmitted, IsAdmittedLength, layers_count, candidates_at, Coordinates, coordinates_of}
 
 -- ---- a point
 

@@ -1,19 +1,11 @@
 -- What is found with some tolerances, by the candidates of the points and the keys of the layers'
 -- table.
-use Rattle.std.proofs.Common.{◌≡◌, zero, suc, ◌⊎◌, List, [], ◌∷◌, Option, None, Some, inl, inr, refl, ap, arith, AllPairs, Contains, slice_get, ℕ, ◌+◌, ◌*◌, ◌<◌, length, get_or, ◌∙◌, subst, All, Any, slice_index_or}
-use Rattle.olr_why.proofs.Common.{AreAnswers, Penalties, AdmitsPlaces, AreLayersOn, Candidate, HasMatching, IsUncrowded, KeyValue, LayersValue, MatchingHasKey, NoListsAndTooMany, points_of, Reference, RoadMap, Tolerances}
+use Rattle.olr_why.proofs.Common.{AreAnswers, Penalties, AdmitsPlaces, AreLayersOn, Candidate, HasMatching, IsUncrowded, KeyValue, LayersValue, MatchingHasKey, NoListsAndTooMany, points_of, Reference, RoadMap, Tolerances, ◌≡◌, zero, suc, ◌⊎◌, List, [], ◌∷◌, Option, None, Some, inl, inr, refl, ap, arith, AllPairs, Contains, slice_get, ℕ, ◌+◌, ◌*◌, ◌<◌, length, get_or, ◌∙◌, subst, All, Any, slice_index_or, IsFirstKey, IsTrial, cases_lt, get_or-map, get_or_past, length-map, nil_from_length, slice_get-get_or, slice_get_within, AreLists, lists_of, IsAdmittedLength, list_of}
 use Rattle.olr_keys.specs.Finder.{IsNext}
 use Rattle.olr_keys.specs.Key.{IsBefore}
 use Rattle.olr_keys.specs.Order.{asymmetric}
-use Rattle.olr_why.specs.inner.Trial.{IsFirstKey, IsTrial}
-use Rattle.std.proofs.lemmas.Bool.{cases_lt}
-use Rattle.std.proofs.lemmas.List.{get_or-map, get_or_past, length-map, nil_from_length}
-use Rattle.std.proofs.lemmas.Option.{slice_get-get_or, slice_get_within}
 use Rattle.arrayvec.specs.ArrayVec.{ArrayVec, array_vec_len}
-use Rattle.olr_candidates.specs.Points.{AreLists, lists_of}
-use Rattle.olr_matching.specs.Leg.{IsAdmittedLength}
-use Rattle.olr_matching.specs.Lengths.{HasShutLeg}
-use Rattle.olr_matching.proofs.Points.{list_of}
+use Rattle.olr_matching.specs.Lengths.{HasLegWithoutPair}
 use Rattle.olr_why.specs.declared.trial.Trial.TheVariants.{Matching, NoMatching}
 use Rattle.olr_why.proofs.Places.{candidate_at}
 use Rattle.olr_why.proofs.Tuples.{candidate_of, pair_of}
@@ -95,12 +87,12 @@ module _ {road : RoadMap} {tolerances : Tolerances} {reference : Reference} wher
           absurd (omega (arith, slice_get_within [] found.0 found.1 found.2))
 
       -- nor where a leg admits no pair of the candidates
-      none_without_pair : HasShutLeg road tolerances reference lists
+      none_without_pair : HasLegWithoutPair road tolerances reference lists
           → HasMatching road tolerances reference → ⊥
-      none_without_pair shut matching =
-          let index : ℕ = shut.layer in
+      none_without_pair lacks matching =
+          let index : ℕ = lacks.layer in
           let inside : index + 1 < length (points_of reference) =
-          omega (arith, shut.within, are.all) in
+          omega (arith, lacks.within, are.all) in
           let pair = pair_of index inside matching in
           let first = candidate_at (list_of _ _ _ _ index are (omega (arith, inside, are.all))).0
           pair.2 in
@@ -108,16 +100,16 @@ module _ {road : RoadMap} {tolerances : Tolerances} {reference : Reference} wher
           (omega (arith, inside, are.all))).0 pair.3 in
           let same : AdmitsPlaces road tolerances reference index first.1.place second.1.place =
           rw (first.3, second.3) pair.4 in
-          let known = (shut.are same.next same.leads_on).each first.0 second.0 first.1 second.1
+          let known = (lacks.are same.next same.leads_on).each first.0 second.0 first.1 second.1
           first.2 second.2 in
           (subst (IsAdmittedLength road tolerances same.next first.1.place second.1.place)
-          (none_at shut.lengths (first.0 * length (slice_index_or lists (index + 1) []) + second.0)
-          shut.none) known) same.length same.admitted
+          (none_at lacks.lengths (first.0 * length (slice_index_or lists (index + 1) []) + second.0)
+          lacks.none) known) same.length same.admitted
 
   pub trial_without_pair : {lists : List (List Candidate)} → NoListsAndTooMany
       → AreLists tolerances reference road.lines lists
-      → HasShutLeg road tolerances reference lists → IsTrial road tolerances reference NoMatching
-  trial_without_pair law are shut = (uncrowded road are law, none_without_pair are shut)
+      → HasLegWithoutPair road tolerances reference lists → IsTrial road tolerances reference NoMatching
+  trial_without_pair law are lacks = (uncrowded road are law, none_without_pair are lacks)
 
   pub trial_with_empty : NoListsAndTooMany → (lists : List (ArrayVec Candidate))
       → AreLists tolerances reference road.lines (lists_of lists)

@@ -1,13 +1,5 @@
 -- What one trial tells of the value that was tried, and of greater and lesser values.
-use Rattle.std.proofs.Common.{◌≢◌, ℕ, ◌<◌, ◌≤◌, subst}
-use Rattle.std.proofs.lemmas.Option.{slice_get_within}
-use Rattle.olr_why.proofs.Common.{all_at, IsTolerance, KeyValue, Lowest, MatchingHasKey, Name, OneCandidateALine, order_of, points_of, Reference, RoadMap, Tolerances}
-use Rattle.olr_candidates.proofs.Values.{in_range}
-use Rattle.olr_keys.specs.Matching.{IsKey}
-use Rattle.olr_why.specs.Chain.{HasMatching, IsFirstMatching, IsUncrowded}
-use Rattle.olr_why.specs.Remedies.{IsChanged, IsEnough, IsLeastEnough, value_of}
-use Rattle.olr_why.specs.inner.Trial.{IsCrowded}
-use Rattle.olr_why.specs.inner.Trying.{AreCrowdedFrom, IsNoneUpTo, IsTrialWith}
+use Rattle.olr_why.proofs.Common.{all_at, IsTolerance, KeyValue, Lowest, MatchingHasKey, Tolerance, OneCandidateALine, order_of, points_of, Reference, RoadMap, Tolerances, ◌≢◌, ℕ, ◌<◌, ◌≤◌, subst, slice_get_within, in_range, IsKey, HasMatching, IsFirstMatching, IsUncrowded, IsChanged, IsEnough, IsLeastEnough, value_of, IsCrowded, AreCrowdedFrom, IsNoneUpTo, IsTrialWith}
 use Rattle.olr_why.specs.declared.trial.Trial.TheVariants.{Crowded, Matching, NoMatching}
 use Rattle.olr_why.proofs.AtMost.{AreAtMost, at_most_same, at_most_wider}
 use Rattle.olr_why.proofs.Widened.{matching, too_many}
@@ -15,7 +7,7 @@ use Rattle.olr_why.proofs.Widened.{matching, too_many}
 -- ---- ranges
 
 -- a value that a tolerance has is within its range
-pub value_in_range : {name : Name} {value : ℕ} {given changed : Tolerances}
+pub value_in_range : {name : Tolerance} {value : ℕ} {given changed : Tolerances}
     → IsChanged name value given changed
     → IsTolerance name value
 value_in_range {name} {changed =
@@ -48,7 +40,7 @@ module _ (road : RoadMap) (reference : Reference) where
       after} law wide (index, many) =
       not_both after (index, too_many wide law reference road.lines index many)
 
-module _ {road : RoadMap} {reference : Reference} {given : Tolerances} {name : Name} where
+module _ {road : RoadMap} {reference : Reference} {given : Tolerances} {name : Tolerance} where
   -- ---- the value that was tried
 
   -- a value with which a point has too many candidates isn't enough

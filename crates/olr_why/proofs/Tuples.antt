@@ -1,8 +1,6 @@
 -- Tuples of candidates of neighbouring points, of which each leg admits the two that it joins:
 -- their last candidates, their parts, and shorter ones.
-use Rattle.std.proofs.Common.{◌≡◌, ℕ, zero, suc, add-one, add-zero, ◌+◌, ◌<◌, ◌≤◌, List, [], ◌∷◌, length, take, subst, arith, length-take-le}
-use Rattle.olr_why.proofs.Common.{Place, Reference, RoadMap, Tolerances}
-use Rattle.olr_why.specs.Chain.{AdmitsPlaces, AreAdmitted, AreAdmittedBehind, HasTuple, IsCandidatePlace}
+use Rattle.olr_why.proofs.Common.{Place, Reference, RoadMap, Tolerances, ◌≡◌, ℕ, zero, suc, add-one, add-zero, ◌+◌, ◌<◌, ◌≤◌, List, [], ◌∷◌, length, take, subst, arith, length-take-le, AdmitsPlaces, AreAdmitted, AreAdmittedBehind, HasTuple, IsCandidatePlace}
 
 module _ (road : RoadMap) (tolerances : Tolerances) (reference : Reference) where
   -- ---- the last candidate of a tuple

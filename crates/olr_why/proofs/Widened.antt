@@ -1,18 +1,9 @@
 -- Greater tolerances keep what the lesser ones admit: the candidates, each at its place, the pairs
 -- of each leg, and so each tuple of candidates. They keep also that a point has too many
 -- candidates.
-use Rattle.std.proofs.Common.{◌≡◌, ℕ, zero, suc, ◌+◌, ◌-◌, ◌*◌, ◌/◌, ◌<◌, ◌≤◌, Bool, List, [], ◌∷◌, length, get_or, All, refl, sym, ◌∙◌, ap, subst, arith, ◌==◌, mul-le-mul_left}
-use Rattle.olr_why.proofs.Common.{AdmitsPlaces, AreAdmitted, AreAdmittedBehind, Bearing, Candidate, Class, HasMatching, IsCandidatePlace, Next, OneCandidateALine, Percent, Place, points_of, Radius, Reference, Slack, Tolerances}
+use Rattle.olr_why.proofs.Common.{AdmitsPlaces, AreAdmitted, AreAdmittedBehind, Bearing, Candidate, Class, HasMatching, IsCandidatePlace, Next, OneCandidateALine, Percent, Place, points_of, Radius, Reference, Slack, Tolerances, ◌≡◌, ℕ, zero, suc, ◌+◌, ◌-◌, ◌*◌, ◌/◌, ◌<◌, ◌≤◌, Bool, List, [], ◌∷◌, length, get_or, All, refl, sym, ◌∙◌, ap, subst, arith, ◌==◌, mul-le-mul_left, AreTooMany, IsCandidateAt, IsOneOf, HasTooMany, RoadMap, head_of, RoadLine, IsAdmitted, class_limit, greatest_admitted, least_admitted, Coordinates, coordinates_of, IsLeastLength, WiderKeeps}
 use Rattle.olr_binary.specs.declared.point.Point.{Point}
 use Rattle.olr_candidates.specs.Candidate.{penalty_of}
-use Rattle.olr_candidates.specs.Candidates.{AreTooMany, IsCandidateAt, IsOneOf}
-use Rattle.olr_candidates.specs.Points.{HasTooMany}
-use Rattle.olr_map.specs.RoadMap.{RoadMap, head_of}
-use Rattle.olr_map.specs.Rows.{RoadLine}
-use Rattle.olr_matching.specs.Leg.{IsAdmitted, class_limit, greatest_admitted, least_admitted}
-use Rattle.olr_metric.specs.Coordinates.{Coordinates, coordinates_of}
-use Rattle.olr_route.specs.Least.{IsLeastLength}
-use Rattle.olr_why.specs.Laws.{WiderKeeps}
 use Rattle.olr_why.proofs.AtMost.{AreAtMost, at_most_wider}
 
 -- ---- numbers

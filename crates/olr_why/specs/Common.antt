@@ -5,10 +5,10 @@ pub use Rattle.olr_binary.specs.declared.reference.Reference.{Reference}
 pub use Rattle.olr_candidates.specs.Points.{HasTooMany}
 pub use Rattle.olr_candidates.specs.declared.candidate.Candidate.{Candidate}
 pub use Rattle.olr_candidates.specs.declared.near.NearLine.{NearLine}
-pub use Rattle.olr_candidates.specs.declared.tolerances.Name.{Name}
+pub use Rattle.olr_candidates.specs.declared.tolerances.Tolerance.{Tolerance}
 pub use Rattle.olr_candidates.specs.declared.tolerances.Tolerances.{Tolerances}
 pub use Rattle.olr_keys.specs.Answers.{AreAnswers}
 pub use Rattle.olr_keys.specs.Key.{KeyValue}
-pub use Rattle.olr_map.specs.RoadMap.{RoadMap}
-pub use Rattle.olr_map.specs.declared.place.Place.{Place}
+pub use Rattle.olr_road.specs.RoadMap.{RoadMap}
+pub use Rattle.olr_road.specs.declared.place.Place.{Place}
 pub use Rattle.olr_matching.specs.Layers.{AreLayersOn, LayersValue}

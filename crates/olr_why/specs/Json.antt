@@ -16,7 +16,7 @@ use Rattle.olr_why.specs.declared.pair.Better.{Better}
 use Rattle.olr_why.specs.declared.pair.PairLength.{PairLength}
 use Rattle.olr_why.specs.declared.point.PointReason.{PointReason}
 use Rattle.olr_why.specs.declared.remedy.Change.{Change}
-use Rattle.olr_why.specs.declared.remedy.Change.TheVariants.{Tolerance, WithoutBans}
+use Rattle.olr_why.specs.declared.remedy.Change.TheVariants.{Set, WithoutBans}
 use Rattle.olr_why.specs.declared.remedy.Remedy.{Remedy}
 use Rattle.olr_why.specs.declared.verdict.Verdict.{Verdict}
 
@@ -87,12 +87,12 @@ leg_object leg = object (
 
 -- the name of what is changed
 abbrev pub option_of : Change → List ℕ
-option_of (Tolerance name value) = tolerance_name name
+option_of (Set name value) = tolerance_name name
 option_of WithoutBans = codes "without-bans"
 
 -- the value that it is given
 abbrev pub value_in : Change → Option ℕ
-value_in (Tolerance name value) = Some value
+value_in (Set name value) = Some value
 value_in WithoutBans = None
 
 -- a change that would help, with the cursor of the matching, null where there is none

@@ -1,8 +1,8 @@
 -- Laws on verdicts, tolerances, remedies and all reasons. Each is the contract of a public function
 -- that does nothing at run time; its body only names the laws on which it rests.
 use Rattle.std.specs.Prelude.{◌≡◌, ◌≢◌, ℕ, ◌≤◌, ◌↔◌, List, []}
-use Rattle.olr_why.specs.Common.{AreAnswers, AreLayersOn, HasTooMany, KeyValue, LayersValue, Name, Reference, RoadMap, Tolerances}
-use Rattle.olr_candidates.specs.declared.tolerances.Name.TheVariants.{Lowest}
+use Rattle.olr_why.specs.Common.{AreAnswers, AreLayersOn, HasTooMany, KeyValue, LayersValue, Tolerance, Reference, RoadMap, Tolerances}
+use Rattle.olr_candidates.specs.declared.tolerances.Tolerance.TheVariants.{Lowest}
 use Rattle.olr_candidates.specs.Tolerances.{order_of}
 use Rattle.olr_keys.specs.Matching.{IsKey}
 use Rattle.olr_why.specs.Chain.{HasMatching}
@@ -35,7 +35,7 @@ MatchHasAnswers = (road : RoadMap) (layers : LayersValue) (answers : List KeyVal
 -- candidates. The class limits of legs are another thing: a road of a class that is let through can
 -- make a least length too short.
 abbrev pub WiderKeeps : Type 0
-WiderKeeps = (road : RoadMap) (reference : Reference) (name : Name) (value wider : ℕ)
+WiderKeeps = (road : RoadMap) (reference : Reference) (name : Tolerance) (value wider : ℕ)
     (given before after : Tolerances)
     → order_of name ≢ order_of Lowest → value ≤ wider → IsChanged name value given before
     → IsChanged name wider given after

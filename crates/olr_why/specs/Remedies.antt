@@ -3,11 +3,11 @@
 -- value of `Tolerances` is.
 use Rattle.std.specs.Prelude.{◌≡◌, ◌≢◌, ℕ, ◌<◌, List, [], ◌∷◌, ◌++◌, Option, Some, MatchOption}
 use Rattle.std.specs.Option.{option_to_list}
-use Rattle.olr_why.specs.Common.{KeyValue, Name, Reference, RoadMap, Tolerances}
-use Rattle.olr_candidates.specs.declared.tolerances.Name.TheVariants.{Radius, Bearing, Class, Lowest, Percent, Slack}
+use Rattle.olr_why.specs.Common.{KeyValue, Tolerance, Reference, RoadMap, Tolerances}
+use Rattle.olr_candidates.specs.declared.tolerances.Tolerance.TheVariants.{Radius, Bearing, Class, Lowest, Percent, Slack}
 pub use Rattle.olr_candidates.specs.Values.{IsChanged, value_of}
 use Rattle.olr_why.specs.Chain.{HasMatching, IsFirstMatching, IsUncrowded}
-use Rattle.olr_why.specs.declared.remedy.Change.TheVariants.{Tolerance, WithoutBans}
+use Rattle.olr_why.specs.declared.remedy.Change.TheVariants.{Set, WithoutBans}
 use Rattle.olr_why.specs.declared.remedy.Remedy.{Remedy}
 use Rattle.olr_why.specs.declared.verdict.Verdict.{Verdict}
 use Rattle.olr_why.specs.declared.verdict.Verdict.TheVariants.{Chain, Crowded, Leg, Match, Point}
@@ -30,15 +30,15 @@ AreUnbanned road unbanned = MatchOption unbanned (road.bans ≡ []) (IsUnbanned 
 -- ---- the order of remedies
 
 -- the tolerances of which a greater value may help, the most trusted one first
-abbrev pub by_trust : List Name
+abbrev pub by_trust : List Tolerance
 by_trust = Lowest ∷ Bearing ∷ Radius ∷ Slack ∷ Percent ∷ Class ∷ []
 
 -- those of which a lesser value may help
-abbrev pub narrowed : List Name
+abbrev pub narrowed : List Tolerance
 narrowed = Radius ∷ Bearing ∷ Class ∷ []
 
 -- the remedies of these names, one after the other, of each name the one that there is, if any
-unfoldable pub AreOfNames : (Name → Option Remedy → Type 0) → List Name → List Remedy → Type 0
+unfoldable pub AreOfNames : (Tolerance → Option Remedy → Type 0) → List Tolerance → List Remedy → Type 0
 AreOfNames IsOf [] remedies = remedies ≡ []
 AreOfNames IsOf (name ∷ names) remedies = (first : Option Remedy) × (rest : List Remedy)
     × IsOf name first × AreOfNames IsOf names rest × (remedies ≡ option_to_list first ++ rest)
@@ -47,14 +47,14 @@ module _ (road : RoadMap) (given : Tolerances) (reference : Reference) where
   -- ---- where a reference has no matching, and no point has too many candidates
 
   -- with this value of a tolerance no point has more than 64 candidates, and there is a matching
-  pub record IsEnough (name : Name) (value : ℕ) : Type 0 where
+  pub record IsEnough (name : Tolerance) (value : ℕ) : Type 0 where
     pub changed : Tolerances
     pub is_changed : IsChanged name value given changed
     pub uncrowded : IsUncrowded road changed reference
     pub matching : HasMatching road changed reference
 
   -- the least value above the given one that is enough, and the first matching that it gives
-  pub record IsLeastEnough (name : Name) (value : ℕ) (key : KeyValue) : Type 0 where
+  pub record IsLeastEnough (name : Tolerance) (value : ℕ) (key : KeyValue) : Type 0 where
     pub above : value_of given name < value
     pub enough : IsEnough name value
     pub least : (lesser : ℕ) → value_of given name < lesser → lesser < value → IsEnough name lesser
@@ -62,10 +62,10 @@ module _ (road : RoadMap) (given : Tolerances) (reference : Reference) where
     pub first : IsFirstMatching road enough.changed reference key
 
   -- the greater value of a tolerance that helps, if one does
-  abbrev pub IsWider : Name → Option Remedy → Type 0
+  abbrev pub IsWider : Tolerance → Option Remedy → Type 0
   IsWider name answer = MatchOption answer
       ((value : ℕ) → value_of given name < value → IsEnough name value → ⊥)
-      (λ remedy. (value : ℕ) × (key : KeyValue) × (remedy.change ≡ Tolerance name value)
+      (λ remedy. (value : ℕ) × (key : KeyValue) × (remedy.change ≡ Set name value)
       × (remedy.matching ≡ Some key) × IsLeastEnough name value key)
 
   -- a map without bans, where the map has a ban, if that helps
@@ -79,14 +79,14 @@ module _ (road : RoadMap) (given : Tolerances) (reference : Reference) where
   -- ---- where a point has too many candidates
 
   -- with this value of a tolerance no point has more than 64 candidates
-  pub record IsUncrowdedWith (name : Name) (value : ℕ) : Type 0 where
+  pub record IsUncrowdedWith (name : Tolerance) (value : ℕ) : Type 0 where
     pub changed : Tolerances
     pub is_changed : IsChanged name value given changed
     pub uncrowded : IsUncrowded road changed reference
 
   -- the greatest value below the given one with which that is so, and the first matching that it
   -- gives, if it gives one
-  pub record IsGreatestUncrowded (name : Name) (value : ℕ) (matching : Option KeyValue) : Type 0
+  pub record IsGreatestUncrowded (name : Tolerance) (value : ℕ) (matching : Option KeyValue) : Type 0
     where
       pub below : value < value_of given name
       pub enough : IsUncrowdedWith name value
@@ -96,10 +96,10 @@ module _ (road : RoadMap) (given : Tolerances) (reference : Reference) where
           (IsFirstMatching road enough.changed reference)
 
   -- the lesser value of a tolerance that helps, if one does
-  abbrev pub IsNarrower : Name → Option Remedy → Type 0
+  abbrev pub IsNarrower : Tolerance → Option Remedy → Type 0
   IsNarrower name answer = MatchOption answer
       ((value : ℕ) → value < value_of given name → IsUncrowdedWith name value → ⊥)
-      (λ remedy. (value : ℕ) × (remedy.change ≡ Tolerance name value)
+      (λ remedy. (value : ℕ) × (remedy.change ≡ Set name value)
       × IsGreatestUncrowded name value remedy.matching)
 
   -- ---- all of them

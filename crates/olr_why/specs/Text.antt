@@ -6,7 +6,7 @@ use Rattle.olr_candidates.specs.declared.near.FailedConditions.{FailedConditions
 use Rattle.olr_why.specs.Common.{KeyValue, NearLine, RoadMap}
 use Rattle.olr_candidates.specs.Tolerances.{tolerance_name}
 use Rattle.olr_keys.specs.Cursor.{key_text}
-use Rattle.olr_map.specs.Rows.{RoadLine}
+use Rattle.olr_road.specs.RoadMap.{RoadLine}
 use Rattle.olr_route.specs.Route.{id_at}
 use Rattle.olr_why.specs.Reasons.{WhyValue}
 use Rattle.olr_why.specs.declared.leg.LegReason.{LegReason}
@@ -14,7 +14,7 @@ use Rattle.olr_why.specs.declared.pair.Better.{Better}
 use Rattle.olr_why.specs.declared.pair.PairLength.{PairLength}
 use Rattle.olr_why.specs.declared.point.PointReason.{PointReason}
 use Rattle.olr_why.specs.declared.remedy.Change.{Change}
-use Rattle.olr_why.specs.declared.remedy.Change.TheVariants.{Tolerance, WithoutBans}
+use Rattle.olr_why.specs.declared.remedy.Change.TheVariants.{Set, WithoutBans}
 use Rattle.olr_why.specs.declared.remedy.Remedy.{Remedy}
 use Rattle.olr_why.specs.declared.verdict.Verdict.{Verdict}
 use Rattle.olr_why.specs.declared.verdict.Verdict.TheVariants.{Chain, Crowded, Leg, Match, Point}
@@ -176,7 +176,7 @@ verdict_row verdict = codes "verdict " ++ verdict_word verdict ++ number_text (n
 
 -- a change, as it is written
 abbrev pub change_text : Change → List ℕ
-change_text (Tolerance name value) = codes "--" ++ tolerance_name name ++ codes " " ++ decimal value
+change_text (Set name value) = codes "--" ++ tolerance_name name ++ codes " " ++ decimal value
 change_text WithoutBans = codes "without-bans"
 
 -- the matching that a change gives, if it gives one

@@ -1,7 +1,7 @@
 //! Tuples of candidates of neighbouring points, of which each leg admits the two that it joins.
 
 ghost use Rattle.std.specs.Prelude.{◌+◌, ◌<◌, ◌↔◌, Any, IsTrue, MatchOption};
-ghost use Rattle.olr_map.specs.RoadMap.{RoadMap};
+ghost use Rattle.olr_road.specs.RoadMap.{RoadMap};
 ghost use Rattle.olr_matching.specs.Layers.{AreLayersOn};
 ghost use Rattle.olr_why.specs.Chain.{HasMatching};
 ghost use Rattle.olr_why.specs.inner.Ends.{AreEnds, IsJoined};

@@ -17,14 +17,14 @@ use crate::remedies::remedies_of;
 use crate::verdict::Verdict;
 use crate::verdicts::verdict_of;
 use crate::why::Why;
+use olr_base::NoMemory;
 use olr_binary::Reference;
 use olr_candidates::{
     LayersFault, NearLine, Tolerances, candidates, nearest_are_near, nearest_lines,
     no_list_of_point_and_too_many, no_lists_and_too_many,
 };
-use olr_map::Map;
 use olr_matching::Layers;
-use olr_metric::NoMemory;
+use olr_road::Map;
 use std::alloc::Global;
 
 /// How many candidates a point has, counted from 0; none where they are more than 64. Where there

@@ -18,10 +18,10 @@ use crate::remedy::{Change, Remedy};
 use crate::verdict::Verdict;
 use crate::why::Why;
 use arrayvec::ArrayVec;
+use olr_base::NoMemory;
 use olr_candidates::{FailedConditions, NearLine};
 use olr_keys::{Cursor, Key};
-use olr_map::Map;
-use olr_metric::NoMemory;
+use olr_road::Map;
 use olr_text::{ToJson, send_object, to_json_line};
 use serde::Serializer;
 use std::alloc::Global;
@@ -160,7 +160,7 @@ fn option_of(change: Change) -> &'static str
     ensures { result.now ≡ option_of change }
 {
     match change {
-        Change::Tolerance(name, _) => name.text(),
+        Change::Set(name, _) => name.text(),
         Change::WithoutBans => "without-bans",
     }
 }
@@ -170,7 +170,7 @@ fn value_in(change: Change) -> Option<u32>
     ensures { result ≡ value_in change }
 {
     match change {
-        Change::Tolerance(_, value) => Some(value),
+        Change::Set(_, value) => Some(value),
         Change::WithoutBans => None,
     }
 }
@@ -221,6 +221,7 @@ impl ToJson<OnMap<'_>> for Why {
 /// # Errors
 ///
 /// [`NoMemory`] where the allocator refused memory.
+#[tactic(auto, using(olr_text::proofs::Nesting::items_nest, olr_text::proofs::Nesting::option_nests))]
 pub fn why_json(alloc: Global, map: &Map, why: &Why) -> Result<String, NoMemory>
     ensures { IfOk result (λ text.
         IsJsonLine (why_object map.now (why_value why.now)) (string_bytes text)) }

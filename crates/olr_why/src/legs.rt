@@ -8,10 +8,10 @@ ghost use Rattle.olr_why.specs.inner.Pairs.{EndsAreOnMap};
 use crate::leg::LegReason;
 use crate::pair::PairLength;
 use crate::pairs::LegOnMap;
+use olr_base::NoMemory;
 use olr_candidates::{Candidate, places};
-use olr_map::Map;
 use olr_matching::{Layers, class_limit, greatest_admitted, least_admitted, next_of};
-use olr_metric::NoMemory;
+use olr_road::Map;
 use std::alloc::Global;
 
 /// The first three of these candidates, or all where they are fewer.

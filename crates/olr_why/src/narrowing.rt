@@ -1,9 +1,9 @@
 //! The greatest value of a tolerance below the given one with which no point has more than 64
 //! candidates.
 
-ghost use Rattle.std.specs.Prelude.{◌≡◌, ◌≢◌, ◌<◌, ℕ, IfOk, MatchOption};
+ghost use Rattle.std.specs.Prelude.{◌≢◌, ◌<◌, ℕ, IfOk, MatchOption};
 ghost use Rattle.olr_binary.specs.Reference.{IsReference};
-ghost use Rattle.olr_candidates.specs.declared.tolerances.Name.TheVariants.{Lowest};
+ghost use Rattle.olr_candidates.specs.declared.tolerances.Tolerance.TheVariants.{Lowest};
 ghost use Rattle.olr_candidates.specs.Tolerances.{order_of};
 ghost use Rattle.olr_candidates.specs.Values.{value_of};
 ghost use Rattle.olr_why.specs.Remedies.{IsNarrower, IsUncrowdedWith};
@@ -11,15 +11,15 @@ ghost use Rattle.olr_why.specs.inner.Trying.{IsGreatest};
 
 use crate::remedy::{Change, Remedy};
 use crate::trying::Trials;
-use olr_candidates::{Name, one_candidate_a_line};
-use olr_metric::NoMemory;
+use olr_base::NoMemory;
+use olr_candidates::{Tolerance, one_candidate_a_line};
 use std::alloc::Global;
 
 impl Trials<'_> {
     /// The greatest value below the given one with which no point has more than 64 candidates; none
     /// where there is no such value. A point that has too many has with each greater value; so it
     /// is found by halving.
-    fn greatest_uncrowded(&self, alloc: Global, name: Name) -> Result<Option<u32>, NoMemory>
+    fn greatest_uncrowded(&self, alloc: Global, name: Tolerance) -> Result<Option<u32>, NoMemory>
         requires { order_of name ≢ order_of Lowest }
         ensures { IfOk result (λ value. MatchOption value
             ((value : ℕ) → value < value_of self.now.given.now name
@@ -49,7 +49,11 @@ impl Trials<'_> {
 
     /// The greatest value below the given one with which no point has more than 64 candidates, and
     /// the first matching that it gives, if it gives one.
-    pub(crate) fn narrower(&self, alloc: Global, name: Name) -> Result<Option<Remedy>, NoMemory>
+    pub(crate) fn narrower(
+        &self,
+        alloc: Global,
+        name: Tolerance,
+    ) -> Result<Option<Remedy>, NoMemory>
         requires reference { IsReference self.now.reference.now }
         requires name { order_of name ≢ order_of Lowest }
         ensures { IfOk result
@@ -60,7 +64,7 @@ impl Trials<'_> {
         };
         let matching = self.matching_with(alloc, name, value)?;
         Ok(Some(Remedy {
-            change: Change::Tolerance(name, value),
+            change: Change::Set(name, value),
             matching,
         }))
     }

@@ -1,18 +1,18 @@
 //! The pairs of candidates of a leg, with their lengths under one class limit after another.
 
 ghost use Rattle.std.specs.Prelude.{◌≡◌, ◌+◌, ◌<◌, ◌↔◌, ℕ, All, Decides, IfOk, IsTrue, length};
-ghost use Rattle.olr_map.specs.Place.{IsDeparture, IsPlace};
+ghost use Rattle.olr_road.specs.Place.{IsDeparture, IsPlace};
 ghost use Rattle.olr_matching.specs.Leg.{class_limit, greatest_admitted};
-ghost use Rattle.olr_route.specs.Reach.{AreLengthsOn, Tells};
+ghost use Rattle.olr_route.specs.Reach.{AreLengthsOn, Covers};
 ghost use Rattle.olr_why.specs.Legs.{ArePairs, IsLess, far};
 ghost use Rattle.olr_why.specs.inner.Pairs.{ArePairsFrom, EndsAreOnMap, IsAnswered, IsPair};
 
 use crate::pair::{Better, PairLength};
+use olr_base::NoMemory;
 use olr_binary::Next;
 use olr_candidates::{Candidate, Tolerances};
-use olr_map::{Map, Place};
 use olr_matching::{class_limit, greatest_admitted, lengths_to_candidates, likely_greatest};
-use olr_metric::NoMemory;
+use olr_road::{Map, Place};
 use olr_route::{Reach, one_least_length};
 use std::alloc::Global;
 
@@ -88,7 +88,7 @@ impl LegOnMap<'_> {
         requires class { reach.now.class ≡ class_limit self.now.tolerances self.now.next }
         requires limit { reach.now.limit ≡ far self.now.next }
         requires on_map { IsPlace self.now.map.now to }
-        requires tells { Tells reach.now to.line }
+        requires covers { Covers reach.now to.line }
 
         ensures { IsPair self.now (class_limit self.now.tolerances self.now.next + 1) first second
             reach.now.from to result }
@@ -141,7 +141,7 @@ impl LegOnMap<'_> {
         requires above { class_limit self.now.tolerances self.now.next < class }
         requires limit { reach.now.limit ≡ far self.now.next }
         requires on_map { IsPlace self.now.map.now to }
-        requires tells { Tells reach.now to.line }
+        requires covers { Covers reach.now to.line }
 
         ensures { (first second : ℕ) → IsPair self.now class first second reach.now.from to pair
             → IsPair self.now (class + 1) first second reach.now.from to result }
@@ -176,7 +176,7 @@ impl LegOnMap<'_> {
         requires class { reach.now.class ≡ class }
         requires above { class_limit self.now.tolerances self.now.next < class }
         requires limit { reach.now.limit ≡ far self.now.next }
-        requires tells { All (λ second. Tells reach.now second.place.line) self.now.seconds.now }
+        requires covers { All (λ second. Covers reach.now second.place.line) self.now.seconds.now }
         requires pairs { ArePairsFrom self.now class first reach.now.from pairs.now }
 
         ensures { IfOk result (λ looked.

@@ -12,24 +12,24 @@ use crate::remedy::{Change, Remedy};
 use crate::trial::{Trial, try_tolerances};
 use crate::trying::Trials;
 use crate::verdict::Verdict;
+use olr_base::NoMemory;
 use olr_binary::Reference;
-use olr_candidates::{Name, Tolerances};
-use olr_map::Map;
-use olr_metric::NoMemory;
+use olr_candidates::{Tolerance, Tolerances};
+use olr_road::Map;
 use std::alloc::Global;
 
 /// The tolerances of which a greater value may help, the most trusted one first.
-const BY_TRUST: [Name; 6] = [
-    Name::Lowest,
-    Name::Bearing,
-    Name::Radius,
-    Name::Slack,
-    Name::Percent,
-    Name::Class,
+const BY_TRUST: [Tolerance; 6] = [
+    Tolerance::Lowest,
+    Tolerance::Bearing,
+    Tolerance::Radius,
+    Tolerance::Slack,
+    Tolerance::Percent,
+    Tolerance::Class,
 ];
 
 /// The tolerances of which a lesser value may help.
-const NARROWED: [Name; 3] = [Name::Radius, Name::Bearing, Name::Class];
+const NARROWED: [Tolerance; 3] = [Tolerance::Radius, Tolerance::Bearing, Tolerance::Class];
 
 /// Adds a remedy, if there is one.
 fn push_if(remedies: &mut Vec<Remedy>, remedy: Option<Remedy>) -> Result<(), NoMemory>

@@ -1,13 +1,13 @@
 //! What would help a reference without a matching.
 
-use olr_candidates::Name;
+use olr_candidates::Tolerance;
 use olr_keys::Key;
 
 /// What is changed, all else being the same.
 #[derive(Clone, Copy, Debug, PartialEq, Eq)]
 pub enum Change {
     /// A tolerance has this value.
-    Tolerance(Name, u32),
+    Set(Tolerance, u32),
     /// No turn of the map is banned.
     WithoutBans,
 }

@@ -12,10 +12,10 @@ use crate::point::PointReason;
 use crate::remedy::{Change, Remedy};
 use crate::verdict::Verdict;
 use crate::why::Why;
+use olr_base::NoMemory;
 use olr_candidates::{FailedConditions, NearLine};
 use olr_keys::{Cursor, Key};
-use olr_map::Map;
-use olr_metric::NoMemory;
+use olr_road::Map;
 use olr_text::Decimal;
 use std::alloc::Global;
 use std::fmt::Write;
@@ -273,7 +273,7 @@ fn push_change(text: &mut String, change: Change) -> Result<(), NoMemory>
         ≡ string_bytes text.old ++ change_text change) }
 {
     match change {
-        Change::Tolerance(name, value) => {
+        Change::Set(name, value) => {
             let name = name.text();
             write!(text, "--{name} {}", Decimal(value))?;
         }

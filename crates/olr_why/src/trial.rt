@@ -8,14 +8,14 @@ ghost use Rattle.olr_why.specs.inner.Trial.{IsCrowded, IsFirstKey, IsTrial};
 
 use crate::laws::matching_has_key;
 use arrayvec::ArrayVec;
+use olr_base::NoMemory;
 use olr_binary::Reference;
 use olr_candidates::{
     Candidate, LayersFault, MAX_CANDIDATES, Tolerances, candidates_of_points, no_lists_and_too_many,
 };
 use olr_keys::{Finder, Key, TotalsFinder};
-use olr_map::Map;
 use olr_matching::Layers;
-use olr_metric::NoMemory;
+use olr_road::Map;
 use std::alloc::Global;
 
 /// What is found with some tolerances.
@@ -82,7 +82,7 @@ pub(crate) fn try_tolerances(
     if has_empty(&lists) {
         return Ok(Trial::NoMatching);
     }
-    let Some(layers) = Layers::with_open_legs(alloc, map, reference, tolerances, lists)? else {
+    let Some(layers) = Layers::with_admitting_legs(alloc, map, reference, tolerances, lists)? else {
         return Ok(Trial::NoMatching);
     };
     match first_key(alloc, &layers)? {

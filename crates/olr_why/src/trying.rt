@@ -8,11 +8,11 @@ ghost use Rattle.olr_why.specs.inner.Trying.{IsMatchingWith, IsTrialWith};
 ghost use Rattle.olr_why.specs.declared.trial.Trial.TheVariants.{Crowded};
 
 use crate::trial::{Trial, lists_of_points, try_tolerances};
+use olr_base::NoMemory;
 use olr_binary::Reference;
-use olr_candidates::{Name, Tolerances, no_lists_and_too_many, one_candidate_a_line};
+use olr_candidates::{Tolerance, Tolerances, no_lists_and_too_many, one_candidate_a_line};
 use olr_keys::Key;
-use olr_map::Map;
-use olr_metric::NoMemory;
+use olr_road::Map;
 use std::alloc::Global;
 
 /// What other tolerances are tried on: a reference on a map, with the tolerances that are given.
@@ -25,7 +25,12 @@ pub(crate) struct Trials<'a> {
 
 impl Trials<'_> {
     /// What is found where the tolerance of this name has this value.
-    pub(crate) fn try_value(&self, alloc: Global, name: Name, value: u32) -> Result<Trial, NoMemory>
+    pub(crate) fn try_value(
+        &self,
+        alloc: Global,
+        name: Tolerance,
+        value: u32,
+    ) -> Result<Trial, NoMemory>
         requires reference { IsReference self.now.reference.now }
         requires range { IsTolerance name value }
         ensures { IfOk result
@@ -38,10 +43,11 @@ impl Trials<'_> {
 
     /// The key of the first matching where the tolerance of this name has this value; none where
     /// there is no matching or a point has more than 64 candidates.
+    #[tactic(auto, using(crate::proofs::Tried::crowded_is_none, crate::proofs::Tried::without_is_none))]
     pub(crate) fn matching_with(
         &self,
         alloc: Global,
-        name: Name,
+        name: Tolerance,
         value: u32,
     ) -> Result<Option<Key>, NoMemory>
         requires reference { IsReference self.now.reference.now }
@@ -61,7 +67,7 @@ impl Trials<'_> {
     pub(crate) fn is_crowded_with(
         &self,
         alloc: Global,
-        name: Name,
+        name: Tolerance,
         value: u32,
     ) -> Result<bool, NoMemory>
         requires { IsTolerance name value }

@@ -3,8 +3,8 @@
 ghost use Rattle.std.specs.Prelude.{IfOk};
 ghost use Rattle.olr_why.specs.Remedies.{AreUnbanned};
 
-use olr_map::Map;
-use olr_metric::NoMemory;
+use olr_base::NoMemory;
+use olr_road::Map;
 use std::alloc::Global;
 
 /// The map with no turn banned, where it has bans; none where it has none. It takes time and memory

@@ -1,7 +1,7 @@
 //! The verdict on a reference, by its layers on a map.
 
 ghost use Rattle.std.specs.Prelude.{◌<◌, ◌↔◌, Any, IfSome, IsSome, IsTrue, MatchOption};
-ghost use Rattle.olr_map.specs.RoadMap.{RoadMap};
+ghost use Rattle.olr_road.specs.RoadMap.{RoadMap};
 ghost use Rattle.olr_matching.specs.Layers.{AreLayersOn};
 ghost use Rattle.olr_why.specs.Verdict.{AdmitsNone, HasNoCandidate, HaveCandidates, HavePairs};
 ghost use Rattle.olr_why.specs.Verdict.{IsFirst, IsVerdict};

@@ -1,8 +1,8 @@
 //! The least value of a tolerance above the given one that gives a matching.
 
-ghost use Rattle.std.specs.Prelude.{◌≡◌, ◌≢◌, ◌+◌, ◌-◌, ◌<◌, ℕ, IfOk, MatchOption};
+ghost use Rattle.std.specs.Prelude.{◌≢◌, ◌+◌, ◌-◌, ◌<◌, ℕ, IfOk, MatchOption};
 ghost use Rattle.olr_binary.specs.Reference.{IsReference};
-ghost use Rattle.olr_candidates.specs.declared.tolerances.Name.TheVariants.{Lowest};
+ghost use Rattle.olr_candidates.specs.declared.tolerances.Tolerance.TheVariants.{Lowest};
 ghost use Rattle.olr_candidates.specs.Tolerances.{order_of};
 ghost use Rattle.olr_candidates.specs.Values.{value_of};
 ghost use Rattle.olr_why.specs.Remedies.{IsEnough, IsWider};
@@ -13,14 +13,14 @@ use crate::laws::matching_has_key;
 use crate::remedy::{Change, Remedy};
 use crate::trial::Trial;
 use crate::trying::Trials;
-use olr_candidates::{Name, one_candidate_a_line};
-use olr_metric::NoMemory;
+use olr_base::NoMemory;
+use olr_candidates::{Tolerance, one_candidate_a_line};
 use std::alloc::Global;
 
 impl Trials<'_> {
     /// The given value and the greatest one, by a trial of the greatest one; none where no value
     /// above the given one is enough.
-    fn wider_values(&self, alloc: Global, name: Name) -> Result<Option<Bracket>, NoMemory>
+    fn wider_values(&self, alloc: Global, name: Tolerance) -> Result<Option<Bracket>, NoMemory>
         requires reference { IsReference self.now.reference.now }
         requires name { order_of name ≢ order_of Lowest }
         ensures { IfOk result (λ bracket. MatchOption bracket
@@ -49,7 +49,7 @@ impl Trials<'_> {
     }
 
     /// One half of these values, by a trial of the one in the middle.
-    fn half_of(&self, alloc: Global, name: Name, bracket: Bracket) -> Result<Bracket, NoMemory>
+    fn half_of(&self, alloc: Global, name: Tolerance, bracket: Bracket) -> Result<Bracket, NoMemory>
         requires reference { IsReference self.now.reference.now }
         requires name { order_of name ≢ order_of Lowest }
         requires bracket { IsBracket self.now.map.now self.now.given.now
@@ -84,7 +84,7 @@ impl Trials<'_> {
     /// The least value above the given one that is enough, and the first matching that it gives. A
     /// greater value gives a matching, or makes a point have too many candidates, where a lesser
     /// one does; so the least that does either is found by halving.
-    fn wider(&self, alloc: Global, name: Name) -> Result<Option<Remedy>, NoMemory>
+    fn wider(&self, alloc: Global, name: Tolerance) -> Result<Option<Remedy>, NoMemory>
         requires reference { IsReference self.now.reference.now }
         requires name { order_of name ≢ order_of Lowest }
         ensures { IfOk result
@@ -103,7 +103,7 @@ impl Trials<'_> {
             return Ok(None);
         };
         Ok(Some(Remedy {
-            change: Change::Tolerance(name, high),
+            change: Change::Set(name, high),
             matching: Some(key),
         }))
     }
@@ -117,11 +117,11 @@ impl Trials<'_> {
             (IsWider self.now.map.now self.now.given.now self.now.reference.now Lowest) }
     {
         matching_has_key();
-        let end = Name::Lowest.greatest() + 1;
+        let end = Tolerance::Lowest.greatest() + 1;
         for value in self.given.lowest + 1..end {
-            if let Some(key) = self.matching_with(alloc, Name::Lowest, value)? {
+            if let Some(key) = self.matching_with(alloc, Tolerance::Lowest, value)? {
                 return Ok(Some(Remedy {
-                    change: Change::Tolerance(Name::Lowest, value),
+                    change: Change::Set(Tolerance::Lowest, value),
                     matching: Some(key),
                 }));
             }
@@ -131,13 +131,13 @@ impl Trials<'_> {
 
     /// The least value of any tolerance above the given one that is enough, and the first matching
     /// that it gives.
-    pub(crate) fn greater(&self, alloc: Global, name: Name) -> Result<Option<Remedy>, NoMemory>
+    pub(crate) fn greater(&self, alloc: Global, name: Tolerance) -> Result<Option<Remedy>, NoMemory>
         requires { IsReference self.now.reference.now }
         ensures { IfOk result
             (IsWider self.now.map.now self.now.given.now self.now.reference.now name) }
     {
         match name {
-            Name::Lowest => self.lowest(alloc),
+            Tolerance::Lowest => self.lowest(alloc),
             _ => self.wider(alloc, name),
         }
     }

@@ -9,7 +9,7 @@ ghost use Rattle.olr_keys.specs.Table.{IsTable, penalty_at, max_total};
 
 use crate::shifted::or_shifted;
 use crate::table::{Table, list_at};
-use olr_metric::NoMemory;
+use olr_base::NoMemory;
 use std::alloc::Global;
 
 /// The row of a candidate, which marks its remaining totals. `next` holds the rows of the next

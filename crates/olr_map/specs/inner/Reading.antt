@@ -1,32 +1,25 @@
 -- What sources and single records are found to be while they are read. This serves the readers' own
 -- contracts alone: the rules stand in the other files.
-use Rattle.std.specs.List.Sorted.{IsStrictlyIncreasing}
-use Rattle.std.specs.Prelude.{◌≡◌, ℕ, ◌<◌, ◌≤◌, ◌⊎◌, ⊤, MatchOption, Option, Some, None, IfSome, slice_get, Contains, List, length, map, slice_range, All, ◌*◌}
+use Rattle.std.specs.Prelude.{◌≡◌, ℕ, ◌⊎◌, ⊤, MatchOption, Option, Some, None, IfSome, Contains, List, length}
 use Rattle.olr_records.specs.declared.file.File.{File}
 use Rattle.olr_records.specs.declared.file.File.TheVariants.{Nodes, Lines, Bans}
 use Rattle.olr_map.specs.declared.fault.MapFault.{MapFault}
 use Rattle.olr_map.specs.declared.fault.MapFault.TheVariants as fault
-use Rattle.olr_metric.specs.Checks.{Refuses}
-use Rattle.olr_metric.specs.Coordinates.{Coordinates, coordinates_of}
-use Rattle.olr_metric.specs.Counting.{one_more}
-use Rattle.olr_metric.specs.declared.degrees.Degrees.{Degrees}
-use Rattle.olr_index.specs.declared.window.Extent.{Extent}
-use Rattle.olr_map.specs.declared.ban.Ban.{Ban}
-use Rattle.olr_map.specs.declared.line.Entry.{Entry}
-use Rattle.olr_map.specs.declared.line.LineSet.{LineSet}
+use Rattle.olr_base.specs.Checks.{Refuses}
+use Rattle.olr_base.specs.Coordinates.{Coordinates, coordinates_of}
+use Rattle.olr_base.specs.Counting.{one_more}
+use Rattle.olr_road.specs.declared.ban.Ban.{Ban}
 use Rattle.olr_map.specs.declared.lines.Ends.{Ends}
 use Rattle.olr_map.specs.declared.table.Stop.{Stop}
-use Rattle.olr_map.specs.declared.node.Node.{Node as NodeByRank}
 use Rattle.olr_map.specs.declared.rows.LineRow.{LineRow}
 use Rattle.olr_map.specs.declared.rows.RowError.{RowError}
 use Rattle.olr_map.specs.declared.rows.RowError.TheVariants.{Shape, Column}
-use Rattle.olr_index.specs.Window.{IsExtent}
 use Rattle.olr_records.specs.Fields.{IsId, IsKind, IsLength}
 use Rattle.olr_records.specs.Shape.{IsShape}
-use Rattle.olr_map.specs.Rows.{node_header, line_header, ban_header, SpellsAt, Node, node_ids, IsNodeAt, RoadLine, line_ids, ban_key, NamesLines, IsAdjacent}
+use Rattle.olr_map.specs.Rows.{node_header, line_header, ban_header, SpellsAt, IsNodeAt, NamesLines}
+use Rattle.olr_road.specs.RoadMap.{Node, node_ids, RoadLine, ban_key, IsAdjacent}
 use Rattle.olr_map.specs.Faults.{node_columns, line_columns, ban_columns, line_checks, NamesUnknownLine}
 use Rattle.olr_map.specs.Table.{field_checks}
-use Rattle.olr_map.specs.RoadMap.{node_of}
 
 -- ---- any file
 
@@ -100,71 +93,13 @@ pub record SpellsIds (fields : List (List ℕ)) (first second : ℕ) : Type 0 wh
   pub from : SpellsAt IsId fields 0 first
   pub to : SpellsAt IsId fields 1 second
 
--- ---- the rows of the file of nodes
-
--- the ids by which nodes and lines are sorted
-abbrev pub node_key : NodeByRank → ℕ
-node_key node = node.id
-
-abbrev pub entry_id : Entry → ℕ
-entry_id entry = entry.line.id
-
--- nodes, as contracts see them
-abbrev pub nodes_of : List NodeByRank → List Node
-nodes_of nodes = map node_of nodes
-
 -- ---- those of the file of lines
-
--- a line whose points lie among those of all lines
-abbrev pub line_in : List Degrees → Entry → RoadLine
-line_in points entry = record {
-  id = entry.line.id;
-  from = entry.line.from;
-  to = entry.line.to;
-  class = entry.line.class;
-  form = entry.line.form;
-  length = entry.line.length;
-  points = map coordinates_of (slice_range points entry.start entry.end);
-}
-
--- the extent of an entry's points
-abbrev pub HasExtent : List Degrees → Entry → Extent → Type 0
-HasExtent points entry extent = IsExtent (slice_range points entry.start entry.end) extent
-
--- its points, of which there is one at least, are among them
-pub record IsWithin (points : List Degrees) (entry : Entry) : Type 0 where
-  pub order : entry.start < entry.end
-  pub end : entry.end ≤ length points
-
--- lines whose points lie among those of all lines
-abbrev pub lines_in : List Degrees → List Entry → List RoadLine
-lines_in points entries = map (line_in points) entries
-
--- the lines that were gathered
-abbrev pub lines_of : LineSet → List RoadLine
-lines_of rows = lines_in rows.points.items rows.entries.items
-
--- lines with their points, and not too many of these
-pub record AreSound (rows : LineSet) : Type 0 where
-  pub within : All (IsWithin rows.points.items) rows.entries.items
-  pub room : length rows.points.items ≤ 66 * length rows.entries.items
 
 -- the fault of record n for which its row is no line on these nodes
 abbrev pub IsLateFault : List Node → List (List ℕ) → ℕ → MapFault → Type 0
 IsLateFault nodes fields n why = Refuses (line_checks nodes n fields) why
 
 -- ---- the rows of the file of bans
-
--- lines by rising id, of which a rank fits 32 bits
-pub record AreNamed (rows : LineSet) : Type 0 where
-  pub rise : IsStrictlyIncreasing (line_ids (lines_of rows))
-  pub at_most : length rows.entries.items ≤ 200000
-
--- the rank of the line of an id, or none where no line has it
-abbrev pub IsRankOf : List RoadLine → ℕ → Option ℕ → Type 0
-IsRankOf lines id found = MatchOption found
-    (Contains (line_ids lines) id → ⊥)
-    (λ rank. slice_get (line_ids lines) rank ≡ Some id)
 
 -- the stop at a record whose key wasn't read, or was
 abbrev pub stop_at : MapFault → Option ℕ → Stop

@@ -2,7 +2,7 @@
 -- then. This serves the reader's own contracts alone: the rules are in Table.antt and Faults.antt.
 use Rattle.std.specs.Prelude.{◌≡◌, ℕ, ◌+◌, ◌≤◌, List, [], ◌∷◌, ◌++◌, length, Option, Some, None, Contains}
 use Rattle.std.specs.List.{AllZip}
-use Rattle.olr_metric.specs.Checks.{AllPass, EachFault, Refuses}
+use Rattle.olr_base.specs.Checks.{AllPass, EachFault, Refuses}
 use Rattle.olr_records.specs.declared.file.File.{File}
 use Rattle.olr_index.specs.Repeats.{AllDiffer, IsFirstRepeat}
 use Rattle.olr_map.specs.declared.fault.MapFault.{MapFault}

@@ -1,7 +1,7 @@
 -- The pairs of a leg, while class limits are looked at one after another. Lengths are in
 -- decimetres, ranks are counted from 1.
 use Rattle.std.specs.Prelude.{◌≡◌, ℕ, ◌+◌, ◌≤◌, ◌⊎◌, List, length, Some, IsSome, slice_get, All}
-use Rattle.olr_map.specs.Place.{IsDeparture, IsPlace}
+use Rattle.olr_road.specs.Place.{IsDeparture, IsPlace}
 use Rattle.olr_why.specs.Common.{Candidate, Place}
 use Rattle.olr_why.specs.Legs.{IsPairLength, IsUpTo}
 use Rattle.olr_why.specs.declared.pair.PairLength.{PairLength}

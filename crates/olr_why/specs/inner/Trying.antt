@@ -1,7 +1,7 @@
 -- What is known of the values of one tolerance while a remedy is looked for, all else being as
 -- given.
 use Rattle.std.specs.Prelude.{ℕ, ◌+◌, ◌<◌, ◌≤◌, Option, MatchOption}
-use Rattle.olr_why.specs.Common.{KeyValue, Name, Reference, RoadMap, Tolerances}
+use Rattle.olr_why.specs.Common.{KeyValue, Tolerance, Reference, RoadMap, Tolerances}
 use Rattle.olr_candidates.specs.Tolerances.{greatest_of}
 use Rattle.olr_why.specs.Remedies.{IsChanged, IsEnough, IsUncrowdedWith, value_of}
 use Rattle.olr_why.specs.inner.Trial.{IsTrial}
@@ -9,7 +9,7 @@ use Rattle.olr_why.specs.declared.bracket.Bracket.{Bracket}
 use Rattle.olr_why.specs.declared.trial.Trial.{Trial}
 use Rattle.olr_why.specs.declared.trial.Trial.TheVariants.{Crowded, Matching}
 
-module _ (road : RoadMap) (given : Tolerances) (reference : Reference) (name : Name) where
+module _ (road : RoadMap) (given : Tolerances) (reference : Reference) (name : Tolerance) where
   -- ---- one value
 
   -- what is found with this value

@@ -1,5 +1,4 @@
-use Rattle.std.proofs.Common.{sym, ◌∙◌, subst, inl, inr, refl, Ok, Err}
-use Rattle.olr_app.proofs.Common.{IsOutcome, Accepts, IsStart, fault_of}
+use Rattle.olr_app.proofs.Common.{IsOutcome, Accepts, IsStart, fault_of, sym, ◌∙◌, subst, inl, inr, refl, Ok, Err}
 use Rattle.olr_app.proofs.Accepts.{accepted_once}
 use Rattle.olr_app.proofs.Single.{exit}
 use Rattle.olr_app.proofs.accepting.accept.Goals as goal

@@ -1,5 +1,4 @@
-use Rattle.std.proofs.Common.{string_bytes}
-use Rattle.olr_app.proofs.Common.{Bans, Lines, Nodes}
+use Rattle.olr_app.proofs.Common.{Bans, Lines, Nodes, string_bytes}
 use Rattle.olr_app.proofs.AnswerOf as answer
 use Rattle.olr_app.proofs.Single.{exit}
 use Rattle.olr_app.proofs.answering.output_of.Goals as goal

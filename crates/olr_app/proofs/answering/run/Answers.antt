@@ -1,7 +1,4 @@
-use Rattle.std.proofs.Common.{subst, string_bytes}
-use Rattle.std.specs.Io.KnownBytes.{Appends}
-use Rattle.olr_app.proofs.Common.{Bans, Lines, Nodes}
-use Rattle.olr_app.specs.Writing.{HasStopped, IsWritten}
+use Rattle.olr_app.proofs.Common.{Bans, Lines, Nodes, subst, string_bytes, Appends, HasStopped, IsWritten}
 use Rattle.olr_app.proofs.Accepts.{none_refused, passed_on}
 use Rattle.olr_app.proofs.AnswerOf as answer
 use Rattle.olr_app.proofs.Single.{exit}

@@ -1,6 +1,4 @@
-use Rattle.std.proofs.Common.{string_bytes, subst}
-use Rattle.olr_app.proofs.Common.{lists_of}
-use Rattle.olr_app.specs.Listing.{IsListingIn}
+use Rattle.olr_app.proofs.Common.{lists_of, string_bytes, subst, IsListingIn}
 use Rattle.olr_app.proofs.PointsOnMap.{lists_on_map}
 use Rattle.olr_app.proofs.listing.listing_of.Goals as goal
 

@@ -1,5 +1,4 @@
-use Rattle.std.proofs.Common.{◌≡◌, ◌++◌, ◌+◌, drop, string_bytes}
-use Rattle.olr_app.specs.Listing.{candidate_rows}
+use Rattle.olr_app.proofs.Common.{◌≡◌, ◌++◌, ◌+◌, drop, string_bytes, candidate_rows}
 use Rattle.olr_app.proofs.listing.push_candidates.Given as goal
 
 abbrev pub invariant-loop-index : goal.invariant-loop-index

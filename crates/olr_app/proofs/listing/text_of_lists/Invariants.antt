@@ -1,6 +1,4 @@
-use Rattle.std.proofs.Common.{◌≡◌, ◌++◌, ◌+◌, drop, string_bytes}
-use Rattle.olr_app.proofs.Common.{lists_of}
-use Rattle.olr_app.specs.Listing.{point_listings}
+use Rattle.olr_app.proofs.Common.{lists_of, ◌≡◌, ◌++◌, ◌+◌, drop, string_bytes, point_listings}
 use Rattle.olr_app.proofs.listing.text_of_lists.Given as goal
 
 -- the text so far, with that of the points left, is the whole text

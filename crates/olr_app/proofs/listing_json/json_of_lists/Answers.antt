@@ -1,8 +1,7 @@
-use Rattle.std.proofs.Common.{rules, string_bytes, subst}
+use Rattle.olr_app.proofs.Common.{rules, string_bytes, subst, IsJsonLine}
 use Rattle.olr_app.proofs.JsonListing.{same_lists}
 use Rattle.olr_app.proofs.listing_json.json_of_lists.Goals as goal
 use Rattle.olr_text.proofs.Nesting.{items_nest}
-use Rattle.olr_text.specs.JsonValues.{IsJsonLine}
 
 pub to_json_line-requires : goal.to_json_line-requires
 to_json_line-requires c = search (rules, items_nest)

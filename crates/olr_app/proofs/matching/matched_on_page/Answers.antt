@@ -1,7 +1,5 @@
-use Rattle.std.proofs.Common.{ap, ◌∙◌, length}
 use Rattle.std.proofs.lemmas.Slice.Zip.{AllZip-long}
-use Rattle.olr_app.proofs.Common.{IsKey, IsMatchedBy}
-use Rattle.olr_report.specs.Entries.{CanBeShown}
+use Rattle.olr_app.proofs.Common.{IsKey, IsMatchedBy, ap, ◌∙◌, length, CanBeShown}
 use Rattle.olr_app.proofs.PagesOf.{all_related}
 use Rattle.olr_app.proofs.matching.matched_on_page.Goals as goal
 

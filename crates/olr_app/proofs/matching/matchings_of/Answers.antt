@@ -1,6 +1,4 @@
-use Rattle.std.proofs.Common.{List, Option, subst, string_bytes}
-use Rattle.olr_app.proofs.Common.{Mark, Page, AreLayers, ArePages, AreTextsOfPages, IsPrinted, IsStartHere, OnLayers, OnStart, values_of}
-use Rattle.olr_app.specs.Matching.{IsMarkOf, IsPagesText}
+use Rattle.olr_app.proofs.Common.{Mark, Page, AreLayers, ArePages, AreTextsOfPages, IsPrinted, IsStartHere, OnLayers, OnStart, values_of, List, Option, subst, string_bytes, IsMarkOf, IsPagesText}
 use Rattle.olr_app.proofs.PagesOf.{keys_of_pages}
 use Rattle.olr_app.proofs.PagesOf.{fault_after, fault_here}
 use Rattle.olr_app.proofs.Single.{exit}

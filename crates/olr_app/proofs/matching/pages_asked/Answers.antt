@@ -1,5 +1,4 @@
-use Rattle.std.proofs.Common.{List, Err, ap, refl, subst, sym}
-use Rattle.olr_app.proofs.Common.{AreAnswers, IsPosition, KeyValue, ArePages}
+use Rattle.olr_app.proofs.Common.{AreAnswers, IsPosition, KeyValue, ArePages, List, Err, ap, refl, subst, sym}
 use Rattle.olr_keys.specs.AnswersOf.{answers_of}
 use Rattle.olr_app.proofs.PagesOf.{not_here, page_fault}
 use Rattle.olr_app.proofs.Single.{exit}

@@ -1,6 +1,4 @@
-use Rattle.std.proofs.Common.{rules, ◌∙◌, ◌++◌, ◌<◌, [], refl, take}
-use Rattle.std.specs.Io.KnownBytes.{Appends}
-use Rattle.olr_app.specs.Writing.{no_call, one_call}
+use Rattle.olr_app.proofs.Common.{rules, ◌∙◌, ◌++◌, ◌<◌, [], refl, take, Appends, no_call, one_call}
 use Rattle.olr_app.proofs.Taking.{taken_more}
 use Rattle.olr_app.proofs.writing.put_whole.Goals as goal
 

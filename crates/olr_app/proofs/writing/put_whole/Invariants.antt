@@ -1,6 +1,4 @@
-use Rattle.std.proofs.Common.{◌≡◌, List, ℕ, ◌++◌, length}
-use Rattle.std.specs.Io.KnownBytes.{Appends}
-use Rattle.olr_app.specs.Writing.{Hands}
+use Rattle.olr_app.proofs.Common.{◌≡◌, List, ℕ, ◌++◌, length, Appends, Hands}
 use Rattle.olr_app.proofs.writing.put_whole.Given as goal
 
 -- what was taken so far, by which calls, and what is left

@@ -1,5 +1,4 @@
-use Rattle.std.proofs.Common.{refl}
-use Rattle.olr_app.proofs.Single.{exit}
+use Rattle.olr_batch.proofs.Common.{refl, exit}
 use Rattle.olr_batch.proofs.Stopping.{none_begun}
 use Rattle.olr_batch.proofs.answering.answer_records.Goals as goal
 

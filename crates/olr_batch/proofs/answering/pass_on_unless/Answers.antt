@@ -1,5 +1,4 @@
-use Rattle.std.proofs.Common.{rules, [], refl}
-use Rattle.olr_app.specs.Writing.{no_call}
+use Rattle.olr_batch.proofs.Common.{rules, [], refl, no_call}
 use Rattle.olr_batch.proofs.answering.pass_on_unless.Goals as goal
 
 pub returns-in_default-clause-fault : goal.returns-in_default-clause-fault

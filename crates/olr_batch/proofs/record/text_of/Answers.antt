@@ -1,6 +1,6 @@
 use Rattle.std.proofs.Common.{◌≡◌, ◌++◌, ℕ, List, ap, ◌∙◌}
 use Rattle.std.proofs.lemmas.Fmt.{contents_after_writes}
-use Rattle.olr_app.specs.Fault.{fault_text}
+use Rattle.olr_request.specs.Fault.{fault_text}
 use Rattle.olr_batch.proofs.record.text_of.Goals as goal
 
 pub returns : goal.returns

@@ -1,5 +1,4 @@
-use Rattle.std.proofs.Common.{string_bytes, ◌∙◌}
-use Rattle.olr_batch.specs.Line.{bytes_of}
+use Rattle.olr_batch.proofs.Common.{string_bytes, ◌∙◌, bytes_of}
 use Rattle.olr_batch.proofs.Lines.{found_line}
 use Rattle.olr_batch.proofs.record.write_answer.Goals as goal
 

@@ -1,5 +1,4 @@
-use Rattle.std.proofs.Common.{◌≡◌, ◌+◌, ◌-◌, length, refl, arith, below_more}
-use Rattle.olr_binary.specs.Point.{IsPoint}
+use Rattle.olr_binary.proofs.Common.{◌≡◌, ◌+◌, ◌-◌, length, refl, arith, below_more, IsPoint}
 use Rattle.olr_binary.proofs.Points.{each-push}
 use Rattle.olr_binary.proofs.attributes.read_points.Goals as goal
 

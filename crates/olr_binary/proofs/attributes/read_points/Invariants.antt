@@ -1,9 +1,4 @@
-use Rattle.std.proofs.Common.{◌≡◌, ℕ, ◌-◌, ◌<◌, length, Some}
-use Rattle.std.specs.Prelude.{slice_get}
-use Rattle.olr_metric.specs.Coordinates.{IsInRange}
-use Rattle.olr_binary.specs.declared.point.Point.{Point}
-use Rattle.olr_binary.specs.Coordinates.{place_of}
-use Rattle.olr_binary.specs.Point.{IsPoint}
+use Rattle.olr_binary.proofs.Common.{◌≡◌, ℕ, ◌-◌, ◌<◌, length, Some, slice_get, IsInRange, Point, place_of, IsPoint}
 use Rattle.olr_binary.proofs.attributes.read_points.Given as goal
 
 abbrev pub invariant-loop-index : goal.invariant-loop-index

@@ -1,5 +1,4 @@
-use Rattle.std.proofs.Common.{◌≡◌, append_assoc, w32, to_z, of_z, arith}
-use Rattle.std.proofs.lemmas.Int.{ints}
+use Rattle.olr_binary.proofs.Common.{◌≡◌, append_assoc, w32, to_z, of_z, arith, ints}
 use Rattle.olr_binary.proofs.showing.push_point.Goals as goal
 
 pub returns : goal.returns

@@ -1,5 +1,4 @@
-use Rattle.std.proofs.Common.{◌≡◌, length}
-use Rattle.olr_binary.specs.Text.{without_leading}
+use Rattle.olr_binary.proofs.Common.{◌≡◌, length, without_leading}
 use Rattle.olr_binary.proofs.text.without_leading.Given as goal
 
 abbrev pub invariant-loop-rest : goal.invariant-loop-rest

@@ -1,5 +1,4 @@
-use Rattle.std.proofs.Common.{◌≡◌, length}
-use Rattle.olr_binary.specs.Text.{without_trailing}
+use Rattle.olr_binary.proofs.Common.{◌≡◌, length, without_trailing}
 use Rattle.olr_binary.proofs.text.without_trailing.Given as goal
 
 abbrev pub invariant-loop-rest : goal.invariant-loop-rest

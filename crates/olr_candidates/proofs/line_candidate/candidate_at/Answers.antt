@@ -1,5 +1,4 @@
-use Rattle.std.proofs.Common.{◌≡◌}
-use Rattle.olr_candidates.proofs.Common.{head_of}
+use Rattle.olr_candidates.proofs.Common.{head_of, ◌≡◌}
 use Rattle.olr_candidates.proofs.LineCandidates.{rated, sound_at, head_at}
 use Rattle.olr_candidates.proofs.line_candidate.candidate_at.Goals as goal
 

@@ -1,5 +1,4 @@
-use Rattle.std.proofs.Common.{◌≡◌, arith}
-use Rattle.olr_candidates.proofs.Common.{coordinates_of, head_of}
+use Rattle.olr_candidates.proofs.Common.{coordinates_of, head_of, ◌≡◌, arith}
 use Rattle.olr_candidates.proofs.LineCandidates.{head_at, rejected, sound_at}
 use Rattle.olr_candidates.proofs.line_candidate.candidate_within.Goals as goal
 

@@ -1,5 +1,4 @@
-use Rattle.std.proofs.Common.{◌≡◌, map, ap, ◌∙◌}
-use Rattle.olr_candidates.proofs.Common.{coordinates_of, spot_of}
+use Rattle.olr_candidates.proofs.Common.{coordinates_of, spot_of, ◌≡◌, map, ap, ◌∙◌}
 use Rattle.olr_candidates.proofs.Polylines.{spots_of, is_polyline}
 use Rattle.olr_candidates.proofs.LineCandidates.{line_at, sound_at, points_at}
 use Rattle.olr_candidates.proofs.line_projection.polyline_at.Goals as goal

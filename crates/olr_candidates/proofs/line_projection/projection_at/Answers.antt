@@ -1,5 +1,4 @@
-use Rattle.std.proofs.Common.{◌≡◌, ap}
-use Rattle.olr_candidates.proofs.Common.{coordinates_of, head_of, polyline_of}
+use Rattle.olr_candidates.proofs.Common.{coordinates_of, head_of, polyline_of, ◌≡◌, ap}
 use Rattle.olr_candidates.proofs.LineCandidates.{line_at, head_at}
 use Rattle.olr_candidates.proofs.line_projection.projection_at.Goals as goal
 

@@ -1,5 +1,4 @@
-use Rattle.std.proofs.Common.{◌≡◌, ap, arith}
-use Rattle.olr_candidates.proofs.Common.{coordinates_of, spot_of, IsNearest, Near, head_of, polyline_of}
+use Rattle.olr_candidates.proofs.Common.{coordinates_of, spot_of, IsNearest, Near, head_of, polyline_of, ◌≡◌, ap, arith}
 use Rattle.olr_candidates.proofs.LineCandidates.{line_at, head_at}
 use Rattle.olr_candidates.proofs.line_projection.projection_within.Goals as goal
 

@@ -1,5 +1,4 @@
-use Rattle.std.proofs.Common.{◌≡◌, arith}
-use Rattle.olr_candidates.proofs.Common.{head_of}
+use Rattle.olr_candidates.proofs.Common.{head_of, ◌≡◌, arith}
 use Rattle.olr_candidates.proofs.LineCandidates.{sound_at, head_at}
 use Rattle.olr_candidates.proofs.near.near_within.Goals as goal
 

@@ -1,5 +1,4 @@
-use Rattle.std.proofs.Common.{◌++◌, ◌∷◌, [], append_assoc}
-use Rattle.olr_candidates.specs.Nearest.{CoverRadius}
+use Rattle.olr_candidates.proofs.Common.{◌++◌, ◌∷◌, [], append_assoc, CoverRadius}
 use Rattle.olr_candidates.proofs.NearestLines.{none_nearest}
 use Rattle.olr_candidates.proofs.SeenLines.{not_seen}
 use Rattle.olr_candidates.proofs.near_search.nearest_in_window.Goals as goal

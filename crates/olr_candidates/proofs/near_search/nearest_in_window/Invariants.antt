@@ -1,5 +1,4 @@
-use Rattle.std.proofs.Common.{ℕ, List, ◌++◌}
-use Rattle.olr_candidates.specs.Nearest.{AreNearestAmong, CoverRadius}
+use Rattle.olr_candidates.proofs.Common.{ℕ, List, ◌++◌, AreNearestAmong, CoverRadius}
 use Rattle.olr_candidates.proofs.near_search.nearest_in_window.Given as goal
 
 -- the nearest among the lines of the window so far

@@ -1,5 +1,4 @@
-use Rattle.std.proofs.Common.{ℕ, List}
-use Rattle.olr_candidates.specs.Nearest.{AreNearestAmong}
+use Rattle.olr_candidates.proofs.Common.{ℕ, List, AreNearestAmong}
 use Rattle.olr_candidates.proofs.NearestLines.{AreFirstRanks}
 use Rattle.olr_candidates.proofs.near_search.nearest_of_all.Given as goal
 

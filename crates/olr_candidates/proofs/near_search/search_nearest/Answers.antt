@@ -1,5 +1,4 @@
-use Rattle.std.proofs.Common.{◌≡◌, length, All, ◌≤◌, ◌*◌, List, rules, refl, subst}
-use Rattle.olr_candidates.proofs.Common.{NearLine}
+use Rattle.olr_candidates.proofs.Common.{NearLine, ◌≡◌, length, All, ◌≤◌, ◌*◌, List, rules, refl, subst}
 use Rattle.olr_candidates.proofs.NearestLines.{nearest_within}
 use Rattle.olr_candidates.proofs.near_search.search_nearest.Goals as goal
 

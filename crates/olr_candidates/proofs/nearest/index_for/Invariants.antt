@@ -1,6 +1,4 @@
-use Rattle.std.proofs.Common.{ℕ, ◌<◌, ◌≤◌, length, get_or}
-use Rattle.olr_candidates.proofs.Common.{NearLine}
-use Rattle.olr_candidates.specs.Near.{IsNearer}
+use Rattle.olr_candidates.proofs.Common.{NearLine, ℕ, ◌<◌, ◌≤◌, length, get_or, IsNearer}
 use Rattle.olr_candidates.proofs.nearest.index_for.Given as goal
 
 -- the line is nearer than those from here on

@@ -1,5 +1,4 @@
-use Rattle.std.proofs.Common.{◌≡◌, length, map, take, All}
-use Rattle.olr_candidates.proofs.Common.{coordinates_of, spot_of, IsInPlane}
+use Rattle.olr_candidates.proofs.Common.{coordinates_of, spot_of, IsInPlane, ◌≡◌, length, map, take, All}
 use Rattle.olr_candidates.proofs.projection.polyline_of.Given as goal
 
 -- the spots of the points so far

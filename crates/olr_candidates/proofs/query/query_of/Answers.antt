@@ -1,5 +1,4 @@
-use Rattle.std.proofs.Common.{refl, arith}
-use Rattle.std.proofs.lemmas.Option.{slice_get_read}
+use Rattle.olr_candidates.proofs.Common.{refl, arith, slice_get_read}
 use Rattle.olr_candidates.proofs.query.query_of.Goals as goal
 
 pub returns-clause-query : goal.returns-clause-query

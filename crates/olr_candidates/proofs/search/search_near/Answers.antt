@@ -1,5 +1,4 @@
-use Rattle.std.proofs.Common.{◌++◌, ◌∷◌, [], subst, arith, append_assoc, append-nil}
-use Rattle.olr_candidates.proofs.Common.{coordinates_of, IsInRange, IsNear}
+use Rattle.olr_candidates.proofs.Common.{coordinates_of, IsInRange, IsNear, ◌++◌, ◌∷◌, [], subst, arith, append_assoc, append-nil}
 use Rattle.olr_candidates.proofs.WindowAround.{meets_window}
 use Rattle.olr_candidates.proofs.LineCandidates.{sound_at}
 use Rattle.olr_candidates.proofs.SeenLines.{not_seen, rank_within}

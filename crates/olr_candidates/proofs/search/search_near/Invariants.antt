@@ -1,5 +1,4 @@
-use Rattle.std.proofs.Common.{ℕ, List, ◌++◌}
-use Rattle.olr_candidates.proofs.Common.{AreFound, IsNear}
+use Rattle.olr_candidates.proofs.Common.{AreFound, IsNear, ℕ, List, ◌++◌}
 use Rattle.olr_candidates.proofs.search.search_near.Given as goal
 
 -- the candidates among the lines of the window so far

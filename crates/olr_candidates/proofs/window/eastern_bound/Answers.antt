@@ -1,6 +1,4 @@
-use Rattle.std.proofs.Common.{◌≡◌, ◌*◌, pos, ◌+ℤ◌, ◌<ℤ◌, w32, to_z, of_z, arith}
-use Rattle.std.proofs.lemmas.Int.{ints}
-use Rattle.olr_candidates.proofs.Common.{Coordinates, coordinates_of, x_of}
+use Rattle.olr_candidates.proofs.Common.{Coordinates, coordinates_of, x_of, ◌≡◌, ◌*◌, pos, ◌+ℤ◌, ◌<ℤ◌, w32, to_z, of_z, arith, ints}
 use Rattle.olr_candidates.proofs.WindowAround.{not_east}
 use Rattle.olr_candidates.proofs.window.eastern_bound.Goals as goal
 

@@ -1,5 +1,4 @@
-use Rattle.std.proofs.Common.{rules, ◌≡◌, ◌+◌, ◌*◌, pos, ◌+ℤ◌, ◌-ℤ◌, to_z, of_z, w32, FitsSigned, arith}
-use Rattle.std.proofs.lemmas.Int.{ints, to_z-of_z}
+use Rattle.olr_candidates.proofs.Common.{rules, ◌≡◌, ◌+◌, ◌*◌, pos, ◌+ℤ◌, ◌-ℤ◌, to_z, of_z, w32, FitsSigned, arith, ints, to_z-of_z}
 use Rattle.olr_candidates.proofs.WindowAround.{not_north, not_south}
 use Rattle.olr_candidates.proofs.window.window_around.Goals as goal
 

@@ -1,5 +1,4 @@
-use Rattle.std.proofs.Common.{rules, Ok, Err}
-use Rattle.std.proofs.lemmas.List.Sorted.{answers_always}
+use Rattle.olr_index.proofs.Common.{rules, Ok, Err, answers_always}
 use Rattle.olr_index.proofs.Buckets.{found_between}
 use Rattle.olr_index.proofs.bucketing.find_between.Goals as goal
 

@@ -1,5 +1,4 @@
-use Rattle.std.proofs.Common.{◌-◌, length, sym, arith}
-use Rattle.std.proofs.lemmas.Option.{get_or_from_slice_get}
+use Rattle.olr_index.proofs.Common.{◌-◌, length, sym, arith, get_or_from_slice_get}
 use Rattle.olr_index.proofs.Finding.{rises}
 use Rattle.olr_index.proofs.bucketing.greatest.Goals as goal
 

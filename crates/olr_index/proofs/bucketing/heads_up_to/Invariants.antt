@@ -1,6 +1,4 @@
-use Rattle.std.proofs.Common.{length, ◌≡◌, ℕ, ◌/◌, ◌^◌, ◌<◌, ◌≤◌}
-use Rattle.std.specs.Prelude.{slice_index}
-use Rattle.olr_index.specs.inner.Buckets.{AreHeads}
+use Rattle.olr_index.proofs.Common.{length, ◌≡◌, ℕ, ◌/◌, ◌^◌, ◌<◌, ◌≤◌, slice_index, AreHeads}
 use Rattle.olr_index.proofs.bucketing.heads_up_to.Given as goal
 
 abbrev pub invariant-loop-bucket : goal.invariant-loop-bucket

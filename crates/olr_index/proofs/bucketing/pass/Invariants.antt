@@ -1,5 +1,4 @@
-use Rattle.std.proofs.Common.{length, ◌-◌, ℕ, ◌/◌, ◌^◌, ◌<◌, ◌≤◌}
-use Rattle.std.specs.Prelude.{slice_index}
+use Rattle.olr_index.proofs.Common.{length, ◌-◌, ℕ, ◌/◌, ◌^◌, ◌<◌, ◌≤◌, slice_index}
 use Rattle.olr_index.proofs.bucketing.pass.Given as goal
 
 abbrev pub invariant-loop-next : goal.invariant-loop-next

@@ -1,5 +1,4 @@
-use Rattle.std.proofs.Common.{rules, Ok, Err}
-use Rattle.std.proofs.lemmas.List.Sorted.{answers_always}
+use Rattle.olr_index.proofs.Common.{rules, Ok, Err, answers_always}
 use Rattle.olr_index.proofs.Finding.{found_by_key}
 use Rattle.olr_index.proofs.look_up.rank_of_key.Goals as goal
 

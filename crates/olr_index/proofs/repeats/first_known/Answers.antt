@@ -1,5 +1,4 @@
-use Rattle.std.proofs.Common.{sym, ◌∙◌}
-use Rattle.std.proofs.lemmas.Bool.{not-false, not-true}
+use Rattle.olr_index.proofs.Common.{sym, ◌∙◌, not-false, not-true}
 use Rattle.olr_index.proofs.Known.{nothing_known, one_more_known, known_again, all_known}
 use Rattle.olr_index.proofs.repeats.first_known.Goals as goal
 

@@ -1,5 +1,4 @@
-use Rattle.std.proofs.Common.{ltb, rules}
-use Rattle.std.proofs.lemmas.List.Sorted.{answers_always}
+use Rattle.olr_index.proofs.Common.{ltb, rules, answers_always}
 use Rattle.olr_index.proofs.Permuted.{rising_answer}
 use Rattle.olr_index.proofs.repeats.rises.Goals as goal
 

@@ -1,5 +1,4 @@
-use Rattle.std.proofs.Common.{rules}
-use Rattle.std.proofs.lemmas.List.Sorted.{IsNonDecreasingBy-from_sort_by_key}
+use Rattle.olr_index.proofs.Common.{rules, IsNonDecreasingBy-from_sort_by_key}
 use Rattle.olr_index.proofs.Permuted.{keys_differ_permuted, keys_rise}
 use Rattle.olr_index.proofs.sorting.sort.Goals as goal
 

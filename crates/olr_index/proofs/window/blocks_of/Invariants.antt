@@ -1,5 +1,4 @@
-use Rattle.std.proofs.Common.{◌≡◌, vec_len}
-use Rattle.olr_index.specs.ByExtent.{AreBlocksBelow}
+use Rattle.olr_index.proofs.Common.{◌≡◌, vec_len, AreBlocksBelow}
 use Rattle.olr_index.proofs.window.blocks_of.Given as goal
 
 -- the blocks so far

@@ -1,12 +1,11 @@
-use Rattle.std.proofs.Common.{◌≤◌, length, arith}
-use Rattle.std.proofs.lemmas.List.{take_all}
+use Rattle.olr_index.proofs.Common.{◌≤◌, length, arith, take_all}
 use Rattle.olr_index.proofs.Spans.{cover_more}
 use Rattle.olr_index.proofs.window.cover.Goals as goal
 
 pub loop-line-preserved : goal.loop-line-preserved
 loop-line-preserved c =
     cover_more _ _ _ _ _ c.loop-line-test.true
-    c.joined-extent.ensures.first c.joined-extent.ensures.second c.loop-line.invariant
+    c.joined-bounding_box.ensures.first c.joined-bounding_box.ensures.second c.loop-line.invariant
 
 pub returns : goal.returns
 returns c =

@@ -1,5 +1,4 @@
-use Rattle.std.proofs.Common.{sym}
-use Rattle.std.proofs.lemmas.List.{nil_from_length}
+use Rattle.olr_index.proofs.Common.{sym, nil_from_length}
 use Rattle.olr_index.proofs.Meeting.{ranks_in-nil, ranks_in-met, ranks_in-passed}
 use Rattle.olr_index.proofs.window.first_in.Goals as goal
 

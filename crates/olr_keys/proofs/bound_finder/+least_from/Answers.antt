@@ -1,5 +1,4 @@
-use Rattle.std.proofs.Common.{◌≡◌, ℕ, ◌+◌, ◌∷◌, [], List, length, refl, sym, subst, length-append, arith}
-use Rattle.olr_keys.specs.Table.{count_of}
+use Rattle.olr_keys.proofs.Common.{◌≡◌, ℕ, ◌+◌, ◌∷◌, [], List, length, refl, sym, subst, length-append, arith, count_of}
 use Rattle.olr_keys.proofs.Beginnings.{begins_longer, least_at_end, least_of_all, least_left, least_with, step_at_most, whole_in_range}
 use Rattle.olr_keys.proofs.bound_finder.+least_from.Goals as goal
 use Rattle.olr_keys.proofs.bound_finder.+least_from.Goals.{in-Some, in_default}

@@ -1,5 +1,4 @@
-use Rattle.std.proofs.Common.{◌≡◌}
-use Rattle.olr_keys.specs.Bounds.{IsLeastNumber}
+use Rattle.olr_keys.proofs.Common.{◌≡◌, IsLeastNumber}
 use Rattle.olr_keys.proofs.Remaining.{IsTotalBy}
 use Rattle.olr_keys.proofs.bound_table.least_by.Given as goal
 

@@ -1,5 +1,4 @@
-use Rattle.std.proofs.Common.{◌≡◌, ◌-◌, None, length, map}
-use Rattle.olr_keys.specs.Page.{page_of}
+use Rattle.olr_keys.proofs.Common.{◌≡◌, ◌-◌, None, length, map, page_of}
 use Rattle.olr_keys.proofs.Chains.{IsChainSoFar}
 use Rattle.olr_keys.proofs.chain.all_pages.Given as goal
 

@@ -1,7 +1,5 @@
-use Rattle.std.proofs.Common.{◌≡◌, ℕ, ◌≤◌, ◌<◌, ◌^◌, List, sym, ap, ◌∙◌, arith}
-use Rattle.std.specs.Prelude.{decimal, Result, Ok}
+use Rattle.olr_keys.proofs.Common.{◌≡◌, ℕ, ◌≤◌, ◌<◌, ◌^◌, List, sym, ap, ◌∙◌, arith, decimal, Result, Ok, parse-decimal}
 use Rattle.std.specs.Str.Parse.{ParsesUnsigned}
-use Rattle.std.proofs.lemmas.Fmt.{parse-decimal}
 use Rattle.olr_keys.proofs.Outcomes.{differ, same_ok}
 use Rattle.olr_keys.proofs.decimal.number_of.Goals as goal
 

@@ -1,5 +1,4 @@
-use Rattle.std.proofs.Common.{ℕ, ◌<◌}
-use Rattle.olr_keys.specs.Table.{AreLegsFrom, penalties_of}
+use Rattle.olr_keys.proofs.Common.{ℕ, ◌<◌, AreLegsFrom, penalties_of}
 use Rattle.olr_keys.proofs.limits.are_all_legs.Given as goal
 
 -- each layer so far has the legs to the next one

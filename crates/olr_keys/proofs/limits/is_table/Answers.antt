@@ -1,11 +1,5 @@
-use Rattle.std.proofs.Common.{◌≡◌, ℕ, ◌+◌, ◌<◌, ◌≤◌, true≢false, List, [], length, All, ◌∙◌, arith}
-use Rattle.std.specs.Prelude.{Option, slice_index_or}
-use Rattle.std.specs.Global.{Vec}
+use Rattle.olr_keys.proofs.Common.{◌≡◌, ℕ, ◌+◌, ◌<◌, ◌≤◌, true≢false, List, [], length, All, ◌∙◌, arith, Option, slice_index_or, Vec, length-map, All-map, get_or_from_slice_get, slice_get-get_or, slice_get_within, AreLegsFrom, IsLayer, IsTable, Penalties, penalties_of}
 use Rattle.std.proofs.Math.ListN.{get_or-map as map_at}
-use Rattle.std.proofs.lemmas.List.{length-map}
-use Rattle.std.proofs.lemmas.List.Elements.{All-map}
-use Rattle.std.proofs.lemmas.Option.{get_or_from_slice_get, slice_get-get_or, slice_get_within}
-use Rattle.olr_keys.specs.Table.{AreLegsFrom, IsLayer, IsTable, Penalties, penalties_of}
 use Rattle.olr_keys.proofs.limits.is_table.Goals as goal
 use Rattle.olr_keys.proofs.limits.is_table.Goals.{then-have_lengths, else-have_lengths}
 

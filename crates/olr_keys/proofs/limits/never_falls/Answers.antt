@@ -1,5 +1,4 @@
-use Rattle.std.proofs.Common.{ℕ, ◌+◌, ◌<◌, Bool, true, false, true≢false, List, length, get_or, Decides, refl, sym, arith}
-use Rattle.std.specs.Prelude.{MatchBool}
+use Rattle.olr_keys.proofs.Common.{ℕ, ◌+◌, ◌<◌, Bool, true, false, true≢false, List, length, get_or, Decides, refl, sym, arith, MatchBool}
 use Rattle.std.specs.List.Sorted.{IsNonDecreasing}
 use Rattle.std.proofs.lemmas.List.Sorted.{non_decreasing_from_is_sorted}
 use Rattle.olr_keys.proofs.limits.never_falls.Goals as goal

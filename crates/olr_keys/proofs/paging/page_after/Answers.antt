@@ -1,6 +1,4 @@
-use Rattle.std.proofs.Common.{List, length, refl, sym, ◌∙◌, ap, subst, arith}
-use Rattle.std.specs.Prelude.{is_some, option_map}
-use Rattle.olr_keys.specs.Key.{KeyValue}
+use Rattle.olr_keys.proofs.Common.{List, length, refl, sym, ◌∙◌, ap, subst, arith, is_some, option_map, KeyValue}
 use Rattle.olr_keys.proofs.PageLists.{AreFirst, first_none, more_read, one_longer, page_read, position_read}
 use Rattle.olr_keys.proofs.paging.page_after.Goals as goal
 

@@ -1,5 +1,4 @@
-use Rattle.std.proofs.Common.{◌≡◌, length}
-use Rattle.std.specs.Prelude.{option_map}
+use Rattle.olr_keys.proofs.Common.{◌≡◌, length, option_map}
 use Rattle.olr_keys.proofs.PageLists.{AreFirst}
 use Rattle.olr_keys.proofs.paging.page_after.Given as goal
 

@@ -1,7 +1,4 @@
-use Rattle.std.proofs.Common.{◌≡◌, ℕ, ◌+◌, ◌∷◌, [], List, length, refl, sym, subst, length-append, arith}
-use Rattle.std.specs.Prelude.{option_map}
-use Rattle.olr_keys.specs.Product.{IsJoined}
-use Rattle.olr_keys.specs.Table.{count_of}
+use Rattle.olr_keys.proofs.Common.{◌≡◌, ℕ, ◌+◌, ◌∷◌, [], List, length, refl, sym, subst, length-append, arith, option_map, IsJoined, count_of}
 use Rattle.olr_keys.proofs.Beginnings.{begins_longer, least_at_end, least_of_all, least_left, least_with, step_at_most, whole_in_range}
 use Rattle.olr_keys.proofs.Leaving.{left_unjoined}
 use Rattle.olr_keys.proofs.product.+least_from.Goals as goal

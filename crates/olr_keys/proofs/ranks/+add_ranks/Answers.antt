@@ -1,6 +1,4 @@
-use Rattle.std.proofs.Common.{◌≡◌, ℕ, Bool, true, arith}
-use Rattle.std.specs.Prelude.{◌==◌}
-use Rattle.std.proofs.lemmas.Bool.{eqb-true}
+use Rattle.olr_keys.proofs.Common.{◌≡◌, ℕ, Bool, true, arith, ◌==◌, eqb-true}
 use Rattle.olr_keys.proofs.Outcomes.{from_none}
 use Rattle.olr_keys.proofs.Lacking.{lacks_uncut, cut_at}
 use Rattle.olr_keys.proofs.RanksText.{no_ranks, head_of, joined}

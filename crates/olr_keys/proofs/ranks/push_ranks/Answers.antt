@@ -1,11 +1,4 @@
-use Rattle.std.proofs.Common.{◌≡◌, ℕ, ◌+◌, ◌<◌, ◌≤◌, List, [], ◌∷◌, ◌++◌, length, take, get_or, subst, ap, ◌∙◌, arith, append_assoc, length-append}
-use Rattle.std.specs.Prelude.{decimal, All}
-use Rattle.std.proofs.lemmas.Fmt.{length-decimal-le}
-use Rattle.std.proofs.lemmas.List.{take_all}
-use Rattle.std.proofs.lemmas.List.Elements.{All-head, All-tail}
-use Rattle.std.proofs.lemmas.Str.{encode_ascii}
-use Rattle.olr_keys.specs.Cursor.{AreRanks, ranks_text}
-use Rattle.olr_keys.specs.Key.{IsRank}
+use Rattle.olr_keys.proofs.Common.{◌≡◌, ℕ, ◌+◌, ◌<◌, ◌≤◌, List, [], ◌∷◌, ◌++◌, length, take, get_or, ap, ◌∙◌, arith, append_assoc, length-append, decimal, All, length-decimal-le, take_all, All-head, All-tail, encode_ascii, AreRanks, ranks_text, IsRank}
 use Rattle.olr_keys.proofs.RanksText.{later, later-next, ranks_text-cons}
 use Rattle.olr_keys.proofs.ranks.push_ranks.Goals as goal
 

@@ -1,7 +1,4 @@
-use Rattle.std.proofs.Common.{◌≡◌, ℕ, List, arith}
-use Rattle.std.specs.Prelude.{decimal}
-use Rattle.std.proofs.lemmas.Fmt.{decimal_injective}
-use Rattle.olr_keys.specs.Key.{IsRank}
+use Rattle.olr_keys.proofs.Common.{◌≡◌, ℕ, List, arith, decimal, decimal_injective, IsRank}
 use Rattle.olr_keys.proofs.ranks.rank_of.Goals as goal
 
 no_rank : {text : List ℕ} (number rank : ℕ) → text ≡ decimal number → number ≡ 0 → IsRank rank

@@ -1,5 +1,4 @@
-use Rattle.std.proofs.Common.{◌≡◌, length, arith}
-use Rattle.olr_keys.specs.Search.{IsFirstStep}
+use Rattle.olr_keys.proofs.Common.{◌≡◌, length, arith}
 use Rattle.olr_keys.proofs.Searching.{first_completion, appends_deeper, appends_nothing, layer_budget, is_predecessor, some_step, later_completion, empty_completion}
 use Rattle.olr_keys.proofs.Sizes.{count_most}
 use Rattle.olr_keys.proofs.search.+descend.Goals as goal

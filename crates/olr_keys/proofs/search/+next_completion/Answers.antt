@@ -1,6 +1,4 @@
-use Rattle.std.proofs.Common.{[], ◌∷◌, length, length-append, refl, ap, ◌∙◌, arith}
-use Rattle.olr_keys.specs.Rows.{IsStep}
-use Rattle.olr_keys.specs.Table.{Penalties}
+use Rattle.olr_keys.proofs.Common.{[], ◌∷◌, length, length-append, refl, ap, ◌∙◌, arith, IsStep, Penalties}
 use Rattle.olr_keys.proofs.Following.{none_at_end, own_inside, own_layer, own_step, others_completion, found_deeper, above_found, deeper_probes, above_probes}
 use Rattle.olr_keys.proofs.Searching.{is_predecessor, popped_back}
 use Rattle.olr_keys.proofs.search.+next_completion.Goals as goal

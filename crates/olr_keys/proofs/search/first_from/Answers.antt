@@ -1,5 +1,4 @@
-use Rattle.std.proofs.Common.{None, refl}
-use Rattle.olr_keys.specs.Search.{IsFirstCompletion}
+use Rattle.olr_keys.proofs.Common.{refl}
 use Rattle.olr_keys.proofs.NextKeys.{no_key_from, first_key_from, found_in_range, found_alone}
 use Rattle.olr_keys.proofs.search.first_from.Goals as goal
 

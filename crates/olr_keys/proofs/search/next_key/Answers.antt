@@ -1,6 +1,4 @@
-use Rattle.std.proofs.Common.{ap, rules, arith}
-use Rattle.olr_keys.specs.Key.{KeyValue}
-use Rattle.olr_keys.specs.Matching.{IsKey}
+use Rattle.olr_keys.proofs.Common.{ap, rules, arith, IsKey}
 use Rattle.olr_keys.proofs.Sizes.{total_below}
 use Rattle.olr_keys.proofs.search.next_key.Goals as goal
 

@@ -1,5 +1,4 @@
-use Rattle.std.proofs.Common.{◌≡◌, ℕ, ◌+◌, ◌-◌, ◌<◌, ◌≤◌}
-use Rattle.olr_keys.specs.Rows.{IsStep}
+use Rattle.olr_keys.proofs.Common.{◌≡◌, ℕ, ◌+◌, ◌-◌, ◌<◌, ◌≤◌, IsStep}
 use Rattle.olr_keys.proofs.search.next_step.Given as goal
 
 abbrev pub invariant-loop-index : goal.invariant-loop-index

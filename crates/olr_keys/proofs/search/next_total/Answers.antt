@@ -1,5 +1,4 @@
-use Rattle.std.proofs.Common.{◌∙◌, arith}
-use Rattle.olr_keys.specs.Rows.{IsTotal}
+use Rattle.olr_keys.proofs.Common.{◌∙◌, arith, IsTotal}
 use Rattle.olr_keys.proofs.NextKeys.{no_more_totals, no_totals_at_all}
 use Rattle.olr_keys.proofs.search.next_total.Goals as goal
 

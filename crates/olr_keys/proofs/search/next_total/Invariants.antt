@@ -1,5 +1,4 @@
-use Rattle.std.proofs.Common.{◌≡◌, ℕ, ◌+◌, ◌-◌, ◌<◌, ◌≤◌}
-use Rattle.olr_keys.specs.Rows.{IsTotal}
+use Rattle.olr_keys.proofs.Common.{◌≡◌, ℕ, ◌+◌, ◌-◌, ◌<◌, ◌≤◌, IsTotal}
 use Rattle.olr_keys.proofs.search.next_total.Given as goal
 
 abbrev pub invariant-loop-number : goal.invariant-loop-number

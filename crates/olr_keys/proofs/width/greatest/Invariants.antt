@@ -1,5 +1,4 @@
-use Rattle.std.proofs.Common.{◌≡◌, take}
-use Rattle.olr_keys.specs.Rows.{greatest}
+use Rattle.olr_keys.proofs.Common.{◌≡◌, take, greatest}
 use Rattle.olr_keys.proofs.width.greatest.Given as goal
 
 abbrev pub invariant-loop-penalty : goal.invariant-loop-penalty

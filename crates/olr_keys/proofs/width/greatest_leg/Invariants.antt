@@ -1,5 +1,4 @@
-use Rattle.std.proofs.Common.{◌≡◌, take}
-use Rattle.olr_keys.specs.Rows.{greatest_leg}
+use Rattle.olr_keys.proofs.Common.{◌≡◌, take, greatest_leg}
 use Rattle.olr_keys.proofs.width.greatest_leg.Given as goal
 
 abbrev pub invariant-loop-leg : goal.invariant-loop-leg

@@ -1,5 +1,4 @@
-use Rattle.std.proofs.Common.{[], refl, ap, arith}
-use Rattle.olr_keys.specs.Rows.{greatest, greatest_leg}
+use Rattle.olr_keys.proofs.Common.{[], refl, ap, arith, greatest, greatest_leg}
 use Rattle.olr_keys.proofs.Sizes.{sum_more, layer_at_most, legs_at_most, width_is, width_at_most}
 use Rattle.olr_keys.proofs.width.width.Goals as goal
 

@@ -1,7 +1,4 @@
-use Rattle.std.proofs.Common.{◌≡◌, ◌+◌, ◌*◌, ◌≤◌, take}
-use Rattle.std.specs.List.{sum_by}
-use Rattle.olr_keys.specs.Rows.{greatest, greatest_leg}
-use Rattle.olr_keys.specs.Table.{max_step}
+use Rattle.olr_keys.proofs.Common.{◌≡◌, ◌+◌, ◌*◌, ◌≤◌, take, sum_by, greatest, greatest_leg, max_step}
 use Rattle.olr_keys.proofs.width.width.Given as goal
 
 abbrev pub invariant-loop-layer : goal.invariant-loop-layer

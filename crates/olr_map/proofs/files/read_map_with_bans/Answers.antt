@@ -1,25 +1,13 @@
-use Rattle.std.proofs.Common.{arith}
-use Rattle.std.proofs.lemmas.List.{length-map}
-use Rattle.std.proofs.lemmas.Result.{err_from_is_err_and}
-use Rattle.olr_map.proofs.Common.{nodes_of, lines_of, line_in}
+use Rattle.olr_map.proofs.Common.{nodes_of, err_from_is_err_and}
 use Rattle.olr_map.proofs.Soundness.{bans_are_sound}
 use Rattle.olr_map.proofs.Reported.{map_reported, known_left, bans_fault}
 use Rattle.olr_map.proofs.files.read_map_with_bans.Goals as goal
 
 pub read_bans-requires : goal.read_bans-requires
-read_bans-requires g c =
-    let accepted = c.in_ok-network.ensures.accepted in
-    let lines = c.in_ok-network.network.lines in
-    record {
-      rise = accepted.sound.rise;
-      at_most = omega (
-        arith,
-        length-map lines.entries.items (line_in lines.points.items),
-      );
-    }
+read_bans-requires g c = c.in_ok-network.ensures.accepted.sound.rise
 
-pub map_of-requires-clause-map : goal.map_of-requires-clause-map
-map_of-requires-clause-map g c =
+pub new-requires : goal.new-requires
+new-requires g c =
     let accepted = c.in_ok-network.ensures.accepted in
     let read = c.in_ok-bans.ensures.bans in
     record {
@@ -35,7 +23,7 @@ returns-in_err-bans-clause-fault g c =
     rw (p.1, p.2) (bans_fault g.S3.Source.left g.S3.Source.failed c.args.bans.now
     c.read_bans.new.source (g.S1.Source.left c.args.nodes.now)
     (g.S2.Source.left c.args.lines.now)
-    (nodes_of c.in_ok-network.network.nodes.items) (lines_of c.in_ok-network.network.lines)
+    (nodes_of c.in_ok-network.network.nodes.items) c.in_ok-network.network.lines
     c.in_err-bans.field-0.0 c.in_ok-network.ensures.accepted c.in_err-bans.ensures.fault)
 
 pub returns-clause-map : goal.returns-clause-map

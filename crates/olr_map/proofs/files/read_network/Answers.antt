@@ -1,8 +1,5 @@
-use Rattle.std.proofs.Common.{List, arith, subst, sym, ◌∙◌}
-use Rattle.std.proofs.lemmas.Result.{err_from_is_err_and}
-use Rattle.olr_map.specs.declared.node.Node.{Node as NodeByRank}
-use Rattle.olr_map.proofs.Common.{IsNodeSet, IsLineSet, node_of, nodes_of, lines_of}
-use Rattle.std.proofs.lemmas.List.{length-map}
+use Rattle.olr_road.specs.declared.node.Node.{Node as NodeByRank}
+use Rattle.olr_map.proofs.Common.{IsNodeSet, IsLineSet, node_of, nodes_of, List, arith, subst, sym, ◌∙◌, err_from_is_err_and, length-map}
 use Rattle.olr_map.proofs.Soundness.{nodes_are_sound}
 use Rattle.olr_map.proofs.Reported.{lines_fault, not_of_bans, lines_accepted}
 use Rattle.olr_map.proofs.files.read_network.Goals as goal
@@ -34,7 +31,7 @@ returns-clause-accepted g c =
     let nodes = subst (λ (l : List NodeByRank). IsNodeSet rows.0 (nodes_of l))
     (sym (c.into_items.ensures ∙ c.in_ok-index.ensures)) rows.2 in
     let lines = subst (λ (l : List NodeByRank). IsLineSet (nodes_of l) read.0
-    (lines_of c.in_ok-lines.lines)) (sym c.into_items.ensures) read.2 in
+    c.in_ok-lines.lines) (sym c.into_items.ensures) read.2 in
     lines_accepted (rows.0, rows.1, nodes) (read.0, read.1, lines)
 
 pub index_nodes-requires-clause-at_most : goal.index_nodes-requires-clause-at_most

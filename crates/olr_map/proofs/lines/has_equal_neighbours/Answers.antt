@@ -1,6 +1,4 @@
-use Rattle.std.proofs.Common.{arith}
-use Rattle.std.proofs.lemmas.List.{length-map}
-use Rattle.olr_map.proofs.Common.{coordinates_of}
+use Rattle.olr_map.proofs.Common.{coordinates_of, arith, length-map}
 use Rattle.olr_map.proofs.Neighbours.{none_equal, equal_among, one_more_differs}
 use Rattle.olr_map.proofs.lines.has_equal_neighbours.Goals as goal
 

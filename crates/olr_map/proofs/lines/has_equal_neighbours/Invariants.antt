@@ -1,5 +1,4 @@
-use Rattle.std.proofs.Common.{map, ◌≤◌}
-use Rattle.olr_map.proofs.Common.{coordinates_of}
+use Rattle.olr_map.proofs.Common.{coordinates_of, map, ◌≤◌}
 use Rattle.olr_map.proofs.Neighbours.{NoneEqualBelow}
 use Rattle.olr_map.proofs.lines.has_equal_neighbours.Given as goal
 

@@ -1,9 +1,6 @@
-use Rattle.std.proofs.Common.{rules, ◌≡◌, ℕ, List, map, length, inl, inr, refl, ap, ◌∙◌, subst}
-use Rattle.olr_map.proofs.Common.{Degrees, Coordinates, coordinates_of, IsLength, SpellsAt, Node, SpellsLine, LineRow}
-use Rattle.olr_map.specs.Faults.{HasUnknownEnd}
-use Rattle.olr_map.specs.inner.Reading.{AreEnds}
+use Rattle.olr_map.proofs.Common.{Degrees, Coordinates, coordinates_of, IsLength, SpellsAt, Node, SpellsLine, LineRow, ℕ, List, map, inl, inr, refl, ap, ◌∙◌, subst, HasUnknownEnd, AreEnds}
 use Rattle.olr_map.specs.declared.lines.Ends.{Ends}
-use Rattle.olr_map.proofs.LineRows.{number_once, known, coordinates_joined, behind}
+use Rattle.olr_map.proofs.LineRows.{number_once, known, coordinates_joined}
 use Rattle.olr_map.proofs.lines.make_line.Goals as goal
 
 -- nodes that were found are known
@@ -18,10 +15,8 @@ known_ends says ends unknown = elim unknown [
 pub returns-then-has_equal_neighbours-clause-line : goal.returns-then-has_equal_neighbours-clause-line
 returns-then-has_equal_neighbours-clause-line c = λ nodes fields says has.
     let ends = rw c.in-Some.is at has in
-    let grown = c.deref.ensures.value ∙ c.in_ok-append_points.ensures in
-    let at : c.len-start.result ≡ length c.args.points.now.items = search rules in
-    let more = behind _ _ _ _ _ grown at refl in
-    let points = ap (λ (l : List Degrees). map coordinates_of l) more
+    let points = ap (λ (l : List Degrees). map coordinates_of l)
+    (c.deref.ensures.value ∙ c.in_ok-join_points.ensures)
     ∙ coordinates_joined c.in-Some.ends.first _ _ in
     inr (
       known_ends says ends,

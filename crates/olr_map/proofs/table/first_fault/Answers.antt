@@ -1,5 +1,4 @@
-use Rattle.std.proofs.Common.{refl, ◌∙◌}
-use Rattle.olr_map.proofs.Common.{repeat, stopped}
+use Rattle.olr_map.proofs.Common.{repeat, stopped, refl, ◌∙◌}
 use Rattle.olr_map.proofs.table.first_fault.Goals as goal
 
 pub returns : goal.returns

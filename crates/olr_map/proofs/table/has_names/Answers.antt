@@ -1,5 +1,4 @@
-use Rattle.std.proofs.Common.{◌≡◌, ℕ, List, length, Some, sym, ap, ◌∙◌, arith}
-use Rattle.std.proofs.lemmas.List.{length-map}
+use Rattle.olr_map.proofs.Common.{◌≡◌, ℕ, List, length, Some, sym, ap, ◌∙◌, arith, length-map}
 use Rattle.olr_map.proofs.Headers.{bytes_of, other_field, one_more_field, each_field, name_at}
 use Rattle.olr_map.proofs.table.has_names.Goals as goal
 

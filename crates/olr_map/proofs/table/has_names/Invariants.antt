@@ -1,6 +1,4 @@
-use Rattle.std.proofs.Common.{◌≡◌, ℕ, ◌<◌, map}
-use Rattle.std.specs.Prelude.{slice_get}
-use Rattle.olr_records.specs.Records.{field_at}
+use Rattle.olr_map.proofs.Common.{◌≡◌, ℕ, ◌<◌, map, slice_get, field_at}
 use Rattle.olr_map.proofs.table.has_names.Given as goal
 
 abbrev pub invariant-loop-place : goal.invariant-loop-place

@@ -1,6 +1,4 @@
-use Rattle.std.proofs.Common.{[], ◌∷◌, List, length, ap, subst, ◌∙◌, arith}
-use Rattle.std.proofs.lemmas.List.{length-append}
-use Rattle.olr_map.proofs.Common.{AddsRow}
+use Rattle.olr_map.proofs.Common.{AddsRow, [], ◌∷◌, List, length, ap, subst, ◌∙◌, arith, length-append}
 use Rattle.olr_map.proofs.Gathering.{collects_more}
 use Rattle.olr_map.proofs.table.read_rows.Goals as goal
 

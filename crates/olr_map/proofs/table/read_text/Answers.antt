@@ -1,6 +1,4 @@
-use Rattle.std.proofs.Common.{refl, subst}
-use Rattle.std.proofs.lemmas.Result.{err_from_is_err_and}
-use Rattle.olr_map.proofs.Common.{Settles, keys_of}
+use Rattle.olr_map.proofs.Common.{Settles, keys_of, refl, subst, err_from_is_err_and}
 use Rattle.olr_map.proofs.Settled.{text_rows, text_fault}
 use Rattle.olr_map.proofs.table.read_text.Goals as goal
 

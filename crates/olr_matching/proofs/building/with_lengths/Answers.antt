@@ -1,7 +1,4 @@
-use Rattle.std.proofs.Common.{sym, ◌∙◌, ap, subst}
-use Rattle.olr_matching.proofs.Common.{LayersValue, lengths_of, lists_of}
-use Rattle.olr_keys.specs.Table.{Penalties}
-use Rattle.olr_matching.specs.Penalties.{ArePenaltiesOfLegs}
+use Rattle.olr_matching.proofs.Common.{LayersValue, lengths_of, lists_of, sym, ◌∙◌, ap, subst, Penalties, ArePenaltiesOfLegs}
 use Rattle.olr_matching.proofs.Tables.{are_layers, table_of_vectors}
 use Rattle.olr_matching.proofs.building.with_lengths.Goals as goal
 

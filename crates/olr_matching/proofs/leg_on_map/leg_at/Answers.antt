@@ -1,7 +1,5 @@
-use Rattle.std.proofs.Common.{◌≡◌, ◌+◌, ◌<◌, List, length, refl, arith}
-use Rattle.std.proofs.lemmas.List.{length-map}
 use Rattle.arrayvec.specs.ArrayVec.{ArrayVec}
-use Rattle.olr_matching.proofs.Common.{Candidate, lists_of, points_of}
+use Rattle.olr_matching.proofs.Common.{Candidate, lists_of, points_of, ◌≡◌, ◌+◌, ◌<◌, List, length, refl, arith, length-map}
 use Rattle.olr_matching.proofs.Points.{leads_on, list_of}
 use Rattle.olr_matching.proofs.leg_on_map.leg_at.Goals as goal
 

@@ -1,6 +1,4 @@
-use Rattle.std.proofs.Common.{take}
-use Rattle.olr_matching.specs.Lengths.{AreLengthsBetween}
-use Rattle.olr_matching.specs.Searches.{AreSearchesOn}
+use Rattle.olr_matching.proofs.Common.{take, AreLengthsBetween, AreSearchesOn}
 use Rattle.olr_matching.proofs.lengths.lengths_of_leg.Given as goal
 
 -- the rows of the candidates so far are there, and the searches are of this map

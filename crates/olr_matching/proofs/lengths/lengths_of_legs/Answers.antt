@@ -1,14 +1,9 @@
-use Rattle.std.proofs.Common.{◌≡◌, Bool, true, false, ℕ, ◌++◌, List, [], ◌∷◌, length, ◌∙◌, ap, arith, All, None, Option}
-use Rattle.std.specs.Global.{Vec}
-use Rattle.std.proofs.lemmas.List.{length-map, map-append}
-use Rattle.std.proofs.lemmas.List.Elements.{All-push}
-use Rattle.olr_matching.proofs.Common.{lengths_of, lists_of}
-use Rattle.olr_matching.specs.Lengths.{AreLengthsOfLeg}
+use Rattle.olr_matching.proofs.Common.{lengths_of, lists_of, ◌≡◌, Bool, true, false, ℕ, ◌++◌, List, [], ◌∷◌, length, ◌∙◌, ap, arith, All, None, Option, Vec, length-map, map-append, All-push, AreLengthsOfLeg}
 use Rattle.olr_matching.proofs.LengthRows.{lengths_of_leg}
 use Rattle.olr_matching.proofs.Lists.{holds_of_one_more}
 use Rattle.olr_matching.proofs.Points.{at_least_two}
 use Rattle.olr_matching.proofs.lengths.lengths_of_legs.Goals as goal
-use Rattle.olr_matching.proofs.lengths.lengths_of_legs.Goals.{else-stops_at_shut-via-then-stops_at_shut+else-is_shut, else-stops_at_shut-via-else-stops_at_shut}
+use Rattle.olr_matching.proofs.lengths.lengths_of_legs.Goals.{else-stops_early-via-then-stops_early+else-admits_none, else-stops_early-via-else-stops_early}
 
 -- no answer is both
 yes_and_no : (answer : Bool) → answer ≡ true → answer ≡ false → ⊥
@@ -19,7 +14,7 @@ loop-layer-preserved c =
     let lists = lists_of c.args.candidates.now in
     let Has : ℕ → List (Option ℕ) → Type 0 = λ layer lengths.
     AreLengthsOfLeg c.args.map.now c.args.tolerances.now c.args.reference.now lists layer lengths in
-    let IsShut = All (λ length. length ≡ None) in
+    let IsNone = All (λ length. length ≡ None) in
     let layer = c.loop-layer.layer in
     let leg = c.in_ok-of_leg.of_leg in
     let here =
@@ -33,14 +28,14 @@ loop-layer-preserved c =
       legs = rw is (holds_of_one_more Has [] layer (lengths_of c.loop-layer.lengths.items) leg.items
           c.loop-layer.invariant.legs here);
       admit = λ stops. rw is
-          (All-push (λ (lengths : List (Option ℕ)). IsShut lengths → ⊥)
+          (All-push (λ (lengths : List (Option ℕ)). IsNone lengths → ⊥)
           (lengths_of c.loop-layer.lengths.items) leg.items (c.loop-layer.invariant.admit stops)
-          (λ shut. elim c.else-stops_at_shut.branch [
-            | else-stops_at_shut-via-then-stops_at_shut+else-is_shut w ↦
-                yes_and_no w.is_shut.result (w.is_shut.ensures.1 (rw w.deref.ensures.value shut))
-                w.if-is_shut.false
-            | else-stops_at_shut-via-else-stops_at_shut w
-                ↦ yes_and_no c.args.stops_at_shut stops w.if-stops_at_shut.false
+          (λ none. elim c.else-stops_early.branch [
+            | else-stops_early-via-then-stops_early+else-admits_none w ↦
+                yes_and_no w.admits_none.result (w.admits_none.ensures.1 (rw w.deref.ensures.value none))
+                w.if-admits_none.false
+            | else-stops_early-via-else-stops_early w
+                ↦ yes_and_no c.args.stops_early stops w.if-stops_early.false
           ]));
       searches = rw (← c.leg_at-leg.ensures.map_is) c.in_ok-of_leg.ensures.searches;
     }

@@ -1,7 +1,4 @@
-use Rattle.std.proofs.Common.{[], IsTrue}
-use Rattle.olr_matching.proofs.Common.{lengths_of, lists_of}
-use Rattle.olr_matching.specs.Lengths.{AreLengthsOfLeg, AreOpen}
-use Rattle.olr_matching.specs.Searches.{AreSearchesOn}
+use Rattle.olr_matching.proofs.Common.{lengths_of, lists_of, [], IsTrue, AreLengthsOfLeg, AdmitPairs, AreSearchesOn}
 use Rattle.olr_matching.proofs.Lists.{HoldsOfAll}
 use Rattle.olr_matching.proofs.lengths.lengths_of_legs.Given as goal
 
@@ -13,6 +10,6 @@ invariant-loop-layer l = record {
       (λ layer lengths. AreLengthsOfLeg l.map l.tolerances l.reference (lists_of l.candidates) layer
       lengths)
       [] l.layer (lengths_of l.lengths.items);
-  admit : IsTrue l.stops_at_shut → AreOpen (lengths_of l.lengths.items);
+  admit : IsTrue l.stops_early → AdmitPairs (lengths_of l.lengths.items);
   searches : AreSearchesOn l.map l.searches;
 }

@@ -1,5 +1,4 @@
-use Rattle.std.proofs.Common.{◌++◌, [], ◌∷◌}
-use Rattle.std.proofs.lemmas.List.{append_assoc, take_more}
+use Rattle.olr_matching.proofs.Common.{◌++◌, [], ◌∷◌, append_assoc, take_more}
 use Rattle.olr_matching.proofs.LengthRows.{no_candidate, one_more_length}
 use Rattle.olr_matching.proofs.lengths.push_row.Goals as goal
 

@@ -1,5 +1,4 @@
-use Rattle.std.proofs.Common.{◌≡◌, ◌++◌, ℕ, List, take, Option}
-use Rattle.olr_matching.specs.Lengths.{AreLengthsTo}
+use Rattle.olr_matching.proofs.Common.{◌≡◌, ◌++◌, ℕ, List, take, Option, AreLengthsTo}
 use Rattle.olr_matching.proofs.lengths.push_row.Given as goal
 
 -- the lengths to the candidates so far were added

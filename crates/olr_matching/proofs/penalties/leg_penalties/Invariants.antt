@@ -1,5 +1,4 @@
-use Rattle.std.proofs.Common.{◌≡◌, take}
-use Rattle.olr_matching.specs.Layers.{leg_penalties}
+use Rattle.olr_matching.proofs.Common.{◌≡◌, take, leg_penalties}
 use Rattle.olr_matching.proofs.penalties.leg_penalties.Given as goal
 
 -- the penalties of the lengths so far

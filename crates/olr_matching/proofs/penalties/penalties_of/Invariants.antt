@@ -1,5 +1,4 @@
-use Rattle.std.proofs.Common.{◌≡◌, take}
-use Rattle.olr_matching.specs.Layers.{penalties_of}
+use Rattle.olr_matching.proofs.Common.{◌≡◌, take, penalties_of}
 use Rattle.olr_matching.proofs.penalties.penalties_of.Given as goal
 
 -- the penalties of the candidates so far

@@ -1,6 +1,4 @@
-use Rattle.std.proofs.Common.{[], slice_index_or}
-use Rattle.olr_matching.specs.Layers.{lengths_of}
-use Rattle.olr_matching.specs.Penalties.{ArePenaltiesOfLeg}
+use Rattle.olr_matching.proofs.Common.{[], slice_index_or, lengths_of, ArePenaltiesOfLeg}
 use Rattle.olr_matching.proofs.Lists.{HoldsOfAll}
 use Rattle.olr_matching.proofs.penalties.penalties_of_legs.Given as goal
 

@@ -1,5 +1,4 @@
-use Rattle.std.proofs.Common.{◌≡◌, map, take}
-use Rattle.olr_matching.proofs.Common.{lists_of, penalties_of}
+use Rattle.olr_matching.proofs.Common.{lists_of, penalties_of, ◌≡◌, map, take}
 use Rattle.olr_matching.proofs.penalties.penalties_of_points.Given as goal
 
 -- the penalties of the points so far

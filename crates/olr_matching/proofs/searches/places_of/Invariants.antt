@@ -1,5 +1,4 @@
-use Rattle.std.proofs.Common.{◌≡◌, take}
-use Rattle.olr_matching.specs.Searches.{places_of}
+use Rattle.olr_matching.proofs.Common.{◌≡◌, take, places_of}
 use Rattle.olr_matching.proofs.searches.places_of.Given as goal
 
 -- the places of the candidates so far

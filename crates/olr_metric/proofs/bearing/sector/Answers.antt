@@ -1,6 +1,4 @@
-use Rattle.std.proofs.Common.{◌≡◌, ◌≤◌, ◌^◌, arith, ℤ, ◌-ℤ◌, to_z, of_z, w64}
-use Rattle.std.specs.Prelude.{nat_abs}
-use Rattle.std.proofs.lemmas.Int.{ints}
+use Rattle.olr_metric.proofs.Common.{◌≡◌, ◌≤◌, ◌^◌, arith, ℤ, ◌-ℤ◌, to_z, of_z, w64, nat_abs, ints}
 use Rattle.olr_metric.proofs.bearing.sector.Goals as goal
 
 way_is : (to from : ℤ) → nat_abs to ≤ 2 ^ 33 → nat_abs from ≤ 2 ^ 33

@@ -1,5 +1,4 @@
-use Rattle.std.proofs.Common.{◌-◌, ◌<◌, ℕ, pos, ◌≤ℤ◌}
-use Rattle.olr_metric.specs.Sector.{cross, ray, ray_to}
+use Rattle.olr_metric.proofs.Common.{◌-◌, ◌<◌, ℕ, pos, ◌≤ℤ◌, cross, ray, ray_to}
 use Rattle.olr_metric.proofs.bearing.sector_in_quarter.Given as goal
 
 -- the ray that begins the sector is passed

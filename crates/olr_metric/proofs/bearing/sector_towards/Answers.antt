@@ -1,6 +1,4 @@
-use Rattle.std.proofs.Common.{arith, false, ℤ, pos, ◌≡◌, ◌<ℤ◌, ◌≤ℤ◌, to_z, of_z, w64, SFits}
-use Rattle.std.specs.Prelude.{int_lt, int_le}
-use Rattle.std.proofs.lemmas.Int.{ints, to_z-of_z}
+use Rattle.olr_metric.proofs.Common.{arith, false, ℤ, pos, ◌≡◌, ◌<ℤ◌, ◌≤ℤ◌, to_z, of_z, w64, SFits, int_lt, int_le, ints, to_z-of_z}
 use Rattle.olr_metric.proofs.BearingSectors.{from_east, from_south, from_west}
 use Rattle.olr_metric.proofs.bearing.sector_towards.Goals.{else-east-ge0-via-then-east-ge0+else-north-gt0, else-east-ge0-via-else-east-ge0}
 use Rattle.olr_metric.proofs.bearing.sector_towards.Goals as goal

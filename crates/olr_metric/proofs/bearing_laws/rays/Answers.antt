@@ -1,5 +1,4 @@
-use Rattle.std.proofs.Common.{refl}
-use Rattle.olr_metric.specs.Sector.{ray}
+use Rattle.olr_metric.proofs.Common.{refl, ray}
 use Rattle.olr_metric.proofs.BearingTurns.{ray_turned}
 use Rattle.olr_metric.proofs.BearingQuarter.{clockwise}
 use Rattle.olr_metric.proofs.bearing_laws.rays.Goals as goal

@@ -1,6 +1,4 @@
-use Rattle.std.proofs.Common.{◌≡◌, subst}
-use Rattle.olr_metric.specs.declared.spot.Spot.{Spot}
-use Rattle.olr_metric.specs.Spot.{distance}
+use Rattle.olr_metric.proofs.Common.{◌≡◌, subst, Spot, distance}
 use Rattle.olr_metric.proofs.SpotDistances.{distance_zero, distance_self, distance_turned}
 use Rattle.olr_metric.proofs.laws.distances.Goals as goal
 

@@ -1,5 +1,4 @@
-use Rattle.std.proofs.Common.{rules, ◌≡◌, pos, ◌*ℤ◌, to_z, of_z, w64}
-use Rattle.olr_metric.specs.Floor.{floor}
+use Rattle.olr_metric.proofs.Common.{rules, ◌≡◌, pos, ◌*ℤ◌, to_z, of_z, w64, floor}
 use Rattle.olr_metric.proofs.Floors.{floor_product_near}
 use Rattle.olr_metric.proofs.plane.centimetres_of.Goals as goal
 

@@ -1,5 +1,4 @@
-use Rattle.std.proofs.Common.{◌≡◌, ◌*◌, ◌≤◌, ◌^◌}
-use Rattle.olr_metric.specs.Polyline.{arc_at}
+use Rattle.olr_metric.proofs.Common.{◌≡◌, ◌*◌, ◌≤◌, ◌^◌, arc_at}
 use Rattle.olr_metric.proofs.polyline.arc_to.Given as goal
 
 abbrev pub invariant-loop-end : goal.invariant-loop-end

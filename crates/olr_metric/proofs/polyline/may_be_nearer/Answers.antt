@@ -1,5 +1,4 @@
-use Rattle.std.proofs.Common.{◌≤◌, ◌*◌, pos, arith}
-use Rattle.std.proofs.lemmas.Bool.{ltb-false}
+use Rattle.olr_metric.proofs.Common.{◌≤◌, ◌*◌, pos, arith, ltb-false}
 use Rattle.olr_metric.proofs.Nearests.{no_nearer_read}
 use Rattle.olr_metric.proofs.polyline.may_be_nearer.Goals as goal
 

@@ -1,7 +1,5 @@
-use Rattle.std.proofs.Common.{arith, ◌≡◌, ◌≤◌, ◌<◌, ◌+◌, ◌∙◌, length, ap, ℕ, refl}
-use Rattle.olr_metric.specs.Root.{root}
-use Rattle.olr_metric.specs.Spot.{distance}
-use Rattle.olr_metric.proofs.Nearests.{IsGap, gap_of_foot, nearest_next, nearest_still, nearest_of_all}
+use Rattle.olr_metric.proofs.Common.{arith, ◌≡◌, ◌≤◌, ◌<◌, ◌+◌, ◌∙◌, length, ap, refl, root, distance}
+use Rattle.olr_metric.proofs.Nearests.{gap_of_foot, nearest_next, nearest_still, nearest_of_all}
 use Rattle.olr_metric.proofs.Roots.{root_at_least, root_less}
 use Rattle.olr_metric.proofs.polyline.nearest_segment.Goals as goal
 

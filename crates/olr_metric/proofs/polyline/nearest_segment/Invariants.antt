@@ -1,5 +1,4 @@
-use Rattle.std.proofs.Common.{◌≡◌, ◌<◌, ◌^◌}
-use Rattle.olr_metric.specs.Spot.{distance, IsInPlane}
+use Rattle.olr_metric.proofs.Common.{◌≡◌, ◌<◌, ◌^◌, distance, IsInPlane}
 use Rattle.olr_metric.proofs.Nearests.{IsFoot, IsNearestOf}
 use Rattle.olr_metric.proofs.polyline.nearest_segment.Given as goal
 

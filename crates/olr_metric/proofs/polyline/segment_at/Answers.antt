@@ -1,5 +1,4 @@
-use Rattle.std.proofs.Common.{arith, ◌≡◌, ◌≤◌, ◌<◌, ◌+◌, length, pos}
-use Rattle.olr_metric.specs.Polyline.{arc_at}
+use Rattle.olr_metric.proofs.Common.{arith, ◌≡◌, ◌≤◌, ◌<◌, ◌+◌, length, pos, arc_at}
 use Rattle.olr_metric.proofs.Arcs.{arc_more}
 use Rattle.olr_metric.proofs.Alongs.{segment_at, one_more_before}
 use Rattle.olr_metric.proofs.polyline.segment_at.Goals as goal

@@ -1,5 +1,4 @@
-use Rattle.std.proofs.Common.{◌≡◌, ℤ, ◌≤◌, ◌^◌, arith, to_z, of_z, w64}
-use Rattle.std.specs.Prelude.{nat_abs}
+use Rattle.olr_metric.proofs.Common.{◌≡◌, ℤ, ◌≤◌, ◌^◌, arith, to_z, of_z, w64, nat_abs}
 use Rattle.olr_metric.proofs.Floors.{small_is}
 use Rattle.olr_metric.proofs.Rectangles.{foot_outside}
 use Rattle.olr_metric.proofs.segment.square_outside.Goals as goal

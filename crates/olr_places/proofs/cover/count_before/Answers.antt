@@ -1,6 +1,5 @@
 use Rattle.std.proofs.Common.{ltb, ltb-true, ltb-false, rules}
-use Rattle.std.proofs.lemmas.List.Sorted.{IsPartitionPoint-from_clause, IsPartitionedBy-ltb}
-use Rattle.olr_places.proofs.Common.{Piece}
+use Rattle.olr_places.proofs.Common.{Piece, IsPartitionPoint-from_clause, IsPartitionedBy-ltb}
 use Rattle.olr_places.proofs.cover.count_before.Goals as goal
 
 pub returns-clause-point : goal.returns-clause-point

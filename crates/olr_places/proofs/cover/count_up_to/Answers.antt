@@ -1,6 +1,5 @@
 use Rattle.std.proofs.Common.{leb, leb-true, leb-false, rules}
-use Rattle.std.proofs.lemmas.List.Sorted.{IsPartitionPoint-from_clause, IsPartitionedBy-leb}
-use Rattle.olr_places.proofs.Common.{Piece}
+use Rattle.olr_places.proofs.Common.{Piece, IsPartitionPoint-from_clause, IsPartitionedBy-leb}
 use Rattle.olr_places.proofs.cover.count_up_to.Goals as goal
 
 pub returns-clause-point : goal.returns-clause-point

@@ -1,5 +1,4 @@
-use Rattle.std.proofs.Common.{◌≤◌, ◌<◌, ◌⊎◌, take, All}
-use Rattle.olr_places.proofs.Common.{Piece}
+use Rattle.olr_places.proofs.Common.{Piece, ◌≤◌, ◌<◌, ◌⊎◌, take, All}
 use Rattle.olr_places.proofs.cover.next_stretch.Given as goal
 
 abbrev pub invariant-loop-piece : goal.invariant-loop-piece

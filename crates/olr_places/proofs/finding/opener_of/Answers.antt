@@ -1,8 +1,6 @@
-use Rattle.std.proofs.Common.{◌≡◌, List, [], ◌∷◌, ◌++◌, length, get_or, rules, sym, ap, subst, length-append, arith}
-use Rattle.std.specs.List.{AllZip}
 use Rattle.olr_report.specs.Entries.{HasLocation}
 use Rattle.olr_report.specs.Location.{located_value}
-use Rattle.olr_places.proofs.Common.{IsMatchedBy, Located}
+use Rattle.olr_places.proofs.Common.{IsMatchedBy, Located, ◌≡◌, List, [], ◌∷◌, ◌++◌, length, get_or, rules, sym, ap, subst, length-append, arith, AllZip}
 use Rattle.olr_places.proofs.finding.opener_of.Goals as goal
 
 -- the parts of one key alone

@@ -1,7 +1,4 @@
-use Rattle.std.proofs.Common.{length, sym, ap, subst, ◌∙◌, arith}
-use Rattle.std.proofs.lemmas.List.{length-map}
-use Rattle.std.proofs.lemmas.List.Elements.{All-contains, All-weaker}
-use Rattle.olr_places.proofs.Common.{answers_of, ArePlacesOf, IsOpenerAt, entry_of}
+use Rattle.olr_places.proofs.Common.{answers_of, ArePlacesOf, IsOpenerAt, entry_of, length, sym, ap, subst, ◌∙◌, arith, length-map, All-contains, All-weaker}
 use Rattle.olr_keys.specs.Matching.{IsKey}
 use Rattle.olr_places.proofs.Progress.{at_start, ended, enough, goes_on, no_more, position}
 use Rattle.olr_places.proofs.finding.places_of.Goals as goal

@@ -1,6 +1,5 @@
-use Rattle.std.proofs.Common.{◌≡◌, ◌-◌, ◌≤◌, All}
 use Rattle.olr_keys.specs.Answers.{AreAnswers}
-use Rattle.olr_places.proofs.Common.{answers_of, IsOpenerAt}
+use Rattle.olr_places.proofs.Common.{answers_of, IsOpenerAt, ◌≡◌, ◌-◌, ◌≤◌, All}
 use Rattle.olr_places.proofs.Progress.{Progress}
 use Rattle.olr_places.proofs.finding.places_of.Given as goal
 

@@ -1,6 +1,4 @@
-use Rattle.std.proofs.Common.{◌≡◌, ◌+◌, ◌<◌, ℕ, zero, suc, List, [], ◌∷◌, length, ap, set, get_or, min, ◌∙◌, refl, arith}
-use Rattle.olr_places.specs.Steps.{one_more_at}
-use Rattle.olr_places.proofs.Common.{Opener}
+use Rattle.olr_places.proofs.Common.{Opener, ◌≡◌, ◌+◌, ◌<◌, ℕ, zero, suc, List, [], ◌∷◌, length, ap, set, get_or, min, ◌∙◌, refl, arith, one_more_at}
 use Rattle.olr_places.proofs.looking.add_member.Goals as goal
 
 set_is : (index : ℕ) (items : List Opener) (one other : Opener) → index < length items

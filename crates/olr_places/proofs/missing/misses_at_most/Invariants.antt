@@ -1,5 +1,4 @@
-use Rattle.std.proofs.Common.{◌≡◌, ◌≤◌, drop, nat_le}
-use Rattle.olr_places.proofs.Common.{steps_of, AreCovered, covers, longest_run, missing_of}
+use Rattle.olr_places.proofs.Common.{steps_of, AreCovered, covers, longest_run, missing_of, ◌≡◌, ◌≤◌, drop, nat_le}
 use Rattle.olr_places.proofs.missing.misses_at_most.Given as goal
 
 abbrev pub invariant-loop-piece : goal.invariant-loop-piece

@@ -1,5 +1,4 @@
-use Rattle.std.proofs.Common.{◌-◌, ◌++◌, ℕ, Bool, arith, ap, ◌∙◌, sym}
-use Rattle.olr_places.proofs.Common.{stretch, Step, covers}
+use Rattle.olr_places.proofs.Common.{stretch, Step, covers, ◌-◌, ◌++◌, ℕ, Bool, arith, ap, ◌∙◌, sym}
 use Rattle.olr_places.proofs.Runs.{Within, next_stretch, too_long}
 use Rattle.olr_places.proofs.missing.run_behind.Goals as goal
 

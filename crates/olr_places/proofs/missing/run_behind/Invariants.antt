@@ -1,5 +1,4 @@
-use Rattle.std.proofs.Common.{◌≡◌, ◌-◌, ◌≤◌, ◌++◌, List, nat_le}
-use Rattle.olr_places.proofs.Common.{stretch, Step, steps_in, covers, longest_run}
+use Rattle.olr_places.proofs.Common.{stretch, Step, steps_in, covers, longest_run, ◌≡◌, ◌-◌, ◌≤◌, ◌++◌, List, nat_le}
 use Rattle.olr_places.proofs.missing.run_behind.Given as goal
 
 abbrev pub invariant-loop-at : goal.invariant-loop-at

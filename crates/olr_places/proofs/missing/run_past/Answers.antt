@@ -1,5 +1,4 @@
-use Rattle.std.proofs.Common.{◌-◌, arith, true}
-use Rattle.olr_places.proofs.Common.{covers}
+use Rattle.olr_places.proofs.Common.{covers, ◌-◌, arith, true}
 use Rattle.olr_places.proofs.Covering.{piece_covered}
 use Rattle.olr_places.proofs.Runs.{next_alike}
 use Rattle.olr_places.proofs.missing.run_past.Goals as goal

@@ -1,6 +1,4 @@
-use Rattle.std.proofs.Common.{◌≡◌, Bool, false, arith, sym, ap, ◌∙◌}
-use Rattle.std.proofs.lemmas.List.Elements.{All-more}
-use Rattle.olr_places.proofs.Common.{is_close_to, entry_of, Opener}
+use Rattle.olr_places.proofs.Common.{is_close_to, entry_of, Opener, ◌≡◌, Bool, false, arith, sym, ap, ◌∙◌, All-more}
 use Rattle.olr_places.proofs.FirstPlace.{first_at, none_at}
 use Rattle.olr_places.proofs.opener.place_of.Goals as goal
 

@@ -1,5 +1,4 @@
-use Rattle.std.proofs.Common.{◌≡◌, take, false, All}
-use Rattle.olr_places.proofs.Common.{is_close_to, entry_of, Opener}
+use Rattle.olr_places.proofs.Common.{is_close_to, entry_of, Opener, ◌≡◌, take, false, All}
 use Rattle.olr_places.proofs.opener.place_of.Given as goal
 
 abbrev pub invariant-loop-index : goal.invariant-loop-index

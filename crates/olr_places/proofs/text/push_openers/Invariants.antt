@@ -1,5 +1,4 @@
-use Rattle.std.proofs.Common.{◌≡◌, ◌++◌, drop, string_bytes}
-use Rattle.olr_places.proofs.Common.{openers_rows}
+use Rattle.olr_places.proofs.Common.{openers_rows, ◌≡◌, ◌++◌, drop, string_bytes}
 use Rattle.olr_places.proofs.text.push_openers.Given as goal
 
 -- the text so far, with the rows that are left, is the whole text

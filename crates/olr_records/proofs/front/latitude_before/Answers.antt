@@ -1,5 +1,4 @@
-use Rattle.std.proofs.Common.{rules}
-use Rattle.olr_records.specs.inner.Amount.{IsAmount}
+use Rattle.olr_records.proofs.Common.{rules, IsAmount}
 use Rattle.olr_records.proofs.Signs.{begins_once}
 use Rattle.olr_records.proofs.front.latitude_before.Goals as goal
 

@@ -1,5 +1,4 @@
-use Rattle.std.proofs.Common.{ℕ, ◌+◌, ◌*◌, ◌<◌, length, ap, ◌∙◌, arith}
-use Rattle.std.proofs.lemmas.Int.Digits.{digits_more}
+use Rattle.olr_records.proofs.Common.{ℕ, ◌+◌, ◌*◌, ◌<◌, length, ap, ◌∙◌, arith, digits_more}
 use Rattle.olr_records.proofs.Digits.{small, value_after}
 use Rattle.olr_records.proofs.front.more_digits.Goals as goal
 

@@ -1,5 +1,4 @@
-use Rattle.std.proofs.Common.{◌≡◌, take}
-use Rattle.std.specs.Str.Parse.{digits_value, AllDigits}
+use Rattle.olr_records.proofs.Common.{◌≡◌, take, digits_value, AllDigits}
 use Rattle.olr_records.proofs.front.more_digits.Given as goal
 
 -- the bytes so far are digits, and the value is theirs

@@ -1,6 +1,4 @@
-use Rattle.std.proofs.Common.{◌≡◌, rules, ℕ, ℤ, List, Option, Bor, option_map}
-use Rattle.olr_records.specs.Front.{Begins}
-use Rattle.olr_records.specs.Fields.{SpellsLongitude}
+use Rattle.olr_records.proofs.Common.{◌≡◌, rules, ℕ, ℤ, List, Option, Bor, option_map, Begins, SpellsLongitude}
 use Rattle.olr_records.proofs.Items.{longitude_of_item, spaced, latitude_of_item, item_of_both}
 use Rattle.olr_records.proofs.shape.item_before.Goals as goal
 

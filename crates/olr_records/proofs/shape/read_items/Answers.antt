@@ -1,8 +1,4 @@
-use Rattle.std.proofs.Common.{ℕ, List, [], ◌∷◌, Option, Bor, option_map, subst, refl, arith}
-use Rattle.std.proofs.lemmas.List.{map-append, length-append}
-use Rattle.olr_metric.specs.Coordinates.{coordinates_of}
-use Rattle.olr_records.specs.Front.{Begins}
-use Rattle.olr_records.specs.Shape.{IsItem}
+use Rattle.olr_records.proofs.Common.{ℕ, List, [], ◌∷◌, Option, Bor, option_map, subst, refl, arith, map-append, length-append, coordinates_of, Begins, IsItem}
 use Rattle.olr_records.proofs.Items.{at_start, one_more_item, no_item}
 use Rattle.olr_records.proofs.shape.read_items.Goals as goal
 

@@ -1,5 +1,4 @@
-use Rattle.std.proofs.Common.{◌≡◌, map, length}
-use Rattle.olr_metric.specs.Coordinates.{coordinates_of}
+use Rattle.olr_records.proofs.Common.{◌≡◌, map, length, coordinates_of}
 use Rattle.olr_records.proofs.Items.{Continues}
 use Rattle.olr_records.proofs.shape.read_items.Given as goal
 

@@ -1,6 +1,4 @@
-use Rattle.std.proofs.Common.{◌∙◌, Some, ap, refl, arith}
-use Rattle.olr_report.proofs.Common.{Piece}
-use Rattle.olr_report.specs.Steps.{place_at, steps_of}
+use Rattle.olr_report.proofs.Common.{Piece, ◌∙◌, Some, ap, refl, arith, place_at, steps_of}
 use Rattle.olr_report.proofs.PlacesOnSteps.{place_found, place_further, place_inside}
 use Rattle.olr_report.proofs.along.place_on.Goals as goal
 

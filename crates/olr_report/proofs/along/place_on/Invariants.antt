@@ -1,5 +1,4 @@
-use Rattle.std.proofs.Common.{drop}
-use Rattle.olr_report.specs.Steps.{place_at, steps_of}
+use Rattle.olr_report.proofs.Common.{drop, place_at, steps_of}
 use Rattle.olr_report.proofs.PlacesOnSteps.{IsAlongRest}
 use Rattle.olr_report.proofs.along.place_on.Given as goal
 

@@ -1,6 +1,4 @@
-use Rattle.std.proofs.Common.{length, ap, refl, arith, take_all}
-use Rattle.std.proofs.lemmas.List.Elements.{All-more}
-use Rattle.olr_report.specs.Location.{IsMeasured}
+use Rattle.olr_report.proofs.Common.{length, ap, refl, arith, take_all, All-more, IsMeasured}
 use Rattle.olr_report.proofs.conditions.are_legs_of.Goals as goal
 
 pub loop-leg-preserved : goal.loop-leg-preserved

@@ -1,5 +1,4 @@
-use Rattle.std.proofs.Common.{take, All}
-use Rattle.olr_report.specs.Location.{IsMeasured}
+use Rattle.olr_report.proofs.Common.{take, All, IsMeasured}
 use Rattle.olr_report.proofs.conditions.are_legs_of.Given as goal
 
 abbrev pub invariant-loop-leg : goal.invariant-loop-leg

@@ -1,5 +1,4 @@
-use Rattle.std.proofs.Common.{◌≡◌, ◌+◌, take, sum_by}
-use Rattle.olr_route.specs.Walk.{piece_length}
+use Rattle.olr_report.proofs.Common.{◌≡◌, ◌+◌, take, sum_by, piece_length}
 use Rattle.olr_report.proofs.conditions.have_length.Given as goal
 
 abbrev pub invariant-loop-piece : goal.invariant-loop-piece

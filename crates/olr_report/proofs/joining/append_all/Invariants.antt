@@ -1,5 +1,4 @@
-use Rattle.std.proofs.Common.{◌++◌, take}
-use Rattle.olr_report.proofs.Common.{IsRouteOver, steps_of}
+use Rattle.olr_report.proofs.Common.{IsRouteOver, steps_of, ◌++◌, take}
 use Rattle.olr_report.proofs.joining.append_all.Given as goal
 
 abbrev pub invariant-loop-piece : goal.invariant-loop-piece

@@ -1,5 +1,4 @@
-use Rattle.std.proofs.Common.{take}
-use Rattle.olr_report.proofs.Common.{IsRouteOver, steps_of_legs}
+use Rattle.olr_report.proofs.Common.{IsRouteOver, steps_of_legs, take}
 use Rattle.olr_report.proofs.joining.join.Given as goal
 
 abbrev pub invariant-loop-leg : goal.invariant-loop-leg

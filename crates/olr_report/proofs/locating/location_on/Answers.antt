@@ -1,5 +1,4 @@
-use Rattle.std.proofs.Common.{ap, refl, ◌∙◌}
-use Rattle.olr_report.proofs.Common.{Leg}
+use Rattle.olr_report.proofs.Common.{Leg, ap, refl, ◌∙◌}
 use Rattle.olr_report.proofs.LegLengths.{reaches}
 use Rattle.olr_report.proofs.locating.location_on.Goals as goal
 

@@ -1,5 +1,4 @@
-use Rattle.std.proofs.Common.{◌≡◌, ◌*◌, ◌^◌, ◌≤◌, length, take}
-use Rattle.olr_report.specs.Steps.{steps_of_legs}
+use Rattle.olr_report.proofs.Common.{◌≡◌, ◌*◌, ◌^◌, ◌≤◌, length, take, steps_of_legs}
 use Rattle.olr_report.proofs.locating.total_length.Given as goal
 
 -- the steps of the legs so far, each below 2^20

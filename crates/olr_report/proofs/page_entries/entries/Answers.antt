@@ -1,5 +1,4 @@
-use Rattle.std.proofs.Common.{◌∙◌, length, arith}
-use Rattle.std.proofs.lemmas.List.{length_push}
+use Rattle.olr_report.proofs.Common.{◌∙◌, length, arith, length_push}
 use Rattle.std.proofs.lemmas.Slice.Zip.{zip_turn, zip_end}
 use Rattle.olr_report.proofs.PageEntries.{with_entry, all_entries}
 use Rattle.olr_report.proofs.page_entries.entries.Goals as goal

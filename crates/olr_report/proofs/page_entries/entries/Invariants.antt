@@ -1,5 +1,4 @@
-use Rattle.std.proofs.Common.{length, map, take}
-use Rattle.olr_report.specs.Entries.{entry_of, AreEntriesOf}
+use Rattle.olr_report.proofs.Common.{length, map, take, entry_of, AreEntriesOf}
 use Rattle.olr_report.proofs.page_entries.entries.Given as goal
 
 -- the entries of the keys so far

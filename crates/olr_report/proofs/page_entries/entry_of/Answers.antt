@@ -1,5 +1,4 @@
-use Rattle.std.proofs.Common.{ap, ◌∙◌}
-use Rattle.olr_report.proofs.Common.{Matched}
+use Rattle.olr_report.proofs.Common.{Matched, ap, ◌∙◌}
 use Rattle.olr_report.proofs.Shown.{on_map}
 use Rattle.olr_report.proofs.page_entries.entry_of.Goals as goal
 

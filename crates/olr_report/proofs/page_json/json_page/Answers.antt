@@ -1,9 +1,7 @@
-use Rattle.std.proofs.Common.{map, rules}
-use Rattle.olr_report.specs.Entries.{entry_of}
+use Rattle.olr_report.proofs.Common.{map, rules, entry_of, items_nest, option_nests}
 use Rattle.olr_report.proofs.JsonShape.{entry_nests}
 use Rattle.olr_report.proofs.ShownPage.{same_page}
 use Rattle.olr_report.proofs.page_json.json_page.Goals as goal
-use Rattle.olr_text.proofs.Nesting.{items_nest, option_nests}
 
 pub to_json_line-requires : goal.to_json_line-requires
 to_json_line-requires c = search (rules, items_nest, option_nests, entry_nests)

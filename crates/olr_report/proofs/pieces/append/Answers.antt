@@ -1,6 +1,4 @@
-use Rattle.std.proofs.Common.{◌∷◌, [], ◌++◌, ap, ◌∙◌, arith, rules}
-use Rattle.std.specs.Global.{Vec}
-use Rattle.olr_report.proofs.Common.{Piece}
+use Rattle.olr_report.proofs.Common.{Piece, ◌∷◌, [], ◌++◌, ap, ◌∙◌, arith, rules, Vec}
 use Rattle.olr_report.proofs.Appending.{first_piece, longer_at_end, piece_at_end}
 use Rattle.olr_report.proofs.pieces.append.Goals.{in_default-via-in-None-1, in_default-via-in-Some+else-touches}
 use Rattle.olr_report.proofs.pieces.append.Goals as goal

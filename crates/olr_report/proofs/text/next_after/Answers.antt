@@ -1,5 +1,4 @@
-use Rattle.std.proofs.Common.{◌≡◌, ◌-◌, List, [], ◌∷◌, length, Bool, true, false, if◌then◌else◌, Bor, Option, None, Some, refl, arith, slice_get, option_copied, option_map}
-use Rattle.olr_keys.specs.Key.{KeyValue}
+use Rattle.olr_report.proofs.Common.{◌≡◌, ◌-◌, List, [], ◌∷◌, length, Bool, true, false, if◌then◌else◌, Bor, Option, None, Some, refl, arith, slice_get, option_copied, option_map, KeyValue}
 use Rattle.olr_keys.specs.Page.{last_of}
 use Rattle.olr_report.proofs.text.next_after.Goals as goal
 

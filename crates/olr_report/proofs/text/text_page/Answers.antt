@@ -1,6 +1,4 @@
-use Rattle.std.proofs.Common.{◌≡◌, ℕ, List, [], ◌++◌, map, Bor, Option, option_map}
-use Rattle.olr_report.proofs.Common.{entries_rows, entry_of, KeyValue, Mark, RoadMap}
-use Rattle.olr_report.specs.TextRows.{end_row}
+use Rattle.olr_report.proofs.Common.{entries_rows, entry_of, KeyValue, Mark, RoadMap, ◌≡◌, ℕ, List, [], ◌++◌, map, Bor, Option, option_map, end_row}
 use Rattle.olr_report.specs.declared.page_entries.Entry.{Entry}
 use Rattle.olr_report.proofs.Shown.{entries_on_map}
 use Rattle.olr_report.proofs.text.text_page.Goals as goal

@@ -1,5 +1,4 @@
-use Rattle.std.proofs.Common.{◌≡◌, ◌++◌, drop, map, string_bytes}
-use Rattle.olr_report.proofs.Common.{entries_rows, entry_of}
+use Rattle.olr_report.proofs.Common.{entries_rows, entry_of, ◌≡◌, ◌++◌, drop, map, string_bytes}
 use Rattle.olr_report.proofs.text_rows.push_entries.Given as goal
 
 -- the text so far, with the rows of the entries that are left, is the whole text

@@ -1,5 +1,4 @@
-use Rattle.std.proofs.Common.{◌≡◌, ◌++◌, ◌+◌, drop, string_bytes}
-use Rattle.olr_report.specs.TextRows.{leg_rows}
+use Rattle.olr_report.proofs.Common.{◌≡◌, ◌++◌, ◌+◌, drop, string_bytes, leg_rows}
 use Rattle.olr_report.proofs.text_rows.push_legs.Given as goal
 
 -- the text so far, with the rows that are left, is the whole text

@@ -1,7 +1,6 @@
 use denote.Shadow.{shadow}
 use denote.Text.{Utf8}
-use Rattle.std.proofs.Common.{◌≡◌, ◌++◌, drop, string_bytes}
-use Rattle.olr_report.specs.TextRows.{pieces_text}
+use Rattle.olr_report.proofs.Common.{◌≡◌, ◌++◌, drop, string_bytes, pieces_text}
 use Rattle.olr_report.proofs.PiecesText.{pieces_after}
 use Rattle.olr_report.proofs.text_rows.push_pieces.Given as goal
 

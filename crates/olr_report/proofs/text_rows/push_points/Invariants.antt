@@ -1,5 +1,4 @@
-use Rattle.std.proofs.Common.{◌≡◌, ◌++◌, ◌+◌, drop, string_bytes}
-use Rattle.olr_report.specs.TextRows.{point_rows}
+use Rattle.olr_report.proofs.Common.{◌≡◌, ◌++◌, ◌+◌, drop, string_bytes, point_rows}
 use Rattle.olr_report.proofs.text_rows.push_points.Given as goal
 
 -- the text so far, with the rows that are left, is the whole text

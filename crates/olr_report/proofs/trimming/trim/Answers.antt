@@ -1,5 +1,4 @@
-use Rattle.std.proofs.Common.{◌≡◌, ◌+◌, ◌-◌, drop, get_or, refl, arith, slice_range}
-use Rattle.olr_report.proofs.Common.{Piece, piece_length, steps_of}
+use Rattle.olr_report.proofs.Common.{Piece, piece_length, steps_of, ◌≡◌, ◌+◌, ◌-◌, drop, get_or, refl, arith, slice_range}
 use Rattle.olr_report.proofs.Appending.{no_pieces}
 use Rattle.olr_report.proofs.Parts.{clipped_within, part_all, part_more, part_none}
 use Rattle.olr_report.proofs.trimming.trim.Goals as goal

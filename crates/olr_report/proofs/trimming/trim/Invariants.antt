@@ -1,5 +1,4 @@
-use Rattle.std.proofs.Common.{drop, slice_range}
-use Rattle.olr_report.specs.Steps.{steps_of}
+use Rattle.olr_report.proofs.Common.{drop, slice_range, steps_of}
 use Rattle.olr_report.proofs.Parts.{IsPartSoFar}
 use Rattle.olr_report.proofs.trimming.trim.Given as goal
 

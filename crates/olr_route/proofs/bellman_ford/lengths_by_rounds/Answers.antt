@@ -1,5 +1,4 @@
-use Rattle.std.proofs.Common.{zero, None, inr, subst, sym, refl, arith, ◌+◌}
-use Rattle.olr_route.proofs.Common.{Search, AreLengthsOn, table_in, rest_of_line}
+use Rattle.olr_route.proofs.Common.{Search, AreLengthsOn, zero, None, inr, subst, sym, refl, arith}
 use Rattle.olr_route.proofs.Ending.{held_by}
 use Rattle.olr_route.proofs.Relaxing.{all_relaxed}
 use Rattle.olr_route.proofs.Walks.{useful_within, within_more}

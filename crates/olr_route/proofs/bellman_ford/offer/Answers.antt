@@ -1,7 +1,4 @@
-use Rattle.std.proofs.Common.{arith}
-use Rattle.std.specs.HashMap.{get}
-use Rattle.std.specs.Prelude.{nat_eq}
-use Rattle.olr_route.specs.NodeLengths.{length_of}
+use Rattle.olr_route.proofs.Common.{arith, get, nat_eq, length_of}
 use Rattle.olr_route.proofs.Arrived.{own_length}
 use Rattle.olr_route.proofs.Relaxing.{IsShorter, lowered}
 use Rattle.olr_route.proofs.Lines.{key_differs}

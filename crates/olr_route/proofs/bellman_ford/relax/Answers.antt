@@ -1,7 +1,4 @@
-use Rattle.std.proofs.Common.{ℕ, get_or, subst, sym, arith}
-use Rattle.std.proofs.lemmas.List.Elements.{Contains-get_or}
-use Rattle.std.proofs.lemmas.Option.{slice_get_within}
-use Rattle.olr_route.proofs.Common.{Reaches, table_in, IsKnownWithin, IsAllowed}
+use Rattle.olr_route.proofs.Common.{Reaches, table_in, IsKnownWithin, IsAllowed, ℕ, get_or, subst, sym, arith, Contains-get_or, slice_get_within}
 use Rattle.olr_route.proofs.Lines.{passed_over, all_ahead, turn_ahead}
 use Rattle.olr_route.proofs.Relaxing.{lowered_more}
 use Rattle.olr_route.proofs.bellman_ford.relax.Goals as goal

@@ -1,5 +1,4 @@
-use Rattle.std.proofs.Common.{ℕ, ◌<◌, get_or}
-use Rattle.olr_route.proofs.Common.{IsLowered, table_in, IsKnownWithin, IsAllowed}
+use Rattle.olr_route.proofs.Common.{IsLowered, table_in, IsKnownWithin, IsAllowed, ℕ, ◌<◌, get_or}
 use Rattle.olr_route.proofs.bellman_ford.relax.Given as goal
 
 -- the length was offered to the lines so far

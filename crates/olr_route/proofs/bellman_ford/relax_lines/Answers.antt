@@ -1,5 +1,4 @@
-use Rattle.std.proofs.Common.{◌≡◌, ℕ, suc, Some, None, subst, sym, ◌∙◌, arith}
-use Rattle.olr_route.proofs.Common.{IsOffered, start_of}
+use Rattle.olr_route.proofs.Common.{suc, sym, ◌∙◌, arith}
 use Rattle.olr_route.proofs.Relaxing.{lowered_more, offered_more, same_length}
 use Rattle.olr_route.proofs.bellman_ford.relax_lines.Goals as goal
 

@@ -1,5 +1,4 @@
-use Rattle.std.proofs.Common.{ℕ, ◌<◌}
-use Rattle.olr_route.proofs.Common.{IsLowered, IsOffered, table_in, IsKnownWithin, start_of}
+use Rattle.olr_route.proofs.Common.{IsLowered, IsOffered, table_in, IsKnownWithin, start_of, ℕ, ◌<◌}
 use Rattle.olr_route.proofs.bellman_ford.relax_lines.Given as goal
 
 -- the lines so far were relaxed

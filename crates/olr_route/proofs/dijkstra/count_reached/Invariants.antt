@@ -1,5 +1,4 @@
-use Rattle.std.proofs.Common.{◌≤◌, length}
-use Rattle.olr_route.proofs.Common.{AreReachedFirst, table_in}
+use Rattle.olr_route.proofs.Common.{AreReachedFirst, table_in, ◌≤◌, length}
 use Rattle.olr_route.proofs.dijkstra.count_reached.Given as goal
 
 -- those so far

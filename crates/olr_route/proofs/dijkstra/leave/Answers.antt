@@ -1,5 +1,4 @@
-use Rattle.std.proofs.Common.{◌-◌, arith, subst}
-use Rattle.olr_route.proofs.Common.{IsPushed}
+use Rattle.olr_route.proofs.Common.{IsPushed, ◌-◌, arith, subst}
 use Rattle.olr_route.proofs.Lines.{head_length, step_over}
 use Rattle.olr_route.proofs.dijkstra.leave.Goals as goal
 

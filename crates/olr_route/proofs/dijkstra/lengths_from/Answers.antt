@@ -1,5 +1,4 @@
-use Rattle.std.proofs.Common.{subst, sym}
-use Rattle.olr_route.proofs.Common.{AreLengthsOn}
+use Rattle.olr_route.proofs.Common.{sym}
 use Rattle.olr_route.proofs.Ending.{held_by}
 use Rattle.olr_route.proofs.dijkstra.lengths_from.Goals as goal
 

@@ -1,7 +1,4 @@
-use Rattle.std.proofs.Common.{◌∙◌, subst, sym}
-use Rattle.olr_route.proofs.Common.{Place, AreLengthsOn, Lengths}
-use Rattle.std.specs.Prelude.{All}
-use Rattle.olr_route.specs.Reach.{Tells}
+use Rattle.olr_route.proofs.Common.{Place, Lengths, ◌∙◌, subst, sym, All, Covers}
 use Rattle.olr_route.proofs.Ending.{all_told, held_by, lines_inside}
 use Rattle.olr_route.proofs.dijkstra.lengths_to.Goals as goal
 
@@ -20,8 +17,8 @@ returns-clause-held c =
     rw (sym c.new.ensures) at (held_by c.args.map.now _ c.sound.ensures c.requires.from
     (rw (c.goals.ensures.lines ∙ c.deref.ensures.value) at c.in_ok-starts.ensures))
 
-pub returns-clause-tells : goal.returns-clause-tells
-returns-clause-tells c =
-    subst (λ (reach : Lengths). All (λ (target : Place). Tells reach target.line)
+pub returns-clause-covers : goal.returns-clause-covers
+returns-clause-covers c =
+    subst (λ (reach : Lengths). All (λ (target : Place). Covers reach target.line)
     c.args.targets.now) (sym c.new.ensures)
     (all_told _ _ c.in_ok-lines.ensures)

@@ -1,6 +1,4 @@
-use Rattle.std.proofs.Common.{inl, inr, subst, refl, rules, arith}
-use Rattle.std.specs.Prelude.{Contains}
-use Rattle.std.proofs.lemmas.List.Sorted.{length_permutation}
+use Rattle.olr_route.proofs.Common.{inl, inr, subst, refl, rules, arith, Contains, length_permutation}
 use Rattle.olr_route.proofs.Ending.{all_reached, still_reached}
 use Rattle.olr_route.proofs.TightPaths.{departure_length}
 use Rattle.olr_route.proofs.Underway.{arrives, ended, none_nearer, underway_begun, underway_more}

@@ -1,6 +1,4 @@
-use Rattle.std.proofs.Common.{◌+◌, ◌≤◌, length}
-use Rattle.olr_route.proofs.Common.{AreNodes, AreReachedFirst, table_in}
-use Rattle.olr_route.specs.Dijkstra.{still_to_come}
+use Rattle.olr_route.proofs.Common.{AreNodes, AreReachedFirst, table_in, ◌+◌, ◌≤◌, length, still_to_come}
 use Rattle.olr_route.proofs.Underway.{IsUnderway}
 use Rattle.olr_route.proofs.dijkstra.search.Given as goal
 

@@ -1,5 +1,4 @@
-use Rattle.std.proofs.Common.{◌+◌, ◌*◌, ◌<◌, drop, length}
-use Rattle.olr_route.proofs.Common.{table_in}
+use Rattle.olr_route.proofs.Common.{table_in, ◌+◌, ◌*◌, ◌<◌, drop, length}
 use Rattle.olr_route.proofs.Spreading.{AreSpread, EndsUpTo, IsLeft}
 use Rattle.olr_route.proofs.shortest.lines_on_shortest_paths.Given as goal
 

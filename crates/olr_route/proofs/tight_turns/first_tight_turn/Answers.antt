@@ -1,7 +1,4 @@
-use Rattle.std.proofs.Common.{◌≡◌, ◌≤◌, ℕ, get_or, arith, subst}
-use Rattle.std.specs.Prelude.{Contains}
-use Rattle.std.proofs.lemmas.List.Elements.{Contains-get_or}
-use Rattle.olr_route.proofs.Common.{IsAllowed}
+use Rattle.olr_route.proofs.Common.{IsAllowed, ◌≡◌, ◌≤◌, ℕ, get_or, arith, subst, Contains, Contains-get_or}
 use Rattle.olr_route.proofs.Lines.{passed_over}
 use Rattle.olr_route.proofs.Tight.{least_over, lesser}
 use Rattle.olr_route.proofs.tight_turns.first_tight_turn.Goals as goal

@@ -1,7 +1,4 @@
-use Rattle.std.proofs.Common.{◌≡◌, ◌<◌, ℕ, Some, get_or}
-use Rattle.std.specs.Prelude.{Contains}
-use Rattle.olr_route.specs.Shortest.{HasUpTo}
-use Rattle.olr_route.proofs.Common.{IsAllowed}
+use Rattle.olr_route.proofs.Common.{IsAllowed, ◌≡◌, ◌<◌, ℕ, Some, get_or, Contains, HasUpTo}
 use Rattle.olr_route.proofs.tight_turns.first_tight_turn.Given as goal
 
 -- of the lines so far, the least one to which the turn isn't banned

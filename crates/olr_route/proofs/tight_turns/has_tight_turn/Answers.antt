@@ -1,6 +1,5 @@
-use Rattle.std.proofs.Common.{rules}
 use Rattle.std.proofs.lemmas.Iterator.{cases_from_any, YieldsList-from_slice}
-use Rattle.olr_route.proofs.Common.{IsAllowed}
+use Rattle.olr_route.proofs.Common.{IsAllowed, rules}
 use Rattle.olr_route.proofs.Tight.{tight_found}
 use Rattle.olr_route.proofs.tight_turns.has_tight_turn.Goals as goal
 

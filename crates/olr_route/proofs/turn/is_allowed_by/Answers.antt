@@ -1,6 +1,4 @@
-use Rattle.std.proofs.Common.{rules}
-use Rattle.std.proofs.lemmas.List.Sorted.{answers_always}
-use Rattle.olr_map.specs.declared.ban.Ban.{Ban}
+use Rattle.olr_route.proofs.Common.{rules, answers_always, Ban}
 use Rattle.olr_route.proofs.Lines.{searched}
 use Rattle.olr_route.proofs.turn.is_allowed_by.Goals as goal
 

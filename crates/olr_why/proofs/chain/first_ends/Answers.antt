@@ -1,6 +1,4 @@
-use Rattle.std.proofs.Common.{◌≡◌, List, [], length, ap, arith}
-use Rattle.std.specs.Prelude.{⊤, slice_index_or}
-use Rattle.olr_why.proofs.Common.{Candidate}
+use Rattle.olr_why.proofs.Common.{Candidate, ◌≡◌, List, [], length, ap, arith, ⊤, slice_index_or}
 use Rattle.olr_why.proofs.Ends as ends
 use Rattle.olr_why.proofs.Lists.{one_more}
 use Rattle.olr_why.proofs.chain.first_ends.Goals as goal

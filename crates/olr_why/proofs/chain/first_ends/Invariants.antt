@@ -1,5 +1,4 @@
-use Rattle.std.proofs.Common.{◌≤◌, length}
-use Rattle.std.specs.Prelude.{⊤}
+use Rattle.olr_why.proofs.Common.{◌≤◌, length, ⊤}
 use Rattle.olr_why.proofs.Lists.{AreBelow}
 use Rattle.olr_why.proofs.chain.first_ends.Given as goal
 

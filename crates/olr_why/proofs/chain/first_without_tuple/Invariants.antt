@@ -1,5 +1,4 @@
-use Rattle.std.proofs.Common.{◌<◌, ◌-◌, length}
-use Rattle.olr_why.specs.inner.Ends.{AreEnds}
+use Rattle.olr_why.proofs.Common.{◌<◌, ◌-◌, length, AreEnds}
 use Rattle.olr_why.proofs.chain.first_without_tuple.Given as goal
 
 abbrev pub invariant-loop-layer : goal.invariant-loop-layer

@@ -1,5 +1,4 @@
-use Rattle.std.proofs.Common.{◌≡◌, ℕ, ◌+◌, List, [], length, ap, arith, slice_index_or}
-use Rattle.olr_why.proofs.Common.{Candidate}
+use Rattle.olr_why.proofs.Common.{Candidate, ◌≡◌, ℕ, ◌+◌, List, [], length, ap, arith, slice_index_or}
 use Rattle.olr_why.proofs.Ends as ends
 use Rattle.olr_why.proofs.Ends.{IsJoinedToOne}
 use Rattle.olr_why.proofs.Lists.{no_more, not_both, one_more}

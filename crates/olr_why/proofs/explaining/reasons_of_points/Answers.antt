@@ -1,7 +1,5 @@
-use Rattle.std.proofs.Common.{◌<◌, All, length}
-use Rattle.std.proofs.lemmas.List.Elements.{All-push}
 use Rattle.olr_candidates.specs.declared.near.NearLine.{NearLine}
-use Rattle.olr_why.proofs.Common.{PointReason}
+use Rattle.olr_why.proofs.Common.{PointReason, ◌<◌, All, length, All-push}
 use Rattle.olr_why.proofs.Lists.{one_more_element}
 use Rattle.olr_why.proofs.explaining.reasons_of_points.Goals as goal
 

@@ -1,9 +1,6 @@
-use Rattle.std.proofs.Common.{ℕ, ◌+◌, List, length, ap, arith, Option, is_some}
-use Rattle.std.proofs.lemmas.List.Elements.{All-take}
 use Rattle.std.proofs.lemmas.List.Sums.{count_by-le-length}
-use Rattle.olr_map.specs.Place.{IsDeparture, IsPlace}
-use Rattle.olr_matching.proofs.Points.{list_of}
-use Rattle.olr_why.proofs.Common.{Candidate}
+use Rattle.olr_road.specs.Place.{IsDeparture, IsPlace}
+use Rattle.olr_why.proofs.Common.{Candidate, ℕ, ◌+◌, List, length, ap, arith, Option, is_some, All-take, list_of}
 use Rattle.olr_why.proofs.Lacking.{layer_leads_on, lengths_at_most}
 use Rattle.olr_why.proofs.legs.leg_of.Goals as goal
 

@@ -1,5 +1,4 @@
-use Rattle.std.proofs.Common.{◌≡◌, ◌++◌, ◌+◌, drop, string_bytes}
-use Rattle.olr_why.specs.Text.{points_rows}
+use Rattle.olr_why.proofs.Common.{◌≡◌, ◌++◌, ◌+◌, drop, string_bytes, points_rows}
 use Rattle.olr_why.proofs.text.push_points.Given as goal
 
 -- the text so far, with the rows that are left, is the whole text

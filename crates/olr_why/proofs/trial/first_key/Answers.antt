@@ -1,5 +1,4 @@
-use Rattle.std.proofs.Common.{List}
-use Rattle.olr_why.proofs.Common.{AreAnswers, KeyValue}
+use Rattle.olr_why.proofs.Common.{AreAnswers, KeyValue, List}
 use Rattle.olr_keys.specs.AnswersOf.{answers_of}
 use Rattle.olr_why.proofs.Trials as keys
 use Rattle.olr_why.proofs.trial.first_key.Goals as goal

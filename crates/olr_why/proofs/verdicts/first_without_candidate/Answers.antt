@@ -1,6 +1,5 @@
-use Rattle.std.proofs.Common.{◌≡◌, List, [], length, sym, ◌∙◌, ap, arith, slice_index_or}
 use borrow.Author.Tests.{eqb-true}
-use Rattle.olr_why.proofs.Common.{Candidate}
+use Rattle.olr_why.proofs.Common.{Candidate, ◌≡◌, List, [], length, sym, ◌∙◌, ap, arith, slice_index_or}
 use Rattle.olr_why.proofs.Lacking.{no_candidate, some_candidate}
 use Rattle.olr_why.proofs.Places.{points_count}
 use Rattle.olr_why.proofs.verdicts.first_without_candidate.Goals as goal

@@ -1,6 +1,4 @@
-use Rattle.std.proofs.Common.{◌≡◌, ◌≤◌, ◌-◌, ◌^◌, rules, true, false, [], refl, inl, inr, ◌∙◌, arith}
-use Rattle.olr_app.proofs.Single.{exit}
-use Rattle.olr_messages.specs.Messages.{left_of}
+use Rattle.olr_batch.proofs.Common.{◌≡◌, ◌≤◌, ◌-◌, ◌^◌, rules, true, false, [], refl, inl, inr, ◌∙◌, arith, exit, left_of}
 use Rattle.olr_batch.proofs.Stepping.{at_end_of, same, where_found, where_over}
 use Rattle.olr_batch.proofs.Stopping.{answered, begun, stopped}
 use Rattle.olr_batch.proofs.Written.{hand_of, one_more}

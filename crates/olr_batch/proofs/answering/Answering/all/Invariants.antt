@@ -1,6 +1,4 @@
-use Rattle.std.proofs.Common.{◌≡◌}
-use Rattle.olr_messages.specs.Messages.{left_of}
-use Rattle.olr_batch.specs.Run.{IsWrittenTo}
+use Rattle.olr_batch.proofs.Common.{◌≡◌, left_of, IsWrittenTo}
 use Rattle.olr_batch.proofs.answering.Answering.all.Given as goal
 
 -- what is written for the records so far has been written, and no device failed

@@ -1,9 +1,5 @@
-use Rattle.std.proofs.Common.{◌≡◌, rules, true, [], refl, inl, inr, subst, ◌∙◌, List, ℕ}
-use Rattle.std.specs.Io.KnownBytes.{Appends}
-use Rattle.olr_messages.specs.Content.{message_of}
-use Rattle.olr_app.specs.Writing.{HasStopped}
+use Rattle.olr_batch.proofs.Common.{◌≡◌, rules, true, [], refl, inl, inr, subst, ◌∙◌, List, ℕ, Appends, message_of, HasStopped, exit}
 use Rattle.olr_batch.proofs.Stepping.{may_ask, same, same_passed, takes_after, where_found}
-use Rattle.olr_app.proofs.Single.{exit}
 use Rattle.olr_batch.proofs.answering.Answering.next.Goals as goal
 
 pub returns-in_err-pass_on_unless-clause-fault : goal.returns-in_err-pass_on_unless-clause-fault

@@ -1,5 +1,4 @@
-use Rattle.std.proofs.Common.{◌≡◌, w32, to_z, of_z, arith}
-use Rattle.std.proofs.lemmas.Int.{ints}
+use Rattle.olr_binary.proofs.Common.{◌≡◌, w32, to_z, of_z, arith, ints}
 use Rattle.olr_binary.proofs.showing_json.PointToJsonUnit.send.Goals as goal
 
 pub returns : goal.returns

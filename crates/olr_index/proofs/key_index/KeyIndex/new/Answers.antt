@@ -1,5 +1,4 @@
-use Rattle.std.proofs.Common.{ℕ, map, ◌≡◌, ◌+◌, ap, ◌∙◌, arith}
-use Rattle.std.proofs.lemmas.List.{length-map}
+use Rattle.olr_index.proofs.Common.{ℕ, map, ◌≡◌, ◌+◌, ap, ◌∙◌, arith, length-map}
 use Rattle.olr_index.proofs.Buckets.{index_of}
 use Rattle.olr_index.proofs.key_index.KeyIndex.new.Goals as goal
 

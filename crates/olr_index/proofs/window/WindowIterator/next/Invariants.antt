@@ -1,5 +1,4 @@
-use Rattle.std.proofs.Common.{◌≡◌, ◌++◌, length}
-use Rattle.olr_index.specs.ByExtent.{ranks_in, AreBlocks}
+use Rattle.olr_index.proofs.Common.{◌≡◌, ◌++◌, length, ranks_in, AreBlocks}
 use Rattle.olr_index.proofs.window.WindowIterator.next.Given as goal
 
 -- only lines that don't meet the window were passed over

@@ -1,6 +1,4 @@
-use Rattle.std.proofs.Common.{◌<◌, ◌≤◌, length, sym, subst, arith}
-use Rattle.olr_keys.specs.Bounds.{IsBound}
-use Rattle.olr_keys.specs.Table.{Penalties, count_of}
+use Rattle.olr_keys.proofs.Common.{sym, subst, arith, IsBound, Penalties}
 use Rattle.olr_keys.proofs.Bounding.{held_bound}
 use Rattle.olr_keys.proofs.bound_table.Bounds.least.Goals as goal
 

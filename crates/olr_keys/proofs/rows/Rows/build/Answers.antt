@@ -1,6 +1,4 @@
-use Rattle.std.proofs.Common.{ℕ, ◌-◌, ◌<◌, List, [], length, map, slice_index_or, ◌∙◌, ap, subst, arith}
-use Rattle.std.specs.Global.{Vec}
-use Rattle.olr_keys.specs.Rows.{AreRowsOf, rows_of}
+use Rattle.olr_keys.proofs.Common.{ℕ, ◌-◌, ◌<◌, List, [], length, map, slice_index_or, ◌∙◌, ap, subst, arith, Vec, AreRowsOf, rows_of}
 use Rattle.olr_keys.proofs.Held.{held_is}
 use Rattle.olr_keys.proofs.Layers.{last_rows}
 use Rattle.olr_keys.proofs.rows.Rows.build.Goals as goal

@@ -1,7 +1,4 @@
-use Rattle.std.proofs.Common.{ℕ, ap, arith}
-use Rattle.std.proofs.lemmas.List.{length-map}
-use Rattle.std.specs.Global.{Vec}
-use Rattle.olr_keys.specs.Rows.{rows_of}
+use Rattle.olr_keys.proofs.Common.{ap, arith, length-map, rows_of}
 use Rattle.olr_keys.proofs.Stepping.{rows_of_layer}
 use Rattle.olr_keys.proofs.rows.Rows.layer_rows.Goals as goal
 

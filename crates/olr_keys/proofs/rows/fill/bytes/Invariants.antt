@@ -1,5 +1,4 @@
-use Rattle.std.proofs.Common.{◌≡◌, ◌+◌, ◌*◌, ◌≤◌, length, take}
-use Rattle.std.specs.List.{sum_by}
+use Rattle.olr_keys.proofs.Common.{◌≡◌, ◌+◌, ◌*◌, ◌≤◌, length, take, sum_by}
 use Rattle.olr_keys.proofs.rows.fill.bytes.Given as goal
 
 abbrev pub invariant-loop-layer : goal.invariant-loop-layer

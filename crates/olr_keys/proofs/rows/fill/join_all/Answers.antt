@@ -1,5 +1,4 @@
-use Rattle.std.proofs.Common.{length, ap, arith}
-use Rattle.std.proofs.lemmas.List.{length-map}
+use Rattle.olr_keys.proofs.Common.{length, ap, arith, length-map}
 use Rattle.olr_keys.proofs.Marking.{next_row, total_row_more, whole_totals}
 use Rattle.olr_keys.proofs.rows.fill.join_all.Goals as goal
 

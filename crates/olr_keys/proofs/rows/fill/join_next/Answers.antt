@@ -1,7 +1,4 @@
-use Rattle.std.proofs.Common.{◌+◌, length, refl, sym, ap, ◌∙◌, arith}
-use Rattle.std.proofs.lemmas.List.{length-map}
-use Rattle.olr_keys.specs.Matching.{IsRemainingTotal}
-use Rattle.olr_keys.specs.Rows.{IsRowOf, width_of}
+use Rattle.olr_keys.proofs.Common.{◌+◌, length, refl, sym, ap, ◌∙◌, arith, length-map, IsRemainingTotal, IsRowOf, width_of}
 use Rattle.olr_keys.proofs.Bounds.{count_at_most}
 use Rattle.olr_keys.proofs.Marking.{start_row, whole_row, next_row, row_more, row_without}
 use Rattle.olr_keys.proofs.rows.fill.join_next.Goals as goal

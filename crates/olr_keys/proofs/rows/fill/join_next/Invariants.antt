@@ -1,5 +1,4 @@
-use Rattle.std.proofs.Common.{◌≡◌}
-use Rattle.olr_keys.specs.Rows.{IsRowOf, width_of}
+use Rattle.olr_keys.proofs.Common.{◌≡◌, IsRowOf, width_of}
 use Rattle.olr_keys.proofs.Remaining.{IsTotalBy}
 use Rattle.olr_keys.proofs.rows.fill.join_next.Given as goal
 

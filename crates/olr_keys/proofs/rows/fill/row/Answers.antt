@@ -1,8 +1,4 @@
-use Rattle.std.proofs.Common.{◌≡◌, List, ℕ, Some, set, replicate, ◌∙◌, ap, rules, arith}
-use Rattle.std.specs.Global.{Vec}
-use Rattle.std.proofs.lemmas.List.{with_items_is}
-use Rattle.olr_keys.specs.Rows.{width_of}
-use Rattle.olr_keys.specs.Table.{penalty_at}
+use Rattle.olr_keys.proofs.Common.{◌≡◌, List, ℕ, Some, set, replicate, ◌∙◌, ap, rules, arith, Vec, with_items_is, width_of, penalty_at}
 use Rattle.olr_keys.proofs.Marking.{last_row}
 use Rattle.olr_keys.proofs.rows.fill.row.Goals as goal
 use Rattle.olr_keys.proofs.rows.fill.row.Goals.{then-layer-layers, else-layer-layers}

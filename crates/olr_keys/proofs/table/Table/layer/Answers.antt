@@ -1,7 +1,4 @@
-use Rattle.std.proofs.Common.{ℕ, List, [], length, map, arith, ap, ◌∙◌}
-use Rattle.std.specs.Prelude.{slice_index_or}
-use Rattle.std.specs.Global.{Vec}
-use Rattle.olr_keys.specs.Table.{penalties_of}
+use Rattle.olr_keys.proofs.Common.{ℕ, List, [], length, map, arith, ap, ◌∙◌, slice_index_or, Vec, penalties_of}
 use Rattle.olr_keys.proofs.Bounds.{layer_sound}
 use Rattle.olr_keys.proofs.table.Table.layer.Goals as goal
 

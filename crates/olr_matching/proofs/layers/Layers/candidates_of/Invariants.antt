@@ -1,5 +1,4 @@
-use Rattle.std.proofs.Common.{◌≡◌, ℕ, length, Some, slice_get}
-use Rattle.olr_matching.proofs.Common.{Candidate, IsOfRank}
+use Rattle.olr_matching.proofs.Common.{Candidate, IsOfRank, ◌≡◌, ℕ, length, Some, slice_get}
 use Rattle.olr_matching.proofs.layers.Layers.candidates_of.Given as goal
 
 abbrev pub invariant-loop-layer : goal.invariant-loop-layer

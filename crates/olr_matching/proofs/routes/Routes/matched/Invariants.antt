@@ -1,6 +1,4 @@
-use Rattle.std.proofs.Common.{◌≡◌, take}
-use Rattle.std.specs.List.{AllZip}
-use Rattle.olr_matching.specs.Matched.{IsMatchedBy}
+use Rattle.olr_matching.proofs.Common.{◌≡◌, take, AllZip, IsMatchedBy}
 use Rattle.olr_matching.proofs.routes.Routes.matched.Given as goal
 
 -- the parts of the keys so far

@@ -1,6 +1,4 @@
-use Rattle.std.proofs.Common.{arith, subst, sym, ◌∙◌}
-use Rattle.olr_matching.specs.Matched.{AreCandidatesAt}
-use Rattle.olr_matching.specs.Routes.{RoutesValue}
+use Rattle.olr_matching.proofs.Common.{arith, subst, sym, ◌∙◌, AreCandidatesAt, RoutesValue}
 use Rattle.olr_matching.proofs.Legs.{are_parts, push_leg}
 use Rattle.olr_matching.proofs.routes.Routes.parts.Goals as goal
 

@@ -1,6 +1,4 @@
-use Rattle.std.proofs.Common.{ap, subst}
-use Rattle.olr_keys.specs.Key.{KeyValue}
-use Rattle.olr_matching.proofs.Common.{AreLayersOn, RoutesValue}
+use Rattle.olr_matching.proofs.Common.{AreLayersOn, RoutesValue, ap, subst, KeyValue}
 use Rattle.olr_matching.proofs.Keys.{are_ranks}
 use Rattle.olr_matching.proofs.routes.Routes.ranks.Goals as goal
 

@@ -1,5 +1,4 @@
-use Rattle.olr_matching.proofs.Common.{Candidate, IsDeparture, IsPlace}
-use Rattle.olr_route.specs.Reach.{Tells}
+use Rattle.olr_matching.proofs.Common.{Candidate, IsDeparture, IsPlace, Covers}
 use Rattle.olr_matching.proofs.Lists.{all_at}
 use Rattle.olr_matching.proofs.Pairs.{has_walk, route_of_pair}
 use Rattle.olr_matching.proofs.routes.Routes.search.Goals as goal
@@ -20,13 +19,13 @@ route_from-requires-clause-on_map c =
     (rw leg.seconds_are at leg.ends.places)
     c.candidate-2.ensures.1
 
-pub route_from-requires-clause-tells : goal.route_from-requires-clause-tells
-route_from-requires-clause-tells c =
+pub route_from-requires-clause-covers : goal.route_from-requires-clause-covers
+route_from-requires-clause-covers c =
     let leg = c.leg_on_map-leg.ensures in
     let search = c.at.ensures _ _ c.in_ok-index.ensures.found in
-    all_at (λ (second : Candidate). Tells c.at.result.now second.place.line) _ _
+    all_at (λ (second : Candidate). Covers c.at.result.now second.place.line) _ _
     c.candidate-2.result
-    (rw leg.seconds_are at search.tells)
+    (rw leg.seconds_are at search.covers)
     c.candidate-2.ensures.1
 
 pub unreachable-requires : goal.unreachable-requires

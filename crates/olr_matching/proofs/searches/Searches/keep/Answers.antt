@@ -1,5 +1,4 @@
-use Rattle.std.proofs.lemmas.List.Elements.{All-push}
-use Rattle.olr_route.specs.Reach.{AreLengthsOn}
+use Rattle.olr_matching.proofs.Common.{All-push, AreLengthsOn}
 use Rattle.olr_matching.proofs.searches.Searches.keep.Goals as goal
 
 pub returns-clause-searches : goal.returns-clause-searches

@@ -1,8 +1,5 @@
-use Rattle.std.proofs.Common.{◌≡◌, refl, ap, ◌∙◌, length, arith, rules}
-use Rattle.std.specs.Prelude.{◌==◌, vec_len}
+use Rattle.olr_messages.proofs.Common.{◌≡◌, refl, ap, ◌∙◌, length, arith, rules, ◌==◌, vec_len, one_more, Reading}
 use Rattle.std.proofs.lemmas.Result.{err_from_is_err_and}
-use Rattle.olr_metric.specs.Counting.{one_more}
-use Rattle.olr_messages.specs.Messages.{Reading}
 use Rattle.olr_messages.proofs.Steps.{all_read, cut_off, endless, line_of_hand, line_read, none_given, none_read, not_all, some_given}
 use Rattle.olr_messages.proofs.messages.Messages.next.Goals as goal
 

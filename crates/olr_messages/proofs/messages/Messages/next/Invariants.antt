@@ -1,6 +1,4 @@
-use Rattle.std.proofs.Common.{◌≡◌, []}
-use Rattle.std.specs.Prelude.{Contains}
-use Rattle.olr_messages.specs.Messages.{left_of}
+use Rattle.olr_messages.proofs.Common.{◌≡◌, [], Contains, left_of}
 use Rattle.olr_messages.proofs.Steps.{HasRead}
 use Rattle.olr_messages.proofs.messages.Messages.next.Given as goal
 

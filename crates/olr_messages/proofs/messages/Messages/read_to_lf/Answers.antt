@@ -1,6 +1,4 @@
-use Rattle.std.proofs.Common.{List, ℕ, ◌+◌, ◌≤◌, ◌++◌, ◌∷◌, length, take, ap, sym, ◌∙◌, arith}
-use Rattle.std.specs.Prelude.{slice_range}
-use Rattle.olr_messages.specs.Messages.{Reading, front_of}
+use Rattle.olr_messages.proofs.Common.{List, ℕ, ◌+◌, ◌≤◌, ◌++◌, ◌∷◌, length, take, ap, sym, ◌∙◌, arith, slice_range, Reading, front_of}
 use Rattle.olr_messages.proofs.Chunks.{behind_lf, lf_found, no_lf_before, no_lf_found, none_at_hand, rest_at_hand}
 use Rattle.olr_messages.proofs.Fronts.{front_short}
 use Rattle.olr_messages.proofs.messages.Messages.read_to_lf.Goals as goal

@@ -1,6 +1,4 @@
-use Rattle.std.proofs.Common.{List, sym, ap, ◌∙◌, rules}
-use Rattle.std.proofs.lemmas.List.Sorted.{IsNonDecreasingBy-from_sort_by_key, list_any-IsPermutation}
-use Rattle.olr_places.proofs.Common.{Piece, covers, has_step}
+use Rattle.olr_places.proofs.Common.{Piece, covers, has_step, List, sym, ap, ◌∙◌, rules, IsNonDecreasingBy-from_sort_by_key, list_any-IsPermutation}
 use Rattle.olr_places.proofs.cover.Cover.new.Goals as goal
 
 pub returns-clause-rises : goal.returns-clause-rises

@@ -1,6 +1,5 @@
-use Rattle.std.proofs.Common.{◌∙◌, None, ap}
+use Rattle.olr_places.proofs.Common.{◌∙◌, None, ap, next_after, verdict_word}
 use Rattle.olr_report.proofs.ShownPage.{same_next}
-use Rattle.olr_places.specs.Text.{next_after, verdict_word}
 use Rattle.olr_places.proofs.json.PlacesToJsonOnMap.send.Goals as goal
 
 pub returns : goal.returns

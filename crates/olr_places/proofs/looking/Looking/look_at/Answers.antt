@@ -1,9 +1,4 @@
-use Rattle.std.proofs.Common.{◌≡◌, ◌<◌, ◌≤◌, List, ◌∷◌, [], ◌++◌, false, length, ap, ◌∙◌, arith, Some, ◌==◌}
-use Rattle.std.proofs.lemmas.Bool.{eq-eqb, le-leb, le-ltb, lt-ltb, ne_eqb}
-use Rattle.std.proofs.lemmas.List.{length-map}
-use Rattle.std.proofs.lemmas.List.Elements.{All-push}
-use Rattle.olr_places.proofs.Common.{gap_of, IsOpenerAt, entry_of, Entry, PlaceLimits, Looking, Opener}
-use Rattle.olr_places.specs.Steps.{Stands, gap_behind}
+use Rattle.olr_places.proofs.Common.{gap_of, IsOpenerAt, entry_of, Entry, PlaceLimits, Looking, Opener, ◌≡◌, ◌<◌, ◌≤◌, List, ◌∷◌, [], ◌++◌, false, length, ap, ◌∙◌, arith, Some, ◌==◌, eq-eqb, le-leb, le-ltb, lt-ltb, ne_eqb, length-map, All-push, Stands, gap_behind}
 use Rattle.olr_places.proofs.LookSteps.{beyond_ends, full_ends, gap_at_first, more_kept, stands_with_member, stands_with_opener}
 use Rattle.olr_places.proofs.looking.Looking.look_at.Goals as goal
 

@@ -1,5 +1,4 @@
-use Rattle.std.proofs.Common.{◌≡◌, Bool, true, false}
-use Rattle.std.specs.Prelude.{not}
+use Rattle.olr_records.proofs.Common.{◌≡◌, Bool, true, false, not}
 use Rattle.csv.specs.Records.{fields_of}
 use Rattle.olr_records.proofs.ReaderSteps.{read_one, plain_ready, after_read}
 use Rattle.olr_records.proofs.records.Records.next.Goals as goal

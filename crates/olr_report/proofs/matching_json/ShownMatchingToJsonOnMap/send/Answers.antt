@@ -1,5 +1,4 @@
-use Rattle.std.proofs.Common.{OnOk, subst}
-use Rattle.serde_json.specs.Data.{Data}
+use Rattle.olr_report.proofs.Common.{OnOk, subst, Data}
 use Rattle.olr_text.specs.Sent.{Sends}
 use Rattle.olr_report.proofs.ShownPage.{same_matching}
 use Rattle.olr_report.proofs.matching_json.ShownMatchingToJsonOnMap.send.Goals as goal

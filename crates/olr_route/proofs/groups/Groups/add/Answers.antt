@@ -1,7 +1,4 @@
-use Rattle.std.proofs.Common.{Some, ◌++◌, ◌∷◌, [], ap, rules, sym, subst, ◌∙◌}
-use Rattle.std.specs.Option.{option_copied_mut}
-use Rattle.std.specs.BTreeMap.{UpdatesBy}
-use Rattle.olr_route.proofs.Common.{by_key, items_in}
+use Rattle.olr_route.proofs.Common.{items_in, ◌++◌, ◌∷◌, [], ap, rules, sym, ◌∙◌, option_copied_mut}
 use Rattle.olr_route.proofs.Spreading.{added}
 use Rattle.olr_route.proofs.groups.Groups.add.Goals as goal
 

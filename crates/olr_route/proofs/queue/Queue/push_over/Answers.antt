@@ -1,5 +1,4 @@
-use Rattle.std.proofs.Common.{arith, ap, sym}
-use Rattle.olr_route.proofs.Common.{Arrival}
+use Rattle.olr_route.proofs.Common.{arith, ap, sym}
 use Rattle.olr_route.proofs.Visiting.{pushes}
 use Rattle.olr_route.proofs.queue.Queue.push_over.Goals as goal
 

@@ -1,5 +1,4 @@
-use Rattle.std.proofs.Common.{None, subst, sym, ap, ◌∙◌, arith, ◌+◌, ◌-◌}
-use Rattle.olr_route.proofs.Common.{IsLeastLength, Search}
+use Rattle.olr_route.proofs.Common.{IsLeastLength, Search, None, subst, sym, ap, ◌∙◌, arith, ◌+◌, ◌-◌}
 use Rattle.olr_route.proofs.SharedRoutes.{along, least_within, none_through, least_moved, none_moved}
 use Rattle.olr_route.proofs.reach.Reach.length_from.Goals as goal
 
@@ -36,7 +35,7 @@ returns-in_default c =
     (λ same less. absurd (cc (c.is_ahead.ensures.1 (same, less), c.if-is_ahead.false)))
     (rw (sym (c.length_to.ensures ∙ ap (λ t. t c.args.to.line) (c.starts.ensures c.args.map.now))
     ∙ c.in_default.is)
-    at (c.requires.held.each c.args.to.line c.requires.tells))
+    at (c.requires.held.each c.args.to.line c.requires.covers))
 
 pub returns : goal.returns
 returns c =
@@ -55,7 +54,7 @@ returns c =
     ((rw c.search-search.ensures at c.is_open_up_to.ensures).0 c.if-not-is_open_up_to.false) _
     (rw (sym (c.length_to.ensures ∙ ap (λ t. t c.args.to.line) (c.starts.ensures c.args.map.now))
     ∙ c.in-Some.is)
-    at (c.requires.held.each c.args.to.line c.requires.tells)).0)
+    at (c.requires.held.each c.args.to.line c.requires.covers)).0)
     _ (rw (
       c.from-2.ensures,
       c.from-3.ensures,

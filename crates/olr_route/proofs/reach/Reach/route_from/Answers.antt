@@ -1,6 +1,4 @@
-use Rattle.std.proofs.Common.{None, ap, sym, ◌∙◌}
-use Rattle.std.proofs.lemmas.Option.{slice_get_within}
-use Rattle.olr_route.proofs.Common.{Search}
+use Rattle.olr_route.proofs.Common.{Search, None, ap, sym, ◌∙◌, slice_get_within}
 use Rattle.olr_route.proofs.SharedRoutes.{last_drivable, route_ahead, route_followed}
 use Rattle.olr_route.proofs.reach.Reach.route_from.Goals as goal
 
@@ -42,8 +40,8 @@ returns c =
     route_followed ask _ _ c.sound.ensures c.requires.held.from_map c.requires.from
     c.requires.serves
     (λ same less. absurd (cc (c.is_ahead.ensures.1 (same, less), c.if-is_ahead.false))) _
-    (c.requires.held.each c.args.to.line c.requires.tells)
-    (c.requires.held.walks c.args.to.line c.requires.tells)
+    (c.requires.held.each c.args.to.line c.requires.covers)
+    (c.requires.held.walks c.args.to.line c.requires.covers)
     _ c.in-Some.ensures _ (rw (c.search-search.ensures, c.starts.ensures c.args.map.now) at
     c.in_ok-groups.ensures)
     _ (rw c.search-search.ensures at c.in_ok-pieces.ensures)

@@ -1,11 +1,4 @@
-use Rattle.std.proofs.Common.{◌≡◌, ◌≢◌, ◌^◌, ℕ, List, length, None, Some, inl, inr, true, false, ap, subst, sym, ◌∙◌, refl, rules, arith}
-use Rattle.std.specs.HashMap.{get}
-use Rattle.std.specs.Option.{option_copied_mut}
-use Rattle.std.specs.Prelude.{All, Contains, IsSome, nat_eq, option_map, slice_get}
-use Rattle.std.proofs.lemmas.List.{length-map}
-use Rattle.std.proofs.lemmas.List.Elements.{All-contains}
-use Rattle.olr_route.proofs.Common.{origins_of, IsStepOf, line_ranks, Step, HasArrived, IsDone, banned_at, items_in, node_length}
-use Rattle.olr_route.specs.NodeLengths.{length_of}
+use Rattle.olr_route.proofs.Common.{origins_of, IsStepOf, line_ranks, Step, HasArrived, IsDone, banned_at, items_in, node_length, ◌≡◌, ◌≢◌, ◌^◌, ℕ, List, length, None, Some, inl, inr, true, false, ap, subst, sym, ◌∙◌, refl, rules, arith, get, option_copied_mut, All, Contains, IsSome, nat_eq, option_map, slice_get, length-map, All-contains, length_of}
 use Rattle.olr_route.proofs.Arrived.{arrived_done, by_parts, done_ahead, has_arrived, left_of}
 use Rattle.olr_route.proofs.Lines.{end_inside, key_differs}
 use Rattle.olr_route.proofs.Relaxing.{worth}

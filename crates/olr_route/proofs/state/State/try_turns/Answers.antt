@@ -1,9 +1,4 @@
-use Rattle.std.proofs.Common.{◌≡◌, ℕ, false, ap, sym, refl, ◌∙◌, rules}
-use Rattle.std.specs.HashMap.{get}
-use Rattle.std.specs.Prelude.{nat_eq}
-use Rattle.std.proofs.lemmas.List.{map_more}
-use Rattle.std.proofs.lemmas.List.Elements.{All-get_or, All-push, All-same}
-use Rattle.olr_route.proofs.Common.{IsStepOf, Step, own_reached}
+use Rattle.olr_route.proofs.Common.{IsStepOf, Step, own_reached, ◌≡◌, ℕ, false, ap, sym, refl, ◌∙◌, rules, get, nat_eq, map_more, All-get_or, All-push, All-same}
 use Rattle.olr_route.proofs.Lines.{allowed_turn, never_allowed}
 use Rattle.olr_route.proofs.Visiting.{line_among, done_before, line_ranks_of_push, none_still, own_still, visited_banned, visited_pushed}
 use Rattle.olr_route.proofs.state.State.try_turns.Goals as goal

@@ -1,7 +1,4 @@
-use Rattle.std.proofs.Common.{◌≡◌, take}
-use Rattle.std.specs.HashMap.{get}
-use Rattle.std.specs.Prelude.{All, nat_eq}
-use Rattle.olr_route.proofs.Common.{IsStepOf, line_ranks, AreVisited, IsDone}
+use Rattle.olr_route.proofs.Common.{IsStepOf, line_ranks, AreVisited, IsDone, ◌≡◌, take, get, All, nat_eq}
 use Rattle.olr_route.proofs.state.State.try_turns.Given as goal
 
 -- the turns to the lines of the steps so far were tried

@@ -1,5 +1,4 @@
-use Rattle.std.proofs.Common.{◌≡◌}
-use Rattle.olr_why.specs.Text.{long_of, short_of}
+use Rattle.olr_why.proofs.Common.{◌≡◌, long_of, short_of}
 use Rattle.olr_why.proofs.json.PairLengthToJsonLegReason.send.Goals as goal
 
 pub returns : goal.returns

@@ -1,6 +1,4 @@
-use Rattle.std.proofs.Common.{arith, length-take-le}
-use Rattle.std.proofs.lemmas.List.{take_more}
-use Rattle.olr_matching.proofs.LengthRows.{no_candidate}
+use Rattle.olr_why.proofs.Common.{arith, length-take-le, take_more, no_candidate}
 use Rattle.olr_why.proofs.PairLists.{one_more_first}
 use Rattle.olr_why.proofs.pairs.LegOnMap.pairs.Goals as goal
 

@@ -1,5 +1,4 @@
-use Rattle.std.proofs.Common.{take}
-use Rattle.olr_why.specs.Legs.{ArePairs}
+use Rattle.olr_why.proofs.Common.{take, ArePairs}
 use Rattle.olr_why.proofs.pairs.LegOnMap.pairs.Given as goal
 
 -- the pairs of the first candidates so far

@@ -1,5 +1,4 @@
-use Rattle.std.proofs.Common.{◌+◌}
-use Rattle.olr_why.specs.inner.Pairs.{IsPairAt}
+use Rattle.olr_why.proofs.Common.{◌+◌, IsPairAt}
 use Rattle.olr_why.proofs.Lists.{AreSoFar}
 use Rattle.olr_why.proofs.pairs.LegOnMap.pairs_by.Given as goal
 

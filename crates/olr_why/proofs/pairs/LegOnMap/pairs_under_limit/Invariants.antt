@@ -1,6 +1,4 @@
-use Rattle.std.proofs.Common.{◌+◌}
-use Rattle.olr_matching.specs.Leg.{class_limit}
-use Rattle.olr_why.specs.inner.Pairs.{IsPairAt}
+use Rattle.olr_why.proofs.Common.{◌+◌, class_limit, IsPairAt}
 use Rattle.olr_why.proofs.Lists.{AreSoFar}
 use Rattle.olr_why.proofs.pairs.LegOnMap.pairs_under_limit.Given as goal
 

@@ -1,7 +1,4 @@
-use Rattle.std.proofs.Common.{◌-◌, ◌<◌, ◌≤◌}
-use Rattle.olr_candidates.specs.Tolerances.{least_of}
-use Rattle.olr_why.specs.Remedies.{IsUncrowdedWith, value_of}
-use Rattle.olr_why.specs.inner.Trying.{AreCrowdedFrom}
+use Rattle.olr_why.proofs.Common.{◌-◌, ◌<◌, ◌≤◌, least_of, IsUncrowdedWith, value_of, AreCrowdedFrom}
 use Rattle.olr_why.proofs.trying.Trials.greatest_uncrowded.Given as goal
 
 abbrev pub invariant-loop-high : goal.invariant-loop-high

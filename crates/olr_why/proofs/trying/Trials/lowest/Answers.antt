@@ -1,5 +1,4 @@
-use Rattle.std.proofs.Common.{ℕ, ◌<◌, below_more, refl, arith}
-use Rattle.olr_why.proofs.Common.{IsEnough, Lowest}
+use Rattle.olr_why.proofs.Common.{IsEnough, Lowest, ℕ, ◌<◌, below_more, refl, arith}
 use Rattle.olr_why.proofs.Halving.{none_up_to_greatest}
 use Rattle.olr_why.proofs.Tried.{least_enough}
 use Rattle.olr_why.proofs.trying.Trials.lowest.Goals as goal

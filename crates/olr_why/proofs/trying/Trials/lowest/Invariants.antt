@@ -1,5 +1,4 @@
-use Rattle.std.proofs.Common.{ℕ, ◌<◌}
-use Rattle.olr_why.proofs.Common.{IsEnough, Lowest}
+use Rattle.olr_why.proofs.Common.{IsEnough, Lowest, ℕ, ◌<◌}
 use Rattle.olr_why.proofs.trying.Trials.lowest.Given as goal
 
 abbrev pub invariant-loop-value : goal.invariant-loop-value

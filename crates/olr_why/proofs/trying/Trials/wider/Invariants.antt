@@ -1,5 +1,4 @@
-use Rattle.std.proofs.Common.{◌-◌}
-use Rattle.olr_why.specs.inner.Trying.{IsBracket}
+use Rattle.olr_why.proofs.Common.{◌-◌, IsBracket}
 use Rattle.olr_why.proofs.trying.Trials.wider.Given as goal
 
 abbrev pub invariant-loop-bracket : goal.invariant-loop-bracket

@@ -1,5 +1,4 @@
-use Rattle.olr_why.specs.inner.Trying.{IsTrialWith}
-use Rattle.olr_why.proofs.Common.{NoMatching}
+use Rattle.olr_why.proofs.Common.{NoMatching, IsTrialWith}
 use Rattle.olr_why.proofs.Halving.{first_two, none_up_to_greatest}
 use Rattle.olr_why.proofs.Tried.{none_up_to}
 use Rattle.olr_why.proofs.trying.Trials.wider_values.Goals as goal

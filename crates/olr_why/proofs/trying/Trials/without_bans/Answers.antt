@@ -1,5 +1,4 @@
-use Rattle.olr_why.specs.Remedies.{IsUnbanned, without_bans}
-use Rattle.olr_why.specs.inner.Trial.{IsCrowded}
+use Rattle.olr_why.proofs.Common.{IsUnbanned, without_bans, IsCrowded}
 use Rattle.olr_why.proofs.Tried.{not_both}
 use Rattle.olr_why.proofs.trying.Trials.without_bans.Goals as goal
 

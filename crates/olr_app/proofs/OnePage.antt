@@ -1,0 +1,57 @@
+-- The stages of an answer after the map, where one page of matchings is asked for.
+use Rattle.olr_app.proofs.Common.{AreAnswers, KeyValue, IsPageAfter, PageValue, Mark, RoadMap, LayersValue, AreMatchings, ArePagesAsked, IsTextOfPage, key_of, Accepted, Format, MatchRequest, One, ◌≡◌, ℕ, List, [], ◌∷◌, Option, Ok, Bor, subst, AllZip, concat, Bool, append-nil, IsMarkOf}
+use Rattle.olr_matching.specs.Layers.{AreLayersOn}
+
+-- one page has one text
+page_text : {format : Format} {road : RoadMap} {layers : LayersValue} {mark : Option Mark}
+    (page : PageValue) (texts : List (List ℕ))
+    → AllZip (IsTextOfPage format road layers mark) (page ∷ []) texts
+    → IsTextOfPage format road layers mark page (concat texts)
+page_text page [] each = absurd each
+page_text page (text ∷ []) each = rw (append-nil text) each.0
+page_text page (text ∷ other ∷ texts) each = absurd each.1
+
+-- the stages after the map, of a request for one page
+pub record OnMap (marks : Bool) (asked : MatchRequest) (accepted : Accepted) (road : RoadMap)
+    (output : List ℕ) : Type 0 where
+  pub layers : LayersValue
+  pub are_layers : AreLayersOn road layers
+  pub reference_is : layers.reference ≡ accepted.reference
+  pub are_tolerances : layers.tolerances ≡ asked.tolerances
+  pub keys : List KeyValue
+  pub are_keys : AreAnswers layers.penalties keys
+  pub page : PageValue
+  pub is_page : IsPageAfter keys (key_of accepted.start) asked.size page
+  pub mark : Option Mark
+  pub is_mark : IsMarkOf marks asked.text.now asked.tolerances road (page ∷ []) mark
+  pub is_text : IsTextOfPage asked.format road layers mark page output
+
+pub on_map : (marks : Bool) (asked : MatchRequest) (begins : Option (Bor (List ℕ)))
+    (accepted : Accepted) (road : RoadMap) (output : List ℕ) → asked.pages ≡ One begins
+    → AreMatchings marks asked accepted road (Ok output) → OnMap marks asked accepted road output
+on_map marks asked begins accepted road output one is =
+    let answers = is.2.2.1.0 in
+    let pages = subst (λ pages.
+    ArePagesAsked answers asked.size pages (key_of is.0) is.2.2.0) one is.2.2.1.2 in
+    let printed = is.2.2.2 in
+    record {
+      layers = is.2.0;
+      are_layers = is.2.1.0;
+      reference_is = is.2.1.1;
+      are_tolerances = is.2.1.2;
+      keys = answers;
+      are_keys = is.2.2.1.1;
+      page = pages.0;
+      is_page = subst (λ at. IsPageAfter answers (key_of at) asked.size
+          pages.0)
+          is.1.0 pages.2;
+      mark = printed.mark;
+      is_mark = subst (λ l.
+          IsMarkOf marks asked.text.now asked.tolerances road l printed.mark) pages.1
+          printed.is_mark;
+      is_text = rw printed.texts.whole
+          (page_text pages.0 printed.texts.texts (subst (λ l.
+          AllZip (IsTextOfPage asked.format road is.2.0 printed.mark) l printed.texts.texts)
+          pages.1
+          printed.texts.each));
+    }

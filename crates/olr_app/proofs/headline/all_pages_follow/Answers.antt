@@ -1,5 +1,0 @@
-use Rattle.olr_app.proofs.HeadlineAll as all
-use Rattle.olr_app.proofs.headline.all_pages_follow.Goals as goal
-
-pub returns : goal.returns
-returns c = all.all_pages c.laws_below.ensures

@@ -1,5 +1,0 @@
-use Rattle.olr_app.proofs.OneAnswer.{answer_once}
-use Rattle.olr_app.proofs.laws.one_answer.Goals as goal
-
-pub returns : goal.returns
-returns c = answer_once c.laws_below.ensures

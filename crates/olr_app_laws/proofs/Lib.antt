@@ -1,0 +1,13 @@
+mod Common
+mod OneAnswer
+mod HeadlineTexts
+mod HeadlineOutputs
+mod HeadlineRests
+mod HeadlineRuns
+mod HeadlineChain
+mod HeadlineCursors
+mod HeadlineAll
+mod Marks
+mod AsRuns
+mod OneRequest
+mod OneLine

@@ -1,0 +1,301 @@
+-- A request has one answer by known texts, from the laws of the crates below.
+use Rattle.serde_json.specs.Written.{compact_text}
+use Rattle.olr_text.specs.JsonValues.{IsJsonLine}
+use Rattle.olr_app_laws.proofs.Common.{Reference, IsSoundMap, RoadMap, AreLists, Entry, Candidate, Tolerances, AreAnswers, KeyValue, IsKey, IsPageAfter, PageValue, last_of, Penalties, CursorRead, Mark, LayersValue, next_after, IsStart, Accepts, IsAnswer, IsAnswerOf, IsAnswerOn, IsMapOfFiles, fault_of_map, fault_of, OneOutcome, AreLayers, AreMatchings, ArePages, ArePagesAsked, IsOfInputs, IsPageIn, IsPrinted, IsStartHere, IsTextOfPage, OnLayers, OnStart, key_of, text_of, Accepted, TooManyCandidates, Format, Json, Text, MatchRequest, Pages, One, Request, Candidates, Match, Places, Show, ◌≡◌, ℕ, ◌+◌, zero, suc, Bool, true, false, List, [], ◌∷◌, None, Option, Some, Ok, Err, refl, ap, sym, subst, ◌∙◌, arith, ◌++◌, codes, inl, inr, All-contains, none-some, AllZip, concat, Contains, IfSome, if◌then◌else◌, Data, Laws, known, page_object, RefusedByName, cursor_in, Why, accepted_once, IsSingle, first_then, no_fault_once, no_ok_and_err, same_err}
+use Rattle.olr_places.specs.Looking.{IsLooked, Looked}
+use Rattle.olr_places.specs.declared.limits.PlaceLimits.{PlaceLimits}
+use Rattle.olr_report.specs.Text.{page_text}
+use Rattle.olr_why.specs.Reasons.{WhyValue}
+use Rattle.olr_app.specs.Answer.{IsReferenceIn}
+use Rattle.olr_app.specs.Listing.{IsListed, IsListingIn}
+use Rattle.olr_app.specs.Matching.{IsMarkOf}
+use Rattle.olr_app.specs.Places.{ArePlaces, ArePlacesOn, IsPlacesIn}
+use Rattle.olr_app.specs.Stages.{OrTooMany}
+use Rattle.olr_app.specs.Why.{AreReasons, IsWhyIn}
+use Rattle.olr_request.specs.declared.request.Pages.TheVariants.{All}
+
+-- two relations that give each item the same give a list the same
+zip_once : {A B : Type 0} (R S : A → B → Type 0) (xs : List A) (ys zs : List B)
+    → ((x : A) (y z : B) → Contains xs x → R x y → S x z → y ≡ z) → AllZip R xs ys
+    → AllZip S xs zs → ys ≡ zs
+zip_once R S [] [] [] same is its = refl
+zip_once R S [] [] (z ∷ zs) same is its = absurd its
+zip_once R S [] (y ∷ ys) zs same is its = absurd is
+zip_once R S (x ∷ xs) [] zs same is its = absurd is
+zip_once R S (x ∷ xs) (y ∷ ys) [] same is its = absurd its
+zip_once R S (x ∷ xs) (y ∷ ys) (z ∷ zs) same is its =
+    let here = same x y z (zero, omega arith, refl) is.0 its.0 in
+    let rest = zip_once R S xs ys zs
+    (λ a b c has. same a b c (suc has.0, omega (arith, has.1), has.2)) is.1 its.1 in cc
+
+-- ---- an output in either format
+
+-- the line of a value is one
+same_line : {value other : Data} {text again : List ℕ} → value ≡ other → IsJsonLine value text
+    → IsJsonLine other again → text ≡ again
+same_line same is its =
+    is.line_is ∙ ap (λ value. compact_text value ++ codes "\n") same ∙ sym its.line_is
+
+reference_in : (format : Format) (reference : Reference) (text other : List ℕ)
+    → IsReferenceIn format reference text → IsReferenceIn format reference other → text ≡ other
+reference_in Text reference text other is again = is ∙ sym again
+reference_in Json reference text other is again = same_line refl is again
+
+listing_in : (format : Format) (road : RoadMap) (lists : List (List Candidate))
+    (text other : List ℕ) → IsListingIn format road lists text
+    → IsListingIn format road lists other → text ≡ other
+listing_in Text road lists text other is again = is ∙ sym again
+listing_in Json road lists text other is again = same_line refl is again
+
+places_in : (format : Format) (road : RoadMap) (limits : PlaceLimits) (looked : Looked)
+    (text again : List ℕ) → IsPlacesIn format road limits looked text
+    → IsPlacesIn format road limits looked again → text ≡ again
+places_in Text road limits looked text again is its = is ∙ sym its
+places_in Json road limits looked text again is its = same_line refl is its
+
+reasons_in : (format : Format) (road : RoadMap) (why : WhyValue) (text again : List ℕ)
+    → IsWhyIn format road why text → IsWhyIn format road why again → text ≡ again
+reasons_in Text road why text again is its = is ∙ sym its
+reasons_in Json road why text again is its = same_line refl is its
+
+-- where more follow, pages have one mark
+mark_once : (marks : Bool) (text : List ℕ) (tolerances : Tolerances) (road : RoadMap)
+    (pages : List PageValue) (mark other : Option Mark)
+    → IsMarkOf marks text tolerances road pages mark
+    → IsMarkOf marks text tolerances road pages other
+    → (page : PageValue) → Contains pages page → page.more ≡ true → mark ≡ other
+mark_once true text tolerances road pages mark other is its page has more =
+    let mark_of : List ℕ → Option Mark = λ bytes. Some (record { 0 = bytes }) in
+    is.1 ∙ ap mark_of (is.2 page has more ∙ sym (its.2 page has more)) ∙ sym its.1
+mark_once false text tolerances road pages mark other is its page has more = is ∙ sym its
+
+module _ (laws : Laws) where
+  -- ---- candidates and layers
+
+  -- what shows one list of candidates for each point is one thing, or the first point with too many
+  -- is one
+  lists_or_fault : {A : Type 0} (tolerances : Tolerances) (reference : Reference) (road : RoadMap)
+      (Is : A → Type 0) → ((found : A) → Is found
+      → (lists : List (List Candidate)) × AreLists tolerances reference road.lines lists)
+      → ((one other : A) → Is one → Is other → one ≡ other)
+      → IsSingle (OrTooMany tolerances reference road Is)
+  lists_or_fault tolerances reference road Is lists once (Ok one) (Ok other) is again =
+      ap Ok (once one other is again)
+  lists_or_fault tolerances reference road Is lists once (Ok one) (Err other) is again =
+      let has = lists one is in
+      absurd (laws.no_lists_and_too_many _ _ _ has.0 again.0 has.1 again.1.too_many)
+  lists_or_fault tolerances reference road Is lists once (Err one) (Ok other) is again =
+      let has = lists other again in
+      absurd (laws.no_lists_and_too_many _ _ _ has.0 is.0 has.1 is.1.too_many)
+  lists_or_fault tolerances reference road Is lists once (Err one) (Err other) is again =
+      let index = laws.first_too_many _ _ _ is.0 again.0 is.1 again.1 in
+      ap Err (is.2 ∙ ap (λ i. TooManyCandidates (i + 1)) index ∙ sym again.2)
+
+  pub layers_once : (tolerances : Tolerances) (reference : Reference) (road : RoadMap)
+      → IsSingle (AreLayers tolerances reference road)
+  layers_once tolerances reference road = lists_or_fault tolerances reference road _
+      (λ layers are. (layers.candidates, rw (sym are.1, sym are.2) are.0.lists))
+      (λ one other is again.
+      laws.layers road one other is.0 again.0 (is.1 ∙ sym again.1) (is.2 ∙ sym again.2))
+
+  listed_once : (format : Format) (tolerances : Tolerances) (reference : Reference)
+      (road : RoadMap) → IsSingle (IsListed format tolerances reference road)
+  listed_once format tolerances reference road = lists_or_fault tolerances reference road _
+      (λ text is. (is.lists, is.candidates))
+      (λ one other is again. listing_in format road is.lists one other is.text_is
+      (rw (laws.lists _ _ _ _ _ is.candidates again.candidates) again.text_is))
+
+  -- ---- pages
+
+  asked_once : {penalties : Penalties} {answers : List KeyValue} (size : ℕ) (pages : Pages)
+      (after : Option KeyValue) (one other : List PageValue) → AreAnswers penalties answers
+      → ArePagesAsked answers size pages after one → ArePagesAsked answers size pages after other
+      → one ≡ other
+  asked_once size All after one other are is again = laws.chain _ _ _ _ _ _ are is again
+  asked_once size (One cursor) after one other are is again =
+      is.1 ∙ ap (λ page. page ∷ []) (laws.page _ _ _ _ _ _ are is.2 again.2)
+      ∙ sym again.1
+
+  -- no pages come after a key that isn't a matching's; a request for all pages has no cursor
+  no_both : {penalties : Penalties} {answers : List KeyValue} (size : ℕ) (pages : Pages)
+      (start : Option CursorRead) (list : List PageValue) (read : CursorRead)
+      → IsStart (cursor_in pages) (Ok start) → start ≡ Some read → ¬ (IsKey penalties read.key)
+      → AreAnswers penalties answers → ArePagesAsked answers size pages (key_of start) list → ⊥
+  no_both size All start list read begins has other are asked = none-some read (sym begins ∙ has)
+  no_both {penalties} {answers} size (One cursor) start list read begins has other are asked =
+      let after = subst (λ s. IsPageAfter answers (key_of s) size asked.0)
+      has asked.2 in
+      other (All-contains (IsKey penalties) _ _ are.only (laws.no_page_after_others _ _ _ _ after))
+
+  pages_once : (asked : MatchRequest) (layers : LayersValue) (start : Option CursorRead)
+      → IsStart (cursor_in asked.pages) (Ok start) → IsSingle (ArePages asked layers start)
+  pages_once asked layers start begins (Ok one) (Ok other) is again =
+      let its = subst (λ answers.
+      ArePagesAsked answers asked.size asked.pages (key_of start) other)
+      (laws.list _ _ _ again.1 is.1) again.2 in
+      ap Ok (asked_once asked.size asked.pages (key_of start) one other is.1 is.2 its)
+  pages_once asked layers start begins (Ok one) (Err other) is again =
+      absurd (no_both asked.size asked.pages start one again.1 begins again.2 again.3 is.1 is.2)
+  pages_once asked layers start begins (Err one) (Ok other) is again =
+      absurd (no_both asked.size asked.pages start other is.1 begins is.2 is.3 again.1 again.2)
+  pages_once asked layers start begins (Err one) (Err other) is again = ap Err (is.0 ∙ sym again.0)
+
+  -- ---- a page in either format
+
+  -- what ends with a page is the same for two marks that are the same where more follow
+  ends_alike : {A : Type 0} (ending : Option KeyValue → Option Mark → A) (last : Option KeyValue)
+      (more : Bool) (mark other : Option Mark)
+      → ((one another : Option Mark) → ending None one ≡ ending None another)
+      → (more ≡ true → mark ≡ other)
+      → ending (if more then last else None) mark ≡ ending (if more then last else None) other
+  ends_alike ending last true mark other none same = ap (ending last) (same refl)
+  ends_alike ending last false mark other none same = none mark other
+
+  -- the text of a page is one, where more follow by the same mark
+  one_in : (format : Format) (road : RoadMap) (entries : List Entry) (page : PageValue)
+      (mark other : Option Mark) (text again : List ℕ) → (page.more ≡ true → mark ≡ other)
+      → IsPageIn format road entries (next_after page) mark text
+      → IsPageIn format road entries (next_after page) other again → text ≡ again
+  one_in Text road entries page mark other text again same is its =
+      is ∙ ends_alike (page_text road entries) (last_of None page.keys) page.more mark other
+      (λ one another. refl) same ∙ sym its
+  one_in Json road entries page mark other text again same is its =
+      same_line (ends_alike (page_object road entries) (last_of None page.keys) page.more mark other
+      (λ one another. refl) same) is its
+
+  module _ (road : RoadMap) (layers : LayersValue) (sound : IsSoundMap road) where
+    pub page_once : (format : Format) (mark other : Option Mark) (page : PageValue)
+        (text again : List ℕ) → (page.more ≡ true → mark ≡ other)
+        → IsTextOfPage format road layers mark page text
+        → IsTextOfPage format road layers other page again → text ≡ again
+    page_once format mark other page text again same is its =
+        let entries = laws.entries road layers sound page.keys is.entries its.entries is.are its.are
+        in
+        one_in format road its.entries page mark other text again same
+        (subst (λ list. IsPageIn format road list (next_after page) mark text) entries is.text_is)
+        its.text_is
+
+    texts_once : (format : Format) (mark other : Option Mark) (pages : List PageValue)
+        (texts again : List (List ℕ))
+        → ((page : PageValue) → Contains pages page → page.more ≡ true → mark ≡ other)
+        → AllZip (IsTextOfPage format road layers mark) pages texts
+        → AllZip (IsTextOfPage format road layers other) pages again → texts ≡ again
+    texts_once format mark other pages texts again same =
+        zip_once (IsTextOfPage format road layers mark) (IsTextOfPage format road layers other)
+        pages texts again (λ page text its has. page_once format mark other page text its
+        (same page has))
+
+    printed_once : (marks : Bool) (asked : MatchRequest) (pages : List PageValue)
+        → IsSingle (IsPrinted marks asked road layers pages)
+    printed_once marks asked pages = no_fault_once _ (λ one other is again.
+        let texts = texts_once asked.format is.mark again.mark pages is.texts.texts
+        again.texts.texts (mark_once marks asked.text.now asked.tolerances road pages is.mark
+        again.mark is.is_mark again.is_mark) is.texts.each again.texts.each in
+        is.texts.whole ∙ ap (λ all. concat all) texts ∙ sym again.texts.whole)
+
+  -- ---- the cursor
+
+  module _ (marks : Bool) (asked : MatchRequest) (road : RoadMap) where
+    abbrev IsItsOwn : CursorRead → Type 0
+    IsItsOwn read = IsOfInputs asked.text.now asked.tolerances road read
+
+    -- a cursor isn't of these inputs and of others
+    not_both : (start : Option CursorRead) (read : CursorRead) → IfSome start IsItsOwn
+        → start ≡ Some read → ¬ (IsItsOwn read) → ⊥
+    not_both start read here is other =
+        other (subst (λ s. IfSome s IsItsOwn) is here)
+
+    here_once : (start : Option CursorRead) → IsSingle (IsStartHere asked road start)
+    here_once start (Ok one) (Ok other) is again = ap Ok (is.0 ∙ sym again.0)
+    here_once start (Ok one) (Err other) is again =
+        absurd (not_both start again.1 is.1 again.2 again.3)
+    here_once start (Err one) (Ok other) is again = absurd (not_both start is.1 again.1 is.2 is.3)
+    here_once start (Err one) (Err other) is again = ap Err (is.0 ∙ sym again.0)
+
+    -- ---- all stages
+
+    matchings_once : IsSoundMap road → (accepted : Accepted)
+        → IsStart (cursor_in asked.pages) (Ok accepted.start)
+        → IsSingle (AreMatchings marks asked accepted road)
+    matchings_once sound accepted begins =
+        first_then _ (OnStart marks asked accepted.reference road) (here_once accepted.start)
+        (λ here is. first_then _ (OnLayers marks asked here road) (layers_once _ _ _)
+        (λ layers are. first_then _ (IsPrinted marks asked road layers)
+        (pages_once asked layers here (rw is.0 begins))
+        (λ list pages. printed_once road layers sound marks asked list)))
+
+  -- ---- places and reasons
+
+  places_once : (format : Format) (tolerances : Tolerances) (limits : PlaceLimits)
+      (reference : Reference) (road : RoadMap) → IsSoundMap road
+      → IsSingle (ArePlaces format tolerances limits reference road)
+  places_once format tolerances limits reference road sound =
+      first_then _ (ArePlacesOn format limits road) (layers_once tolerances reference road)
+      (λ layers are. no_fault_once _ (λ one other is again.
+      let its : IsLooked limits road layers is.answers again.looked =
+      subst (λ keys. IsLooked limits road layers keys again.looked)
+      (laws.list _ _ _ again.all is.all) again.is_looked in
+      let looked = laws.looking limits road layers is.answers again.looked is.looked sound its
+      is.is_looked in
+      places_in format road limits is.looked one other is.output_is
+      (subst (λ (l : Looked). IsPlacesIn format road limits l other) looked again.output_is)))
+
+  reasons_once : (format : Format) (tolerances : Tolerances) (nearest : ℕ)
+      (reference : Reference) (road : RoadMap)
+      → IsSingle (AreReasons format tolerances nearest reference road)
+  reasons_once format tolerances nearest reference road = no_fault_once _ (λ one other is again.
+      let why = laws.why road tolerances reference nearest again.why is.why again.is_why is.is_why
+      in
+      reasons_in format road is.why one other is.output_is
+      (subst (λ w. IsWhyIn format road w other) why again.output_is))
+
+  -- ---- the answer
+
+  pub on_map_once : (marks : Bool) (request : Request) (accepted : Accepted) (road : RoadMap)
+      → Accepts request (Ok accepted) → IsSoundMap road
+      → IsSingle (IsAnswerOn marks request accepted road)
+  on_map_once marks (Show text format) accepted road is sound =
+      no_fault_once _ (reference_in format accepted.reference)
+  on_map_once marks (Candidates text tolerances format) accepted road is sound =
+      listed_once format tolerances accepted.reference road
+  on_map_once marks (Match asked) accepted road is sound =
+      matchings_once marks asked road sound accepted is.1
+  on_map_once marks (Places asked) accepted road is sound =
+      places_once asked.format asked.tolerances asked.limits accepted.reference road sound
+  on_map_once marks (Why asked) accepted road is sound =
+      reasons_once asked.format asked.tolerances asked.nearest accepted.reference road
+
+  module _ (nodes lines bans : List ℕ) where
+    map_once : IsSingle (IsMapOfFiles (known nodes lines bans))
+    map_once (Ok one) (Ok other) is again = ap Ok (laws.map _ _ _ _ _ is again)
+    map_once (Ok one) (Err other) is again =
+        absurd (laws.no_map_and_fault _ _ _ _ again.0 is (again.1, again.2))
+    map_once (Err one) (Ok other) is again =
+        absurd (laws.no_map_and_fault _ _ _ _ is.0 again (is.1, is.2))
+    map_once (Err one) (Err other) is again =
+        let why = laws.map_fault nodes lines bans is.0 again.0 (is.1, is.2) (again.1, again.2) in
+        ap Err (is.3 ∙ ap fault_of_map why ∙ sym again.3)
+
+    of_files_once : (request : Request) (accepted : Accepted) → Accepts request (Ok accepted)
+        → IsSingle (IsAnswerOf (known nodes lines bans) request accepted)
+    of_files_once (Show text format) accepted is =
+        no_fault_once _ (reference_in format accepted.reference)
+    of_files_once request accepted is = first_then _ (IsAnswerOn true request accepted) map_once
+        (λ road its. on_map_once true request accepted road is its.sound)
+
+    pub answer_once : (request : Request) → IsSingle (IsAnswer (known nodes lines bans) request)
+    answer_once request = first_then _ (IsAnswerOf (known nodes lines bans) request)
+        (accepted_once laws.outcome laws.cursor request) (of_files_once request)
+
+pub refused_by_name : OneOutcome → RefusedByName
+refused_by_name law texts request refused (Ok output) is its =
+    no_ok_and_err (law (text_of request) (Ok its.0.reference) (Err refused) its.1.0 is)
+refused_by_name law texts request refused (Err fault) is its = elim its [
+  | inl here ↦ elim here [
+    | inl named ↦ ap Err (named.2
+        ∙ ap fault_of (same_err (law (text_of request) (Err named.0) (Err refused) named.1 is)))
+    | inr cursor ↦ no_ok_and_err (law (text_of request) (Ok cursor.0) (Err refused) cursor.1 is)
+  ]
+  | inr later ↦ no_ok_and_err (law (text_of request) (Ok later.0.reference) (Err refused) later.1.0
+      is)
+]

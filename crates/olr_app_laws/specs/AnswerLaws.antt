@@ -1,0 +1,49 @@
+-- Laws on the answer of one of many requests on a map, beside the one that a run for it prints.
+use Rattle.std.specs.Prelude.{◌≡◌, ℕ, List, Option, None, Some, Ok, Err}
+use Rattle.std.specs.Borrow.{Bor}
+use Rattle.olr_app.specs.Common.{Mark, RoadMap}
+use Rattle.olr_map.specs.Files.{IsMapOf, known}
+use Rattle.olr_road.specs.RoadMap.{IsSoundMap}
+use Rattle.olr_report.specs.JsonLaws.{IsSamePage}
+use Rattle.olr_app.specs.Answer.{IsAnswer, IsAnswerOfMany}
+use Rattle.olr_request.specs.Request.{ReadsMap}
+use Rattle.olr_app.specs.Stages.{IsSingle}
+use Rattle.olr_request.specs.declared.fault.Fault.{Fault}
+use Rattle.olr_request.specs.declared.request.Format.TheVariants.{Json}
+use Rattle.olr_request.specs.declared.request.Pages.TheVariants.{One}
+use Rattle.olr_request.specs.declared.request.Request.{Request}
+use Rattle.olr_request.specs.declared.request.Request.TheVariants.{Match}
+
+-- two outputs are the JSON of the same page, but for the cursor at its end: in the first one it has
+-- a mark, in the second one none
+abbrev pub ShowsSame : RoadMap → List ℕ → List ℕ → Type 0
+ShowsSame road output page = (mark : Mark) × IsSamePage road (Some mark) None output page
+
+-- The output of a run, and that without marks, are the same bytes, but where matchings are asked
+-- for: then one page as JSON is the same page. Of pages as text, and of all pages, nothing is
+-- stated here, since no question of many texts asks for them.
+abbrev pub IsSameOutput : Request → RoadMap → List ℕ → List ℕ → Type 0
+IsSameOutput (Match asked) road output answer = (begins : Option (Bor (List ℕ)))
+    → asked.pages ≡ One begins → asked.format ≡ Json → ShowsSame road output answer
+IsSameOutput other road output answer = answer ≡ output
+
+-- the answer of one of many requests is such an output of a run on the same files
+abbrev pub OutputIsOfRun : Type 0
+OutputIsOfRun = (nodes lines bans : List ℕ) (road : RoadMap) (request : Request)
+    (output answer : List ℕ) → IsMapOf nodes lines bans road → ReadsMap request
+    → IsAnswer (known nodes lines bans) request (Ok output)
+    → IsAnswerOfMany road request (Ok answer) → IsSameOutput request road output answer
+
+-- it has a fault exactly where such a run ends with this fault
+abbrev pub FaultIsOfRun : Type 0
+FaultIsOfRun = (nodes lines bans : List ℕ) (road : RoadMap) (request : Request) (fault : Fault)
+    → IsMapOf nodes lines bans road → ReadsMap request
+    → (IsAnswer (known nodes lines bans) request (Err fault)
+    → IsAnswerOfMany road request (Err fault))
+    × (IsAnswerOfMany road request (Err fault)
+    → IsAnswer (known nodes lines bans) request (Err fault))
+
+-- it has one answer on a map at most, or one fault in place of it, and not both
+abbrev pub OneAnswerOfMany : Type 0
+OneAnswerOfMany = (road : RoadMap) (request : Request) → IsSoundMap road
+    → IsSingle (IsAnswerOfMany road request)

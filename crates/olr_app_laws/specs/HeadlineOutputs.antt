@@ -1,0 +1,72 @@
+-- What an output shows of the matchings, in either format, and where it goes on: a text by its
+-- rows, of which the last one says it, and JSON by what a reader finds under the names of its
+-- members.
+use Rattle.std.specs.Prelude.{◌≡◌, ◌≢◌, ℕ, ◌⊎◌, List, [], ◌∷◌, ◌++◌, map, All, Option, None, Some}
+use Rattle.std.specs.Prelude.{codes}
+use Rattle.serde_json.specs.Data.{Data, array, null, string}
+use Rattle.serde_json.specs.Find.{get}
+use Rattle.serde_json.specs.Read.{read}
+use Rattle.serde_json.specs.View.{items_of}
+use Rattle.olr_app.specs.Common.{RoadMap}
+use Rattle.olr_report.specs.Entries.{Entry}
+use Rattle.olr_report.specs.Json.{entry_object}
+use Rattle.olr_report.specs.Text.{entries_rows}
+use Rattle.olr_request.specs.declared.request.Format.{Format}
+use Rattle.olr_request.specs.declared.request.Format.TheVariants.{Json, Text}
+
+-- ---- rows
+
+-- a row: bytes that are no line feed, and a line feed, whose code is 10
+pub record IsRow (row : List ℕ) : Type 0 where
+  pub bytes : List ℕ
+  pub row_is : row ≡ bytes ++ 10 ∷ []
+  pub others : All (λ (byte : ℕ). byte ≢ 10) bytes
+
+-- whole rows: nothing, or bytes whose last one is a line feed
+abbrev pub AreRows : List ℕ → Type 0
+AreRows rows = (rows ≡ []) ⊎ ((front : List ℕ) × (rows ≡ front ++ 10 ∷ []))
+
+-- an output is these rows, and this last row
+pub record IsLastRow (rows row output : List ℕ) : Type 0 where
+  pub whole : output ≡ rows ++ row
+  pub are_rows : AreRows rows
+  pub is_row : IsRow row
+
+-- the last row of an output: there are no more matchings, or more follow, at this cursor
+abbrev pub last_row_of : Option (List ℕ) → List ℕ
+last_row_of None = codes "end\n"
+last_row_of (Some cursor) = codes "more " ++ cursor ++ codes "\n"
+
+-- ---- JSON
+
+-- the value of `next`: there are no more matchings, or more follow, at this cursor
+abbrev pub next_of : Option (List ℕ) → Data
+next_of None = null
+next_of (Some cursor) = string cursor
+
+-- An output is a JSON text and a line feed. It reads as an object that has an array of these values
+-- under the name `matchings`, and where it goes on under the name `next`.
+pub record IsObject (values : List Data) (next : Option (List ℕ)) (output : List ℕ) : Type 0 where
+  pub json : List ℕ
+  pub output_is : output ≡ json ++ codes "\n"
+  pub value : Data
+  pub reads_as : read json ≡ Some value
+  pub matchings : get (codes "matchings") value ≡ Some (array (items_of values))
+  pub next_is : get (codes "next") value ≡ Some (next_of next)
+
+-- ---- either format
+
+-- what matchings are shown by: the bytes of rows, or values of JSON
+abbrev pub Part : Format → Type 0
+Part Text = ℕ
+Part Json = Data
+
+-- an output shows these parts of matchings, and that more follow at this cursor, or none do
+abbrev pub Shows : (format : Format) → List (Part format) → Option (List ℕ) → List ℕ → Type 0
+Shows Text rows next output = IsLastRow rows (last_row_of next) output
+Shows Json values next output = IsObject values next output
+
+-- the parts that show entries, in order: the rows of each, or an object for each
+abbrev pub parts_of : (format : Format) → RoadMap → List Entry → List (Part format)
+parts_of Text road entries = entries_rows road entries
+parts_of Json road entries = map (entry_object road) entries

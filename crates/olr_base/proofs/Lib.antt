@@ -1,0 +1,4 @@
+pub mod Neither
+pub mod Checks
+pub mod Contained
+pub mod Rising

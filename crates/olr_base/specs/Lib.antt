@@ -1,0 +1,4 @@
+pub mod Range
+pub mod Coordinates
+pub mod Checks
+pub mod Counting

@@ -1,2 +1,0 @@
-pub mod Rejected
-pub mod Words

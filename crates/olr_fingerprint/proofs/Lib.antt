@@ -1,0 +1,2 @@
+mod DigestRows
+mod DigestBytes

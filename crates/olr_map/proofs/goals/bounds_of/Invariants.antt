@@ -1,9 +1,0 @@
-use Rattle.std.proofs.Common.{take}
-use Rattle.std.specs.Prelude.{All}
-use Rattle.olr_map.specs.Axes.{StartsBetween}
-use Rattle.olr_map.proofs.goals.bounds_of.Given as goal
-
--- the bounds of the starts so far
-abbrev pub invariant-loop-rank : goal.invariant-loop-rank
-invariant-loop-rank l = All (StartsBetween l.entries l.positions l.low l.high)
-    (take l.rank-index l.lines)

@@ -1,6 +1,0 @@
-use Rattle.std.proofs.Common.{◌≡◌, take}
-use Rattle.olr_map.proofs.Common.{starts_of}
-use Rattle.olr_map.proofs.map.starts_of.Given as goal
-
-abbrev pub invariant-loop-entry : goal.invariant-loop-entry
-invariant-loop-entry l = l.starts.items ≡ starts_of (take l.entry-index l.fn.entries)

@@ -1,5 +1,0 @@
-use Rattle.olr_matching.proofs.OneLine.{text_is_one_line}
-use Rattle.olr_matching.proofs.fingerprint_laws.reference_is_one_line.Goals as goal
-
-pub returns : goal.returns
-returns c = text_is_one_line

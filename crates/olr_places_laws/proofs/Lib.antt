@@ -1,0 +1,6 @@
+mod Common
+mod CloseLaws
+mod Looks
+mod OneLooking
+mod InOrder
+mod Verdicts

@@ -1,0 +1,32 @@
+-- The request that asks a question of the reference of a text.
+use Rattle.std.specs.Prelude.{ℕ, List, None}
+use Rattle.std.specs.Borrow.{Bor}
+use Rattle.olr_candidates.specs.declared.tolerances.Tolerances.{Tolerances}
+use Rattle.olr_request.specs.declared.question.QuestionKind.{QuestionKind}
+use Rattle.olr_request.specs.declared.question.QuestionKind.TheVariants.{Candidates, Match, Places, Why}
+use Rattle.olr_request.specs.declared.request.Format.{Format}
+use Rattle.olr_request.specs.declared.request.Format.TheVariants.{Json}
+use Rattle.olr_request.specs.declared.request.Pages.{Pages}
+use Rattle.olr_request.specs.declared.request.Pages.TheVariants.{One}
+use Rattle.olr_request.specs.declared.request.Request.{Request}
+use Rattle.olr_request.specs.declared.request.Request.TheVariants as request
+
+-- the request, with these pages where it asks for matchings
+abbrev pub request_for : QuestionKind → Tolerances → Bor (List ℕ) → Pages → Format → Request
+request_for Candidates tolerances text pages format = request.Candidates text tolerances format
+request_for (Match size) tolerances text pages format = request.Match (record {
+  text = text;
+  tolerances = tolerances;
+  size = size;
+  pages = pages;
+  format = format;
+})
+request_for (Places limits) tolerances text pages format = request.Places
+    (record { text = text; tolerances = tolerances; limits = limits; format = format })
+request_for (Why nearest) tolerances text pages format = request.Why
+    (record { text = text; tolerances = tolerances; nearest = nearest; format = format })
+
+-- The request by which a run is asked for the same of a text alone, as JSON: of matchings the first
+-- page.
+abbrev pub asked_alone : QuestionKind → Tolerances → Bor (List ℕ) → Request
+asked_alone what tolerances text = request_for what tolerances text (One None) Json

@@ -1,0 +1,38 @@
+-- What a request asks for.
+use Rattle.std.specs.Prelude.{ℕ, ⊤, List, Option, None, option_map}
+use Rattle.std.specs.Borrow.{Bor}
+use Rattle.olr_request.specs.declared.request.Pages.{Pages}
+use Rattle.olr_request.specs.declared.request.Pages.TheVariants.{All, One}
+use Rattle.olr_request.specs.declared.request.Request.{Request}
+use Rattle.olr_request.specs.declared.request.Request.TheVariants.{Candidates, Match, Places, Show, Why}
+
+-- a map is read for the request
+abbrev pub ReadsMap : Request → Type 0
+ReadsMap (Show text format) = ⊥
+ReadsMap other = ⊤
+
+-- the text of its reference
+abbrev pub text_of : Request → List ℕ
+text_of (Show text format) = text.now
+text_of (Candidates text tolerances format) = text.now
+text_of (Match asked) = asked.text.now
+text_of (Places asked) = asked.text.now
+text_of (Why asked) = asked.text.now
+
+-- the bytes of a text, if there is one
+abbrev pub bytes_of : Option (Bor (List ℕ)) → Option (List ℕ)
+bytes_of text = option_map (λ (bytes : Bor (List ℕ)). bytes.now) text
+
+-- a text of these bytes, wherever it lies
+abbrev pub at_bytes : List ℕ → Bor (List ℕ)
+at_bytes bytes = record { ref_ptr = (0, 0); now = bytes }
+
+-- the text of the cursor after which the pages begin, or none
+abbrev pub cursor_in : Pages → Option (List ℕ)
+cursor_in All = None
+cursor_in (One cursor) = bytes_of cursor
+
+-- the text of its cursor, or none
+abbrev pub cursor_of : Request → Option (List ℕ)
+cursor_of (Match asked) = cursor_in asked.pages
+cursor_of other = None

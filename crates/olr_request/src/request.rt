@@ -1,0 +1,122 @@
+//! What is asked for.
+
+ghost use Rattle.std.specs.Prelude.{◌≡◌};
+ghost use Rattle.olr_request.specs.Request.{bytes_of, cursor_of, text_of};
+
+use olr_candidates::Tolerances;
+use olr_keys::PageSize;
+use olr_places::PlaceLimits;
+use olr_why::NearestCount;
+
+/// Which pages of matchings are asked for.
+#[derive(Clone, Copy, Debug, PartialEq, Eq)]
+pub enum Pages<'a> {
+    /// The page after the matching that the cursor of this text names, or the first page.
+    One(Option<&'a str>),
+    /// All pages, one after the other.
+    All,
+}
+
+/// How an output is printed.
+#[derive(Clone, Copy, Debug, PartialEq, Eq)]
+pub enum Format {
+    /// As text, a row for each thing that it shows.
+    Text,
+    /// As JSON, one compact object on a line.
+    Json,
+}
+
+/// What a request for matchings asks for.
+#[derive(Clone, Copy, Debug, PartialEq, Eq)]
+pub struct MatchRequest<'a> {
+    /// The text of the reference.
+    pub text: &'a str,
+    /// How far a line may differ from what a point says, and a route from its leg.
+    pub tolerances: Tolerances,
+    /// How many matchings a page has at most.
+    pub size: PageSize,
+    /// Which pages are printed.
+    pub pages: Pages<'a>,
+    /// How a page is printed.
+    pub format: Format,
+}
+
+/// What a request for places asks for.
+#[derive(Clone, Copy, Debug, PartialEq, Eq)]
+pub struct PlacesRequest<'a> {
+    /// The text of the reference.
+    pub text: &'a str,
+    /// How far a line may differ from what a point says, and a route from its leg.
+    pub tolerances: Tolerances,
+    /// How matchings are told apart, and how far they are looked at.
+    pub limits: PlaceLimits,
+    /// How the places are printed.
+    pub format: Format,
+}
+
+/// What a request for the reasons of a reference asks for: why it has no matching.
+#[derive(Clone, Copy, Debug, PartialEq, Eq)]
+pub struct WhyRequest<'a> {
+    /// The text of the reference.
+    pub text: &'a str,
+    /// How far a line may differ from what a point says, and a route from its leg.
+    pub tolerances: Tolerances,
+    /// How many of the lines nearest to each point are printed at most.
+    pub nearest: NearestCount,
+    /// How the reasons are printed.
+    pub format: Format,
+}
+
+/// A request, whose texts are borrowed from the words that it came from.
+#[derive(Clone, Copy, Debug, PartialEq, Eq)]
+pub enum Request<'a> {
+    /// Print the reference of a text, field by field.
+    Show {
+        /// The text of the reference.
+        text: &'a str,
+        /// How the reference is printed.
+        format: Format,
+    },
+    /// Print the candidates of each point of a reference on a map.
+    Candidates {
+        /// The text of the reference.
+        text: &'a str,
+        /// How far a line may differ from what a point says.
+        tolerances: Tolerances,
+        /// How the candidates are printed.
+        format: Format,
+    },
+    /// Print the matchings of a reference on a map, best first.
+    Match(MatchRequest<'a>),
+    /// Print the places of a map where a reference may lie, and whether its match is unique.
+    Places(PlacesRequest<'a>),
+    /// Print why a reference has no matching on a map, and what would help, or that it has one.
+    Why(WhyRequest<'a>),
+}
+
+impl<'a> Request<'a> {
+    /// The text of its reference.
+    pub fn text(&self) -> &'a str
+        ensures { result.now ≡ text_of self.now }
+    {
+        match self {
+            Request::Show { text, .. } | Request::Candidates { text, .. } => text,
+            Request::Match(asked) => asked.text,
+            Request::Places(asked) => asked.text,
+            Request::Why(asked) => asked.text,
+        }
+    }
+
+    /// The text of its cursor, if it has one.
+    pub fn cursor(&self) -> Option<&'a str>
+        ensures { bytes_of result ≡ cursor_of self.now }
+    {
+        let Request::Match(asked) = self else {
+            return None;
+        };
+        match asked.pages {
+            Pages::One(cursor) => cursor,
+            Pages::All => None,
+        }
+    }
+}

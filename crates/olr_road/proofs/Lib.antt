@@ -1,0 +1,11 @@
+pub mod Common
+pub mod Zips
+pub mod Sets
+pub mod Gathered
+pub mod Windows
+pub mod Steps
+pub mod Banned
+pub mod BansFrom
+pub mod EndsApart
+pub mod Outside
+pub mod CanonicalRows

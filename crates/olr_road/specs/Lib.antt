@@ -1,0 +1,10 @@
+pub mod RoadMap
+pub mod Windows
+pub mod Place
+pub mod Steps
+pub mod BansFrom
+pub mod Goals
+pub mod Axes
+pub mod Canonical
+pub mod Entries
+pub mod inner

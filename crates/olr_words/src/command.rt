@@ -1,0 +1,341 @@
+//! The command of `clap`, as tables: the subcommands, their options, and the texts of help.
+
+use clap::{Arg, ArgAction, Command, Error, value_parser};
+use std::alloc::Global;
+
+/// The version of the program, and of all that is released with it.
+const VERSION: &str = "1.0.0";
+
+/// What an option takes.
+#[derive(Clone, Copy)]
+enum Takes {
+    /// The text of a reference, which has no name before it.
+    Reference,
+    /// The path of a file of the map, in place of a folder.
+    MapFile,
+    /// The path of a file.
+    File,
+    /// The path of a folder of the map, in place of its files.
+    MapFolder,
+    /// A number. It has no default here: that of [`Tolerances`](olr_candidates::Tolerances) or of
+    /// [`PlaceLimits`](olr_places::PlaceLimits) is used where it is left out.
+    Number,
+    /// One of the formats.
+    Format,
+    /// The text of a cursor.
+    Cursor,
+    /// Nothing more.
+    Nothing,
+}
+
+/// An option of a subcommand.
+#[derive(Clone, Copy)]
+struct CommandOption {
+    name: &'static str,
+    takes: Takes,
+    help: &'static str,
+}
+
+/// A subcommand, with the groups of options that it has, in the order of its help.
+#[derive(Clone, Copy)]
+struct Subcommand {
+    name: &'static str,
+    about: &'static str,
+    options: &'static [&'static [CommandOption]],
+}
+
+/// The formats of an output.
+const FORMATS: &[&str] = &["text", "json"];
+
+const REFERENCE: &[CommandOption] = &[CommandOption {
+    name: "REF",
+    takes: Takes::Reference,
+    help: "The reference, as base64 text",
+}];
+
+/// The files of a map.
+const FILES: &[CommandOption] = &[
+    CommandOption {
+        name: "nodes",
+        takes: Takes::MapFile,
+        help: "The nodes of the map, as CSV: id,lon,lat",
+    },
+    CommandOption {
+        name: "lines",
+        takes: Takes::MapFile,
+        help: "The lines of the map, as CSV: id,from,to,class,form,length,shape",
+    },
+    CommandOption {
+        name: "bans",
+        takes: Takes::File,
+        help: "The bans on turns from line to line, as CSV: from,to [default: no bans]",
+    },
+    CommandOption {
+        name: "map",
+        takes: Takes::MapFolder,
+        help: "The folder of nodes.csv, lines.csv and, where it is there, bans.csv, in place of these",
+    },
+];
+
+const TOLERANCES: &[CommandOption] = &[
+    CommandOption {
+        name: "radius",
+        takes: Takes::Number,
+        help: "How far a line may lie from its point, in metres: 1 to 1000 [default: 100]",
+    },
+    CommandOption {
+        name: "bearing",
+        takes: Takes::Number,
+        help: "How far bearings may differ, in sectors of 11.25 degrees: 0 to 16 [default: 4]",
+    },
+    CommandOption {
+        name: "class",
+        takes: Takes::Number,
+        help: "How far classes of roads may differ: 0 to 7 [default: 7]",
+    },
+    CommandOption {
+        name: "lowest",
+        takes: Takes::Number,
+        help: "What is added to the lowest class of a leg to give its class limit: 0 to 7 [default: 0]",
+    },
+    CommandOption {
+        name: "percent",
+        takes: Takes::Number,
+        help: "How far the interval of a leg is widened, in percent of each end: 0 to 100 [default: 30]",
+    },
+    CommandOption {
+        name: "slack",
+        takes: Takes::Number,
+        help: "How far it is then widened at both ends, in decimetres: 0 to 10000 [default: 300]",
+    },
+];
+
+/// How places are told apart, and how far matchings are looked at.
+const LIMITS: &[CommandOption] = &[
+    CommandOption {
+        name: "apart",
+        takes: Takes::Number,
+        help: "By how many neighbouring decimetres matchings of one place may differ: 0 to 1000000 [default: 750]",
+    },
+    CommandOption {
+        name: "within",
+        takes: Takes::Number,
+        help: "How far a place may be behind the best one, in penalty points: 0 to 14620 [default: 30]",
+    },
+    CommandOption {
+        name: "look",
+        takes: Takes::Number,
+        help: "How many matchings are looked at, at most: 1 to 1000000 [default: 1000]",
+    },
+    CommandOption {
+        name: "most",
+        takes: Takes::Number,
+        help: "How many places are printed, at most: 1 to 100 [default: 10]",
+    },
+];
+
+/// The format of an output that is one object.
+const FORMAT: &[CommandOption] = &[CommandOption {
+    name: "format",
+    takes: Takes::Format,
+    help: "Print text, or JSON: one object on a line [default: text]",
+}];
+
+/// The size of a page.
+const PAGE: &[CommandOption] = &[CommandOption {
+    name: "page",
+    takes: Takes::Number,
+    help: "How many matchings a page has: 1 to 1000 [default: 10]",
+}];
+
+/// Which pages are asked for, and in which format.
+const PAGES: &[CommandOption] = &[
+    CommandOption {
+        name: "after",
+        takes: Takes::Cursor,
+        help: "Go on after the matching that this cursor names [default: begin with the best]",
+    },
+    CommandOption {
+        name: "all",
+        takes: Takes::Nothing,
+        help: "Print all pages, one after the other",
+    },
+    CommandOption {
+        name: "format",
+        takes: Takes::Format,
+        help: "Print each page as text, or as JSON: one object on a line [default: text]",
+    },
+];
+
+/// How many lines near each point are printed.
+const NEAREST: &[CommandOption] = &[CommandOption {
+    name: "nearest",
+    takes: Takes::Number,
+    help: "How many of the lines nearest to each point are printed: 0 to 64 [default: 8]",
+}];
+
+/// The records of a batch.
+const RECORDS: &[CommandOption] = &[CommandOption {
+    name: "input",
+    takes: Takes::File,
+    help: "The records, one a line: the text of a reference, or a key, a tab and the text [default: standard input]",
+}];
+
+/// The subcommands that answer one reference.
+const SUBCOMMANDS: &[Subcommand] = &[
+    Subcommand {
+        name: "show",
+        about: "Print the points and offsets of an OpenLR reference",
+        options: &[REFERENCE, FORMAT],
+    },
+    Subcommand {
+        name: "candidates",
+        about: "Print the lines of a map that may carry each point of an OpenLR reference, best first",
+        options: &[REFERENCE, FILES, FORMAT, TOLERANCES],
+    },
+    Subcommand {
+        name: "match",
+        about: "Print every place of a map where an OpenLR reference may lie, best first, page by page",
+        options: &[REFERENCE, FILES, PAGE, PAGES, TOLERANCES],
+    },
+    Subcommand {
+        name: "places",
+        about: "Print the places of a map where an OpenLR reference may lie, and whether its match is unique",
+        options: &[REFERENCE, FILES, LIMITS, FORMAT, TOLERANCES],
+    },
+    Subcommand {
+        name: "why",
+        about: "Print why an OpenLR reference has no matching on a map, and what would help",
+        options: &[REFERENCE, FILES, NEAREST, FORMAT, TOLERANCES],
+    },
+];
+
+/// The subcommands of `batch`.
+const BATCH_SUBCOMMANDS: &[Subcommand] = &[
+    Subcommand {
+        name: "candidates",
+        about: "Print the lines that may carry each point of each reference",
+        options: &[FILES, RECORDS, TOLERANCES],
+    },
+    Subcommand {
+        name: "match",
+        about: "Print the first page of matchings of each reference",
+        options: &[PAGE, FILES, RECORDS, TOLERANCES],
+    },
+    Subcommand {
+        name: "places",
+        about: "Print the places where each reference may lie, and whether its match is unique",
+        options: &[LIMITS, FILES, RECORDS, TOLERANCES],
+    },
+    Subcommand {
+        name: "why",
+        about: "Print why each reference has no matching, and what would help",
+        options: &[NEAREST, FILES, RECORDS, TOLERANCES],
+    },
+];
+
+/// An option with its name and its help, without what it takes.
+fn named<'a>(alloc: Global, option: &CommandOption) -> Arg<'a> {
+    Arg::new(alloc, option.name)
+        .long(option.name)
+        .help(option.help)
+}
+
+/// The option of a map's folder. It excludes those of single files.
+fn folder<'a>(option: Arg<'a>) -> Result<Arg<'a>, Error> {
+    let option = option.conflicts_with("nodes")?;
+    let option = option.conflicts_with("lines")?;
+    Ok(option.conflicts_with("bans")?)
+}
+
+/// The argument of `clap` for an option.
+fn argument<'a>(alloc: Global, option: &CommandOption) -> Result<Arg<'a>, Error> {
+    match option.takes {
+        Takes::Reference => Ok(
+            Arg::new(alloc, option.name)
+                .help(option.help)
+                .required(true),
+        ),
+        Takes::MapFile => Ok(
+            named(alloc, option)
+                .value_name("FILE")
+                .required_unless_present("map")?,
+        ),
+        Takes::File => Ok(named(alloc, option).value_name("FILE")),
+        Takes::MapFolder => folder(named(alloc, option).value_name("FOLDER")),
+        Takes::Number => Ok(
+            named(alloc, option)
+                .value_name("N")
+                .value_parser(value_parser!(u32)),
+        ),
+        Takes::Format => Ok(
+            named(alloc, option)
+                .value_name("FORMAT")
+                .value_parser(FORMATS),
+        ),
+        Takes::Cursor => Ok(named(alloc, option).value_name("CURSOR")),
+        Takes::Nothing => Ok(named(alloc, option).action(ArgAction::SetTrue)),
+    }
+}
+
+/// The same command with these options.
+fn with_options<'a>(
+    alloc: Global,
+    mut command: Command<'a>,
+    options: &[CommandOption],
+) -> Result<Command<'a>, Error> {
+    for option in options {
+        command = command.arg(argument(alloc, option)?)?;
+    }
+    Ok(command)
+}
+
+/// The command of `clap` for a subcommand.
+fn command_of<'a>(alloc: Global, subcommand: &Subcommand) -> Result<Command<'a>, Error> {
+    let mut command = Command::new(alloc, subcommand.name).about(subcommand.about);
+    for &options in subcommand.options {
+        command = with_options(alloc, command, options)?;
+    }
+    Ok(command)
+}
+
+/// The same command with these subcommands, one of which it requires.
+fn with_subcommands<'a>(
+    alloc: Global,
+    command: Command<'a>,
+    subcommands: &[Subcommand],
+) -> Result<Command<'a>, Error> {
+    let mut command = command
+        .subcommand_required(true)
+        .arg_required_else_help(true);
+    for subcommand in subcommands {
+        command = command.subcommand(command_of(alloc, subcommand)?)?;
+    }
+    Ok(command)
+}
+
+/// The subcommand for many references.
+fn batch_command<'a>(alloc: Global) -> Result<Command<'a>, Error> {
+    let command = Command::new(alloc, "batch").about(
+        "Answer many references on one map, by one line of JSON for each record, as they come",
+    );
+    with_subcommands(alloc, command, BATCH_SUBCOMMANDS)
+}
+
+/// The command with the subcommands that answer one reference.
+fn main_command<'a>(alloc: Global) -> Result<Command<'a>, Error> {
+    let command = Command::new(alloc, "olr")
+        .about("Read OpenLR location references, and find them on a road map")
+        .version(VERSION);
+    with_subcommands(alloc, command, SUBCOMMANDS)
+}
+
+/// The command with its subcommands.
+///
+/// # Errors
+///
+/// Only where the allocator refused memory.
+pub fn whole_command<'a>(alloc: Global) -> Result<Command<'a>, Error> {
+    let batch = batch_command(alloc)?;
+    Ok(main_command(alloc)?.subcommand(batch)?)
+}

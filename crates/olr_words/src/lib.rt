@@ -1,0 +1,13 @@
+//! The words of a command line: what they ask for.
+//!
+//! - [`command`]: the subcommands, options and texts of help, as `clap` takes them.
+//! - [`words`]: what the words ask for: a request or many records, and the files that they read.
+//! - [`rejected`]: why nothing was written, the status for it, and the text that is printed.
+#![tactic(auto)]
+
+mod command;
+mod rejected;
+mod words;
+
+pub use rejected::Rejected;
+pub use words::{Asked, Files, Input, asked_of};

@@ -1,0 +1,378 @@
+//! From the words of a command line to the request that they ask for, and the files that it reads.
+
+ghost use Rattle.std.specs.Prelude.{◌≡◌, IfErr, IfOk, None};
+ghost use Rattle.olr_request.specs.declared.fault.Fault.TheVariants as fault;
+ghost use Rattle.olr_request.specs.declared.request.Request.TheVariants.{Show};
+ghost use Rattle.olr_words.specs.declared.words.Asked.TheVariants.{One};
+ghost use Rattle.olr_words.specs.Words.{AreBoth, AreLimits, AreTolerances, AsksMany, AsksOne};
+ghost use Rattle.olr_words.specs.Words.{IsNearest, IsQuestion, IsRefusedNumber, IsRefusedOne};
+ghost use Rattle.olr_words.specs.Words.{IsRefusedQuestion, IsRefusedTolerance, IsRefusedWhat};
+ghost use Rattle.olr_words.specs.Words.{IsSize, IsWhat, nearest_of, pages_of, size_of};
+
+use crate::command::whole_command;
+use crate::rejected::Rejected;
+use clap::error::ErrorKind;
+use clap::{ArgMatches, Command};
+use olr_candidates::{Tolerance, Tolerances};
+use olr_keys::PageSize;
+use olr_places::PlaceLimits;
+use olr_request::{Fault, Format, Pages, Question, QuestionKind, Request};
+use olr_why::NearestCount;
+use std::alloc::{AllocError, Global};
+
+/// How many matchings a page has where the words don't say it.
+const DEFAULT_PAGE: u32 = 10;
+
+/// How many of the lines nearest to each point are printed where the words don't say it.
+const DEFAULT_NEAREST: u32 = 8;
+
+/// Where the files of a map are.
+#[derive(Clone, Copy, Debug, PartialEq, Eq)]
+pub enum Files<'a> {
+    /// At these paths.
+    At {
+        /// The file of nodes.
+        nodes: &'a str,
+        /// The file of lines.
+        lines: &'a str,
+        /// The file of bans on turns, if there is one.
+        bans: Option<&'a str>,
+    },
+    /// In this folder, under the names `nodes.csv`, `lines.csv`, and `bans.csv` if there is such a
+    /// file.
+    Folder(&'a str),
+}
+
+/// What a command line asks for. Its texts are borrowed from the words.
+#[derive(Clone, Copy, Debug, PartialEq, Eq)]
+pub enum Asked<'a> {
+    /// The answer to one request, on the map of these files if it reads one.
+    One(Request<'a>, Option<Files<'a>>),
+    /// The answers to many records, on the map of these files.
+    Many(Question, Files<'a>, Input<'a>),
+}
+
+/// Where the records of a batch come from.
+#[derive(Clone, Copy, Debug, PartialEq, Eq)]
+pub enum Input<'a> {
+    /// The file of this path.
+    File(&'a str),
+    /// Standard input.
+    Standard,
+}
+
+/// A subcommand that asks of a reference on a map.
+#[derive(Clone, Copy, Debug, PartialEq, Eq)]
+enum MapSubcommand {
+    Candidates,
+    Match,
+    Places,
+    Why,
+}
+
+impl MapSubcommand {
+    /// The one of this name, if there is one.
+    fn named(name: &str) -> Option<MapSubcommand> {
+        match name {
+            "candidates" => Some(MapSubcommand::Candidates),
+            "match" => Some(MapSubcommand::Match),
+            "places" => Some(MapSubcommand::Places),
+            "why" => Some(MapSubcommand::Why),
+            _ => None,
+        }
+    }
+}
+
+/// The numbers that the words give for places, in range or not: apart in decimetres, within in
+/// penalty points, look in matchings, most in places. `None` where an option is left out, or where
+/// the subcommand has no such option.
+#[derive(Clone, Copy)]
+struct GivenNumbers {
+    apart: Option<u32>,
+    within: Option<u32>,
+    look: Option<u32>,
+    most: Option<u32>,
+}
+
+impl GivenNumbers {
+    /// The numbers that the words found for a subcommand give.
+    fn read(found: &ArgMatches<'_>) -> GivenNumbers {
+        GivenNumbers {
+            apart: found.get_one("apart"),
+            within: found.get_one("within"),
+            look: found.get_one("look"),
+            most: found.get_one("most"),
+        }
+    }
+
+    /// The numbers that are given, and the default for each that isn't.
+    ///
+    /// # Errors
+    ///
+    /// [`Fault::BadNumber`] with the first that is out of its range, in the order of
+    /// [`PlaceLimits::new`].
+    fn limits(&self) -> Result<PlaceLimits, Fault>
+        ensures accepted { IfOk result (AreLimits self.now) }
+        ensures refused { IfErr result (IsRefusedNumber self.now) }
+    {
+        let default = PlaceLimits::default();
+        let limits = PlaceLimits::new(
+            self.apart.unwrap_or(default.apart),
+            self.within.unwrap_or(default.within),
+            self.look.unwrap_or(default.look),
+            self.most.unwrap_or(default.most),
+        )?;
+        Ok(limits)
+    }
+}
+
+/// What the words give to a subcommand, in range or not: the tolerances in the order of
+/// [`Tolerance::ALL`] and the units of [`Tolerance::least`], how many matchings a page has, the
+/// numbers for places, and how many lines near a point are printed. `None` where an option is left
+/// out, or where the subcommand has no such option.
+#[derive(Clone, Copy)]
+struct Given<'a> {
+    text: &'a str,
+    tolerances: [Option<u32>; Tolerance::COUNT],
+    page: Option<u32>,
+    numbers: GivenNumbers,
+    nearest: Option<u32>,
+    after: Option<&'a str>,
+    all: bool,
+    format: Format,
+}
+
+impl<'a> Given<'a> {
+    /// What the words found for a subcommand give, beside the text of a reference.
+    fn read(found: &ArgMatches<'a>, text: &'a str) -> Given<'a> {
+        let mut tolerances = [None; Tolerance::COUNT];
+        for name in Tolerance::ALL {
+            tolerances[name.order()] = found.get_one(name.text());
+        }
+        Given {
+            text,
+            tolerances,
+            page: found.get_one("page"),
+            numbers: GivenNumbers::read(found),
+            nearest: found.get_one("nearest"),
+            after: found.get_str("after"),
+            all: found.get_flag("all"),
+            format: match found.get_str("format") {
+                Some("json") => Format::Json,
+                _ => Format::Text,
+            },
+        }
+    }
+
+    /// Which pages are asked for.
+    ///
+    /// # Errors
+    ///
+    /// [`Fault::AfterWithAll`] where both a cursor and all pages are.
+    fn pages(&self) -> Result<Pages<'a>, Fault>
+        ensures accepted { IfOk result (λ pages.
+            (pages ≡ pages_of self.now) × (AreBoth self.now → ⊥)) }
+        ensures refused { IfErr result (λ why.
+            (why ≡ fault.AfterWithAll) × AreBoth self.now) }
+    {
+        if !self.all {
+            return Ok(Pages::One(self.after));
+        }
+        if self.after.is_some() {
+            return Err(Fault::AfterWithAll);
+        }
+        Ok(Pages::All)
+    }
+
+    /// The tolerances that are given, and the default for each that isn't.
+    ///
+    /// # Errors
+    ///
+    /// [`Fault::BadTolerance`] with the first that is out of its range, in the order of
+    /// [`Tolerance::ALL`].
+    fn tolerances(&self) -> Result<Tolerances, Fault>
+        ensures accepted { IfOk result (AreTolerances self.now) }
+        ensures refused { IfErr result (IsRefusedTolerance self.now) }
+    {
+        let mut tolerances = Tolerances::default();
+        for name in Tolerance::ALL {
+            let Some(value) = self.tolerances[name.order()] else {
+                continue;
+            };
+            if !name.allows(value) {
+                return Err(Fault::BadTolerance(name));
+            }
+            tolerances = tolerances.with(name, value);
+        }
+        Ok(tolerances)
+    }
+
+    /// What `show` asks for.
+    fn show(&self) -> Asked<'a>
+        ensures { result ≡ One (Show self.now.text self.now.format) None }
+    {
+        let request = Request::Show {
+            text: self.text,
+            format: self.format,
+        };
+        Asked::One(request, None)
+    }
+
+    /// How many matchings a page has.
+    ///
+    /// # Errors
+    ///
+    /// [`Fault::BadPage`] with a page size that is out of its range.
+    fn size(&self) -> Result<PageSize, Fault>
+        ensures accepted { IfOk result (λ size. (size ≡ size_of self.now) × IsSize size) }
+        ensures refused { IfErr result (λ why.
+            (why ≡ fault.BadPage (size_of self.now)) × (IsSize (size_of self.now) → ⊥)) }
+    {
+        let size = PageSize::new(self.page.unwrap_or(DEFAULT_PAGE))?;
+        Ok(size)
+    }
+
+    /// How many of the lines nearest to each point are printed.
+    ///
+    /// # Errors
+    ///
+    /// [`Fault::BadNearest`] where the number is out of its range.
+    fn nearest_count(&self) -> Result<NearestCount, Fault>
+        ensures accepted { IfOk result (λ count. (count ≡ nearest_of self.now) × IsNearest count) }
+        ensures refused { IfErr result (λ why.
+            (why ≡ fault.BadNearest) × (IsNearest (nearest_of self.now) → ⊥)) }
+    {
+        let count = NearestCount::new(self.nearest.unwrap_or(DEFAULT_NEAREST))?;
+        Ok(count)
+    }
+
+    /// What a subcommand asks of a reference.
+    ///
+    /// # Errors
+    ///
+    /// For its subcommand that of [`Given::size`], [`GivenNumbers::limits`] or
+    /// [`Given::nearest_count`].
+    fn what(&self, subcommand: MapSubcommand) -> Result<QuestionKind, Fault>
+        ensures accepted { IfOk result (IsWhat self.now subcommand) }
+        ensures refused { IfErr result (IsRefusedWhat self.now subcommand) }
+    {
+        match subcommand {
+            MapSubcommand::Candidates => Ok(QuestionKind::Candidates),
+            MapSubcommand::Match => Ok(QuestionKind::Match(self.size()?)),
+            MapSubcommand::Places => Ok(QuestionKind::Places(self.numbers.limits()?)),
+            MapSubcommand::Why => Ok(QuestionKind::Why(self.nearest_count()?)),
+        }
+    }
+
+    /// The question of a subcommand.
+    ///
+    /// # Errors
+    ///
+    /// That of [`Given::tolerances`]; else that of [`Given::what`].
+    fn question(&self, subcommand: MapSubcommand) -> Result<Question, Fault>
+        ensures accepted { IfOk result (IsQuestion self.now subcommand) }
+        ensures refused { IfErr result (IsRefusedQuestion self.now subcommand) }
+    {
+        let tolerances = self.tolerances()?;
+        let what = self.what(subcommand)?;
+        Ok(Question { what, tolerances })
+    }
+
+    /// What a subcommand asks for, on the map of these files.
+    ///
+    /// # Errors
+    ///
+    /// That of [`Given::pages`]; else that of [`Given::question`].
+    fn one(&self, subcommand: MapSubcommand, files: Files<'a>) -> Result<Asked<'a>, Fault>
+        ensures accepted { IfOk result (AsksOne self.now subcommand files.entry) }
+        ensures refused { IfErr result (IsRefusedOne self.now subcommand) }
+    {
+        let pages = self.pages()?;
+        let question = self.question(subcommand)?;
+        let request = question.request(self.text, pages, self.format);
+        Ok(Asked::One(request, Some(files)))
+    }
+
+    /// What a subcommand of `batch` asks for, on the map of these files.
+    ///
+    /// # Errors
+    ///
+    /// That of [`Given::question`].
+    fn many(
+        &self,
+        subcommand: MapSubcommand,
+        files: Files<'a>,
+        input: Input<'a>,
+    ) -> Result<Asked<'a>, Fault>
+        ensures accepted { IfOk result (AsksMany self.now subcommand files.entry input.entry) }
+        ensures refused { IfErr result (IsRefusedQuestion self.now subcommand) }
+    {
+        let question = self.question(subcommand)?;
+        Ok(Asked::Many(question, files, input))
+    }
+}
+
+/// Where the files of a map are that the words give.
+fn files_of<'a>(found: &ArgMatches<'a>) -> Option<Files<'a>> {
+    if let Some(folder) = found.get_str("map") {
+        return Some(Files::Folder(folder));
+    }
+    Some(Files::At {
+        nodes: found.get_str("nodes")?,
+        lines: found.get_str("lines")?,
+        bans: found.get_str("bans"),
+    })
+}
+
+/// What the subcommand of `batch` found among the words asks for, if there is one.
+fn many_in<'a>(matches: &ArgMatches<'a>) -> Option<Result<Asked<'a>, Fault>> {
+    let (name, found) = matches.subcommand()?;
+    let subcommand = MapSubcommand::named(name)?;
+    let files = files_of(found)?;
+    let input = match found.get_str("input") {
+        Some(path) => Input::File(path),
+        None => Input::Standard,
+    };
+    Some(Given::read(found, "").many(subcommand, files, input))
+}
+
+/// What the subcommand found among the words asks for, if there is one.
+fn asked_in<'a>(matches: &ArgMatches<'a>) -> Option<Result<Asked<'a>, Fault>> {
+    let (name, found) = matches.subcommand()?;
+    if name == "batch" {
+        return many_in(found);
+    }
+    let given = Given::read(found, found.get_str("REF")?);
+    if name == "show" {
+        return Some(Ok(given.show()));
+    }
+    let subcommand = MapSubcommand::named(name)?;
+    Some(given.one(subcommand, files_of(found)?))
+}
+
+/// Why words that name no subcommand are rejected.
+fn nothing_asked(command: &mut Command<'_>) -> Result<Rejected, AllocError> {
+    let error = command.error(ErrorKind::MissingSubcommand, "nothing is asked for")?;
+    Ok(Rejected::from(error))
+}
+
+/// What the words ask for. The first word is the program's name.
+///
+/// # Errors
+///
+/// [`Rejected::Words`] where the words name no subcommand, give it something that it doesn't take,
+/// lack something that it requires, or ask for help; else [`Rejected::Fault`]: with
+/// [`Fault::AfterWithAll`] where both a cursor and all pages are asked for; else with
+/// [`Fault::BadTolerance`] and the first tolerance that is out of its range; else with
+/// [`Fault::BadPage`] and a page size that is out of its range, [`Fault::BadNumber`] and the first
+/// number for places that is, or [`Fault::BadNearest`]. [`Fault::NoMemory`] where the allocator
+/// refused memory.
+pub fn asked_of<'a>(alloc: Global, words: &'a [String]) -> Result<Asked<'a>, Rejected> {
+    let mut command = whole_command(alloc)?;
+    let matches = command.try_get_matches_from_mut(words)?;
+    match asked_in(&matches) {
+        Some(Ok(asked)) => Ok(asked),
+        Some(Err(fault)) => Err(Rejected::from(fault)),
+        None => Err(nothing_asked(&mut command)?),
+    }
+}
