@@ -5,7 +5,7 @@ ghost use Rattle.std.specs.Prelude.{Some};
 ghost use Rattle.std.specs.Io.KnownBytes.{Keeps, WriteAppends};
 
 use olr_app::{Sink, Source};
-use olr_metric::Failed;
+use olr_base::Failed;
 use std::alloc::Global;
 use std::io;
 use std::io::{Read, Write};

@@ -5,7 +5,13 @@
 #![tactic(auto)]
 
 #[cfg(test)]
+mod bands;
+#[cfg(test)]
 mod devices;
+#[cfg(test)]
+mod drawn_tables;
+#[cfg(test)]
+mod fingerprints;
 #[cfg(test)]
 mod locations;
 #[cfg(test)]

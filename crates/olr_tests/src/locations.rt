@@ -1,9 +1,9 @@
-//! Locations of references on worked legs.
+//! Joined routes, their parts, and locations of references on worked legs.
 
 use olr_binary::decode;
-use olr_map::Place;
 use olr_matching::Leg;
-use olr_report::{Located, are_legs_of, location};
+use olr_report::{Located, are_forwards, are_legs_of, is_forwards, join, location, trim};
+use olr_road::Place;
 use olr_route::Piece;
 use std::alloc::{AllocError, Global};
 use std::test::Fail;
@@ -106,12 +106,65 @@ const LOCATED: &[Case<'static>] = &[
         &[&[(11, 0, 557), (13, 0, 557)]],
         [&[(11, 557, 557)], &[(13, 5, 5)]],
     ),
+    (
+        "KwAAAAAAAFtoAQBkAABbWAA=",
+        &[&[(11, 0, 557), (13, 0, 557)]],
+        [&[(11, 0, 0)], &[(11, 5, 5)]],
+    ),
 ];
 
 #[test]
 fn locates_references(rt: HostRuntime) -> Result<(), Fail> {
     for &case in LOCATED {
         assert!(rt; locates(rt.alloc(), case)?, "{}", case.0);
+    }
+    Ok(())
+}
+
+/// Legs, and the pieces of their joined route.
+const JOINED: &[(&[Rows<'static>], Rows<'static>)] = &[
+    (
+        &[&[(11, 0, 557), (13, 0, 0)], &[(13, 0, 557)]],
+        &[(11, 0, 557), (13, 0, 557)],
+    ),
+    (
+        &[&[(7, 50, 109), (8, 0, 500), (7, 0, 20)]],
+        &[(7, 50, 109), (8, 0, 500), (7, 0, 20)],
+    ),
+];
+
+/// From where to where a route over two lines is cut, and the pieces of that part.
+const TRIMMED: &[(u64, u64, Rows<'static>)] = &[
+    (278, 835, &[(11, 278, 557), (13, 0, 278)]),
+    (557, 1114, &[(13, 0, 557)]),
+    (0, 557, &[(11, 0, 557)]),
+];
+
+/// Whether the joined route of legs has these pieces.
+fn joins(alloc: Global, lists: &[Rows<'_>], wanted: Rows<'_>) -> Result<bool, Fail> {
+    let legs = legs_of(alloc, lists)?;
+    if !are_forwards(&legs) {
+        return Err(Fail::new("not forwards"));
+    }
+    Ok(are(&join(alloc, &legs)?, wanted))
+}
+
+/// Whether the part of that route has these pieces.
+fn trims(alloc: Global, start: u64, end: u64, wanted: Rows<'_>) -> Result<bool, Fail> {
+    let route = pieces_of(alloc, &[(11, 0, 557), (13, 0, 557)])?;
+    if !is_forwards(&route) || start >= end {
+        return Err(Fail::new("not a part of a route"));
+    }
+    Ok(are(&trim(alloc, &route, start, end)?, wanted))
+}
+
+#[test]
+fn joins_and_trims_routes(rt: HostRuntime) -> Result<(), Fail> {
+    for &(lists, wanted) in JOINED {
+        assert!(rt; joins(rt.alloc(), lists, wanted)?, "{wanted:?}");
+    }
+    for &(start, end, wanted) in TRIMMED {
+        assert!(rt; trims(rt.alloc(), start, end, wanted)?, "{start} to {end}");
     }
     Ok(())
 }

@@ -1,12 +1,11 @@
 //! Worked cases of the plane, of sectors of directions, and of projections onto segments and
 //! polylines.
 
-ghost use Rattle.olr_metric.specs.Range.{IsLatitude, IsLongitude};
+ghost use Rattle.olr_base.specs.Range.{IsLatitude, IsLongitude};
 ghost use Rattle.olr_metric.specs.Spot.{IsInPlane};
 
-use olr_metric::{
-    Degrees, Near, Plane, Spot, along, arc, difference, distance, foot, nearest, sector,
-};
+use olr_base::Degrees;
+use olr_metric::{Near, Plane, Spot, along, arc, difference, distance, foot, nearest, sector};
 use std::process::Abort;
 
 /// The position of these coordinates.

@@ -3,7 +3,7 @@
 
 use crate::devices::{Given, NEVER, Taken};
 use crate::samples::STREET;
-use olr_app::{Fault, In, PageSize, Question, Sink, Tolerances, What};
+use olr_app::{Fault, In, PageSize, Question, QuestionKind, Sink, Tolerances};
 use olr_batch::run_batch;
 use olr_keys::BadPage;
 use std::alloc::Global;
@@ -72,7 +72,7 @@ fn answer(
     let [nodes, lines, bans] = STREET;
     let (mut nodes, mut lines, mut bans) = (In::new(nodes), In::new(lines), In::new(bans));
     let asked = Question {
-        what: What::Match(PageSize::new(10)?),
+        what: QuestionKind::Match(PageSize::new(10)?),
         tolerances: Tolerances::default(),
     };
     Ok(run_batch(alloc, &asked, &mut nodes, &mut lines, &mut bans, input, out))

@@ -1,7 +1,7 @@
 //! Least lengths by both searches, and routes, on small maps.
 
 use crate::samples::{NO_BANS, TWO_NODES, map_of};
-use olr_map::{Map, Place};
+use olr_road::{Map, Place};
 use olr_route::{
     Piece, is_before_end, is_on_map, lengths_by_rounds, lengths_from, lengths_to, route,
 };
@@ -178,7 +178,7 @@ fn told(
         return Err(Fail::new("not on the map"));
     }
     let reach = lengths_to(alloc, map, CLASS, from, near, limit, &[one, other])?;
-    if !reach.tells(to) || !is_on_map(map, to) {
+    if !reach.covers(to) || !is_on_map(map, to) {
         return Ok(None);
     }
     Ok(Some(reach.length_to(map, to)))

@@ -1,6 +1,7 @@
 //! References, files and outputs that several tests use, and the map of files.
 
-use olr_map::{In, Map, MapFault, read_map_with_bans};
+use olr_map::{In, MapFault, read_map_with_bans};
+use olr_road::Map;
 use std::alloc::Global;
 
 /// The white paper's example of a line.
