@@ -18,7 +18,7 @@ ghost use Rattle.olr_app.specs.Stages.{IsStageFault};
 use crate::accepting::Accepted;
 use olr_base::NoMemory;
 use olr_binary::Reference;
-use olr_candidates::Tolerances;
+use olr_candidates::{ReferenceOnMap, Tolerances};
 use olr_fingerprint::fingerprint;
 use olr_matching::{
     CursorRead, Key, Layers, Mark, Matched, Page, Routes, Searches, TotalsFinder, all_pages,
@@ -79,7 +79,12 @@ pub(crate) fn layers_of(
     ensures fault { IfErr result (IsStageFault
         (AreLayers tolerances.now reference.now map.now)) }
 {
-    let built = Layers::build_with_searches(alloc, map, reference, tolerances)?;
+    let on = ReferenceOnMap {
+        map,
+        reference,
+        tolerances: *tolerances,
+    };
+    let built = Layers::build_with_searches(alloc, &on)?;
     Ok(built)
 }
 

@@ -9,6 +9,7 @@ ghost use Rattle.olr_app.specs.Stages.{IsStageFault};
 
 use olr_base::NoMemory;
 use olr_binary::Reference;
+use olr_candidates::ReferenceOnMap;
 use olr_request::{Fault, Format, WhyRequest};
 use olr_road::Map;
 use olr_why::{Why, unbanned_of, why_json, why_of, why_text};
@@ -58,7 +59,12 @@ pub(crate) fn reasons_with(
         format,
         ..
     } = asked;
-    let why = why_of(alloc, map, unbanned, reference, tolerances, *nearest)?;
+    let on = ReferenceOnMap {
+        map,
+        reference,
+        tolerances: *tolerances,
+    };
+    let why = why_of(alloc, &on, unbanned, *nearest)?;
     let output = printed_why(alloc, map, &why, *format)?;
     Ok(output)
 }

@@ -1,4 +1,5 @@
 -- The reference of a byte list (OpenLR white paper 1.5, binary format version 3).
+use Rattle.std.proofs.Props.{props}
 use Rattle.std.specs.Prelude.{◌≡◌, ℕ, ◌+◌, ◌<◌, ◌≤◌, ◌==◌, if◌then◌else◌, List, length, slice_get, Some, None, Option, MatchOption, IfSome}
 use Rattle.olr_binary.specs.declared.point.Point.{Point}
 use Rattle.olr_binary.specs.declared.reference.Reference.{Reference}
@@ -93,6 +94,11 @@ abbrev pub IsReference : Reference → Type 0
 IsReference (Line points positive negative) = IsLineReference points.items positive negative
 IsReference (PointAlong points orientation side positive) =
     IsPointAlongReference points.items orientation side positive
+
+-- it holds in one way at most
+pub IsReference-prop : (reference : Reference) → IsProp (IsReference reference)
+IsReference-prop (Line points positive negative) = Prim.hlevel props
+IsReference-prop (PointAlong points orientation side positive) = Prim.hlevel props
 
 -- the points of a reference, in order
 abbrev pub points_of : Reference → List Point

@@ -3,6 +3,7 @@
 //! Data goes through these modules in order:
 //!
 //! - [`tolerances`]: how far a line may differ from its point.
+//! - [`reference_on_map`]: a reference on a map, with tolerances.
 //! - [`query`]: a point of a reference, with all that decides which lines are its candidates.
 //! - [`projection`]: the projection of a point onto a line: its distance, position and bearing;
 //!   [`line_projection`]: that onto a line of the map, by its rank.
@@ -45,6 +46,7 @@ mod point_laws;
 mod points;
 mod projection;
 mod query;
+mod reference_on_map;
 mod rejection;
 mod search;
 mod tolerances;
@@ -63,5 +65,6 @@ pub use point_laws::{
     one_lists, order, places, rejected,
 };
 pub use points::candidates_of_points;
+pub use reference_on_map::ReferenceOnMap;
 pub use rejection::Rejection;
 pub use tolerances::{BadTolerance, Tolerance, Tolerances};

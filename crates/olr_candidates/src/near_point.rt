@@ -7,6 +7,7 @@ ghost use Rattle.olr_candidates.specs.Near.{AreNearestOf, IsNearLineOf};
 use crate::near::{NearLine, near_at};
 use crate::near_search::search_nearest;
 use crate::query::query_of;
+use crate::reference_on_map::ReferenceOnMap;
 use crate::tolerances::Tolerances;
 use olr_base::NoMemory;
 use olr_binary::Reference;
@@ -38,17 +39,15 @@ pub fn near_line(
 /// [`NoMemory`] where the allocator refused memory.
 pub fn nearest_lines(
     alloc: Global,
-    map: &Map,
-    reference: &Reference,
-    tolerances: &Tolerances,
+    on: &ReferenceOnMap<'_>,
     index: usize,
     count: usize,
 ) -> Result<Vec<NearLine>, NoMemory>
-    requires { index < length (points_of reference.now) }
+    requires { index < length (points_of on.now.reference.now) }
     ensures { IfOk result (λ nearest.
-        AreNearestOf tolerances.now reference.now map.now.lines index count nearest.items) }
+        AreNearestOf on.now.tolerances on.now.reference.now on.now.map.now.lines index count nearest.items) }
 {
-    let query = query_of(reference, tolerances, index);
-    let nearest = search_nearest(alloc, map, &query, count)?;
+    let query = query_of(on.reference, &on.tolerances, index);
+    let nearest = search_nearest(alloc, on.map, &query, count)?;
     Ok(nearest)
 }

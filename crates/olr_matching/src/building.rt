@@ -15,7 +15,8 @@ use arrayvec::ArrayVec;
 use olr_base::NoMemory;
 use olr_binary::Reference;
 use olr_candidates::{
-    Candidate, LayersFault, MAX_CANDIDATES, Tolerances, bounds, candidates_of_points,
+    Candidate, LayersFault, MAX_CANDIDATES, ReferenceOnMap, Tolerances, bounds,
+    candidates_of_points,
 };
 use olr_keys::Table;
 use olr_road::{Map, sound};
@@ -32,31 +33,28 @@ fn copy_of(reference: &Reference) -> Result<Reference, AllocError>
 /// legs.
 fn with_lengths(
     alloc: Global,
-    map: &Map,
-    reference: &Reference,
-    tolerances: &Tolerances,
+    on: &ReferenceOnMap<'_>,
     candidates: Vec<ArrayVec<Candidate, MAX_CANDIDATES>>,
     lengths: Vec<Vec<Option<u32>>>,
 ) -> Result<Layers, NoMemory>
-    requires reference { IsReference reference.now }
-    requires lists { AreLists tolerances.now reference.now map.now.lines
+    requires lists { AreLists on.now.tolerances on.now.reference.now on.now.map.now.lines
         (lists_of candidates.items) }
-    requires lengths { AreLengthsOfLegs map.now tolerances.now reference.now
+    requires lengths { AreLengthsOfLegs on.now.map.now on.now.tolerances on.now.reference.now
         (lists_of candidates.items) (lengths_of lengths.items) }
 
-    ensures layers { IfOk result (λ layers. AreLayersOn map.now layers) }
-    ensures reference { IfOk result (λ layers. layers.reference ≡ reference.now) }
-    ensures tolerances { IfOk result (λ layers. layers.tolerances ≡ tolerances.now) }
+    ensures layers { IfOk result (λ layers. AreLayersOn on.now.map.now layers) }
+    ensures reference { IfOk result (λ layers. layers.reference ≡ on.now.reference.now) }
+    ensures tolerances { IfOk result (λ layers. layers.tolerances ≡ on.now.tolerances) }
     ensures lengths { IfOk result (λ layers. layers.lengths ≡ lengths_of lengths.items) }
 {
-    sound(map);
+    sound(on.map);
     bounds();
     let penalties = penalties_of_points(alloc, &candidates)?;
-    let legs = penalties_of_legs(alloc, reference, &lengths)?;
+    let legs = penalties_of_legs(alloc, on.reference, &lengths)?;
     let table = Table::new(alloc, &penalties, &legs)?;
     Ok(Layers {
-        reference: copy_of(reference)?,
-        tolerances: *tolerances,
+        reference: copy_of(on.reference)?,
+        tolerances: on.tolerances,
         candidates,
         lengths,
         table,
@@ -87,7 +85,12 @@ impl Layers {
         ensures tolerances { IfOk result (λ layers. layers.tolerances ≡ tolerances.now) }
         ensures fault { IfErr result (IsLayersFault tolerances.now reference.now map.now.lines) }
     {
-        let (layers, _searches) = Layers::build_with_searches(alloc, map, reference, tolerances)?;
+        let on = ReferenceOnMap {
+            map,
+            reference,
+            tolerances: *tolerances,
+        };
+        let (layers, _searches) = Layers::build_with_searches(alloc, &on)?;
         Ok(layers)
     }
 
@@ -99,33 +102,22 @@ impl Layers {
     /// Those of [`Layers::build`].
     pub fn build_with_searches(
         alloc: Global,
-        map: &Map,
-        reference: &Reference,
-        tolerances: &Tolerances,
+        on: &ReferenceOnMap<'_>,
     ) -> Result<(Layers, Searches), LayersFault>
-        requires { IsReference reference.now }
-
-        ensures layers { IfOk result (λ built. AreLayersOn map.now built.0) }
-        ensures reference { IfOk result (λ built. built.0.reference ≡ reference.now) }
-        ensures tolerances { IfOk result (λ built. built.0.tolerances ≡ tolerances.now) }
-        ensures searches { IfOk result (λ built. AreSearchesOn map.now built.1) }
-        ensures fault { IfErr result (IsLayersFault tolerances.now reference.now map.now.lines) }
+        ensures layers { IfOk result (λ built. AreLayersOn on.now.map.now built.0) }
+        ensures reference { IfOk result (λ built. built.0.reference ≡ on.now.reference.now) }
+        ensures tolerances { IfOk result (λ built. built.0.tolerances ≡ on.now.tolerances) }
+        ensures searches { IfOk result (λ built. AreSearchesOn on.now.map.now built.1) }
+        ensures fault { IfErr result
+            (IsLayersFault on.now.tolerances on.now.reference.now on.now.map.now.lines) }
     {
-        let candidates = candidates_of_points(alloc, map, reference, tolerances)?;
+        let candidates = candidates_of_points(alloc, on.map, on.reference, &on.tolerances)?;
         let mut searches = Searches::new(alloc);
-        let Some(lengths) = lengths_of_legs(
-            alloc,
-            map,
-            reference,
-            tolerances,
-            &candidates,
-            false,
-            &mut searches,
-        )?
-        else {
+        let lengths = lengths_of_legs(alloc, on, &candidates, false, &mut searches)?;
+        let Some(lengths) = lengths else {
             unreachable!()
         };
-        let layers = with_lengths(alloc, map, reference, tolerances, candidates, lengths)?;
+        let layers = with_lengths(alloc, on, candidates, lengths)?;
         Ok((layers, searches))
     }
 
@@ -138,33 +130,24 @@ impl Layers {
     /// [`NoMemory`] where the allocator refused memory.
     pub fn with_admitting_legs(
         alloc: Global,
-        map: &Map,
-        reference: &Reference,
-        tolerances: &Tolerances,
+        on: &ReferenceOnMap<'_>,
         candidates: Vec<ArrayVec<Candidate, MAX_CANDIDATES>>,
     ) -> Result<Option<Layers>, NoMemory>
-        requires reference { IsReference reference.now }
-        requires lists { AreLists tolerances.now reference.now map.now.lines
+        requires { AreLists on.now.tolerances on.now.reference.now on.now.map.now.lines
             (lists_of candidates.items) }
 
         ensures { IfOk result (λ layers. MatchOption layers
-            (HasLegWithoutPair map.now tolerances.now reference.now (lists_of candidates.items))
-            (λ layers. AreLayersOn map.now layers × (layers.reference ≡ reference.now)
-            × (layers.tolerances ≡ tolerances.now) × AdmitPairs layers.lengths)) }
+            (HasLegWithoutPair on.now.map.now on.now.tolerances on.now.reference.now
+            (lists_of candidates.items))
+            (λ layers. AreLayersOn on.now.map.now layers × (layers.reference ≡ on.now.reference.now)
+            × (layers.tolerances ≡ on.now.tolerances) × AdmitPairs layers.lengths)) }
     {
-        let Some(lengths) = lengths_of_legs(
-            alloc,
-            map,
-            reference,
-            tolerances,
-            &candidates,
-            true,
-            &mut Searches::new(alloc),
-        )?
-        else {
+        let mut searches = Searches::new(alloc);
+        let lengths = lengths_of_legs(alloc, on, &candidates, true, &mut searches)?;
+        let Some(lengths) = lengths else {
             return Ok(None);
         };
-        let layers = with_lengths(alloc, map, reference, tolerances, candidates, lengths)?;
+        let layers = with_lengths(alloc, on, candidates, lengths)?;
         Ok(Some(layers))
     }
 }

@@ -2,7 +2,6 @@
 //! their leg admits them.
 
 ghost use Rattle.std.specs.Prelude.{◌≡◌, ◌++◌, ◌+◌, ◌<◌, ◌↔◌, ℕ, List, Option, length, All, IfOk, IsTrue, MatchOption, None};
-ghost use Rattle.olr_binary.specs.Reference.{IsReference};
 ghost use Rattle.olr_candidates.specs.Points.{AreLists, lists_of};
 ghost use Rattle.olr_road.specs.Place.{IsPlace};
 ghost use Rattle.olr_matching.specs.Leg.{IsAdmittedLength};
@@ -17,9 +16,8 @@ use crate::leg_on_map::{LegOnMap, leg_at};
 use crate::searches::Searches;
 use arrayvec::ArrayVec;
 use olr_base::NoMemory;
-use olr_binary::Reference;
-use olr_candidates::{Candidate, MAX_CANDIDATES, Tolerances};
-use olr_road::{Map, Place};
+use olr_candidates::{Candidate, MAX_CANDIDATES, ReferenceOnMap};
+use olr_road::Place;
 use olr_route::{Reach, one_least_length};
 use std::alloc::Global;
 
@@ -107,28 +105,26 @@ fn admits_none(lengths: &[Option<u32>]) -> bool
 /// candidates.
 pub(crate) fn lengths_of_legs(
     alloc: Global,
-    map: &Map,
-    reference: &Reference,
-    tolerances: &Tolerances,
+    on: &ReferenceOnMap<'_>,
     candidates: &[ArrayVec<Candidate, MAX_CANDIDATES>],
     stops_early: bool,
     searches: &mut Searches,
 ) -> Result<Option<Vec<Vec<Option<u32>>>>, NoMemory>
-    requires reference { IsReference reference.now }
-    requires lists { AreLists tolerances.now reference.now map.now.lines (lists_of candidates.now) }
-    requires searches { AreSearchesOn map.now searches.old }
+    requires lists { AreLists on.now.tolerances on.now.reference.now on.now.map.now.lines
+        (lists_of candidates.now) }
+    requires searches { AreSearchesOn on.now.map.now searches.old }
 
     ensures lengths { IfOk result (λ lengths. MatchOption lengths
         (IsTrue stops_early
-        × HasLegWithoutPair map.now tolerances.now reference.now (lists_of candidates.now))
-        (λ lengths. AreLengthsOfLegs map.now tolerances.now reference.now (lists_of candidates.now)
-        (lengths_of lengths.items)
+        × HasLegWithoutPair on.now.map.now on.now.tolerances on.now.reference.now (lists_of candidates.now))
+        (λ lengths. AreLengthsOfLegs on.now.map.now on.now.tolerances on.now.reference.now
+        (lists_of candidates.now) (lengths_of lengths.items)
         × (IsTrue stops_early → AdmitPairs (lengths_of lengths.items)))) }
-    ensures searches { AreSearchesOn map.now searches.new }
+    ensures searches { AreSearchesOn on.now.map.now searches.new }
 {
     let mut lengths = Vec::new(alloc);
     for layer in 0..candidates.len() - 1 {
-        let leg = leg_at(map, reference, tolerances, candidates, layer);
+        let leg = leg_at(on.map, on.reference, &on.tolerances, candidates, layer);
         let of_leg = lengths_of_leg(alloc, &leg, searches)?;
         if stops_early && admits_none(&of_leg) {
             return Ok(None);

@@ -36,7 +36,7 @@ pub use layers_laws::{keys_of_matchings, one_layers, table_of_layers};
 pub use leg::{class_limit, greatest_admitted, least_admitted, likely_greatest, next_of};
 pub use matched::{Leg, Matched, matchings_are_sound, one_matched};
 pub use olr_candidates::LayersFault;
-pub use olr_fingerprint::fingerprint;
+pub use olr_fingerprint::{fingerprint, fingerprint_is_mark};
 pub use olr_keys::{
     BadCursor, BadPage, BoundFinder, Cursor, CursorOfOther, CursorRead, Finder, Key, Mark, Page,
     PageFault, PageSize, ProductFinder, Rows, Table, TotalsFinder, all_pages, is_table,

@@ -1,7 +1,7 @@
 //! Why a reference has no matching on a map: all of it, from the map.
 
 ghost use Rattle.std.specs.Prelude.{◌≡◌, ◌<◌, All, IfOk, IfSome, MatchOption, [], length};
-ghost use Rattle.olr_binary.specs.Reference.{IsReference, points_of};
+ghost use Rattle.olr_binary.specs.Reference.{points_of};
 ghost use Rattle.olr_candidates.specs.Near.{AreNearestOf};
 ghost use Rattle.olr_matching.specs.Layers.{AreLayersOn};
 ghost use Rattle.olr_why.specs.Reasons.{AreLayersOf, AreLegsFor, AreOnMap, ArePointReasons, IsCountOf, IsWhy};
@@ -18,9 +18,8 @@ use crate::verdict::Verdict;
 use crate::verdicts::verdict_of;
 use crate::why::Why;
 use olr_base::NoMemory;
-use olr_binary::Reference;
 use olr_candidates::{
-    LayersFault, NearLine, Tolerances, candidates, nearest_are_near, nearest_lines,
+    LayersFault, NearLine, ReferenceOnMap, candidates, nearest_are_near, nearest_lines,
     no_list_of_point_and_too_many, no_lists_and_too_many,
 };
 use olr_matching::Layers;
@@ -29,22 +28,16 @@ use std::alloc::Global;
 
 /// How many candidates a point has, counted from 0; none where they are more than 64. Where there
 /// are layers of the reference, they are counted there.
-fn count_of(
-    map: &Map,
-    reference: &Reference,
-    tolerances: &Tolerances,
-    layers: Option<&Layers>,
-    index: usize,
-) -> Option<u8>
-    requires inside { index < length (points_of reference.now) }
+fn count_of(on: &ReferenceOnMap<'_>, layers: Option<&Layers>, index: usize) -> Option<u8>
+    requires inside { index < length (points_of on.now.reference.now) }
     requires layers { IfSome layers (λ layers.
-        AreLayersOf map.now tolerances.now reference.now layers.now) }
-    ensures { IsCountOf map.now tolerances.now reference.now index result }
+        AreLayersOf on.now.map.now on.now.tolerances on.now.reference.now layers.now) }
+    ensures { IsCountOf on.now.map.now on.now.tolerances on.now.reference.now index result }
 {
     if let Some(layers) = layers {
         return Some(layers.layer(index).len() as u8);
     }
-    let Ok(list) = candidates(map, reference, tolerances, index) else {
+    let Ok(list) = candidates(on.map, on.reference, &on.tolerances, index) else {
         return None;
     };
     Some(list.len() as u8)
@@ -53,20 +46,18 @@ fn count_of(
 /// So many of the lines nearest to a point, counted from 0.
 fn nearest_to(
     alloc: Global,
-    map: &Map,
-    reference: &Reference,
-    tolerances: &Tolerances,
+    on: &ReferenceOnMap<'_>,
     nearest: usize,
     index: usize,
 ) -> Result<Vec<NearLine>, NoMemory>
-    requires { index < length (points_of reference.now) }
-    ensures near { IfOk result (λ lines. AreNearestOf tolerances.now reference.now map.now.lines
-        index nearest lines.items) }
+    requires { index < length (points_of on.now.reference.now) }
+    ensures near { IfOk result (λ lines. AreNearestOf on.now.tolerances on.now.reference.now
+        on.now.map.now.lines index nearest lines.items) }
     ensures on_map { IfOk result (λ lines.
-        All (λ near. near.line < length map.now.lines) lines.items) }
+        All (λ near. near.line < length on.now.map.now.lines) lines.items) }
 {
     nearest_are_near();
-    let lines = nearest_lines(alloc, map, reference, tolerances, index, nearest)?;
+    let lines = nearest_lines(alloc, on, index, nearest)?;
     Ok(lines)
 }
 
@@ -74,22 +65,20 @@ fn nearest_to(
 /// reference, where there are such.
 fn reasons_of_points(
     alloc: Global,
-    map: &Map,
-    reference: &Reference,
-    tolerances: &Tolerances,
+    on: &ReferenceOnMap<'_>,
     nearest: usize,
     layers: Option<&Layers>,
 ) -> Result<Vec<PointReason>, NoMemory>
     requires { IfSome layers (λ layers.
-        AreLayersOf map.now tolerances.now reference.now layers.now) }
+        AreLayersOf on.now.map.now on.now.tolerances on.now.reference.now layers.now) }
     ensures reasons { IfOk result (λ points.
-        ArePointReasons map.now tolerances.now reference.now nearest points.items) }
-    ensures on_map { IfOk result (λ points. AreOnMap map.now points.items) }
+        ArePointReasons on.now.map.now on.now.tolerances on.now.reference.now nearest points.items) }
+    ensures on_map { IfOk result (λ points. AreOnMap on.now.map.now points.items) }
 {
     let mut points = Vec::new(alloc);
-    for index in 0..reference.points().len() {
-        let candidates = count_of(map, reference, tolerances, layers, index);
-        let nearest = nearest_to(alloc, map, reference, tolerances, nearest, index)?;
+    for index in 0..on.reference.points().len() {
+        let candidates = count_of(on, layers, index);
+        let nearest = nearest_to(alloc, on, nearest, index)?;
         points.push(PointReason {
             candidates,
             nearest,
@@ -119,22 +108,19 @@ fn with_layers(
 /// The layers of a reference, none where a point has too many candidates, its verdict and its legs.
 fn layers_and_legs(
     alloc: Global,
-    map: &Map,
-    reference: &Reference,
-    tolerances: &Tolerances,
+    on: &ReferenceOnMap<'_>,
 ) -> Result<(Option<Layers>, Verdict, Vec<LegReason>), NoMemory>
-    requires { IsReference reference.now }
     ensures layers { IfOk result (λ found.
-        IfSome found.0 (AreLayersOf map.now tolerances.now reference.now)) }
+        IfSome found.0 (AreLayersOf on.now.map.now on.now.tolerances on.now.reference.now)) }
     ensures verdict { IfOk result (λ found.
-        IsVerdict map.now tolerances.now reference.now found.1) }
+        IsVerdict on.now.map.now on.now.tolerances on.now.reference.now found.1) }
     ensures legs { IfOk result (λ found.
-        AreLegsFor map.now tolerances.now reference.now found.1 found.2.items) }
+        AreLegsFor on.now.map.now on.now.tolerances on.now.reference.now found.1 found.2.items) }
 {
     no_list_of_point_and_too_many();
-    match Layers::build(alloc, map, reference, tolerances) {
+    match Layers::build(alloc, on.map, on.reference, &on.tolerances) {
         Ok(layers) => {
-            let (verdict, legs) = with_layers(alloc, map, &layers)?;
+            let (verdict, legs) = with_layers(alloc, on.map, &layers)?;
             Ok((Some(layers), verdict, legs))
         }
         Err(LayersFault::TooManyCandidates(number)) => {
@@ -156,23 +142,20 @@ fn layers_and_legs(
 /// [`NoMemory`] where the allocator refused memory.
 pub fn why_of(
     alloc: Global,
-    map: &Map,
+    on: &ReferenceOnMap<'_>,
     unbanned: Option<&Map>,
-    reference: &Reference,
-    tolerances: &Tolerances,
     nearest: NearestCount,
 ) -> Result<Why, NoMemory>
-    requires reference { IsReference reference.now }
-    requires unbanned { MatchOption unbanned (map.now.bans ≡ [])
-        (λ other. IsUnbanned map.now other.now) }
+    requires unbanned { MatchOption unbanned (on.now.map.now.bans ≡ [])
+        (λ other. IsUnbanned on.now.map.now other.now) }
     ensures why { IfOk result (λ why.
-        IsWhy map.now tolerances.now reference.now nearest (why_value why)) }
-    ensures on_map { IfOk result (λ why. AreOnMap map.now why.points.items) }
+        IsWhy on.now.map.now on.now.tolerances on.now.reference.now nearest (why_value why)) }
+    ensures on_map { IfOk result (λ why. AreOnMap on.now.map.now why.points.items) }
 {
-    let (layers, verdict, legs) = layers_and_legs(alloc, map, reference, tolerances)?;
+    let (layers, verdict, legs) = layers_and_legs(alloc, on)?;
     let (layers, count) = (layers.as_ref(), nearest.lines() as usize);
-    let points = reasons_of_points(alloc, map, reference, tolerances, count, layers)?;
-    let remedies = remedies_of(alloc, map, unbanned, reference, tolerances, verdict)?;
+    let points = reasons_of_points(alloc, on, count, layers)?;
+    let remedies = remedies_of(alloc, on, unbanned, verdict)?;
     Ok(Why {
         points,
         legs,

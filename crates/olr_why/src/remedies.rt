@@ -2,19 +2,18 @@
 
 ghost use Rattle.std.specs.Prelude.{◌≡◌, [], ◌++◌, IfOk, MatchOption, OnOk};
 ghost use Rattle.std.specs.Option.{option_to_list};
-ghost use Rattle.olr_binary.specs.Reference.{IsReference};
 ghost use Rattle.olr_why.specs.Chain.{IsUncrowded};
 ghost use Rattle.olr_why.specs.Remedies.{AreNarrower, AreOfNames, AreRemedies, AreWider, IsRemedyWithoutBans};
 ghost use Rattle.olr_why.specs.Remedies.{IsUnbanned, IsWider, by_trust};
 ghost use Rattle.olr_why.specs.Verdict.{IsVerdict};
 
+use crate::narrowing::narrower;
 use crate::remedy::{Change, Remedy};
 use crate::trial::{Trial, try_tolerances};
-use crate::trying::Trials;
 use crate::verdict::Verdict;
+use crate::widening::greater;
 use olr_base::NoMemory;
-use olr_binary::Reference;
-use olr_candidates::{Tolerance, Tolerances};
+use olr_candidates::{ReferenceOnMap, Tolerance};
 use olr_road::Map;
 use std::alloc::Global;
 
@@ -41,78 +40,81 @@ fn push_if(remedies: &mut Vec<Remedy>, remedy: Option<Remedy>) -> Result<(), NoM
     Ok(())
 }
 
-impl Trials<'_> {
-    /// The first matching on the map without its bans, if it has bans and there is one.
-    fn without_bans(
-        &self,
-        alloc: Global,
-        unbanned: Option<&Map>,
-    ) -> Result<Option<Remedy>, NoMemory>
-        requires reference { IsReference self.now.reference.now }
-        requires unbanned { MatchOption unbanned (self.now.map.now.bans ≡ [])
-            (λ other. IsUnbanned self.now.map.now other.now) }
-        requires uncrowded { IsUncrowded self.now.map.now self.now.given.now
-            self.now.reference.now }
-        ensures { IfOk result
-            (IsRemedyWithoutBans self.now.map.now self.now.given.now self.now.reference.now) }
-    {
-        let Some(unbanned) = unbanned else {
-            return Ok(None);
-        };
-        match try_tolerances(alloc, unbanned, self.reference, self.given)? {
-            Trial::Crowded => Ok(None),
-            Trial::NoMatching => Ok(None),
-            Trial::Matching(key) => Ok(Some(Remedy {
-                change: Change::WithoutBans,
-                matching: Some(key),
-            })),
-        }
+/// The first matching on the map without its bans, if it has bans and there is one.
+fn without_bans(
+    alloc: Global,
+    on: &ReferenceOnMap<'_>,
+    unbanned: Option<&Map>,
+) -> Result<Option<Remedy>, NoMemory>
+    requires unbanned { MatchOption unbanned (on.now.map.now.bans ≡ [])
+        (λ other. IsUnbanned on.now.map.now other.now) }
+    requires uncrowded { IsUncrowded on.now.map.now on.now.tolerances
+        on.now.reference.now }
+    ensures { IfOk result
+        (IsRemedyWithoutBans on.now.map.now on.now.tolerances on.now.reference.now) }
+{
+    let Some(unbanned) = unbanned else {
+        return Ok(None);
+    };
+    let on = ReferenceOnMap {
+        map: unbanned,
+        reference: on.reference,
+        tolerances: on.tolerances,
+    };
+    match try_tolerances(alloc, &on)? {
+        Trial::Crowded => Ok(None),
+        Trial::NoMatching => Ok(None),
+        Trial::Matching(key) => Ok(Some(Remedy {
+            change: Change::WithoutBans,
+            matching: Some(key),
+        })),
     }
+}
 
-    /// The greater values of tolerances that help.
-    fn all_greater(&self, alloc: Global) -> Result<Vec<Remedy>, NoMemory>
-        requires { IsReference self.now.reference.now }
-        ensures { IfOk result (λ remedies. AreOfNames
-            (IsWider self.now.map.now self.now.given.now self.now.reference.now) by_trust
-            remedies.items) }
-    {
-        let mut remedies = Vec::new(alloc);
-        for name in BY_TRUST {
-            let remedy = self.greater(alloc, name)?;
-            push_if(&mut remedies, remedy)?;
-        }
-        Ok(remedies)
+/// The greater values of tolerances that help.
+fn all_greater(alloc: Global, on: &ReferenceOnMap<'_>) -> Result<Vec<Remedy>, NoMemory>
+    ensures { IfOk result (λ remedies. AreOfNames
+        (IsWider on.now.map.now on.now.tolerances on.now.reference.now) by_trust
+        remedies.items) }
+{
+    let mut remedies = Vec::new(alloc);
+    for name in BY_TRUST {
+        let remedy = greater(alloc, on, name)?;
+        push_if(&mut remedies, remedy)?;
     }
+    Ok(remedies)
+}
 
-    /// What helps where no point has more than 64 candidates.
-    fn all_wider(&self, alloc: Global, unbanned: Option<&Map>) -> Result<Vec<Remedy>, NoMemory>
-        requires reference { IsReference self.now.reference.now }
-        requires unbanned { MatchOption unbanned (self.now.map.now.bans ≡ [])
-            (λ other. IsUnbanned self.now.map.now other.now) }
-        requires uncrowded { IsUncrowded self.now.map.now self.now.given.now
-            self.now.reference.now }
-        ensures { IfOk result (λ remedies. AreWider self.now.map.now self.now.given.now
-            self.now.reference.now remedies.items) }
-    {
-        let mut remedies = self.all_greater(alloc)?;
-        let without_bans = self.without_bans(alloc, unbanned)?;
-        push_if(&mut remedies, without_bans)?;
-        Ok(remedies)
-    }
+/// What helps where no point has more than 64 candidates.
+fn all_wider(
+    alloc: Global,
+    on: &ReferenceOnMap<'_>,
+    unbanned: Option<&Map>,
+) -> Result<Vec<Remedy>, NoMemory>
+    requires unbanned { MatchOption unbanned (on.now.map.now.bans ≡ [])
+        (λ other. IsUnbanned on.now.map.now other.now) }
+    requires uncrowded { IsUncrowded on.now.map.now on.now.tolerances
+        on.now.reference.now }
+    ensures { IfOk result (λ remedies. AreWider on.now.map.now on.now.tolerances
+        on.now.reference.now remedies.items) }
+{
+    let mut remedies = all_greater(alloc, on)?;
+    let remedy = without_bans(alloc, on, unbanned)?;
+    push_if(&mut remedies, remedy)?;
+    Ok(remedies)
+}
 
-    /// What helps where a point has more than 64 candidates.
-    fn all_narrower(&self, alloc: Global) -> Result<Vec<Remedy>, NoMemory>
-        requires { IsReference self.now.reference.now }
-        ensures { IfOk result (λ remedies. AreNarrower self.now.map.now self.now.given.now
-            self.now.reference.now remedies.items) }
-    {
-        let mut remedies = Vec::new(alloc);
-        for name in NARROWED {
-            let remedy = self.narrower(alloc, name)?;
-            push_if(&mut remedies, remedy)?;
-        }
-        Ok(remedies)
+/// What helps where a point has more than 64 candidates.
+fn all_narrower(alloc: Global, on: &ReferenceOnMap<'_>) -> Result<Vec<Remedy>, NoMemory>
+    ensures { IfOk result (λ remedies. AreNarrower on.now.map.now on.now.tolerances
+        on.now.reference.now remedies.items) }
+{
+    let mut remedies = Vec::new(alloc);
+    for name in NARROWED {
+        let remedy = narrower(alloc, on, name)?;
+        push_if(&mut remedies, remedy)?;
     }
+    Ok(remedies)
 }
 
 /// What would help a reference that has this verdict, all else being the same.
@@ -132,29 +134,21 @@ impl Trials<'_> {
 /// [`NoMemory`] where the allocator refused memory.
 pub fn remedies_of(
     alloc: Global,
-    map: &Map,
+    on: &ReferenceOnMap<'_>,
     unbanned: Option<&Map>,
-    reference: &Reference,
-    tolerances: &Tolerances,
     verdict: Verdict,
 ) -> Result<Vec<Remedy>, NoMemory>
-    requires reference { IsReference reference.now }
-    requires unbanned { MatchOption unbanned (map.now.bans ≡ [])
-        (λ other. IsUnbanned map.now other.now) }
-    requires verdict { IsVerdict map.now tolerances.now reference.now verdict }
+    requires unbanned { MatchOption unbanned (on.now.map.now.bans ≡ [])
+        (λ other. IsUnbanned on.now.map.now other.now) }
+    requires verdict { IsVerdict on.now.map.now on.now.tolerances on.now.reference.now verdict }
     ensures { IfOk result (λ remedies.
-        AreRemedies map.now tolerances.now reference.now verdict remedies.items) }
+        AreRemedies on.now.map.now on.now.tolerances on.now.reference.now verdict remedies.items) }
 {
-    let trials = Trials {
-        map,
-        reference,
-        given: tolerances,
-    };
     match verdict {
-        Verdict::Crowded(_) => trials.all_narrower(alloc),
-        Verdict::Point(_) => trials.all_wider(alloc, unbanned),
-        Verdict::Leg(_) => trials.all_wider(alloc, unbanned),
-        Verdict::Chain(_) => trials.all_wider(alloc, unbanned),
+        Verdict::Crowded(_) => all_narrower(alloc, on),
+        Verdict::Point(_) => all_wider(alloc, on, unbanned),
+        Verdict::Leg(_) => all_wider(alloc, on, unbanned),
+        Verdict::Chain(_) => all_wider(alloc, on, unbanned),
         Verdict::Match => Ok(Vec::new(alloc)),
     }
 }

@@ -2,20 +2,18 @@
 
 ghost use Rattle.std.specs.Prelude.{◌≡◌, Any, Decides, IfOk, MatchOption};
 ghost use Rattle.arrayvec.specs.ArrayVec.{array_vec_len};
-ghost use Rattle.olr_binary.specs.Reference.{IsReference};
 ghost use Rattle.olr_candidates.specs.Points.{AreLists, lists_of};
 ghost use Rattle.olr_why.specs.inner.Trial.{IsCrowded, IsFirstKey, IsTrial};
 
 use crate::laws::matching_has_key;
 use arrayvec::ArrayVec;
 use olr_base::NoMemory;
-use olr_binary::Reference;
 use olr_candidates::{
-    Candidate, LayersFault, MAX_CANDIDATES, Tolerances, candidates_of_points, no_lists_and_too_many,
+    Candidate, LayersFault, MAX_CANDIDATES, ReferenceOnMap, candidates_of_points,
+    no_lists_and_too_many,
 };
 use olr_keys::{Finder, Key, TotalsFinder};
 use olr_matching::Layers;
-use olr_road::Map;
 use std::alloc::Global;
 
 /// What is found with some tolerances.
@@ -32,15 +30,14 @@ pub(crate) enum Trial {
 /// The candidates of each point; none where a point has more than 64.
 pub(crate) fn lists_of_points(
     alloc: Global,
-    map: &Map,
-    reference: &Reference,
-    tolerances: &Tolerances,
+    on: &ReferenceOnMap<'_>,
 ) -> Result<Option<Vec<ArrayVec<Candidate, MAX_CANDIDATES>>>, NoMemory>
     ensures { IfOk result (λ lists. MatchOption lists
-        (IsCrowded map.now tolerances.now reference.now)
-        (λ lists. AreLists tolerances.now reference.now map.now.lines (lists_of lists.items))) }
+        (IsCrowded on.now.map.now on.now.tolerances on.now.reference.now)
+        (λ lists. AreLists on.now.tolerances on.now.reference.now on.now.map.now.lines
+        (lists_of lists.items))) }
 {
-    match candidates_of_points(alloc, map, reference, tolerances) {
+    match candidates_of_points(alloc, on.map, on.reference, &on.tolerances) {
         Ok(lists) => Ok(Some(lists)),
         Err(LayersFault::TooManyCandidates(_)) => Ok(None),
         Err(LayersFault::NoMemory) => Err(NoMemory),
@@ -63,26 +60,20 @@ fn first_key(alloc: Global, layers: &Layers) -> Result<Option<Key>, NoMemory>
     Ok(first)
 }
 
-/// What is found for a reference on a map with these tolerances. Where a point has no candidate, no
-/// route is looked for, and behind a leg that admits no pair of candidates none either.
-pub(crate) fn try_tolerances(
-    alloc: Global,
-    map: &Map,
-    reference: &Reference,
-    tolerances: &Tolerances,
-) -> Result<Trial, NoMemory>
-    requires { IsReference reference.now }
-    ensures { IfOk result (IsTrial map.now tolerances.now reference.now) }
+/// What is found for a reference on a map. Where a point has no candidate, no route is looked for,
+/// and behind a leg that admits no pair of candidates none either.
+pub(crate) fn try_tolerances(alloc: Global, on: &ReferenceOnMap<'_>) -> Result<Trial, NoMemory>
+    ensures { IfOk result (IsTrial on.now.map.now on.now.tolerances on.now.reference.now) }
 {
     no_lists_and_too_many();
     matching_has_key();
-    let Some(lists) = lists_of_points(alloc, map, reference, tolerances)? else {
+    let Some(lists) = lists_of_points(alloc, on)? else {
         return Ok(Trial::Crowded);
     };
     if has_empty(&lists) {
         return Ok(Trial::NoMatching);
     }
-    let Some(layers) = Layers::with_admitting_legs(alloc, map, reference, tolerances, lists)? else {
+    let Some(layers) = Layers::with_admitting_legs(alloc, on, lists)? else {
         return Ok(Trial::NoMatching);
     };
     match first_key(alloc, &layers)? {

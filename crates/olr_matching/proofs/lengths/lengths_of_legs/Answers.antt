@@ -13,7 +13,7 @@ pub loop-layer-preserved : goal.loop-layer-preserved
 loop-layer-preserved c =
     let lists = lists_of c.args.candidates.now in
     let Has : ℕ → List (Option ℕ) → Type 0 = λ layer lengths.
-    AreLengthsOfLeg c.args.map.now c.args.tolerances.now c.args.reference.now lists layer lengths in
+    AreLengthsOfLeg c.args.on.now.map.now c.args.on.now.tolerances c.args.on.now.reference.now lists layer lengths in
     let IsNone = All (λ length. length ≡ None) in
     let layer = c.loop-layer.layer in
     let leg = c.in_ok-of_leg.of_leg in
@@ -44,7 +44,7 @@ pub returns-clause-lengths : goal.returns-clause-lengths
 returns-clause-lengths c =
     let count =
     length-map c.args.candidates.now (λ list. list.items) in
-    let two = at_least_two _ c.requires.reference in (
+    let two = at_least_two _ c.args.on.now.is_reference in (
       record {
         count = omega arith;
         each = λ layer below. c.loop-layer.invariant.legs.1 layer (omega arith);

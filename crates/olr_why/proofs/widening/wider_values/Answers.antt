@@ -1,14 +1,14 @@
 use Rattle.olr_why.proofs.Common.{NoMatching, IsTrialWith}
 use Rattle.olr_why.proofs.Halving.{first_two, none_up_to_greatest}
 use Rattle.olr_why.proofs.Tried.{none_up_to}
-use Rattle.olr_why.proofs.trying.Trials.wider_values.Goals as goal
+use Rattle.olr_why.proofs.widening.wider_values.Goals as goal
 
 pub returns-in-NoMatching : goal.returns-in-NoMatching
 returns-in-NoMatching c =
-    let trial : IsTrialWith c.args.self.now.map.now c.args.self.now.given.now
-    c.args.self.now.reference.now c.args.name c.greatest-high.result NoMatching =
+    let trial : IsTrialWith c.args.on.now.map.now c.args.on.now.tolerances
+    c.args.on.now.reference.now c.args.name c.greatest-high.result NoMatching =
     rw c.in-NoMatching.is at c.in_ok-try_value.ensures in
-    none_up_to_greatest (rw (← c.greatest-high.ensures) (none_up_to c.requires.name trial))
+    none_up_to_greatest (rw (← c.greatest-high.ensures) (none_up_to c.requires trial))
 
 pub returns-in-Crowded : goal.returns-in-Crowded
 returns-in-Crowded c =

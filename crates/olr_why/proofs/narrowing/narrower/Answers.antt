@@ -1,6 +1,6 @@
 use Rattle.std.proofs.Common.{refl}
 use Rattle.olr_why.proofs.Halving as halving
-use Rattle.olr_why.proofs.trying.Trials.narrower.Goals as goal
+use Rattle.olr_why.proofs.narrowing.narrower.Goals as goal
 
 pub returns : goal.returns
 returns c = (

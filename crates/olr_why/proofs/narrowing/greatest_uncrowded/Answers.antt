@@ -1,7 +1,7 @@
 use Rattle.std.proofs.Common.{arith}
 use Rattle.olr_why.proofs.Halving.{all_crowded}
 use Rattle.olr_why.proofs.Tried.{crowded_from}
-use Rattle.olr_why.proofs.trying.Trials.greatest_uncrowded.Goals as goal
+use Rattle.olr_why.proofs.narrowing.greatest_uncrowded.Goals as goal
 
 pub returns-then-branch : goal.returns-then-branch
 returns-then-branch c =

@@ -1,7 +1,7 @@
 use Rattle.olr_why.proofs.Common.{IsEnough, Lowest, ℕ, ◌<◌, below_more, refl, arith}
 use Rattle.olr_why.proofs.Halving.{none_up_to_greatest}
 use Rattle.olr_why.proofs.Tried.{least_enough}
-use Rattle.olr_why.proofs.trying.Trials.lowest.Goals as goal
+use Rattle.olr_why.proofs.widening.lowest.Goals as goal
 
 pub returns-in-Some : goal.returns-in-Some
 returns-in-Some c = (
@@ -17,8 +17,8 @@ returns-in-Some c = (
 pub loop-value-preserved : goal.loop-value-preserved
 loop-value-preserved c =
     below_more
-    (λ (value : ℕ). c.args.self.now.given.now.lowest < value
-    → IsEnough c.args.self.now.map.now c.args.self.now.given.now c.args.self.now.reference.now
+    (λ (value : ℕ). c.args.on.now.tolerances.lowest < value
+    → IsEnough c.args.on.now.map.now c.args.on.now.tolerances c.args.on.now.reference.now
     Lowest value → ⊥)
     c.loop-value.value c.loop-value.invariant (λ above. rw c.in_default.is at c.in_ok-key.ensures)
 
