@@ -22,7 +22,7 @@ pub use Rattle.olr_binary.specs.declared.reference.Reference.{Reference}
 pub use Rattle.olr_candidates.specs.Candidate.{IsAlikeInBearing, IsAlikeInClass, IsCandidate, IsOnLine, IsWithinRadius, MeetsConditions, Rates, penalty_of}
 pub use Rattle.olr_candidates.specs.Candidates.{AreCandidates, AreTooMany, IsBefore, IsCandidateAt, IsOneOf, IsRejectionAt, is_before}
 pub use Rattle.olr_candidates.specs.Laws.{AreDepartures, AreInOrderOfIds, ArePlaces, CandidatesFailNone, HoldsOfEach, IsAsCandidate, IsOfLines, LiesOnLine, LiesUpToEnd, NearAreCandidates, NearIsOfLines, NearestAreInOrderOfIds, NearestAreNear, NoListAndTooMany, NoListOfPointAndTooMany, OneList, OneListOfNearest, OneListOfPoint, RejectedAreNone}
-pub use Rattle.olr_candidates.specs.Near.{AreFailed, AreNearest, AreNearestOf, Describes, FailsExactly, HasPenalty, IsNearLine, IsNearLineAt, IsNearLineOf, IsNearer, IsOneNear, none_failed}
+pub use Rattle.olr_candidates.specs.Near.{AreFailed, AreLinesWithin, AreNearest, AreNearestOf, Describes, FailsExactly, HasPenalty, IsNearLine, IsNearLineAt, IsNearLineOf, IsNearer, IsOneNear, none_failed}
 pub use Rattle.olr_candidates.specs.Nearest.{AnswersNearest, AreNearestAmong, AreNearestWithin, CoverRadius, FindsNear, IsAmong, IsBehindLast, Keeps}
 pub use Rattle.olr_candidates.specs.Points.{AreCandidatesOf, AreFirstLists, AreLists, HasTooMany, IsCandidateOf, IsFirstTooMany, IsListOf, IsRejectionOf, lists_of}
 pub use Rattle.olr_candidates.specs.Projection.{IsProjection, polyline_of}

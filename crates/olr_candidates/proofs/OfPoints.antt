@@ -1,6 +1,6 @@
 -- What a query for a point of a reference finds.
 use Rattle.std.specs.Option.{ok_or}
-use Rattle.olr_candidates.proofs.Common.{ArrayVec, Reference, RoadLine, Candidate, NearLine, Query, Rejection, Tolerances, Answers, Finds, FindsTooMany, Rejects, ◌≡◌, ℕ, ◌+◌, List, Option, Some, None, Result, Ok, Err, MatchOption, MatchResult, AreNearestOf, IsNearLineOf, AnswersNearest, FindsNear, AreCandidatesOf, HasTooMany, IsCandidateOf, IsRejectionOf, IsQueryOf}
+use Rattle.olr_candidates.proofs.Common.{ArrayVec, Reference, RoadLine, Candidate, NearLine, Query, Rejection, Tolerances, Answers, Finds, FindsTooMany, Rejects, ◌≡◌, ℕ, ◌+◌, List, Option, Some, None, Result, Ok, Err, MatchOption, MatchResult, AreLinesWithin, AreNearestOf, IsNearLineOf, AnswersNearest, CoverRadius, FindsNear, AreCandidatesOf, HasTooMany, IsCandidateOf, IsRejectionOf, IsQueryOf}
 use Rattle.olr_candidates.specs.declared.point.TooManyCandidates.{TooManyCandidates}
 
 module _ (tolerances : Tolerances) (reference : Reference) (lines : List RoadLine) (index : ℕ)
@@ -76,6 +76,18 @@ module _ (tolerances : Tolerances) (reference : Reference) (lines : List RoadLin
   pub nearest : (count : ℕ) (list : List NearLine) → AnswersNearest query lines count list
       → AreNearestOf tolerances reference lines index count list
   nearest count list just = record {
+    first = is.first;
+    point = query.point;
+    first_is =
+        is.first_is;
+    point_is = is.point_is;
+    just =
+        rw (← is.plane_is, ← is.last_is, ← is.tolerances_is) just;
+  }
+
+  pub within : (radius : ℕ) (ranks : List ℕ) → CoverRadius query lines radius ranks
+      → AreLinesWithin tolerances reference lines index radius ranks
+  within radius ranks just = record {
     first = is.first;
     point = query.point;
     first_is =

@@ -1,6 +1,6 @@
 -- The lines nearest to a point of a reference, candidates or not, and the conditions that each of
 -- them fails.
-use Rattle.std.specs.Prelude.{◌≡◌, ℕ, ◌+◌, ◌<◌, ◌⊎◌, ◌==◌, Bool, false, MatchBool, min, List, length, Option, Some, MatchOption, slice_get, All, AllPairs, Contains}
+use Rattle.std.specs.Prelude.{◌≡◌, ◌≢◌, ℕ, ◌+◌, ◌*◌, ◌<◌, ◌≤◌, ◌⊎◌, ◌==◌, Bool, false, MatchBool, min, List, length, Option, Some, MatchOption, slice_get, All, AllPairs, Contains}
 use Rattle.olr_candidates.specs.Common.{Coordinates, coordinates_of, spot_of, Point, Reference, points_of, RoadLine, Line, head_of}
 use Rattle.olr_candidates.specs.declared.near.FailedConditions.{FailedConditions}
 use Rattle.olr_candidates.specs.declared.near.NearLine.{NearLine}
@@ -82,6 +82,14 @@ module _ (tolerances : Tolerances) (origin : Coordinates) (point : Point) (is_la
     pub others : (near : NearLine) → IsOneNear near → Contains nearest near
         ⊎ All (λ (item : NearLine). IsNearer item near) nearest
 
+  -- ranks of lines, each once, and among them those of all lines at most so many metres away from
+  -- the point
+  pub record CoverRadius (radius : ℕ) (ranks : List ℕ) : Type 0 where
+    pub once : AllPairs (λ (a b : ℕ). a ≢ b) ranks
+    pub known : All (λ (rank : ℕ). rank < length lines) ranks
+    pub each : (rank : ℕ) (near : NearLine) → IsNearLineAt rank near
+        → near.distance ≤ 100 * radius → Contains ranks rank
+
 -- ---- the points of a reference, counted from 0; the first one is the origin of the plane
 
 module _ (tolerances : Tolerances) (reference : Reference) (lines : List RoadLine) where
@@ -103,3 +111,13 @@ module _ (tolerances : Tolerances) (reference : Reference) (lines : List RoadLin
     pub point_is : slice_get (points_of reference) index ≡ Some point
     pub just : AreNearest tolerances (coordinates_of first.at) point
         (index + 1 == length (points_of reference)) lines count nearest
+
+  -- ranks of lines, each once, and among them those of all lines at most so many metres away from a
+  -- point
+  pub record AreLinesWithin (index radius : ℕ) (ranks : List ℕ) : Type 0 where
+    pub first : Point
+    pub point : Point
+    pub first_is : slice_get (points_of reference) 0 ≡ Some first
+    pub point_is : slice_get (points_of reference) index ≡ Some point
+    pub just : CoverRadius tolerances (coordinates_of first.at) point
+        (index + 1 == length (points_of reference)) lines radius ranks

@@ -58,7 +58,7 @@ pub use laws::{bounds, no_list_and_too_many, one_candidate_a_line, one_list, ran
 pub use list::MAX_CANDIDATES;
 pub use near::{FailedConditions, NearLine};
 pub use near_laws::{near_candidates, nearest_are_near, one_list_of_nearest, order_of_nearest};
-pub use near_point::{near_line, nearest_lines};
+pub use near_point::{lines_around, near_line, nearest_lines};
 pub use point::{TooManyCandidates, candidate_of_line, candidates};
 pub use point_laws::{
     no_list_of_point_and_too_many, no_lists_and_too_many, one_first_too_many, one_list_of_point,

@@ -18,11 +18,11 @@ use std::alloc::Global;
 /// How far the first window reaches, in metres.
 const FIRST_RADIUS: u32 = 30;
 
-/// How far the last one may reach. Each reaches twice as far as the one before it.
+/// How far the last one may reach. Each reaches up to twice as far as the one before it.
 const LAST_RADIUS: u32 = 1_000_000;
 
 /// The ranks of lines, among them all that lie at most so many metres away from the query's point.
-fn lines_within<'a>(map: &'a Map, query: &Query, radius: u32) -> Window<'a>
+pub(crate) fn lines_within<'a>(map: &'a Map, query: &Query, radius: u32) -> Window<'a>
     requires { radius ≤ 1000000 }
     ensures { CoverRadius query.now map.now.lines radius result }
 {
@@ -109,6 +109,23 @@ fn nearest_of_all(
     Ok(nearest)
 }
 
+/// How far the window after one with these nearest lines reaches, in metres: twice as far, or, where
+/// it has so many lines, just as far as the last of them, so that it is the last window.
+fn next_radius(nearest: &[NearLine], radius: u32, count: usize) -> u32
+    requires { radius ≤ 1000000 }
+    ensures rises { 1 ≤ radius → radius < result }
+{
+    let twice = 2 * radius;
+    match nearest.last() {
+        Some(last) if nearest.len() == count => {
+            (last.distance / 100 + 1)
+                .min(u64::from(twice))
+                .max(u64::from(radius) + 1) as u32
+        }
+        _ => twice,
+    }
+}
+
 /// The lines of the map that are nearest to the query's point, `count` of them, or all where the
 /// map has fewer. The lines of a window suffice where so many of them lie no farther away than it
 /// reaches.
@@ -126,7 +143,7 @@ pub(crate) fn search_nearest(
         if nearest.len() == count && lie_within(&nearest, radius) {
             return Ok(nearest);
         }
-        radius *= 2;
+        radius = next_radius(&nearest, radius, count);
     }
     nearest_of_all(alloc, map, query, count)
 }

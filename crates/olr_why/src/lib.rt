@@ -25,6 +25,7 @@
 
 mod bracket;
 mod chain;
+mod crowding;
 mod explaining;
 mod json;
 mod laws;

@@ -8,6 +8,7 @@ ghost use Rattle.olr_candidates.specs.Values.{value_of};
 ghost use Rattle.olr_why.specs.Remedies.{IsNarrower, IsUncrowdedWith};
 ghost use Rattle.olr_why.specs.inner.Trying.{IsGreatest};
 
+use crate::crowding::{likely_radius, next_value};
 use crate::remedy::{Change, Remedy};
 use crate::trying::{is_crowded_with, matching_with};
 use olr_base::NoMemory;
@@ -38,8 +39,12 @@ fn greatest_uncrowded(
     if is_crowded_with(alloc, on, name, low)? {
         return Ok(None);
     }
+    let likely = match name {
+        Tolerance::Radius => Some(likely_radius(alloc, on, high, high)?),
+        _ => None,
+    };
     while high - low > 1 {
-        let middle = low + (high - low) / 2;
+        let middle = next_value(low, high, likely);
         if is_crowded_with(alloc, on, name, middle)? {
             high = middle;
         } else {

@@ -8,6 +8,7 @@ ghost use Rattle.olr_why.specs.Remedies.{IsEnough, IsWider};
 ghost use Rattle.olr_why.specs.inner.Trying.{IsBracket};
 
 use crate::bracket::Bracket;
+use crate::crowding::{likely_radius, next_value};
 use crate::laws::matching_has_key;
 use crate::remedy::{Change, Remedy};
 use crate::trial::Trial;
@@ -49,12 +50,13 @@ fn wider_values(
     }
 }
 
-/// One half of these values, by a trial of the one in the middle.
-fn half_of(
+/// One part of these values, by a trial of one between them: the likely one, where it is such.
+fn part_of(
     alloc: Global,
     on: &ReferenceOnMap<'_>,
     name: Tolerance,
     bracket: Bracket,
+    likely: Option<u32>,
 ) -> Result<Bracket, NoMemory>
     requires name { order_of name ≢ order_of Lowest }
     requires bracket { IsBracket on.now.map.now on.now.tolerances
@@ -66,7 +68,7 @@ fn half_of(
         (λ half. half.high - half.low < bracket.high - bracket.low) }
 {
     let Bracket { low, high, first } = bracket;
-    let middle = low + (high - low) / 2;
+    let middle = next_value(low, high, likely);
     match try_value(alloc, on, name, middle)? {
         Trial::NoMatching => Ok(Bracket {
             low: middle,
@@ -83,6 +85,24 @@ fn half_of(
             high: middle,
             first: Some(key),
         }),
+    }
+}
+
+/// The value to try first, where there is a better one than that in the middle: of a radius whose
+/// greatest value gives a point more than 64 candidates.
+fn likely_value(
+    alloc: Global,
+    on: &ReferenceOnMap<'_>,
+    name: Tolerance,
+    bracket: &Bracket,
+) -> Result<Option<u32>, NoMemory>
+{
+    match (name, &bracket.first) {
+        (Tolerance::Radius, None) => {
+            let radius = likely_radius(alloc, on, bracket.low, bracket.high)?;
+            Ok(Some(radius))
+        }
+        _ => Ok(None),
     }
 }
 
@@ -103,8 +123,9 @@ fn wider(
     let Some(mut bracket) = wider_values(alloc, on, name)? else {
         return Ok(None);
     };
+    let likely = likely_value(alloc, on, name, &bracket)?;
     while bracket.high - bracket.low > 1 {
-        bracket = half_of(alloc, on, name, bracket)?;
+        bracket = part_of(alloc, on, name, bracket, likely)?;
     }
     let Bracket { high, first, .. } = bracket;
     let Some(key) = first else {

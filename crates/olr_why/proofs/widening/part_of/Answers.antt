@@ -1,6 +1,6 @@
 use Rattle.std.proofs.Common.{arith}
 use Rattle.olr_why.proofs.Halving.{lower_half, upper_half}
-use Rattle.olr_why.proofs.widening.half_of.Goals as goal
+use Rattle.olr_why.proofs.widening.part_of.Goals as goal
 
 pub returns-in-NoMatching-clause-bracket : goal.returns-in-NoMatching-clause-bracket
 returns-in-NoMatching-clause-bracket c =
