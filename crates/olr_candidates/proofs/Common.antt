@@ -24,7 +24,7 @@ pub use Rattle.olr_candidates.specs.Candidates.{AreCandidates, AreTooMany, IsBef
 pub use Rattle.olr_candidates.specs.Laws.{AreDepartures, AreInOrderOfIds, ArePlaces, CandidatesFailNone, HoldsOfEach, IsAsCandidate, IsOfLines, LiesOnLine, LiesUpToEnd, NearAreCandidates, NearIsOfLines, NearestAreInOrderOfIds, NearestAreNear, NoListAndTooMany, NoListOfPointAndTooMany, OneList, OneListOfNearest, OneListOfPoint, RejectedAreNone}
 pub use Rattle.olr_candidates.specs.Near.{AreFailed, AreLinesWithin, AreNearest, AreNearestOf, Describes, FailsExactly, HasPenalty, IsNearLine, IsNearLineAt, IsNearLineOf, IsNearer, IsOneNear, none_failed}
 pub use Rattle.olr_candidates.specs.Nearest.{AnswersNearest, AreNearestAmong, AreNearestWithin, CoverRadius, FindsNear, IsAmong, IsBehindLast, Keeps}
-pub use Rattle.olr_candidates.specs.Points.{AreCandidatesOf, AreFirstLists, AreLists, HasTooMany, IsCandidateOf, IsFirstTooMany, IsListOf, IsRejectionOf, lists_of}
+pub use Rattle.olr_candidates.specs.Points.{AreCandidatesOf, AreFirstLists, AreLists, HasTooMany, HoldsAt, IsCandidateOf, IsFirstTooMany, IsListOf, IsRejectionOf, lists_of}
 pub use Rattle.olr_candidates.specs.Projection.{IsProjection, polyline_of}
 pub use Rattle.olr_candidates.specs.Query.{Answers, AreFound, CoversRadius, Finds, FindsTooMany, IsNear, IsQueryOf, Rejects, x_of}
 pub use Rattle.olr_candidates.specs.declared.candidate.Candidate.{Candidate}

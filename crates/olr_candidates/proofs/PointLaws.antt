@@ -17,7 +17,7 @@ not_both law tolerances reference lines index list are many =
     let first : many.first ≡ are.0.first = cc in
     let point : many.point ≡ are.0.point = cc in
     law _ _ _ _ _ list are.0.just are.1
-    (rw (← first, ← point) many.many)
+    (rw (← first, ← point) many.just)
 
 pub are_places : HoldsOfEach IsOfLines → HoldsOfEach LiesUpToEnd → ArePlaces
 are_places of_lines up_to_end tolerances reference road index candidates are k d within =

@@ -7,6 +7,7 @@ use Rattle.olr_candidates.specs.declared.near.NearLine.{NearLine}
 use Rattle.olr_candidates.specs.declared.projection.Projection.{Projection}
 use Rattle.olr_candidates.specs.declared.tolerances.Tolerances.{Tolerances}
 use Rattle.olr_candidates.specs.Candidate.{IsWithinRadius, IsAlikeInBearing, IsAlikeInClass, IsOnLine, MeetsConditions, penalty_of}
+use Rattle.olr_candidates.specs.Points.{HoldsAt}
 use Rattle.olr_candidates.specs.Projection.{polyline_of, IsProjection}
 
 -- ---- a line near a point
@@ -94,30 +95,18 @@ module _ (tolerances : Tolerances) (origin : Coordinates) (point : Point) (is_la
 
 module _ (tolerances : Tolerances) (reference : Reference) (lines : List RoadLine) where
   -- the line of a rank is this line near a point
-  pub record IsNearLineOf (index rank : ℕ) (near : NearLine) : Type 0 where
-    pub first : Point
-    pub point : Point
-    pub first_is : slice_get (points_of reference) 0 ≡ Some first
-    pub point_is : slice_get (points_of reference) index ≡ Some point
-    pub just : IsNearLineAt tolerances (coordinates_of first.at) point
-        (index + 1 == length (points_of reference)) lines rank near
+  abbrev pub IsNearLineOf : ℕ → ℕ → NearLine → Type 0
+  IsNearLineOf index rank near = HoldsAt reference index
+      (λ origin point is_last. IsNearLineAt tolerances origin point is_last lines rank near)
 
   -- the first `count` lines of the map by their distance from a point, or all where the map has
   -- fewer
-  pub record AreNearestOf (index count : ℕ) (nearest : List NearLine) : Type 0 where
-    pub first : Point
-    pub point : Point
-    pub first_is : slice_get (points_of reference) 0 ≡ Some first
-    pub point_is : slice_get (points_of reference) index ≡ Some point
-    pub just : AreNearest tolerances (coordinates_of first.at) point
-        (index + 1 == length (points_of reference)) lines count nearest
+  abbrev pub AreNearestOf : ℕ → ℕ → List NearLine → Type 0
+  AreNearestOf index count nearest = HoldsAt reference index
+      (λ origin point is_last. AreNearest tolerances origin point is_last lines count nearest)
 
   -- ranks of lines, each once, and among them those of all lines at most so many metres away from a
   -- point
-  pub record AreLinesWithin (index radius : ℕ) (ranks : List ℕ) : Type 0 where
-    pub first : Point
-    pub point : Point
-    pub first_is : slice_get (points_of reference) 0 ≡ Some first
-    pub point_is : slice_get (points_of reference) index ≡ Some point
-    pub just : CoverRadius tolerances (coordinates_of first.at) point
-        (index + 1 == length (points_of reference)) lines radius ranks
+  abbrev pub AreLinesWithin : ℕ → ℕ → List ℕ → Type 0
+  AreLinesWithin index radius ranks = HoldsAt reference index
+      (λ origin point is_last. CoverRadius tolerances origin point is_last lines radius ranks)

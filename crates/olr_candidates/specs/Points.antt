@@ -1,8 +1,8 @@
 -- The candidates of each point of a reference. Points are counted from 0, and the first one is the
 -- origin of the plane.
-use Rattle.std.specs.Prelude.{◌≡◌, ⊤, map, ℕ, ◌+◌, ◌<◌, ◌≤◌, ◌==◌, List, length, Some, slice_get}
+use Rattle.std.specs.Prelude.{◌≡◌, ⊤, map, Bool, ℕ, ◌+◌, ◌<◌, ◌≤◌, ◌==◌, List, length, Some, slice_get}
 use Rattle.arrayvec.specs.ArrayVec.{ArrayVec}
-use Rattle.olr_candidates.specs.Common.{coordinates_of, Point, Reference, points_of, RoadLine}
+use Rattle.olr_candidates.specs.Common.{Coordinates, coordinates_of, Point, Reference, points_of, RoadLine}
 use Rattle.olr_candidates.specs.declared.candidate.Candidate.{Candidate}
 use Rattle.olr_candidates.specs.declared.fault.LayersFault.{LayersFault}
 use Rattle.olr_candidates.specs.declared.fault.LayersFault.TheVariants.{TooManyCandidates, NoMemory}
@@ -10,42 +10,36 @@ use Rattle.olr_candidates.specs.declared.rejection.Rejection.{Rejection}
 use Rattle.olr_candidates.specs.declared.tolerances.Tolerances.{Tolerances}
 use Rattle.olr_candidates.specs.Candidates.{IsCandidateAt, IsRejectionAt, AreCandidates, AreTooMany}
 
+-- This holds of a point of a reference: of the origin of the plane, of the point, and of whether it
+-- is the last one.
+pub record HoldsAt (reference : Reference) (index : ℕ)
+    (Holds : Coordinates → Point → Bool → Type 0) : Type 0 where
+  pub first : Point
+  pub point : Point
+  pub first_is : slice_get (points_of reference) 0 ≡ Some first
+  pub point_is : slice_get (points_of reference) index ≡ Some point
+  pub just : Holds (coordinates_of first.at) point (index + 1 == length (points_of reference))
+
 module _ (tolerances : Tolerances) (reference : Reference) (lines : List RoadLine) where
   -- the line of a rank is this candidate of a point
-  pub record IsCandidateOf (index rank : ℕ) (candidate : Candidate) : Type 0 where
-    pub first : Point
-    pub point : Point
-    pub first_is : slice_get (points_of reference) 0 ≡ Some first
-    pub point_is : slice_get (points_of reference) index ≡ Some point
-    pub just : IsCandidateAt tolerances (coordinates_of first.at) point
-        (index + 1 == length (points_of reference)) lines rank candidate
+  abbrev pub IsCandidateOf : ℕ → ℕ → Candidate → Type 0
+  IsCandidateOf index rank candidate = HoldsAt reference index
+      (λ origin point is_last. IsCandidateAt tolerances origin point is_last lines rank candidate)
 
   -- the line of a rank is no candidate of a point for this reason
-  pub record IsRejectionOf (index rank : ℕ) (rejection : Rejection) : Type 0 where
-    pub first : Point
-    pub point : Point
-    pub first_is : slice_get (points_of reference) 0 ≡ Some first
-    pub point_is : slice_get (points_of reference) index ≡ Some point
-    pub just : IsRejectionAt tolerances (coordinates_of first.at) point
-        (index + 1 == length (points_of reference)) lines rank rejection
+  abbrev pub IsRejectionOf : ℕ → ℕ → Rejection → Type 0
+  IsRejectionOf index rank rejection = HoldsAt reference index
+      (λ origin point is_last. IsRejectionAt tolerances origin point is_last lines rank rejection)
 
   -- exactly the candidates of a point, in their order
-  pub record AreCandidatesOf (index : ℕ) (candidates : List Candidate) : Type 0 where
-    pub first : Point
-    pub point : Point
-    pub first_is : slice_get (points_of reference) 0 ≡ Some first
-    pub point_is : slice_get (points_of reference) index ≡ Some point
-    pub just : AreCandidates tolerances (coordinates_of first.at) point
-        (index + 1 == length (points_of reference)) lines candidates
+  abbrev pub AreCandidatesOf : ℕ → List Candidate → Type 0
+  AreCandidatesOf index candidates = HoldsAt reference index
+      (λ origin point is_last. AreCandidates tolerances origin point is_last lines candidates)
 
   -- a point has more than 64
-  pub record HasTooMany (index : ℕ) : Type 0 where
-    pub first : Point
-    pub point : Point
-    pub first_is : slice_get (points_of reference) 0 ≡ Some first
-    pub point_is : slice_get (points_of reference) index ≡ Some point
-    pub many : AreTooMany tolerances (coordinates_of first.at) point
-        (index + 1 == length (points_of reference)) lines
+  abbrev pub HasTooMany : ℕ → Type 0
+  HasTooMany index = HoldsAt reference index
+      (λ origin point is_last. AreTooMany tolerances origin point is_last lines)
 
   -- exactly the candidates of a point, of which there are at most 64
   abbrev pub IsListOf : ℕ → List Candidate → Type 0

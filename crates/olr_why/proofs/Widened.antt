@@ -138,8 +138,8 @@ module _ {before after : Tolerances} (at_most : AreAtMost before after) where
     point = it.point;
     first_is = it.first_is;
     point_is = it.point_is;
-    many = still_too_many (coordinates_of it.first.at) it.point
-        (index + 1 == length (points_of reference)) lines one_a_line it.many;
+    just = still_too_many (coordinates_of it.first.at) it.point
+        (index + 1 == length (points_of reference)) lines one_a_line it.just;
   }
 
   -- ---- tuples

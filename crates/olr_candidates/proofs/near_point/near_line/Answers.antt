@@ -1,7 +1,8 @@
-use Rattle.olr_candidates.proofs.OfPoints as of_points
+use Rattle.olr_candidates.proofs.Common.{IsNearLineAt}
+use Rattle.olr_candidates.proofs.OfPoints.{of_point}
 use Rattle.olr_candidates.proofs.near_point.near_line.Goals as goal
 
 pub returns : goal.returns
-returns c =
-    of_points.near_line _ _ _ _
-    _ c.query_of.ensures.query _ _ c.near_at.ensures
+returns c = of_point _ _ _ _ c.query_of.ensures.query
+    (λ t o p l. IsNearLineAt t o p l c.args.map.now.lines c.args.rank c.near_at.result)
+    c.near_at.ensures
