@@ -188,14 +188,17 @@ whole_row p layer inside there all = row_same
     (λ total on. rw all (by_remaining _ _ _ inside there on))
 
 -- the row of a candidate of the last layer
-pub last_row : (p : Penalties) (layer rank penalty : ℕ) → layer + 1 ≡ length p.candidates
-    → penalty_at p layer rank ≡ Some penalty
-    → (penalty < width_of p) × IsRowOf (IsRemainingTotal p layer rank) (width_of p)
-    (set (replicate (width_of p) 0) penalty 1)
-last_row p layer rank penalty last there =
+pub last_row : (p : Penalties) (layer rank penalty index : ℕ) (row : List ℕ)
+    → layer + 1 ≡ length p.candidates → penalty_at p layer rank ≡ Some penalty → index ≡ penalty
+    → row ≡ replicate (width_of p) 0
+    → (index < length row) × IsRowOf (IsRemainingTotal p layer rank) (width_of p) (set row index 1)
+last_row p layer rank penalty index row last there same empty =
     let on = remaining_last _ _ _ last there in
     let inside = remaining_below _ _ _ _ on in
-    (inside, one_row _ _ inside on (λ total other. only_last _ _ _ last there other))
+    rw (empty, same) (
+      rw (length-replicate {A = ℕ} (width_of p) 0) inside,
+      one_row _ _ inside on (λ total other. only_last _ _ _ last there other),
+    )
 
 -- ---- the rows of a layer
 

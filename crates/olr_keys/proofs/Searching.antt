@@ -265,6 +265,10 @@ appends_deeper P Q ranks pushed longer rank is more (found, longer_is, on) = (
   more found on,
 )
 
+pub pushed_length : {pushed : List ℕ} (ranks : List ℕ) (rank : ℕ) → pushed ≡ ranks ++ rank ∷ []
+    → length pushed ≡ length ranks + 1
+pushed_length ranks rank is = rw is (length-append ranks (rank ∷ []))
+
 pub appends_nothing : {P : List ℕ → Type 0} (ranks : List ℕ) → P [] → Appends ranks ranks P
 appends_nothing ranks on = ([], sym (append-nil ranks), on)
 

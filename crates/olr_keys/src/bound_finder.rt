@@ -1,7 +1,7 @@
 //! The finder with bounds, which leaves what can't hold the next key.
 
 ghost use Rattle.std.specs.Prelude.{◌≡◌, ◌≤◌, ◌<◌, ◌+◌, ◌*◌, ◌⊎◌, length};
-ghost use Rattle.std.specs.Prelude.{Decides, IfOk, IfSome, IsOk, MatchOption, option_map};
+ghost use Rattle.std.specs.Prelude.{Decides, IfOk, IfSome, IsOk, MatchOption, Some, option_map};
 ghost use Rattle.olr_keys.specs.Answers.{AreAnswers};
 ghost use Rattle.olr_keys.specs.AnswersOf.{answers_of};
 ghost use Rattle.olr_keys.specs.Bounds.{HasNoCompletionBy, IsHeldBefore, IsLeft};
@@ -11,13 +11,13 @@ ghost use Rattle.olr_keys.specs.Product.{Completes, IsBeginning, IsHeld, IsJoine
 ghost use Rattle.olr_keys.specs.Table.{IsTable, count_of, max_leg, max_step, max_total};
 
 use crate::before::comes_before;
+use crate::beginning::Beginning;
 use crate::bound_table::Bounds;
 use crate::finder::Finder;
 use crate::key::Key;
 use crate::matching::is_key;
-use crate::product::{lesser, with_rank};
+use crate::product::lesser;
 use crate::table::Table;
-use arrayvec::ArrayVec;
 use olr_base::NoMemory;
 use std::alloc::Global;
 
@@ -68,7 +68,7 @@ impl<'a> Finder for BoundFinder<'a> {
         ensures same { answers_of self.new.bounds ≡ answers_of self.old.bounds }
         ensures never_fails { IsOk result }
     {
-        Ok(least_from(&self.bounds, None, 0, ArrayVec::new(), after, None))
+        Ok(least_from(&self.bounds, Beginning::new(), after, None))
     }
 }
 
@@ -114,75 +114,62 @@ fn is_held_before(held: &Option<Key>, total: u16, ranks: &[u8]) -> bool
     comes_before(held, total, ranks)
 }
 
-/// A beginning of a matching.
-#[derive(Drop)]
-struct Beginning {
-    /// The sum of its penalties.
-    total: u16,
-    /// The ranks of its candidates, one for each of the first layers.
-    ranks: ArrayVec<u8, 32>,
-}
-
 /// The beginning with the candidate of this rank in the next layer; `None` where it is left: it
 /// can't be completed, or each key that completes it comes after the one held.
-fn longer(
-    bounds: &Bounds,
-    before: Option<u8>,
-    total: u16,
-    ranks: &ArrayVec<u8, 32>,
-    rank: u8,
-    held: &Option<Key>,
-) -> Option<Beginning>
-    requires layer { length ranks.now.items < length bounds.now.candidates }
-    requires before { IfSome before (λ first. (1 ≤ length ranks.now.items) × (1 ≤ first)) }
-    requires rank { (1 ≤ rank) × (rank ≤ count_of bounds.now (length ranks.now.items)) }
-    requires total { total ≤ max_step * length ranks.now.items }
+fn longer(bounds: &Bounds, beginning: &Beginning, rank: u8, held: &Option<Key>) -> Option<Beginning>
+    requires layer { length beginning.now.ranks.items < length bounds.now.candidates }
+    requires before { IfSome beginning.now.before
+        (λ first. (1 ≤ length beginning.now.ranks.items) × (1 ≤ first)) }
+    requires rank { (1 ≤ rank)
+        × (rank ≤ count_of bounds.now (length beginning.now.ranks.items)) }
+    requires total { beginning.now.total ≤ max_step * length beginning.now.ranks.items }
     ensures { MatchOption result
-        (IsLeft bounds.now before total ranks.now.items rank held.now)
-        (λ more. IsLonger bounds.now before total ranks.now.items rank
-        more.total more.ranks.items) }
+        (IsLeft bounds.now beginning.now.before beginning.now.total beginning.now.ranks.items
+        rank held.now)
+        (λ more. (more.before ≡ Some rank)
+        × IsLonger bounds.now beginning.now.before beginning.now.total beginning.now.ranks.items
+        rank more.total more.ranks.items) }
 {
-    let Some(step) = step_to(bounds, ranks.len(), before, rank) else {
+    let Some(step) = step_to(bounds, beginning.ranks.len(), beginning.before, rank) else {
         return None;
     };
-    let more = with_rank(ranks, rank);
-    if is_held_before(held, total + step.least, more.as_slice()) {
+    let more = beginning.longer(rank, step.sum);
+    if is_held_before(held, beginning.total + step.least, more.ranks.as_slice()) {
         return None;
     }
-    Some(Beginning {
-        total: total + step.sum,
-        ranks: more,
-    })
+    Some(more)
 }
 
-/// The least key that comes after `after` and completes the beginning of a matching, or the key
-/// held so far, if it is less. The beginning is given by the ranks of its first candidates, the
-/// last of them `before`, and the sum of their penalties.
+/// The least key that comes after `after` and completes a beginning of a matching, or the key held
+/// so far, if it is less.
 fn least_from(
     bounds: &Bounds,
-    before: Option<u8>,
-    total: u16,
-    ranks: ArrayVec<u8, 32>,
+    beginning: Beginning,
     after: Option<&Key>,
     held: Option<Key>,
 ) -> Option<Key>
-    requires layers { length ranks.items ≤ length bounds.now.candidates }
-    requires before { IfSome before (λ first. (1 ≤ length ranks.items) × (1 ≤ first)) }
-    requires total { total ≤ max_step * length ranks.items }
-    requires keys { IsBeginning bounds.now before total ranks.items }
+    requires layers { length beginning.ranks.items ≤ length bounds.now.candidates }
+    requires before { IfSome beginning.before
+        (λ first. (1 ≤ length beginning.ranks.items) × (1 ≤ first)) }
+    requires total { beginning.total ≤ max_step * length beginning.ranks.items }
+    requires keys { IsBeginning bounds.now beginning.before beginning.total beginning.ranks.items }
     ensures { IsLeastOf (λ key. IsHeld held key
-        ⊎ (Completes bounds.now before total ranks.items key
+        ⊎ (Completes bounds.now beginning.before beginning.total beginning.ranks.items key
         × IsAfter (option_map (λ at. at.now) after.entry) key)) result }
 {
-    let layer = ranks.len();
+    let layer = beginning.ranks.len();
     if layer == bounds.layers() {
-        return lesser(Key { total, ranks }, after, held);
+        let key = Key {
+            total: beginning.total,
+            ranks: beginning.ranks,
+        };
+        return lesser(key, after, held);
     }
     let mut least = held;
     for index in 0..bounds.count(layer) {
         let rank = index as u8 + 1;
-        if let Some(more) = longer(bounds, before, total, &ranks, rank, &least) {
-            least = least_from(bounds, Some(rank), more.total, more.ranks, after, least);
+        if let Some(more) = longer(bounds, &beginning, rank, &least) {
+            least = least_from(bounds, more, after, least);
         }
     }
     least

@@ -7,7 +7,7 @@ ghost use Rattle.olr_keys.specs.Bounds.{AreBoundsOf, IsBound, IsLeastNumber, IsT
 ghost use Rattle.olr_keys.specs.Bounds.{lesser_of};
 ghost use Rattle.olr_keys.specs.Table.{IsTable, count_of, penalty_at, max_penalty};
 
-use crate::table::{Table, list_at};
+use crate::table::{Candidate, Table, list_at};
 use olr_base::NoMemory;
 use std::alloc::Global;
 use std::marker::Model;
@@ -141,59 +141,49 @@ fn bound(table: &Table, layer: usize, rank: u8, next: &[Option<u16>]) -> Option<
     if layer + 1 == layers {
         return Some(penalty);
     }
-    least_by(table, layer, rank, penalty, next)
+    let from = Candidate {
+        layer,
+        rank,
+        penalty,
+    };
+    least_by(table, from, next)
 }
 
-/// The bound of a candidate of this penalty in a layer before the last one.
+/// The bound of a candidate in a layer before the last one.
 #[tactic(auto, using(crate::proofs::Bounding::least_more, crate::proofs::Bounding::least_whole))]
-fn least_by(
-    table: &Table,
-    layer: usize,
-    rank: u8,
-    penalty: u16,
-    next: &[Option<u16>],
-) -> Option<u16>
+fn least_by(table: &Table, from: Candidate, next: &[Option<u16>]) -> Option<u16>
     requires sound { IsTable table.now }
-    requires layer { layer + 1 < length table.now.candidates }
-    requires rank { 1 ≤ rank }
-    requires penalty { penalty_at table.now layer rank ≡ Some penalty }
-    requires next { AreBoundsOf table.now (layer + 1) next.now }
-    ensures { IsBound table.now layer rank result }
+    requires layer { from.layer + 1 < length table.now.candidates }
+    requires rank { 1 ≤ from.rank }
+    requires penalty { penalty_at table.now from.layer from.rank ≡ Some from.penalty }
+    requires next { AreBoundsOf table.now (from.layer + 1) next.now }
+    ensures { IsBound table.now from.layer from.rank result }
 {
     let mut least = None;
     let mut second = 0;
     for bound in next {
         second += 1;
-        least = lesser(
-            least,
-            total_through(table, layer, rank, penalty, second, *bound),
-        );
+        least = lesser(least, total_through(table, from, second, *bound));
     }
     least
 }
 
-/// The least total of a candidate of this penalty with the candidate of the rank `second` in the
-/// next layer, which has this bound; `None` where there is no such total.
-fn total_through(
-    table: &Table,
-    layer: usize,
-    rank: u8,
-    penalty: u16,
-    second: u8,
-    bound: Option<u16>,
-) -> Option<u16>
+/// The least total of a candidate with the candidate of the rank `second` in the next layer, which
+/// has this bound; `None` where there is no such total.
+fn total_through(table: &Table, from: Candidate, second: u8, bound: Option<u16>) -> Option<u16>
     requires sound { IsTable table.now }
-    requires layer { layer + 1 < length table.now.candidates }
-    requires ranks { (1 ≤ rank) × (1 ≤ second) }
-    requires penalty { penalty ≤ max_penalty }
-    requires bound { IsBound table.now (layer + 1) second bound }
-    ensures { IsLeastNumber (IsTotalThrough table.now layer rank penalty second) result }
+    requires layer { from.layer + 1 < length table.now.candidates }
+    requires ranks { (1 ≤ from.rank) × (1 ≤ second) }
+    requires penalty { from.penalty ≤ max_penalty }
+    requires bound { IsBound table.now (from.layer + 1) second bound }
+    ensures { IsLeastNumber
+        (IsTotalThrough table.now from.layer from.rank from.penalty second) result }
 {
     let Some(further) = bound else {
         return None;
     };
-    let leg = table.leg_to(layer + 1, Some(rank), second)?;
-    Some(penalty + u16::from(leg) + further)
+    let leg = table.leg_to(from.layer + 1, Some(from.rank), second)?;
+    Some(from.penalty + u16::from(leg) + further)
 }
 
 /// The lesser one of two numbers, if there are two, or the one that there is.

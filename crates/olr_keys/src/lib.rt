@@ -7,8 +7,8 @@
 //! - [`table`]: the penalties of candidates and legs; [`limits`]: whether lists are the penalties
 //!   of a table; [`matching`]: the total of ranks, if they are a matching.
 //! - [`key`]: the key of a matching; [`before`]: which of two keys comes first.
-//! - [`finder`]: what finds the next key; [`product`]: the plain finder, which goes through all
-//!   combinations.
+//! - [`finder`]: what finds the next key; [`beginning`]: the beginning of a matching; [`product`]:
+//!   the plain finder, which goes through all combinations.
 //! - [`bound_table`]: the least remaining total of each candidate; [`bound_finder`]: the finder
 //!   that leaves what can't hold the next key by these totals.
 //! - [`mod@width`], [`shifted`]: how wide a row of remaining totals is, and how two rows are
@@ -23,6 +23,7 @@
 #![tactic(auto)]
 
 mod before;
+mod beginning;
 mod bound_finder;
 mod bound_table;
 mod chain;

@@ -1,6 +1,6 @@
 //! The plain finder, which goes through all combinations of candidates.
 
-ghost use Rattle.std.specs.Prelude.{◌≡◌, ◌≤◌, ◌<◌, ◌+◌, ◌*◌, ◌⊎◌, [], ◌∷◌, ◌++◌, length};
+ghost use Rattle.std.specs.Prelude.{◌≡◌, ◌≤◌, ◌*◌, ◌⊎◌, length};
 ghost use Rattle.std.specs.Prelude.{IfOk, IfSome, IsOk, option_map};
 ghost use Rattle.olr_keys.specs.Answers.{AreAnswers};
 ghost use Rattle.olr_keys.specs.AnswersOf.{answers_of};
@@ -9,11 +9,11 @@ ghost use Rattle.olr_keys.specs.Table.{max_step};
 ghost use Rattle.olr_keys.specs.Product.{IsBeginning, Completes, IsHeld};
 
 use crate::before::is_before;
+use crate::beginning::Beginning;
 use crate::finder::Finder;
 use crate::key::Key;
 use crate::matching::is_key;
 use crate::table::Table;
-use arrayvec::ArrayVec;
 use olr_base::NoMemory;
 use std::alloc::Global;
 
@@ -55,21 +55,8 @@ impl<'a> Finder for ProductFinder<'a> {
         ensures same { answers_of self.new.table.now ≡ answers_of self.old.table.now }
         ensures never_fails { IsOk result }
     {
-        Ok(least_from(self.table, None, 0, ArrayVec::new(), after, None))
+        Ok(least_from(self.table, Beginning::new(), after, None))
     }
-}
-
-/// These ranks and one more.
-pub(crate) fn with_rank(ranks: &ArrayVec<u8, 32>, rank: u8) -> ArrayVec<u8, 32>
-    requires { length ranks.now.items < 32 }
-    ensures { result.items ≡ ranks.now.items ++ rank ∷ [] }
-{
-    let mut longer = ArrayVec::new();
-    for other in ranks.as_slice() {
-        longer.push(*other);
-    }
-    longer.push(rank);
-    longer
 }
 
 /// The lesser one of a key, if it comes after `after`, and the key held so far.
@@ -92,35 +79,37 @@ pub(crate) fn lesser(key: Key, after: Option<&Key>, held: Option<Key>) -> Option
     }
 }
 
-/// The least key that comes after `after` and completes the beginning of a matching, or the key
-/// held so far, if it is less. The beginning is given by the ranks of its first candidates, the
-/// last of them `before`, and the sum of their penalties.
+/// The least key that comes after `after` and completes a beginning of a matching, or the key held
+/// so far, if it is less.
 fn least_from(
     table: &Table,
-    before: Option<u8>,
-    total: u16,
-    ranks: ArrayVec<u8, 32>,
+    beginning: Beginning,
     after: Option<&Key>,
     held: Option<Key>,
 ) -> Option<Key>
-    requires layers { length ranks.items ≤ length table.now.candidates }
-    requires before { IfSome before (λ first. (1 ≤ length ranks.items) × (1 ≤ first)) }
-    requires total { total ≤ max_step * length ranks.items }
-    requires keys { IsBeginning table.now before total ranks.items }
-    ensures { IsLeastOf (λ key. IsHeld held key ⊎ (Completes table.now before total ranks.items key
+    requires layers { length beginning.ranks.items ≤ length table.now.candidates }
+    requires before { IfSome beginning.before
+        (λ first. (1 ≤ length beginning.ranks.items) × (1 ≤ first)) }
+    requires total { beginning.total ≤ max_step * length beginning.ranks.items }
+    requires keys { IsBeginning table.now beginning.before beginning.total beginning.ranks.items }
+    ensures { IsLeastOf (λ key. IsHeld held key
+        ⊎ (Completes table.now beginning.before beginning.total beginning.ranks.items key
         × IsAfter (option_map (λ at. at.now) after.entry) key)) result }
 {
-    let layer = ranks.len();
+    let layer = beginning.ranks.len();
     if layer == table.layers() {
-        return lesser(Key { total, ranks }, after, held);
+        let key = Key {
+            total: beginning.total,
+            ranks: beginning.ranks,
+        };
+        return lesser(key, after, held);
     }
     let mut least = held;
     for index in 0..table.count(layer) {
         let rank = index as u8 + 1;
-        if let Some(joined) = table.joined(layer, before, rank) {
-            let sum = joined.leg + joined.penalty;
-            let longer = with_rank(&ranks, rank);
-            least = least_from(table, Some(rank), total + sum, longer, after, least);
+        if let Some(joined) = table.joined(layer, beginning.before, rank) {
+            let longer = beginning.longer(rank, joined.leg + joined.penalty);
+            least = least_from(table, longer, after, least);
         }
     }
     least

@@ -53,7 +53,7 @@ fn next_of_total(rows: &mut Rows, after: &Key) -> Option<Key>
     ensures same { rows.new.penalties ≡ rows.old.penalties }
 {
     let mut ranks = ArrayVec::new();
-    if !next_completion(rows, 0, None, &after.ranks, after.total, &mut ranks) {
+    if !next_completion(rows, Rest::of(after.total), &after.ranks, &mut ranks) {
         return None;
     }
     Some(Key {
@@ -73,7 +73,7 @@ fn first_from(rows: &mut Rows, from: usize) -> Option<Key>
 {
     let total = next_total(rows, from)?;
     let mut ranks = ArrayVec::new();
-    descend(rows, 0, None, total, &mut ranks);
+    descend(rows, Rest::of(total), &mut ranks);
     Some(Key { total, ranks })
 }
 
@@ -97,6 +97,41 @@ fn next_total(rows: &mut Rows, from: usize) -> Option<u16>
     None
 }
 
+/// What is left of a matching that is searched for: a completion from a layer on.
+#[derive(Clone, Copy)]
+struct Rest {
+    layer: usize,
+    /// The rank of the candidate in the layer before, `None` in layer 0.
+    before: Option<u8>,
+    /// The total of the completion.
+    total: u16,
+}
+
+impl Rest {
+    /// A whole matching with this total.
+    fn of(total: u16) -> Rest
+        ensures { result ≡ record { layer = 0; before = None; total = total } }
+    {
+        Rest {
+            layer: 0,
+            before: None,
+            total,
+        }
+    }
+
+    /// What is left after a step to the candidate of this rank, which leaves this total.
+    fn after(self, rank: u8, left: u16) -> Rest
+        requires { self.layer < 32 }
+        ensures { result ≡ record { layer = self.layer + 1; before = Some rank; total = left } }
+    {
+        Rest {
+            layer: self.layer + 1,
+            before: Some(rank),
+            total: left,
+        }
+    }
+}
+
 /// A step to a candidate: its rank, and what is left of the total.
 #[derive(Clone, Copy)]
 struct Step {
@@ -104,128 +139,104 @@ struct Step {
     left: u16,
 }
 
-/// The step to the first candidate of a layer with a rank greater than `above` that has one, with
-/// `rest` of a total to go. It makes at most one probe for each of these candidates.
-fn next_step(
-    rows: &mut Rows,
-    layer: usize,
-    before: Option<u8>,
-    above: u8,
-    rest: u16,
-) -> Option<Step>
-    requires layer { layer < length rows.old.penalties.candidates }
-    requires before { IsPredecessor rows.old.penalties layer before }
-    requires above { above ≤ count_of rows.old.penalties layer }
-    ensures step { MatchOption result (HasNoStep rows.old.penalties layer before above rest)
-        (λ step. IsFirstStep rows.old.penalties layer before above rest step.rank step.left) }
+/// The step to the first candidate with a rank greater than `above` that has one. It makes at most
+/// one probe for each of these candidates.
+fn next_step(rows: &mut Rows, rest: Rest, above: u8) -> Option<Step>
+    requires layer { rest.layer < length rows.old.penalties.candidates }
+    requires before { IsPredecessor rows.old.penalties rest.layer rest.before }
+    requires above { above ≤ count_of rows.old.penalties rest.layer }
+    ensures step { MatchOption result
+        (HasNoStep rows.old.penalties rest.layer rest.before above rest.total)
+        (λ step. IsFirstStep rows.old.penalties rest.layer rest.before above rest.total
+        step.rank step.left) }
     ensures probes { rows.new.probes
-        ≤ rows.old.probes + (count_of rows.old.penalties layer - above) }
+        ≤ rows.old.probes + (count_of rows.old.penalties rest.layer - above) }
     ensures rises { rows.old.probes ≤ rows.new.probes }
     ensures same { rows.new.penalties ≡ rows.old.penalties }
 {
-    for index in usize::from(above)..rows.count(layer) {
+    for index in usize::from(above)..rows.count(rest.layer) {
         let rank = index as u8 + 1;
-        if let Some(left) = rows.test(layer, before, rank, rest) {
+        if let Some(left) = rows.test(rest.layer, rest.before, rank, rest.total) {
             return Some(Step { rank, left });
         }
     }
     None
 }
 
-/// Appends the first completion with the total `rest`, one rank for each layer from this one on. It
-/// makes at most one probe for each candidate of these layers: after each step there is a
-/// completion, so it never backs up.
-fn descend(
-    rows: &mut Rows,
-    layer: usize,
-    before: Option<u8>,
-    rest: u16,
-    ranks: &mut ArrayVec<u8, 32>,
-)
-    requires layer { layer ≤ length rows.old.penalties.candidates }
-    requires before { IsPredecessor rows.old.penalties layer before }
-    requires completion { HasCompletion rows.old.penalties layer before rest }
-    requires ranks { length ranks.old.items ≡ layer }
+/// Appends the first completion, one rank for each layer that is left. It makes at most one probe
+/// for each candidate of these layers: after each step there is a completion, so it never backs
+/// up.
+fn descend(rows: &mut Rows, rest: Rest, ranks: &mut ArrayVec<u8, 32>)
+    requires layer { rest.layer ≤ length rows.old.penalties.candidates }
+    requires before { IsPredecessor rows.old.penalties rest.layer rest.before }
+    requires completion { HasCompletion rows.old.penalties rest.layer rest.before rest.total }
+    requires ranks { length ranks.old.items ≡ rest.layer }
     ensures found { Appends ranks.old.items ranks.new.items
-        (IsFirstCompletion rows.old.penalties layer before rest) }
+        (IsFirstCompletion rows.old.penalties rest.layer rest.before rest.total) }
     ensures probes { rows.new.probes
         ≤ rows.old.probes
-        + (length rows.old.penalties.candidates - layer) * most_of rows.old.penalties }
+        + (length rows.old.penalties.candidates - rest.layer) * most_of rows.old.penalties }
     ensures sound { IsTable rows.old.penalties }
     ensures rises { rows.old.probes ≤ rows.new.probes }
     ensures same { rows.new.penalties ≡ rows.old.penalties }
 {
-    if layer == rows.layers() {
+    if rest.layer == rows.layers() {
         return;
     }
-    if let Some(step) = next_step(rows, layer, before, 0, rest) {
+    if let Some(step) = next_step(rows, rest, 0) {
         ranks.push(step.rank);
-        descend(rows, layer + 1, Some(step.rank), step.left, ranks);
+        descend(rows, rest.after(step.rank, step.left), ranks);
     }
 }
 
-/// Appends the first completion with the total `rest` whose first rank is greater than `above`, and
-/// answers whether there is one.
-fn first_above(
-    rows: &mut Rows,
-    layer: usize,
-    before: Option<u8>,
-    above: u8,
-    rest: u16,
-    ranks: &mut ArrayVec<u8, 32>,
-) -> bool
-    requires layer { layer < length rows.old.penalties.candidates }
+/// Appends the first completion whose first rank is greater than `above`, and answers whether there
+/// is one.
+fn first_above(rows: &mut Rows, rest: Rest, above: u8, ranks: &mut ArrayVec<u8, 32>) -> bool
+    requires layer { rest.layer < length rows.old.penalties.candidates }
     requires layers { length rows.old.penalties.candidates ≤ 32 }
-    requires before { IsPredecessor rows.old.penalties layer before }
-    requires above { above ≤ count_of rows.old.penalties layer }
-    requires ranks { length ranks.old.items ≡ layer }
+    requires before { IsPredecessor rows.old.penalties rest.layer rest.before }
+    requires above { above ≤ count_of rows.old.penalties rest.layer }
+    requires ranks { length ranks.old.items ≡ rest.layer }
     ensures found { MatchBool result
         (Appends ranks.old.items ranks.new.items
-        (IsFirstAbove rows.old.penalties layer before above rest))
-        (HasNoStep rows.old.penalties layer before above rest
+        (IsFirstAbove rows.old.penalties rest.layer rest.before above rest.total))
+        (HasNoStep rows.old.penalties rest.layer rest.before above rest.total
         × (ranks.new.items ≡ ranks.old.items)) }
     ensures probes { MatchBool result
-        (rows.new.probes ≤ rows.old.probes + (count_of rows.old.penalties layer - above)
-        + (length rows.old.penalties.candidates - (layer + 1)) * most_of rows.old.penalties)
-        (rows.new.probes ≤ rows.old.probes + (count_of rows.old.penalties layer - above)) }
+        (rows.new.probes ≤ rows.old.probes + (count_of rows.old.penalties rest.layer - above)
+        + (length rows.old.penalties.candidates - (rest.layer + 1)) * most_of rows.old.penalties)
+        (rows.new.probes ≤ rows.old.probes + (count_of rows.old.penalties rest.layer - above)) }
     ensures sound { IsTrue result → IsTable rows.old.penalties }
     ensures rises { rows.old.probes ≤ rows.new.probes }
     ensures same { rows.new.penalties ≡ rows.old.penalties }
 {
-    let Some(step) = next_step(rows, layer, before, above, rest) else {
+    let Some(step) = next_step(rows, rest, above) else {
         return false;
     };
     ranks.push(step.rank);
-    descend(rows, layer + 1, Some(step.rank), step.left, ranks);
+    descend(rows, rest.after(step.rank, step.left), ranks);
     true
 }
 
-/// Appends the first completion with the total `rest` that comes after the one with the ranks
-/// `cursor`, and answers whether there is one. It tests the cursor's own ranks one after the other,
-/// then greater ones from the last layer back. From the first of these that has a step it only
-/// descends.
-fn next_completion(
-    rows: &mut Rows,
-    layer: usize,
-    before: Option<u8>,
-    cursor: &[u8],
-    rest: u16,
-    ranks: &mut ArrayVec<u8, 32>,
-) -> bool
+/// Appends the first completion that comes after the one with the ranks `cursor`, and answers
+/// whether there is one. It tests the cursor's own ranks one after the other, then greater ones
+/// from the last layer back. From the first of these that has a step it only descends.
+fn next_completion(rows: &mut Rows, rest: Rest, cursor: &[u8], ranks: &mut ArrayVec<u8, 32>) -> bool
     requires layers { length rows.old.penalties.candidates ≤ 32 }
-    requires before { IsPredecessor rows.old.penalties layer before }
-    requires completion { IsCompletion rows.old.penalties layer before cursor.now rest }
-    requires ranks { length ranks.old.items ≡ layer }
+    requires before { IsPredecessor rows.old.penalties rest.layer rest.before }
+    requires completion { IsCompletion rows.old.penalties rest.layer rest.before cursor.now
+        rest.total }
+    requires ranks { length ranks.old.items ≡ rest.layer }
     ensures found { MatchBool result
         (Appends ranks.old.items ranks.new.items
-        (IsNextCompletion rows.old.penalties layer before rest cursor.now))
-        (HasNoNextCompletion rows.old.penalties layer before rest cursor.now
+        (IsNextCompletion rows.old.penalties rest.layer rest.before rest.total cursor.now))
+        (HasNoNextCompletion rows.old.penalties rest.layer rest.before rest.total cursor.now
         × (ranks.new.items ≡ ranks.old.items)) }
     ensures probes { MatchBool result
         (rows.new.probes ≤ rows.old.probes
-        + 2 * ((length rows.old.penalties.candidates - layer) * most_of rows.old.penalties))
+        + 2 * ((length rows.old.penalties.candidates - rest.layer) * most_of rows.old.penalties))
         (rows.new.probes ≤ rows.old.probes
-        + (length rows.old.penalties.candidates - layer) * most_of rows.old.penalties) }
+        + (length rows.old.penalties.candidates - rest.layer) * most_of rows.old.penalties) }
     ensures sound { IsTrue result → IsTable rows.old.penalties }
     ensures rises { rows.old.probes ≤ rows.new.probes }
     ensures same { rows.new.penalties ≡ rows.old.penalties }
@@ -233,13 +244,13 @@ fn next_completion(
     let Some((own, others)) = cursor.split_first() else {
         return false;
     };
-    let Some(left) = rows.test(layer, before, *own, rest) else {
+    let Some(left) = rows.test(rest.layer, rest.before, *own, rest.total) else {
         return false;
     };
     ranks.push(*own);
-    if next_completion(rows, layer + 1, Some(*own), others, left, ranks) {
+    if next_completion(rows, rest.after(*own, left), others, ranks) {
         return true;
     }
     ranks.pop();
-    first_above(rows, layer, before, *own, rest, ranks)
+    first_above(rows, rest, *own, ranks)
 }

@@ -34,6 +34,17 @@ impl Model for Table {
     ghost invariant = { λ t. IsTable (penalties_of t.candidates.items t.legs.items) };
 }
 
+/// A candidate of a table.
+#[derive(Clone, Copy)]
+pub(crate) struct Candidate {
+    /// Its layer, counted from 0.
+    pub(crate) layer: usize,
+    /// Its rank in the layer, counted from 1.
+    pub(crate) rank: u8,
+    /// Its penalty.
+    pub(crate) penalty: u16,
+}
+
 /// A candidate that is joined to the one before it.
 #[derive(Clone, Copy)]
 pub(crate) struct Joined {

@@ -8,61 +8,53 @@ ghost use Rattle.olr_keys.specs.Rows.{layers_of, rows_of, width_of};
 ghost use Rattle.olr_keys.specs.Table.{IsTable, penalty_at, max_total};
 
 use crate::shifted::or_shifted;
-use crate::table::{Table, list_at};
+use crate::table::{Candidate, Table, list_at};
 use olr_base::NoMemory;
 use std::alloc::Global;
 
-/// The row of a candidate, which marks its remaining totals. `next` holds the rows of the next
+/// Marks in an empty row the remaining totals of a candidate. `next` holds the rows of the next
 /// layer, none at the last.
-///
-/// # Errors
-///
-/// [`NoMemory`] where the allocator refused memory.
-pub(super) fn row(
-    alloc: Global,
-    table: &Table,
-    layer: usize,
-    rank: u8,
-    width: usize,
-    next: &[Vec<u8>],
-) -> Result<Vec<u8>, NoMemory>
+fn mark_row(row: &mut [u8], table: &Table, layer: usize, rank: u8, next: &[Vec<u8>])
     requires layer { layer < length table.now.candidates }
     requires rank { 1 ≤ rank }
-    requires width { width ≡ width_of table.now }
-    requires next { AreRowsOf table.now (layer + 1) (rows_of next.now) }
-    ensures { IfOk result
-        (λ row. IsRowOf (IsRemainingTotal table.now layer rank) (width_of table.now) row.items) }
-{
-    let layers = table.layers();
-    let mut row = vec![in alloc; 0; width]?;
-    let Some(penalty) = table.penalty(layer, rank) else {
-        return Ok(row);
-    };
-    if layer + 1 == layers {
-        row[usize::from(penalty)] = 1;
-    } else {
-        join_next(&mut row, table, layer, rank, penalty, next);
-    }
-    Ok(row)
-}
-
-/// Marks in an empty row the remaining totals of a candidate of this penalty: the row of each
-/// candidate of the next layer to which there is a leg, moved by the penalties of the candidate and
-/// of the leg.
-fn join_next(row: &mut [u8], table: &Table, layer: usize, rank: u8, penalty: u16, next: &[Vec<u8>])
-    requires sound { IsTable table.now }
-    requires layer { layer + 1 < length table.now.candidates }
-    requires rank { 1 ≤ rank }
-    requires penalty { penalty_at table.now layer rank ≡ Some penalty }
     requires next { AreRowsOf table.now (layer + 1) (rows_of next.now) }
     requires empty { row.old ≡ replicate (width_of table.now) 0 }
     ensures { IsRowOf (IsRemainingTotal table.now layer rank) (width_of table.now) row.new }
 {
+    let layers = table.layers();
+    let Some(penalty) = table.penalty(layer, rank) else {
+        return;
+    };
+    if layer + 1 == layers {
+        row[usize::from(penalty)] = 1;
+    } else {
+        let from = Candidate {
+            layer,
+            rank,
+            penalty,
+        };
+        join_next(row, table, from, next);
+    }
+}
+
+/// Marks in an empty row the remaining totals of a candidate in a layer before the last one: the
+/// row of each candidate of the next layer to which there is a leg, moved by the penalties of the
+/// candidate and of the leg.
+fn join_next(row: &mut [u8], table: &Table, from: Candidate, next: &[Vec<u8>])
+    requires sound { IsTable table.now }
+    requires layer { from.layer + 1 < length table.now.candidates }
+    requires rank { 1 ≤ from.rank }
+    requires penalty { penalty_at table.now from.layer from.rank ≡ Some from.penalty }
+    requires next { AreRowsOf table.now (from.layer + 1) (rows_of next.now) }
+    requires empty { row.old ≡ replicate (width_of table.now) 0 }
+    ensures { IsRowOf (IsRemainingTotal table.now from.layer from.rank) (width_of table.now)
+        row.new }
+{
     let mut second = 0;
     for other in next {
         second += 1;
-        if let Some(leg) = table.leg_to(layer + 1, Some(rank), second) {
-            or_shifted(row, other, usize::from(penalty) + usize::from(leg));
+        if let Some(leg) = table.leg_to(from.layer + 1, Some(from.rank), second) {
+            or_shifted(row, other, usize::from(from.penalty) + usize::from(leg));
         }
     }
 }
@@ -88,7 +80,9 @@ pub(super) fn layer_rows(
     let count = table.count(layer);
     let mut rows = Vec::with_capacity(alloc, count)?;
     for index in 0..count {
-        rows.push(row(alloc, table, layer, index as u8 + 1, width, next)?)?;
+        let mut row = vec![in alloc; 0; width]?;
+        mark_row(&mut row, table, layer, index as u8 + 1, next);
+        rows.push(row)?;
     }
     Ok(rows)
 }

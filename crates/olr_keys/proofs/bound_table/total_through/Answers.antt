@@ -12,7 +12,7 @@ overflow_add-result-2 c =
       fits = omega (
         arith,
         bound_at_most _ _ _ _ c.requires.sound c.requires.bound c.in-Some.is,
-        step_leg (Some c.args.rank) c.args.second c.requires.sound c.requires.layer
+        step_leg (Some c.args.from.rank) c.args.second c.requires.sound c.requires.layer
             (sym c.leg_to.ensures ∙ c.in_ok-leg.was),
       );
     }

@@ -26,11 +26,12 @@ next_completion-requires t c =
     let own = c.in-Some.own.now in
     let left = c.in-Some-test.left in
     let same = c.test.ensures.same in
-    let step : IsStep p c.args.layer c.args.before own c.args.rest left =
+    let step : IsStep p c.args.rest.layer c.args.rest.before own c.args.rest.total left =
     c.in-Some-test.ensures.step in
     let long = ap (λ (p : Penalties). length p.candidates) same in
     let completion = others_completion _ _ _ _ c.in-Some.ensures.cases.0 c.requires.completion
-    step in (
+    step in
+    rw c.after.ensures (
       omega (arith, c.in-Some.ensures.cases.1),
       (
         omega arith,
@@ -51,7 +52,8 @@ next_completion-requires t c =
 pub returns-then-next_completion-clause-found : goal.returns-then-next_completion-clause-found
 returns-then-next_completion-clause-found t c =
     found_deeper _ _ _ _ c.in-Some.ensures.cases.0 c.requires.completion c.in-Some-test.ensures.step
-    _ c.test.ensures.same c.push.ensures.items c.if-next_completion.ensures.found
+    _ c.test.ensures.same c.push.ensures.items
+    (rw c.after.ensures at c.if-next_completion.ensures.found)
 
 pub returns-then-next_completion-clause-probes : goal.returns-then-next_completion-clause-probes
 returns-then-next_completion-clause-probes t c =
@@ -59,7 +61,7 @@ returns-then-next_completion-clause-probes t c =
     let within = own_inside _ _ _ _ cases c.requires.completion in
     let inside = own_layer _ _ _ _ cases c.requires.completion in
     deeper_probes _ inside within.0 within.1 _ c.test.ensures.same (omega arith)
-    c.if-next_completion.ensures.probes
+    (rw c.after.ensures at c.if-next_completion.ensures.probes)
 
 pub first_above-requires-clause-above : goal.first_above-requires-clause-above
 first_above-requires-clause-above t c =
@@ -71,7 +73,8 @@ returns-clause-found t c =
     let same = c.test.ensures.same in
     above_found _ _ _ _ c.in-Some.ensures.cases.0 c.requires.completion c.in-Some-test.ensures.step
     _ _ same (cc) (popped_back _ _ _ c.push.ensures.items c.if-next_completion.ensures.found.1
-    c.pop.ensures.rest) c.if-next_completion.ensures.found.0 c.first_above.ensures.found
+    c.pop.ensures.rest) (rw c.after.ensures at c.if-next_completion.ensures.found.0)
+    c.first_above.ensures.found
 
 pub returns-clause-probes : goal.returns-clause-probes
 returns-clause-probes t c =
@@ -80,4 +83,4 @@ returns-clause-probes t c =
     let within = own_inside _ _ _ _ cases c.requires.completion in
     let inside = own_layer _ _ _ _ cases c.requires.completion in
     above_probes _ inside within.0 within.1 _ _ _ same (cc)
-    (omega arith) c.if-next_completion.ensures.probes c.first_above.ensures.probes
+    (omega arith) (rw c.after.ensures at c.if-next_completion.ensures.probes) c.first_above.ensures.probes

@@ -9,11 +9,11 @@ returns-in_err-total-clause-key c =
 pub invariant_of-result : goal.invariant_of-result
 invariant_of-result c =
     let total = c.in_ok-total.total in
-    let found = found_alone c.new-ranks.ensures c.descend.ensures.found in
+    let found = found_alone c.new-ranks.ensures (rw c.of.ensures at c.descend.ensures.found) in
     found_in_range c.descend.ensures.sound found.completion
 
 pub returns-clause-key : goal.returns-clause-key
 returns-clause-key c =
     let total = c.in_ok-total.total in
-    let found = found_alone c.new-ranks.ensures c.descend.ensures.found in
+    let found = found_alone c.new-ranks.ensures (rw c.of.ensures at c.descend.ensures.found) in
     first_key_from _ _ _ _ refl c.in_ok-total.ensures.total (rw (← c.next_total.ensures.same) found)

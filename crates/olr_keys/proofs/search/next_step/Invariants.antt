@@ -6,5 +6,5 @@ invariant-loop-index l =
     (l.rows.penalties ≡ l.fn.rows.penalties)
     × (l.rows.probes ≤ l.fn.rows.probes + (l.index - l.above))
     × ((rank left : ℕ) → l.above < rank → rank ≤ l.index
-    → IsStep l.fn.rows.penalties l.layer l.before rank l.rest left → ⊥)
+    → IsStep l.fn.rows.penalties l.rest.layer l.rest.before rank l.rest.total left → ⊥)
     × (l.fn.rows.probes ≤ l.rows.probes)

@@ -8,7 +8,7 @@ pub overflow_add-second : goal.overflow_add-second
 overflow_add-second c = record {
   fits = omega (
     arith,
-    count_at_most c.args.table.now (c.args.layer + 1) c.requires.sound,
+    count_at_most c.args.table.now (c.args.from.layer + 1) c.requires.sound,
     length-map c.args.next.now (λ row. row.items),
   );
 }
@@ -27,7 +27,7 @@ loop-other-init c = (
 pub loop-other-preserved : goal.loop-other-preserved
 loop-other-preserved c =
     let p = c.args.table.now in
-    let layer = c.args.layer in
+    let layer = c.args.from.layer in
     let it = next_row _ _ c.requires.next c.loop-other-test.true c.other-item.is in
     let that : IsRowOf (IsRemainingTotal p (layer + 1) (c.loop-other.second + 1)) (width_of p)
     c.other-item.result.items =
