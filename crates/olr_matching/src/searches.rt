@@ -14,7 +14,7 @@ use crate::leg_on_map::LegOnMap;
 use olr_base::NoMemory;
 use olr_candidates::{Candidate, MAX_CANDIDATES};
 use olr_road::{Map, Place};
-use olr_route::{Reach, lengths_to, shares_search};
+use olr_route::{Limits, Reach, lengths_to, shares_search};
 use std::alloc::Global;
 use std::marker::Model;
 
@@ -56,10 +56,10 @@ fn places_of(alloc: Global, candidates: &[Candidate]) -> Result<Vec<Place>, NoMe
     Ok(places)
 }
 
-/// The least lengths in decimetres, up to a limit, from a place to candidates under a class limit,
-/// as [`lengths_to`] finds them: the search goes towards them, first up to `near`. The place has to
-/// be before the end of its line ([`is_before_end`](olr_route::is_before_end)), the candidates on
-/// the map ([`is_on_map`](olr_route::is_on_map)).
+/// The least lengths in decimetres, within limits, from a place to candidates, as [`lengths_to`]
+/// finds them: the search goes towards them, first up to `limits.near`. The place has to be before
+/// the end of its line ([`is_before_end`](olr_route::is_before_end)), the candidates on the map
+/// ([`is_on_map`](olr_route::is_on_map)).
 ///
 /// # Errors
 ///
@@ -67,23 +67,21 @@ fn places_of(alloc: Global, candidates: &[Candidate]) -> Result<Vec<Place>, NoMe
 pub fn lengths_to_candidates(
     alloc: Global,
     map: &Map,
-    class: u8,
     from: Place,
-    near: u64,
-    limit: u64,
+    limits: Limits,
     candidates: &[Candidate],
 ) -> Result<Reach, NoMemory>
     requires from { IsDeparture map.now from }
     requires places { All (λ candidate. IsPlace map.now candidate.place) candidates.now }
 
-    ensures asked { IfOk result (λ reach.
-        (reach.class ≡ class) × (reach.from ≡ from) × (reach.limit ≡ limit)) }
+    ensures asked { IfOk result (λ reach. (reach.class ≡ limits.class)
+        × (reach.from ≡ from) × (reach.limit ≡ limits.length)) }
     ensures held { IfOk result (λ reach. AreLengthsOn map.now reach) }
     ensures covers { IfOk result (λ reach.
         All (λ candidate. Covers reach candidate.place.line) candidates.now) }
 {
     let targets = places_of(alloc, candidates)?;
-    let reach = lengths_to(alloc, map, class, from, near, limit, &targets)?;
+    let reach = lengths_to(alloc, map, from, limits, &targets)?;
     Ok(reach)
 }
 
@@ -195,10 +193,12 @@ impl Searches {
         if let Some(index) = self.find(leg, from) {
             return Ok(index);
         }
-        let class = leg.class_limit();
-        let limit = leg.greatest_admitted();
-        let near = likely_greatest(&leg.next);
-        let reach = lengths_to_candidates(alloc, leg.map, class, from, near, limit, leg.seconds)?;
+        let limits = Limits {
+            class: leg.class_limit(),
+            near: likely_greatest(&leg.next),
+            length: leg.greatest_admitted(),
+        };
+        let reach = lengths_to_candidates(alloc, leg.map, from, limits, leg.seconds)?;
         self.keep(reach)
     }
 }

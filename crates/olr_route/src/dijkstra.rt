@@ -13,7 +13,7 @@ ghost use Rattle.olr_route.specs.Steps.{rest_of_line};
 
 use crate::queue::Queue;
 use crate::reach::Reach;
-use crate::search::Search;
+use crate::search::{Limits, Search};
 use crate::starts::Starts;
 use crate::state::State;
 use olr_base::NoMemory;
@@ -186,9 +186,9 @@ fn lines_of(alloc: Global, places: &[Place]) -> Result<Vec<u32>, NoMemory>
 /// The least lengths from a place to some others, as [`lengths_from`] finds them: the search goes
 /// towards them and ends once it has reached the start of the line of each target, so it covers
 /// them ([`Reach::covers`]) and no other places. Targets have to be on the map
-/// ([`is_on_map`](crate::is_on_map)). `near` changes only the time: where it narrows the search,
-/// that goes up to `near` first, and up to the limit if a target isn't reached, so the first part
-/// was in vain then.
+/// ([`is_on_map`](crate::is_on_map)). `limits.near` changes only the time: where it narrows the
+/// search, that goes up to there first, and up to `limits.length` if a target isn't reached, so the
+/// first part was in vain then.
 ///
 /// # Errors
 ///
@@ -196,17 +196,15 @@ fn lines_of(alloc: Global, places: &[Place]) -> Result<Vec<u32>, NoMemory>
 pub fn lengths_to(
     alloc: Global,
     map: &Map,
-    class: u8,
     from: Place,
-    near: u64,
-    limit: u64,
+    limits: Limits,
     targets: &[Place],
 ) -> Result<Reach, NoMemory>
     requires from { IsDeparture map.now from }
     requires targets { All (IsPlace map.now) targets.now }
 
-    ensures asked { IfOk result (λ reach.
-        (reach.class ≡ class) × (reach.from ≡ from) × (reach.limit ≡ limit)) }
+    ensures asked { IfOk result (λ reach. (reach.class ≡ limits.class)
+        × (reach.from ≡ from) × (reach.limit ≡ limits.length)) }
     ensures held { IfOk result (λ reach. AreLengthsOn map.now reach) }
     ensures covers { IfOk result (λ reach.
         All (λ target. Covers reach target.line) targets.now) }
@@ -215,11 +213,11 @@ pub fn lengths_to(
     let lines = lines_of(alloc, targets)?;
     let asked = Search {
         map,
-        class,
+        class: limits.class,
         from,
-        limit,
+        limit: limits.length,
         goals: Some(map.goals(&lines)),
     };
-    let starts = search_near(alloc, asked, near)?;
-    Ok(Reach::new(class, from, limit, Some(lines), starts))
+    let starts = search_near(alloc, asked, limits.near)?;
+    Ok(Reach::new(limits.class, from, limits.length, Some(lines), starts))
 }

@@ -8,8 +8,8 @@
 //!
 //! - [`endpoints`]: tests on the two places that a route joins.
 //! - [`turn`]: whether a line may follow another one.
-//! - [`search`]: what is asked of a search; [`arrival`]: an arrival at the end of a line;
-//!   [`line_end`]: the length there, and whether the search may go on.
+//! - [`search`]: what is asked of a search, and its limits; [`arrival`]: an arrival at the end of a
+//!   line; [`line_end`]: the length there, and whether the search may go on.
 //! - [`node_lengths`]: lengths by node; [`starts`]: the lengths to the starts of lines.
 //! - [`queue`]: the arrivals to come, the nearest one first.
 //! - [`state`]: how far a search has come; [`arrive`]: arrivals at the ends of lines.
@@ -54,4 +54,5 @@ pub use laws::{no_beginning_of_another, one_least_length, one_route, pieces_of_r
 pub use piece::Piece;
 pub use reach::Reach;
 pub use routes::route;
+pub use search::Limits;
 pub use sharing::shares_search;

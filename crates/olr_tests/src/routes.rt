@@ -3,7 +3,7 @@
 use crate::samples::{NO_BANS, TWO_NODES, map_of};
 use olr_road::{Map, Place};
 use olr_route::{
-    Piece, is_before_end, is_on_map, lengths_by_rounds, lengths_from, lengths_to, route,
+    Limits, Piece, is_before_end, is_on_map, lengths_by_rounds, lengths_from, lengths_to, route,
 };
 use std::alloc::{AllocError, Global};
 use std::test::Fail;
@@ -177,7 +177,12 @@ fn told(
     if !is_before_end(map, from) || !is_on_map(map, one) || !is_on_map(map, other) {
         return Err(Fail::new("not on the map"));
     }
-    let reach = lengths_to(alloc, map, CLASS, from, near, limit, &[one, other])?;
+    let limits = Limits {
+        class: CLASS,
+        near,
+        length: limit,
+    };
+    let reach = lengths_to(alloc, map, from, limits, &[one, other])?;
     if !reach.covers(to) || !is_on_map(map, to) {
         return Ok(None);
     }
@@ -416,7 +421,12 @@ fn sizes(alloc: Global, map: &Map, [near, limit]: [u64; 2]) -> Result<[usize; 2]
     if !is_before_end(map, from) || !is_on_map(map, to) {
         return Err(Fail::new("not on the map"));
     }
-    let towards = lengths_to(alloc, map, CLASS, from, near, limit, &[to])?;
+    let limits = Limits {
+        class: CLASS,
+        near,
+        length: limit,
+    };
+    let towards = lengths_to(alloc, map, from, limits, &[to])?;
     let all = lengths_from(alloc, map, CLASS, from, limit)?;
     Ok([towards.size(), all.size()])
 }

@@ -13,7 +13,7 @@ use olr_binary::Next;
 use olr_candidates::{Candidate, Tolerances};
 use olr_matching::{class_limit, greatest_admitted, lengths_to_candidates, likely_greatest};
 use olr_road::{Map, Place};
-use olr_route::{Reach, one_least_length};
+use olr_route::{Limits, Reach, one_least_length};
 use std::alloc::Global;
 
 /// A leg of a reference on a map, between at most three candidates of each of its two points.
@@ -116,17 +116,13 @@ impl LegOnMap<'_> {
             (class_limit self.now.tolerances self.now.next + 1) first from pairs.items) }
     {
         // The leg admits none of these lengths, so hardly one is near.
-        let class = self.class_limit();
-        let limit = far(&self.next);
-        let reach = lengths_to_candidates(
-            alloc,
-            self.map,
-            class,
-            from,
-            limit,
-            limit,
-            self.seconds,
-        )?;
+        let length = far(&self.next);
+        let limits = Limits {
+            class: self.class_limit(),
+            near: length,
+            length,
+        };
+        let reach = lengths_to_candidates(alloc, self.map, from, limits, self.seconds)?;
         let mut pairs = Vec::new(alloc);
         for (index, second) in self.seconds.iter().enumerate() {
             pairs.push(self.pair_of(&reach, first, index as u8 + 1, second.place))?;
@@ -210,9 +206,12 @@ impl LegOnMap<'_> {
         if are_answered(&pairs, self.greatest_admitted()) {
             return Ok(pairs);
         }
-        let near = likely_greatest(&self.next);
-        let limit = far(&self.next);
-        let reach = lengths_to_candidates(alloc, self.map, class, from, near, limit, self.seconds)?;
+        let limits = Limits {
+            class,
+            near: likely_greatest(&self.next),
+            length: far(&self.next),
+        };
+        let reach = lengths_to_candidates(alloc, self.map, from, limits, self.seconds)?;
         let looked = self.pairs_by(alloc, &reach, class, first, &pairs)?;
         Ok(looked)
     }
