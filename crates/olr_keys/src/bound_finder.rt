@@ -82,6 +82,7 @@ struct Step {
 }
 
 /// The step to a candidate; `None` where no completion begins with it.
+#[tactic(auto, using(crate::proofs::Bounding::bound_at_most))]
 fn step_to(bounds: &Bounds, layer: usize, before: Option<u8>, rank: u8) -> Option<Step>
     requires layer { layer < length bounds.now.candidates }
     requires before { IfSome before (λ first. (1 ≤ layer) × (1 ≤ first)) }
@@ -142,6 +143,7 @@ fn longer(bounds: &Bounds, beginning: &Beginning, rank: u8, held: &Option<Key>) 
 
 /// The least key that comes after `after` and completes a beginning of a matching, or the key held
 /// so far, if it is less.
+#[tactic(auto, using(crate::proofs::Beginnings::least_at_end, crate::proofs::Beginnings::least_of_all))]
 fn least_from(
     bounds: &Bounds,
     beginning: Beginning,

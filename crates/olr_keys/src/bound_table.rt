@@ -40,6 +40,7 @@ impl<'a> Bounds<'a> {
     /// # Errors
     ///
     /// [`NoMemory`] where the allocator refused memory.
+    #[tactic(auto, using(crate::proofs::Bounding::next_bounds))]
     pub(crate) fn build(alloc: Global, table: &'a Table) -> Result<Bounds<'a>, NoMemory>
         ensures { IfOk result (λ bounds. bounds ≡ table.now) }
     {
@@ -170,6 +171,7 @@ fn least_by(table: &Table, from: Candidate, next: &[Option<u16>]) -> Option<u16>
 
 /// The least total of a candidate with the candidate of the rank `second` in the next layer, which
 /// has this bound; `None` where there is no such total.
+#[tactic(auto, using(crate::proofs::Bounding::bound_at_most, crate::proofs::Completions::step_leg))]
 fn total_through(table: &Table, from: Candidate, second: u8, bound: Option<u16>) -> Option<u16>
     requires sound { IsTable table.now }
     requires layer { from.layer + 1 < length table.now.candidates }

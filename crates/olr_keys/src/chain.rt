@@ -32,6 +32,7 @@ fn last_key(pages: &[Page]) -> Option<&Key>
 /// # Errors
 ///
 /// [`NoMemory`] where the allocator refused memory.
+#[tactic(auto, using(crate::proofs::Chains::chain_start, crate::proofs::Chains::continues))]
 pub fn all_pages<F: Finder>(
     alloc: Global,
     finder: &mut F,

@@ -23,6 +23,7 @@ fn write_digits(bytes: &[u8], digits: &mut [u8])
 }
 
 /// The hexadecimal digits of a mark.
+#[tactic(auto, using(crate::proofs::Hexadecimal::digits_are))]
 fn digits_of(mark: &Mark) -> ArrayString<64>
     ensures digits { result.bytes ≡ hexadecimal mark.now.0 }
     ensures is_mark { IsMark mark.now }

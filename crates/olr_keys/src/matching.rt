@@ -9,6 +9,7 @@ use crate::table::Table;
 /// The sum of the penalties of candidates, one of each layer from `layer` to the last one, and of
 /// the legs to them, to the first from the candidate `before` it; `None` where they aren't joined
 /// or there is no such candidate.
+#[tactic(auto, using(crate::proofs::Completions::completion_at_most))]
 pub(crate) fn total_from(
     table: &Table,
     layer: usize,

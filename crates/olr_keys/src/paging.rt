@@ -18,6 +18,7 @@ use std::alloc::Global;
 /// # Errors
 ///
 /// [`NoMemory`] where the allocator refused memory.
+#[tactic(auto, using(crate::proofs::PageLists::first_none))]
 pub(crate) fn page_after<F: Finder>(
     alloc: Global,
     finder: &mut F,

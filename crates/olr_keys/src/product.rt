@@ -81,6 +81,7 @@ pub(crate) fn lesser(key: Key, after: Option<&Key>, held: Option<Key>) -> Option
 
 /// The least key that comes after `after` and completes a beginning of a matching, or the key held
 /// so far, if it is less.
+#[tactic(auto, using(crate::proofs::Beginnings::least_at_end, crate::proofs::Beginnings::least_of_all, crate::proofs::Beginnings::step_at_most))]
 fn least_from(
     table: &Table,
     beginning: Beginning,

@@ -53,6 +53,7 @@ impl<'a> Rows<'a> {
     /// # Errors
     ///
     /// [`NoMemory`] where the allocator refused memory.
+    #[tactic(auto, using(crate::proofs::Held::held_is))]
     pub fn build(alloc: Global, table: &'a Table) -> Result<Rows<'a>, NoMemory>
         ensures { IfOk result (λ rows. (rows.penalties ≡ table.now) × (rows.probes ≡ 0)) }
     {
@@ -158,6 +159,7 @@ impl<'a> Rows<'a> {
     }
 
     /// What [`Rows::test`] answers.
+    #[tactic(auto, using(crate::proofs::Stepping::look))]
     fn left(&self, layer: usize, before: Option<u8>, rank: u8, rest: u16) -> Option<u16>
         requires layer { layer < length self.now.penalties.candidates }
         requires before { IsPredecessor self.now.penalties layer before }

@@ -63,6 +63,7 @@ fn next_of_total(rows: &mut Rows, after: &Key) -> Option<Key>
 }
 
 /// The least key with a total of at least `from`, if there is one.
+#[tactic(auto, using(crate::proofs::NextKeys::found_in_range, crate::proofs::NextKeys::found_alone))]
 fn first_from(rows: &mut Rows, from: usize) -> Option<Key>
     requires { from ≤ width_of rows.old.penalties }
     ensures key { IsLeastOf (λ key. IsKey rows.old.penalties key × (from ≤ key.total)) result }
@@ -166,6 +167,7 @@ fn next_step(rows: &mut Rows, rest: Rest, above: u8) -> Option<Step>
 /// Appends the first completion, one rank for each layer that is left. It makes at most one probe
 /// for each candidate of these layers: after each step there is a completion, so it never backs
 /// up.
+#[tactic(auto, using(crate::proofs::Searching::layer_budget, crate::proofs::Searching::some_step, crate::proofs::Sizes::count_most))]
 fn descend(rows: &mut Rows, rest: Rest, ranks: &mut ArrayVec<u8, 32>)
     requires layer { rest.layer ≤ length rows.old.penalties.candidates }
     requires before { IsPredecessor rows.old.penalties rest.layer rest.before }
@@ -221,6 +223,7 @@ fn first_above(rows: &mut Rows, rest: Rest, above: u8, ranks: &mut ArrayVec<u8, 
 /// Appends the first completion that comes after the one with the ranks `cursor`, and answers
 /// whether there is one. It tests the cursor's own ranks one after the other, then greater ones
 /// from the last layer back. From the first of these that has a step it only descends.
+#[tactic(auto, using(crate::proofs::Following::none_at_end, crate::proofs::Following::own_inside, crate::proofs::Following::own_layer, crate::proofs::Following::own_step, crate::proofs::Following::others_completion, crate::proofs::Following::above_probes, crate::proofs::Searching::is_predecessor))]
 fn next_completion(rows: &mut Rows, rest: Rest, cursor: &[u8], ranks: &mut ArrayVec<u8, 32>) -> bool
     requires layers { length rows.old.penalties.candidates ≤ 32 }
     requires before { IsPredecessor rows.old.penalties rest.layer rest.before }

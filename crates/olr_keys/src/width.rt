@@ -8,6 +8,7 @@ use crate::table::Table;
 
 /// One more than the sum of the greatest penalty of each layer and of the legs between each two
 /// neighbours. Each remaining total is less.
+#[tactic(auto, using(crate::proofs::Sizes::sum_more, crate::proofs::Sizes::layer_at_most, crate::proofs::Sizes::legs_at_most, crate::proofs::Sizes::width_is))]
 pub(crate) fn width(table: &Table) -> usize
     ensures value { result ≡ width_of table.now }
     ensures at_most { result ≤ max_total + 1 }

@@ -40,6 +40,7 @@ fn mark_row(row: &mut [u8], table: &Table, layer: usize, rank: u8, next: &[Vec<u
 /// Marks in an empty row the remaining totals of a candidate in a layer before the last one: the
 /// row of each candidate of the next layer to which there is a leg, moved by the penalties of the
 /// candidate and of the leg.
+#[tactic(auto, using(crate::proofs::Bounds::count_at_most, crate::proofs::Marking::start_row, crate::proofs::Marking::next_row))]
 fn join_next(row: &mut [u8], table: &Table, from: Candidate, next: &[Vec<u8>])
     requires sound { IsTable table.now }
     requires layer { from.layer + 1 < length table.now.candidates }

@@ -1,10 +1,6 @@
-use Rattle.std.proofs.Common.{None, refl, ◌∙◌}
-use Rattle.olr_keys.proofs.Chains.{chain_start, ends, fewer_left, continues, position_found}
+use Rattle.std.proofs.Common.{None}
+use Rattle.olr_keys.proofs.Chains.{ends, fewer_left, position_found}
 use Rattle.olr_keys.proofs.chain.all_pages.Goals as goal
-
-pub pages-init : goal.pages-init
-pages-init g c =
-    (refl, rw c.new-pages.ensures.items (chain_start _ tt))
 
 pub page_after-requires : goal.page_after-requires
 page_after-requires g c =
@@ -27,12 +23,3 @@ pages-smaller g c =
     c.last_key.ensures c.pages.invariant.1
     (g.met.F.Finder.rise c.args.finder.now) _ c.in_ok-page.ensures.page c.in_ok-push.ensures.items
     c.if-not-more.false
-
-pub pages-preserved : goal.pages-preserved
-pages-preserved g c = (
-  c.in_ok-page.ensures.same ∙ c.pages.invariant.0,
-  continues c.pages.invariant.0 None c.keys-count.ensures.keys c.deref.ensures.value
-      c.last_key.ensures c.pages.invariant.1
-      (g.met.F.Finder.rise c.args.finder.now) _ c.in_ok-page.ensures.page c.in_ok-push.ensures.items
-      c.keys-count.ensures.at_least c.if-not-more.false,
-)

@@ -1,14 +1,6 @@
-use Rattle.olr_keys.proofs.Common.{List, length, refl, sym, ◌∙◌, ap, subst, arith, is_some, option_map, KeyValue}
-use Rattle.olr_keys.proofs.PageLists.{AreFirst, first_none, more_read, one_longer, page_read, position_read}
+use Rattle.olr_keys.proofs.Common.{sym, ◌∙◌, ap, arith, is_some}
+use Rattle.olr_keys.proofs.PageLists.{more_read, one_longer, page_read, position_read}
 use Rattle.olr_keys.proofs.paging.page_after.Goals as goal
-
-pub loop-taken-init : goal.loop-taken-init
-loop-taken-init g c =
-    let answers = g.F.Finder.answers c.args.finder.now in
-    let after = option_map (λ key. key.now) c.args.after in
-    let first = subst (λ (l : List KeyValue). AreFirst answers after l) (cc)
-    (first_none c.requires) in
-    (refl, first, ap length c.new-keys.ensures.items)
 
 pub next-requires : goal.next-requires
 next-requires g c =

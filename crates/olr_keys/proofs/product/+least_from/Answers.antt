@@ -1,5 +1,5 @@
-use Rattle.olr_keys.proofs.Common.{◌≡◌, ℕ, ◌+◌, List, length, refl, arith, option_map, IsJoined, count_of}
-use Rattle.olr_keys.proofs.Beginnings.{begins_longer, least_at_end, least_of_all, least_left, least_with, step_at_most, whole_in_range}
+use Rattle.olr_keys.proofs.Common.{◌≡◌, ℕ, ◌+◌, List, length, refl, arith, option_map, IsJoined}
+use Rattle.olr_keys.proofs.Beginnings.{begins_longer, least_left, least_with, step_at_most, whole_in_range}
 use Rattle.olr_keys.proofs.Leaving.{left_unjoined}
 use Rattle.olr_keys.proofs.Searching.{pushed_length}
 use Rattle.olr_keys.proofs.product.+least_from.Goals as goal
@@ -9,21 +9,6 @@ pub invariant_of-key : goal.invariant_of-key
 invariant_of-key t c =
     let last : length c.args.beginning.ranks.items ≡ length c.args.table.now.candidates = omega arith in
     whole_in_range _ _ _ _ c.layers.ensures.sound last c.requires.keys
-
-pub returns-then-layer-layers : goal.returns-then-layer-layers
-returns-then-layer-layers t c =
-    let last : length c.args.beginning.ranks.items ≡ length c.args.table.now.candidates = omega arith in
-    least_at_end _ _ _ _ _ _ _ last refl c.lesser.ensures
-
-pub longer-longer-requires-clause-total : goal.longer-longer-requires-clause-total
-longer-longer-requires-clause-total t c =
-    let p = c.args.table.now in
-    let ranks : List ℕ = c.args.beginning.ranks.items in
-    let step : IsJoined p (length ranks) c.args.beginning.before (c.loop-index.index + 1)
-    (c.in-Some.joined.leg + c.in-Some.joined.penalty) =
-    rw (← c.len-layer.ensures.value)
-    (_, _, c.in-Some.ensures.joined.0, c.in-Some.ensures.joined.1, refl) in
-    omega (arith, step_at_most _ _ c.args.beginning.total _ _ c.layers.ensures.sound step)
 
 pub least_from-least-requires : goal.least_from-least-requires
 least_from-least-requires t c =
@@ -67,12 +52,3 @@ loop-index-preserved t c =
           rw w.least-is (least_left p c.args.beginning.before c.args.beginning.total ranks after _ _ _ _ refl
           (left_unjoined p c.args.beginning.before _ ranks rank _ none) c.loop-index.invariant)
     ]
-
-pub returns : goal.returns
-returns t c =
-    let p = c.args.table.now in
-    let ranks : List ℕ = c.args.beginning.ranks.items in
-    let all : c.loop-index.index ≡ count_of p (length ranks) =
-    rw (← c.len-layer.ensures.value) (omega arith) in
-    least_of_all _ _ _ _ _ _ _ (λ last. c.if-layer-layers.false (omega arith))
-    (rw (← all) c.loop-index.invariant)

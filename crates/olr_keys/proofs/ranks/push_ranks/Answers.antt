@@ -1,4 +1,4 @@
-use Rattle.olr_keys.proofs.Common.{◌≡◌, ℕ, ◌+◌, ◌<◌, ◌≤◌, List, [], ◌∷◌, ◌++◌, length, take, get_or, ap, ◌∙◌, arith, append_assoc, length-append, decimal, All, length-decimal-le, take_all, All-head, All-tail, encode_ascii, AreRanks, ranks_text, IsRank}
+use Rattle.olr_keys.proofs.Common.{◌≡◌, ℕ, ◌+◌, ◌<◌, ◌≤◌, List, [], ◌∷◌, ◌++◌, length, take, get_or, ap, ◌∙◌, arith, append_assoc, length-append, decimal, All, length-decimal-le, take_all, All-head, All-tail, AreRanks, ranks_text, IsRank}
 use Rattle.olr_keys.proofs.RanksText.{later, later-next, ranks_text-cons}
 use Rattle.olr_keys.proofs.ranks.push_ranks.Goals as goal
 
@@ -22,18 +22,6 @@ module _ {ranks others : List ℕ} {first : ℕ} (whole : ranks ≡ first ∷ ot
 
   fewer : length others ≤ 31
   fewer = omega (arith, ap length whole)
-
-pub push-requires : goal.push-requires
-push-requires c =
-    let whole = c.in-Some.ensures.cases.0 in (
-      omega arith,
-      omega (
-        arith,
-        ap length (encode_ascii 46 (omega arith)),
-        short_first whole c.requires.ranks c.format.ensures.text,
-        fewer whole c.requires.ranks,
-      ),
-    )
 
 dotted : {new : List ℕ} (text : List ℕ) → (46 < 128 → new ≡ text ++ 46 ∷ [])
     → length new ≡ length text + 1

@@ -1,16 +1,10 @@
 use Rattle.olr_keys.proofs.Common.{refl}
-use Rattle.olr_keys.proofs.NextKeys.{no_key_from, first_key_from, found_in_range, found_alone}
+use Rattle.olr_keys.proofs.NextKeys.{no_key_from, first_key_from, found_alone}
 use Rattle.olr_keys.proofs.search.first_from.Goals as goal
 
 pub returns-in_err-total-clause-key : goal.returns-in_err-total-clause-key
 returns-in_err-total-clause-key c =
     rw c.from_residual.ensures (no_key_from _ c.in_err-total.ensures.total)
-
-pub invariant_of-result : goal.invariant_of-result
-invariant_of-result c =
-    let total = c.in_ok-total.total in
-    let found = found_alone c.new-ranks.ensures (rw c.of.ensures at c.descend.ensures.found) in
-    found_in_range c.descend.ensures.sound found.completion
 
 pub returns-clause-key : goal.returns-clause-key
 returns-clause-key c =

@@ -1,5 +1,4 @@
 use Rattle.olr_keys.proofs.Common.{ℕ, ◌-◌, ◌<◌, List, [], length, map, slice_index_or, ◌∙◌, ap, subst, arith, Vec, AreRowsOf, rows_of}
-use Rattle.olr_keys.proofs.Held.{held_is}
 use Rattle.olr_keys.proofs.Layers.{last_rows}
 use Rattle.olr_keys.proofs.rows.Rows.build.Goals as goal
 
@@ -14,13 +13,3 @@ totals-requires-clause-first c =
     subst (λ (n : ℕ). AreRowsOf p n (rows_of c.last.result.now)) {x =
     length p.candidates - 1 - (length p.candidates - 1)} (omega arith)
     (last_rows _ c.in_ok-marks.ensures some shown)
-
-pub invariant_of-result : goal.invariant_of-result
-invariant_of-result c =
-    record {
-      sound = c.width-width.ensures.sound;
-      layers = c.in_ok-marks.ensures;
-      whole = c.in_ok-totals.ensures;
-      width = c.width-width.ensures.value;
-      bytes = cc (held_is c.in_ok-marks.ensures c.in_ok-totals.ensures);
-    }

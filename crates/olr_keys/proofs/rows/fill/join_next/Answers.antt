@@ -1,28 +1,7 @@
-use Rattle.olr_keys.proofs.Common.{◌+◌, length, refl, sym, ap, ◌∙◌, arith, length-map, IsRemainingTotal, IsRowOf, width_of}
-use Rattle.olr_keys.proofs.Bounds.{count_at_most}
-use Rattle.olr_keys.proofs.Marking.{start_row, whole_row, next_row, row_more, row_without}
+use Rattle.olr_keys.proofs.Common.{◌+◌, sym, ◌∙◌, arith, length-map, IsRemainingTotal, IsRowOf, width_of}
+use Rattle.olr_keys.proofs.Marking.{whole_row, next_row, row_more, row_without}
 use Rattle.olr_keys.proofs.rows.fill.join_next.Goals as goal
 use Rattle.olr_keys.proofs.rows.fill.join_next.Goals.{in-Some, in_default}
-
-pub overflow_add-second : goal.overflow_add-second
-overflow_add-second c = record {
-  fits = omega (
-    arith,
-    count_at_most c.args.table.now (c.args.from.layer + 1) c.requires.sound,
-    length-map c.args.next.now (λ row. row.items),
-  );
-}
-
-pub or_shifted-requires : goal.or_shifted-requires
-or_shifted-requires c =
-    let it = next_row _ _ c.requires.next c.loop-other-test.true c.other-item.is in
-    omega (arith, ap length c.deref.ensures.value)
-
-pub loop-other-init : goal.loop-other-init
-loop-other-init c = (
-  refl,
-  rw c.requires.empty (start_row _ _ _ _ 0 refl),
-)
 
 pub loop-other-preserved : goal.loop-other-preserved
 loop-other-preserved c =
