@@ -40,7 +40,7 @@ fn offer(search: &Search, line: u32, offered: u64, starts: &mut Starts) -> Resul
 
 /// Relaxes a place: offers the length to the end of its line to each line that may follow, where
 /// the length to the place is `so_far`. Returns whether one of them kept it.
-#[tactic(auto, using(std::proofs::lemmas::Option::slice_get_within))]
+#[tactic(auto, using(std::proofs::lemmas::Option::slice_get_within, crate::proofs::Lines::passed_over, crate::proofs::Lines::turn_ahead))]
 fn relax(search: &Search, place: Place, so_far: u64, starts: &mut Starts) -> Result<bool, NoMemory>
     requires on_map { IsPlace search.now.map.now place }
     requires reached { IsReached search.now place so_far }

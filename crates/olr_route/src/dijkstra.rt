@@ -25,6 +25,7 @@ const FAR: u64 = 30_000;
 
 /// Leaves the place from which a search starts: puts the arrival at the end of its line into the
 /// queue, if the limits let it through and the search may go on from there.
+#[tactic(auto, using(crate::proofs::Lines::head_length))]
 fn leave(search: &Search, queue: &mut Queue) -> Result<(), NoMemory>
     requires goals { HasGoalsOnMap search.now }
     requires from { IsDeparture search.now.map.now search.now.from }
@@ -84,6 +85,7 @@ fn targets_of<'a>(search: &Search<'a>) -> &'a [u32]
 ///
 /// Beside the lengths it returns how many of the lines that it is asked for are reached, from the
 /// first one on.
+#[tactic(auto, using(crate::proofs::Ending::still_reached))]
 fn search(alloc: Global, search: &Search) -> Result<(Starts, usize), NoMemory>
     requires goals { HasGoalsOnMap search.now }
     requires from { IsDeparture search.now.map.now search.now.from }
@@ -193,6 +195,7 @@ fn lines_of(alloc: Global, places: &[Place]) -> Result<Vec<u32>, NoMemory>
 /// # Errors
 ///
 /// [`NoMemory`] where the allocator refused memory.
+#[tactic(auto, using(crate::proofs::Ending::all_told, crate::proofs::Ending::lines_inside))]
 pub fn lengths_to(
     alloc: Global,
     map: &Map,

@@ -85,6 +85,7 @@ impl Reach {
     /// # Errors
     ///
     /// [`NoMemory`] where the allocator refused memory.
+    #[tactic(auto, using(crate::proofs::SharedRoutes::last_drivable, crate::proofs::SharedRoutes::route_ahead))]
     pub fn route_from(
         &self,
         alloc: Global,

@@ -47,7 +47,7 @@ fn start_on_path(
 /// where a group starts, after the group's length, those are on a shortest path from which a turn
 /// to the group isn't banned. So the time is in proportion to the lines into the node of each
 /// group, and the bans on turns from them, times a logarithm.
-#[tactic(auto, using(crate::proofs::Spreading::line_inside))]
+#[tactic(auto, using(crate::proofs::Spreading::line_inside, crate::proofs::Spreading::spread_to, crate::proofs::Spreading::unreached))]
 pub(crate) fn lines_on_shortest_paths(
     alloc: Global,
     search: &Search,

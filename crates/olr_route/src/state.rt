@@ -56,6 +56,7 @@ impl State {
     /// Puts an arrival at the end of the line of a step into the queue, if the limits let the line
     /// through, the search may go on from there, and the node there isn't done. `at_start` is the
     /// length to the start of the line, in decimetres.
+    #[tactic(auto, using(crate::proofs::Visiting::step_length))]
     pub(crate) fn push(
         &mut self,
         search: &Search,

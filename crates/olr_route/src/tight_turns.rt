@@ -15,7 +15,7 @@ use olr_road::Place;
 /// The lines of `groups` that start where a place's line ends, and to whose start the least length
 /// is that to this end. Those turns to them that aren't banned are the tight ones. `so_far` is the
 /// length to the place in decimetres.
-#[tactic(auto, using(std::proofs::lemmas::Option::slice_get_within))]
+#[tactic(auto, using(std::proofs::lemmas::Option::slice_get_within, crate::proofs::Lines::end_of, crate::proofs::Tight::group_ahead, crate::proofs::Tight::none_ahead))]
 fn tight_ahead<'a>(search: &Search, place: Place, so_far: u64, groups: &'a Groups) -> &'a [u32]
     requires on_map { IsPlace search.now.map.now place }
     requires groups { AreGroups search.now groups.now }
@@ -51,6 +51,7 @@ fn has_up_to(found: Option<u32>, rank: u32) -> bool
 
 /// The line of least rank among those of `groups` to which a turn from the end of a place's line is
 /// tight. All lines of one group are looked at.
+#[tactic(auto, using(crate::proofs::Tight::least_over))]
 pub(crate) fn first_tight_turn(
     search: &Search,
     place: Place,

@@ -1,11 +1,8 @@
-use Rattle.olr_route.proofs.Common.{Search, AreLengthsOn, zero, None, inr, subst, sym, refl, arith}
+use Rattle.olr_route.proofs.Common.{Search, AreLengthsOn, None, inr, subst, sym, refl, arith}
 use Rattle.olr_route.proofs.Ending.{held_by}
 use Rattle.olr_route.proofs.Relaxing.{all_relaxed}
 use Rattle.olr_route.proofs.Walks.{useful_within, within_more}
 use Rattle.olr_route.proofs.bellman_ford.lengths_by_rounds.Goals as goal
-
-pub relax-requires-clause-reached : goal.relax-requires-clause-reached
-relax-requires-clause-reached c = λ next clear turn. (zero, (clear, turn, omega arith))
 
 pub returns-clause-held : goal.returns-clause-held
 returns-clause-held c =

@@ -1,4 +1,4 @@
-use Rattle.olr_route.proofs.Common.{Reaches, table_in, IsKnownWithin, IsAllowed, ℕ, get_or, subst, sym, arith, Contains-get_or, slice_get_within}
+use Rattle.olr_route.proofs.Common.{Reaches, table_in, IsKnownWithin, IsAllowed, ℕ, get_or, subst, sym, arith, Contains-get_or}
 use Rattle.olr_route.proofs.Lines.{passed_over, all_ahead, turn_ahead}
 use Rattle.olr_route.proofs.Relaxing.{lowered_more}
 use Rattle.olr_route.proofs.bellman_ford.relax.Goals as goal
@@ -12,25 +12,6 @@ offer-requires-clause-reached c =
     (turn_ahead _ _ _ c.line.ensures.line _ c.lines_from-ahead.ensures.lines next
     (Contains-get_or ahead _ 0 c.loop-next-test.true)
     c.if-not-is_allowed.ensures))
-
-pub offer-requires-clause-line : goal.offer-requires-clause-line
-offer-requires-clause-line c =
-    let ahead = c.lines_from-ahead.result.now in
-    let turn = turn_ahead c.args.search.now.map.now _ _ c.line.ensures.line _
-    c.lines_from-ahead.ensures.lines (get_or ahead _ 0)
-    (Contains-get_or ahead _ 0 c.loop-next-test.true)
-    c.if-not-is_allowed.ensures in
-    slice_get_within c.args.search.now.map.now.lines _ turn.after turn.enters
-
-pub loop-next-preserved-then-not-is_allowed : goal.loop-next-preserved-then-not-is_allowed
-loop-next-preserved-then-not-is_allowed c = record {
-  lowered = c.loop-next.invariant.lowered;
-  known = passed_over (IsAllowed c.args.search.now.map.now c.args.place.line)
-      (λ n. IsKnownWithin (table_in c.args.search.now.map.now c.loop-next.starts n)
-      c.in-Some.at_end)
-      _ _ c.loop-next.invariant.known
-      c.loop-next-test.true (λ allowed. absurd (c.if-not-is_allowed.ensures allowed));
-}
 
 pub loop-next-preserved : goal.loop-next-preserved
 loop-next-preserved c =

@@ -1,5 +1,5 @@
 use Rattle.olr_route.proofs.Common.{inl, inr, subst, refl, rules, arith, Contains, length_permutation}
-use Rattle.olr_route.proofs.Ending.{all_reached, still_reached}
+use Rattle.olr_route.proofs.Ending.{all_reached}
 use Rattle.olr_route.proofs.TightPaths.{departure_length}
 use Rattle.olr_route.proofs.Underway.{arrives, ended, none_nearer, underway_begun, underway_more}
 use Rattle.olr_route.proofs.dijkstra.search.Goals as goal
@@ -46,11 +46,6 @@ loop-arrival-preserved c =
       reached = c.count_reached-count.ensures.reached;
       at_most = c.count_reached-count.ensures.at_most;
     }
-
-pub count_reached-count-requires-clause-reached : goal.count_reached-count-requires-clause-reached
-count_reached-count-requires-clause-reached c =
-    still_reached _ _ _ _ _ _ _ c.in_ok-arrive.ensures.arrived _
-    _ c.loop-arrival.invariant.reached
 
 pub returns-then-is_some-clause-ended : goal.returns-then-is_some-clause-ended
 returns-then-is_some-clause-ended c =

@@ -1,11 +1,7 @@
 use Rattle.std.proofs.Common.{sym, ◌∙◌}
-use Rattle.olr_route.proofs.Spreading.{groups_within, next_line, no_line_left, spread_all, spread_begun, spread_more, spread_next, spread_over, spread_skip, spread_to, unreached}
+use Rattle.olr_route.proofs.Spreading.{groups_within, next_line, no_line_left, spread_all, spread_begun, spread_more, spread_next, spread_over, spread_skip}
 use Rattle.olr_route.proofs.Lines.{origin_inside, origin_of}
 use Rattle.olr_route.proofs.shortest.lines_on_shortest_paths.Goals as goal
-
-pub returns-in_default : goal.returns-in_default
-returns-in_default c = unreached _ _ _ _ _ (sym c.length_to.ensures ∙ c.in_default.is)
-    c.new-groups.ensures.lines
 
 pub groups-init : goal.groups-init
 groups-init c =
@@ -17,10 +13,6 @@ groups-init c =
       on_map = origin_inside _ c.line.result.from c.args.target
           c.sound.ensures starts;
     }
-
-pub loop-line-init : goal.loop-line-init
-loop-line-init c = spread_to _ _ _ _ _ _ c.lines_into-line-items.ensures.lines _
-    c.groups.invariant.spread
 
 pub start_on_path-requires-clause-groups : goal.start_on_path-requires-clause-groups
 start_on_path-requires-clause-groups c =

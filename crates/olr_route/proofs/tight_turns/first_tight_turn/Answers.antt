@@ -1,6 +1,6 @@
 use Rattle.olr_route.proofs.Common.{IsAllowed, ◌≡◌, ◌≤◌, ℕ, get_or, arith, subst, Contains, Contains-get_or}
 use Rattle.olr_route.proofs.Lines.{passed_over}
-use Rattle.olr_route.proofs.Tight.{least_over, lesser}
+use Rattle.olr_route.proofs.Tight.{lesser}
 use Rattle.olr_route.proofs.tight_turns.first_tight_turn.Goals as goal
 
 pub loop-next-preserved : goal.loop-next-preserved
@@ -19,7 +19,3 @@ loop-next-preserved c =
           (c.loop-next.invariant.least k d less may))
           c.loop-next-test.true (λ _. omega arith);
     }
-
-pub returns : goal.returns
-returns c = least_over _ _ _ _ _ c.tight_ahead-ahead.ensures _ c.loop-next.invariant.among
-    (λ k d inside may. c.loop-next.invariant.least k d (omega arith) may)

@@ -1,17 +1,6 @@
-use Rattle.olr_route.proofs.Common.{Search, None, ap, sym, ◌∙◌, slice_get_within}
-use Rattle.olr_route.proofs.SharedRoutes.{last_drivable, route_ahead, route_followed}
+use Rattle.olr_route.proofs.Common.{Search, None, ap, sym, ◌∙◌}
+use Rattle.olr_route.proofs.SharedRoutes.{route_followed}
 use Rattle.olr_route.proofs.reach.Reach.route_from.Goals as goal
-
-pub returns-then-is_ahead : goal.returns-then-is_ahead
-returns-then-is_ahead c =
-    let ahead = c.is_ahead.ensures.0 c.if-is_ahead.true in
-    let least = c.in-Some.ensures in
-    rw c.in_ok-vec.ensures.items (route_ahead _ _ _ _ _ ahead.0 ahead.1 c.requires.on_map
-    (last_drivable _ _ _ _ c.args.self.now.limit least.0.behind least.0.is) _ least)
-
-pub lines_on_shortest_paths-requires-clause-target : goal.lines_on_shortest_paths-requires-clause-target
-lines_on_shortest_paths-requires-clause-target c =
-    rw c.search-search.ensures (slice_get_within _ _ _ c.requires.on_map.at_rank)
 
 pub lines_on_shortest_paths-requires-clause-within : goal.lines_on_shortest_paths-requires-clause-within
 lines_on_shortest_paths-requires-clause-within c =
