@@ -75,10 +75,7 @@ module _ (p : Penalties) (before : Option ℕ) (total : ℕ) (ranks : List ℕ) 
   ends_here last ([], more, completion, same) = same
       ∙ same_key (omega arith) (append-nil ranks)
   ends_here last (rank ∷ rest, more, (leg, penalty, left, joined, there, later, sum), same) =
-      absurd (omega (
-        arith,
-        layer_inside p (length ranks) rank penalty there,
-      ))
+      grind (arith, layer_inside)
 
   pub completes_itself : (key : KeyValue) → length ranks ≡ length p.candidates
       → key ≡ record { total = total; ranks = ranks } → Completes p before total ranks key

@@ -16,35 +16,17 @@ same_least P Q (Some least) to from (is, first) =
     (to least is, λ number holds. first number (from number holds))
 
 either_min : (P : ℕ → Type 0) (a b : ℕ) → P a → P b → P (min a b)
-either_min P a b one other = elim (cases_lt a b) [
-  | inl less ↦ subst P {x = a} (omega arith) one
-  | inr more ↦ subst P {x = b} (omega arith) other
-]
+either_min P a b one other = grind (arith, cases_lt)
 
 -- of one thing or another
 least_of_both : {P Q : ℕ → Type 0} (R : ℕ → Type 0) (a b : Option ℕ)
     → ((number : ℕ) → P number → R number) → ((number : ℕ) → Q number → R number)
     → ((number : ℕ) → R number → P number ⊎ Q number)
     → IsLeastNumber P a → IsLeastNumber Q b → IsLeastNumber R (lesser_of a b)
-least_of_both {Q} R None b one other split none is =
-    same_least Q R _ other (λ number holds. elim (split number holds) [
-      | inl left ↦ absurd (none number left)
-      | inr right ↦ right
-    ]) is
-least_of_both R (Some a) None one other split is none = (
-  one a is.0,
-  λ number holds. elim (split number holds) [
-    | inl left ↦ is.1 number left
-    | inr right ↦ absurd (none number right)
-  ],
-)
-least_of_both R (Some a) (Some b) one other split is also = (
-  either_min R _ _ (one a is.0) (other b also.0),
-  λ number holds. elim (split number holds) [
-    | inl left ↦ omega (arith, is.1 number left, min-le_left a b)
-    | inr right ↦ omega (arith, also.1 number right, min-le_right a b)
-  ],
-)
+least_of_both {Q} R None b one other split none is = grind (arith, same_least)
+least_of_both R (Some a) None one other split is none = grind arith
+least_of_both R (Some a) (Some b) one other split is also =
+    grind (arith, either_min, min-le_left, min-le_right)
 
 pub bound_at_most : {p : Penalties} (layer rank bound : ℕ) (found : Option ℕ) → IsTable p
     → IsBound p layer rank found → found ≡ Some bound → bound ≤ max_total
@@ -116,10 +98,7 @@ push_bound p layer index bounds bound they it is = rw is (record {
 
 -- after the last layer there are no candidates
 none_later : (p : Penalties) (layer : ℕ) → layer ≡ length p.candidates → AreBoundsOf p layer []
-none_later p layer is =
-    let none : 0 ≡ count_of p layer =
-    sym (ap length (get_or-eq_default p.candidates [] {n = layer} (omega arith))) in
-    record { long = none; each = λ index inside. absurd (omega arith) }
+none_later p layer is = grind (arith, get_or-eq_default)
 
 -- the bounds of the layer after the next one
 pub next_bounds : (p : Penalties) (later layer : ℕ) (least : List (Vec (Option ℕ)))

@@ -4,21 +4,15 @@ use Rattle.olr_keys.proofs.Common.{get_or_append_left, get_or_at, rules, ℕ, ze
 -- what holds of each element of a list holds of what stands at an index, if it holds of the default
 pub at_index : {X : Type 0} (P : X → Type 0) (xs : List X) (index : ℕ) (default : X) → All P xs
     → P default → P (slice_index_or xs index default)
-at_index P xs index default each otherwise = elim (cases_lt index (length xs)) [
-  | inl inside ↦ All-get_or P _ _ _ inside each
-  | inr outside ↦ rw (get_or-eq_default xs default {n = index} (omega arith)) otherwise
-]
+at_index P xs index default each otherwise = grind (arith, cases_lt, get_or-eq_default)
 
 -- what holds of each of the first elements, and of one more, holds of all of them
 pub each_more : {X : Type 0} (P : ℕ → X → Type 0) (default : X) (count : ℕ) (xs : List X) (x : X)
     → length xs ≡ count
     → ((k : ℕ) → k < count → P k (slice_index_or xs k default)) → P count x
     → (k : ℕ) → k < count + 1 → P k (slice_index_or (xs ++ x ∷ []) k default)
-each_more P default count xs x long each here k inside = elim (cases_lt k count) [
-  | inl before ↦ rw (get_or_append_left xs (x ∷ []) default k (omega arith)) (each k before)
-  | inr last ↦ let same : count ≡ k = omega arith in
-      rw (← same) (rw (get_or_at xs x [] default count long) here)
-]
+each_more P default count xs x long each here k inside =
+    grind (arith, cases_lt, get_or_append_left, get_or_at)
 
 -- a layer that there isn't counts as one of no candidates
 pub layer_sound : (p : Penalties) (layer : ℕ) → IsTable p

@@ -64,12 +64,7 @@ module _ (answers : List KeyValue) (size : ℕ) (rise : AllPairs IsBefore answer
       → AreResumed answers after size pages → AreEnded pages
       → IsRestAfter answers after (joined pages)
   pages_join after [] resumed ended = absurd ended
-  pages_join after (page ∷ []) (first, none) last =
-      let all : page.keys ++ [] ≡ first.rest = cc (
-        append-nil page.keys,
-        take_all _ _ (short_rest _ _ _ first.is_page last),
-      ) in
-      rw all first.is_rest
+  pages_join after (page ∷ []) (first, none) last = grind (arith, append-nil, take_all, short_rest)
   pages_join after (page ∷ next ∷ pages) (first, resumed) (more, ended) =
       let parts = page_and_rest first.is_page in
       let left =
@@ -93,11 +88,7 @@ pub record IsChainSoFar (answers : List KeyValue) (after : Option KeyValue) (siz
 rest_at_most : (answers : List KeyValue) (after : Option KeyValue) (rest : List KeyValue)
     → IsRestAfter answers after rest → length rest ≤ length answers
 rest_at_most answers None rest is = omega (arith, ap length is)
-rest_at_most answers (Some after) rest (front, is) = omega (
-  arith,
-  ap length is,
-  length-append front (after ∷ rest),
-)
+rest_at_most answers (Some after) rest (front, is) = grind (arith, length-append, rest)
 
 pub chain_start : {answers : List KeyValue} (after : Option KeyValue) {size : ℕ}
     → IsPosition answers after → IsChainSoFar answers after size []
@@ -154,20 +145,12 @@ module _ (answers : List KeyValue) (after : Option KeyValue) (size : ℕ) (pages
       }
 
   chain_end : page.more ≡ false → AreAllPages answers after size (pages ++ page ∷ [])
-  chain_end last =
-      let (resumed, ended) = so_far.goes_on (page ∷ []) (next, tt) last in
-      record {
-        keys = pages_join _ _ rise after (pages ++ page ∷ []) resumed ended;
-        resumed =
-            resumed;
-        ended = ended;
-      }
+  chain_end last = grind (arith, pages_join)
 
   -- how many pages there may be yet
   chain_smaller : page.more ≡ true
       → length answers - length (pages ++ page ∷ []) < length answers - length pages
-  chain_smaller more =
-      omega (arith, is_page.more.0 more, length-append pages (page ∷ []))
+  chain_smaller more = omega (arith, is_page.more.0 more, length-append pages (page ∷ []))
 
 -- ---- the same for what calls answer
 
@@ -195,9 +178,7 @@ module _ {now answers : List KeyValue} (same : now ≡ answers) {position : Opti
 
     pub continues : 1 ≤ count → page.more ≡ true
         → IsChainSoFar answers after size (map page_of grown)
-    continues least more = rw grown_pages
-        (chain_more answers after size (map page_of pages) (page_of page) rise so_far next_page
-        (omega arith) more)
+    continues least more = grind (arith, grown_pages, chain_more, next_page)
 
     pub ends : page.more ≡ false → AreAllPages answers after size (map page_of grown)
     ends last = rw grown_pages (chain_end answers after size (map page_of pages) (page_of page) rise
@@ -205,6 +186,4 @@ module _ {now answers : List KeyValue} (same : now ≡ answers) {position : Opti
 
     pub fewer_left : page.more ≡ true
         → length answers - length (map page_of grown) < length answers - length (map page_of pages)
-    fewer_left more = rw grown_pages
-        (chain_smaller answers after size (map page_of pages) (page_of page) rise so_far next_page
-        more)
+    fewer_left more = grind (arith, grown_pages, chain_smaller, next_page)

@@ -1,5 +1,5 @@
 -- How great the total of a completion is.
-use Rattle.olr_keys.proofs.Common.{◌≡◌, ℕ, zero, suc, ◌+◌, ◌*◌, ◌<◌, ◌≤◌, List, [], ◌∷◌, length, Option, Some, None, inl, inr, sym, ap, ◌∙◌, arith, ◌==◌, Decides, IfSome, slice_get, get_or-eq_default, cases_lt, Decides-eqb, Penalties, IsTable, penalty_at, max_leg, max_penalty, max_step, KeyValue, leg_to, IsKey, IsCompletion}
+use Rattle.olr_keys.proofs.Common.{◌≡◌, ℕ, zero, suc, ◌+◌, ◌*◌, ◌<◌, ◌≤◌, List, [], ◌∷◌, length, Option, Some, None, arith, ◌==◌, Decides, IfSome, get_or-eq_default, cases_lt, Penalties, IsTable, penalty_at, max_leg, max_penalty, max_step, KeyValue, leg_to, IsKey, IsCompletion}
 use Rattle.olr_keys.proofs.Bounds.{penalty_at_most, leg_at_most}
 
 some_at_most : {o : Option ℕ} {x bound : ℕ} → o ≡ Some x → IfSome o (λ n. n ≤ bound) → x ≤ bound
@@ -9,14 +9,7 @@ some_at_most {bound} is at_most = rw is at at_most
 pub layer_inside : (p : Penalties) (layer rank penalty : ℕ) → penalty_at p layer rank ≡ Some penalty
     → layer < length p.candidates
 layer_inside p layer zero penalty is = absurd cc
-layer_inside p layer (suc index) penalty is = elim (cases_lt layer (length p.candidates)) [
-  | inl inside ↦ inside
-  | inr outside ↦
-      let none =
-      ap (λ l. slice_get l index)
-      (get_or-eq_default p.candidates [] {n = layer} (omega arith)) in
-      absurd cc
-]
+layer_inside p layer (suc index) penalty is = grind (arith, cases_lt, get_or-eq_default)
 
 pub step_penalty : {p : Penalties} {penalty : ℕ} (layer rank : ℕ) → IsTable p
     → penalty_at p layer rank ≡ Some penalty → penalty ≤ max_penalty
@@ -33,13 +26,7 @@ pub completion_at_most : (p : Penalties) (layer : ℕ) (before : Option ℕ) (ra
 completion_at_most p layer before [] sound completion = omega arith
 completion_at_most p layer before (rank ∷ ranks) sound
     (leg, penalty, rest, joined, there, later, sum) =
-    let inside = layer_inside p _ _ _ there in
-    omega (
-      arith,
-      step_leg _ _ sound inside joined,
-      step_penalty _ _ sound there,
-      completion_at_most p (layer + 1) (Some rank) ranks {total = rest} sound later,
-    )
+    grind (arith, layer_inside, step_leg, step_penalty, completion_at_most p (layer + 1) (Some rank) ranks {total = rest} sound later)
 
 -- ---- one total
 
@@ -50,20 +37,11 @@ pub one_total : (p : Penalties) (layer : ℕ) (before : Option ℕ) (ranks : Lis
     → IsCompletion p layer before ranks a → IsCompletion p layer before ranks b → a ≡ b
 one_total p layer before [] a b one other = omega arith
 one_total p layer before (rank ∷ ranks) a b (leg, penalty, rest, joined, there, later, sum)
-    (leg', penalty', rest', joined', there', later', sum') = omega (
-      arith,
-      same_some leg leg' joined joined',
-      same_some _ _ there there',
-      one_total p (layer + 1) (Some rank) ranks rest rest' later later',
-    )
+    (leg', penalty', rest', joined', there', later', sum') =
+    grind (arith, same_some, one_total p (layer + 1) (Some rank) ranks rest rest' later later')
 
 -- ranks with this total are the key of a matching exactly where the key has it
 pub key_decides : (p : Penalties) (key : KeyValue) {ranks : List ℕ} (total known : ℕ)
     → ranks ≡ key.ranks → IsCompletion p 0 None ranks total → known ≡ key.total
     → Decides (total == known) (IsKey p key)
-key_decides p key total known same completion is =
-    let here : IsCompletion p 0 None key.ranks total = rw (← same) completion in
-    let equal = Decides-eqb total known in (
-      λ yes. rw (← (equal.0 yes ∙ is)) here,
-      λ matching. equal.1 (one_total _ 0 _ _ _ _ here matching ∙ sym is),
-    )
+key_decides p key total known same completion is = grind (arith, one_total)

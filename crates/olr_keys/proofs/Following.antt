@@ -1,5 +1,6 @@
 -- One step of the search for the completion after that of a cursor.
-use Rattle.olr_keys.proofs.Common.{◌≡◌, ℕ, suc, ◌+◌, ◌-◌, ◌*◌, ◌<◌, ◌≤◌, Bool, true, false, List, [], ◌∷◌, ◌++◌, length, Option, Some, refl, ◌∙◌, ap, subst, arith, MatchBool, suc-mul, Penalties, count_of, IsCompletion, IsStep, most_of, Appends, IsFirstAbove, HasNoStep, IsNextCompletion, HasNoNextCompletion}
+use Rattle.std.proofs.Common.{rules}
+use Rattle.olr_keys.proofs.Common.{◌≡◌, ℕ, ◌+◌, ◌-◌, ◌*◌, ◌<◌, ◌≤◌, Bool, true, false, List, [], ◌∷◌, ◌++◌, length, Option, Some, refl, ◌∙◌, ap, subst, arith, MatchBool, suc-mul, Penalties, count_of, IsCompletion, IsStep, most_of, Appends, IsFirstAbove, HasNoStep, IsNextCompletion, HasNoNextCompletion}
 use Rattle.olr_keys.proofs.Searching.{appends_deeper, next_deeper, next_above, no_next_at_end, none_above, same_later, step_inside, step_layer, step_of_completion}
 use Rattle.olr_keys.proofs.Sizes.{count_most}
 
@@ -78,9 +79,7 @@ module _ (p : Penalties) {layer own : ℕ} (inside : layer < length p.candidates
 
   split : (length p.candidates - layer) * most_of p ≡ budget p + most_of p
   unfolding budget
-  split = ap (λ (n : ℕ). n * most_of p) {x = length p.candidates - layer} {y =
-      suc (length p.candidates - (layer + 1))} (omega arith)
-      ∙ suc-mul (length p.candidates - (layer + 1)) (most_of p)
+  split = search (rules, arith, most_of, suc-mul)
 
   pub deeper_probes : {q : Penalties} {tested new : ℕ} (old : ℕ) → q ≡ p → tested ≤ old + 1
       → new ≤ tested + 2 * ((length q.candidates - (layer + 1)) * most_of q)
@@ -96,32 +95,5 @@ module _ (p : Penalties) {layer own : ℕ} (inside : layer < length p.candidates
       → MatchBool answer (new ≤ old + 2 * ((length p.candidates - layer) * most_of p))
       (new ≤ old + (length p.candidates - layer) * most_of p)
   unfolding budget
-  above_probes old new true same_q same_r one two more =
-      omega (
-        arith,
-        split,
-        one,
-        two,
-        more,
-        ap budget same_q,
-        ap budget same_r,
-        ap
-            (λ (p : Penalties). count_of p layer) same_r,
-        count_most p layer,
-        least,
-        most,
-      )
-  above_probes old new false same_q same_r one two more =
-      omega (
-        arith,
-        split,
-        one,
-        two,
-        more,
-        ap budget same_q,
-        ap
-            (λ (p : Penalties). count_of p layer) same_r,
-        count_most p layer,
-        least,
-        most,
-      )
+  above_probes old new true same_q same_r one two more = grind (arith, split, count_most)
+  above_probes old new false same_q same_r one two more = grind (arith, split, count_most)

@@ -1,5 +1,5 @@
 -- The keys that complete the empty beginning are the answers.
-use Rattle.olr_keys.proofs.Common.{◌≡◌, ℕ, ◌⊎◌, List, [], Option, None, inl, inr, refl, sym, ◌∙◌, subst, arith, Penalties, answers_of, IsAfter, IsNext, IsLeastOf, KeyValue, IsKey, same_key, Completes, IsHeld}
+use Rattle.olr_keys.proofs.Common.{◌≡◌, ℕ, ◌⊎◌, List, [], Option, None, refl, sym, ◌∙◌, subst, arith, Penalties, answers_of, IsAfter, IsNext, IsLeastOf, KeyValue, IsKey, same_key, Completes, IsHeld}
 use Rattle.olr_keys.proofs.Least.{same_least}
 use Rattle.olr_keys.proofs.NextKeys.{next_listed}
 
@@ -16,16 +16,4 @@ pub next_of : (p : Penalties) (after : Option KeyValue) {ranks : List ℕ} (foun
     → IsLeastOf (λ (key : KeyValue). IsHeld None key
     ⊎ (Completes p None 0 ranks key × IsAfter after key)) found
     → IsNext (answers_of p) after found
-next_of p after found none is =
-    let P : KeyValue → Type 0 = λ key. IsHeld None key
-    ⊎ (Completes p None 0 [] key × IsAfter after key) in
-    let start : IsLeastOf P found =
-    subst (λ (r : List ℕ). IsLeastOf (λ (key : KeyValue). IsHeld None key
-    ⊎ (Completes p None 0 r key × IsAfter after key)) found) none is in
-    next_listed _ _ _ (same_least P _
-    (λ key there. elim there [
-      | inl held ↦ absurd held
-      | inr new ↦ (matching _ new.0, new.1)
-    ])
-    (λ key there. inr (completes _ _ there.0, there.1)) _
-    start)
+next_of p after found none is = grind (arith, next_listed, same_least, matching, completes)

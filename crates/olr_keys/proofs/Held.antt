@@ -1,5 +1,5 @@
 -- How many bytes the rows have that are held.
-use Rattle.olr_keys.proofs.Common.{◌≡◌, ℕ, zero, suc, ◌+◌, ◌-◌, ◌*◌, ◌<◌, List, [], ◌∷◌, length, take, refl, ap, ◌∙◌, arith, slice_index_or, get_or, sum_by, suc-mul, take_all, sum_by-cons, AreLastLayers, IsRowOf, IsTotal, bytes_of, held_bytes, width_of, Penalties, count_of}
+use Rattle.olr_keys.proofs.Common.{◌≡◌, ℕ, zero, suc, ◌+◌, ◌*◌, ◌<◌, List, [], ◌∷◌, length, take, refl, ap, arith, slice_index_or, get_or, sum_by, suc-mul, take_all, sum_by-cons, AreLastLayers, IsRowOf, IsTotal, bytes_of, held_bytes, width_of, Penalties, count_of}
 use Rattle.olr_keys.proofs.Sizes.{sum_more}
 
 -- rows of one width
@@ -19,22 +19,14 @@ module _ {p : Penalties} {marks : List (List (List ℕ))}
     (they : AreLastLayers p (length p.candidates) marks) where
   layer_bytes : (later left : ℕ) → later + (left + 1) ≡ length p.candidates
       → sum_by length (slice_index_or marks later []) ≡ count_of p left * width_of p
-  layer_bytes later left all =
-      let it = they.each later (omega arith) in
-      let position : length p.candidates - 1 - later ≡ left = omega arith in
-      rows_bytes _ _ (λ index inside. let row = it.each index (omega arith) in row.wide)
-      ∙ ap (λ (n : ℕ). n * width_of p) (cc)
+  layer_bytes later left all = grind (arith, rows_bytes)
 
   -- the rows of the last layers, and of those that are left
   layers_bytes : (later left : ℕ) → later + left ≡ length p.candidates
       → sum_by (λ (rows : List (List ℕ)). sum_by length rows) (take later marks)
       + sum_by length (take left p.candidates) * width_of p
       ≡ sum_by length p.candidates * width_of p
-  layers_bytes zero left all = omega (
-    arith,
-    ap (λ (l : List (List ℕ)). sum_by length l * width_of p)
-        (take_all left p.candidates (omega arith)),
-  )
+  layers_bytes zero left all = grind (arith, take_all)
   layers_bytes (suc later) left all =
       let bytes : List (List ℕ) → ℕ = λ rows. sum_by length rows in
       omega (

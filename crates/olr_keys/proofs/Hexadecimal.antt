@@ -1,5 +1,5 @@
 -- The digits of a mark, and those of `hex`.
-use Rattle.olr_keys.proofs.Common.{◌≡◌, ℕ, ◌/◌, ◌%◌, ◌<◌, List, [], ◌∷◌, ◌==◌, slice_index, true, false, refl, arith, All, Ok, nat_lt, agree_below_at, eqb-true, All-head, All-tail, Decides-ltb, IsUtf8-from_ascii, IsBytes, decode_sized, encode_lower, encode_with, lower_digits, IsMark, hexadecimal, Mark}
+use Rattle.olr_keys.proofs.Common.{◌≡◌, ℕ, ◌/◌, ◌%◌, ◌<◌, List, [], ◌∷◌, slice_index, true, false, refl, arith, All, Ok, nat_lt, agree_below_at, eqb-true, All-head, All-tail, Decides-ltb, IsUtf8-from_ascii, IsBytes, decode_sized, encode_lower, encode_with, lower_digits, IsMark, hexadecimal, Mark}
 use Rattle.std.specs.Fmt.{digit_glyph}
 use Rattle.std.specs.Str.{IsAscii, IsUtf8}
 use Rattle.std.proofs.lemmas.Str.Ascii.{IsAscii-from_reads}
@@ -7,10 +7,7 @@ use Rattle.hex.proofs.HexLemmas.{IsAscii-encode_with, decode_of-encode_lower, de
 use Rattle.olr_keys.proofs.Bounds.{at_index}
 
 one_digit : (value : ℕ) → value < 16 → slice_index lower_digits value ≡ digit_glyph false value
-one_digit value small =
-    eqb-true (slice_index lower_digits value) (digit_glyph false value)
-    (agree_below_at (λ (n : ℕ). slice_index lower_digits n == digit_glyph false n)
-    (λ (n : ℕ). true) _ _ refl small)
+one_digit value small = grind (arith, eqb-true, agree_below_at)
 
 -- the digits of bytes are those that `hex` writes
 pub digits_are : (bytes : List ℕ) → All (λ (byte : ℕ). byte < 256) bytes

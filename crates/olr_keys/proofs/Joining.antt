@@ -16,10 +16,7 @@ pub chunk_at : (size count index : ℕ) (xs : List ℕ) → index < count
 chunk_at size zero index xs inside = absurd (omega arith)
 chunk_at size (suc count) zero xs inside =
     ap (λ n. take size (drop n xs)) {x = 0} (omega arith)
-chunk_at size (suc count) (suc index) xs inside =
-    chunk_at size count index (drop size xs) (omega arith)
-    ∙ ap (take size) (drop-drop (size * index) size xs
-    ∙ ap (λ n. drop n xs) {x = size + size * index} (omega arith))
+chunk_at size (suc count) (suc index) xs inside = grind (arith, drop-drop, chunk_at size count)
 
 module _ (before other now : List ℕ) (at size : ℕ) (as_long : length other ≡ length before)
     (room : at + size ≤ length other) (so_far : IsJoinedBelow before other at now) where
@@ -28,32 +25,16 @@ module _ (before other now : List ℕ) (at size : ℕ) (as_long : length other �
 
   lanes_length : length lanes ≡ size
   unfolding lanes
-  lanes_length =
-      let left = length-chunk at size now (omega arith) in
-      let right = length-chunk at size other room in
-      length-zip2 bit_or (chunk at size now) (chunk at size other) (omega arith) ∙ left
+  lanes_length = grind (arith, length-chunk, length-zip2)
 
   lane_at : (j : ℕ) → j < size → get_or lanes j 0
       ≡ bit_or (get_or now (at + j) 0) (get_or other (at + j) 0)
   unfolding lanes
-  lane_at j inside =
-      let left = length-chunk at size now (omega arith) in
-      let right = length-chunk at size other room in
-      get_or-zip2 bit_or (chunk at size now) (chunk at size other) j 0 0 0 (omega arith)
-      (omega arith)
-      ∙ ap (λ x. bit_or x (get_or (chunk at size other) j 0))
-      (get_or-chunk at size now j 0 inside)
-      ∙ ap (bit_or (get_or now (at + j) 0)) (get_or-chunk at size other j 0 inside)
+  lane_at j inside = grind (arith, length-chunk, get_or-zip2, get_or-chunk)
 
   joined_at : (j : ℕ) → j < size → get_or (put_chunk at now lanes) (at + j) 0
       ≡ bit_or (get_or before (at + j) 0) (get_or other (at + j) 0)
-  joined_at j inside =
-      cc (
-        get_or-put_chunk_at at now lanes j 0 (omega (arith, lanes_length))
-            (omega (arith, lanes_length, so_far.same_length)),
-        lane_at _ inside,
-        so_far.same (at + j) (omega arith),
-      )
+  joined_at j inside = grind (arith, get_or-put_chunk_at, lanes_length, lane_at)
 
   pub chunk_joined : IsJoinedBelow before other (at + size)
       (put_chunk at now (zip2 bit_or (chunk at size now) (chunk at size other)))

@@ -4,12 +4,7 @@ use Rattle.olr_keys.proofs.Lacking.{Lacks, IsCut, lacks_decimal, one_cut, not_cu
 use Rattle.olr_keys.proofs.RanksText.{later, one_ranks, ranks_text-cons}
 
 pub ranks_of_key : {key : KeyValue} → IsInRange key → AreRanks 32 key.ranks
-ranks_of_key in_range = record {
-  at_least = omega arith;
-  at_most = in_range.ranks_at_most;
-  each =
-      in_range.each;
-}
+ranks_of_key in_range = grind arith
 
 colon : (key : KeyValue) → key_text key ≡ decimal key.total ++ 58 ∷ ranks_text key.ranks
 colon key = append_assoc (decimal key.total) (58 ∷ []) (ranks_text key.ranks)

@@ -46,10 +46,7 @@ not_cut byte text front later lacks same =
 
 lacks_each : {byte : ℕ} {text : List ℕ} → ((i : ℕ) → i < length text → get_or text i 0 ≢ byte)
     → Lacks byte text
-lacks_each {text} each = record {
-  each =
-      λ i d inside same. each i inside (get_or_default text i 0 d inside ∙ same);
-}
+lacks_each {text} each = grind (arith, each, get_or_default)
 
 -- a text that isn't cut lacks the byte
 pub lacks_uncut : {byte : ℕ} {text : List ℕ} (found : Option (Bor (List ℕ) × Bor (List ℕ)))

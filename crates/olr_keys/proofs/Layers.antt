@@ -15,23 +15,14 @@ layer_at marks index =
 
 -- after the last layer there are no candidates
 none_later : (p : Penalties) (layer : ℕ) → layer ≡ length p.candidates → AreRowsOf p layer []
-none_later p layer is =
-    let none =
-    sym (ap length (get_or-eq_default p.candidates [] {n = layer} (omega arith))) in
-    record { count = none; each = λ index inside. absurd (omega arith) }
+none_later p layer is = grind (arith, get_or-eq_default)
 
 -- the rows of the first of the last layers
 pub last_rows : {p : Penalties} {count : ℕ} (marks : List (Vec (Vec ℕ))) {rows : List (Vec ℕ)}
     → AreLastLayers p count (layers_of marks) → 0 < count
     → rows ≡ slice_index_or (map (λ (rows : Vec (Vec ℕ)). rows.items) marks) (length marks - 1) []
     → AreRowsOf p (length p.candidates - 1 - (count - 1)) (rows_of rows)
-last_rows {count} marks {rows} they some is =
-    let long : length marks ≡ count =
-    cc (length-map marks (λ rows. rows_of rows.items)) in
-    let same : slice_index_or (layers_of marks) (length marks - 1) [] ≡ rows_of rows =
-    cc (layer_at _ _) in
-    rw (← (ap (λ n. slice_index_or (layers_of marks) (n - 1) []) (sym long) ∙ same))
-    (they.each (count - 1) (omega arith))
+last_rows {count} marks {rows} they some is = grind (arith, length-map, layer_at)
 
 -- the rows of the layer after the next one
 pub next_rows : (p : Penalties) {layer : ℕ} (later : ℕ) (marks : List (Vec (Vec ℕ)))

@@ -1,6 +1,6 @@
 -- What may be left: beginnings that can't be completed, or only by keys that come after the one
 -- held.
-use Rattle.olr_keys.proofs.Common.{◌≡◌, ℕ, ◌+◌, ◌≤◌, List, [], ◌∷◌, ◌++◌, length, Option, Some, None, inl, inr, refl, ◌∙◌, append_assoc, arith, cases_eq, HasNoCompletionBy, IsBound, IsHeldBefore, IsLeft, IsLowerBound, KeyValue, AreBefore, IsBefore, leg_to, IsJoined, Penalties}
+use Rattle.olr_keys.proofs.Common.{◌≡◌, ℕ, ◌+◌, ◌≤◌, List, [], ◌∷◌, ◌++◌, length, Option, Some, None, inl, inr, refl, append_assoc, arith, cases_eq, HasNoCompletionBy, IsBound, IsHeldBefore, IsLeft, IsLowerBound, KeyValue, AreBefore, IsBefore, leg_to, IsJoined, Penalties}
 use Rattle.olr_keys.proofs.Completions.{same_some}
 
 -- ---- one step
@@ -48,10 +48,8 @@ before_more : (key : KeyValue) (total more : ℕ) (ranks rest : List ℕ) → to
     → IsBefore key (record { total = total; ranks = ranks })
     → IsBefore key (record { total = more; ranks = ranks ++ rest })
 before_more key total more ranks rest least (inl less) = inl (omega arith)
-before_more key total more ranks rest least (inr (same, before)) = elim (cases_eq total more) [
-  | inl equal ↦ inr (same ∙ equal, before_longer _ _ _ before)
-  | inr other ↦ inl (omega arith)
-]
+before_more key total more ranks rest least (inr (same, before)) =
+    grind (arith, cases_eq, before_longer)
 
 module _ (p : Penalties) (before : Option ℕ) (total : ℕ) (ranks : List ℕ) (rank : ℕ) where
   pub left_by_none : (held : Option KeyValue) → HasNoCompletionBy p (length ranks) before rank

@@ -121,11 +121,7 @@ from_completions : (p : Penalties) (left layer : ℕ) (before : Option ℕ) (z :
     → layer + left ≡ length p.candidates → Contains (completions p left layer before) z
     → IsCompletion p layer before z.ranks z.total
 unfolding completions
-from_completions p zero layer before z reaches there =
-    elim (member (record { total = 0; ranks = [] }) [] z there) [
-      | inl same ↦ rw (← same) (omega arith, refl)
-      | inr none ↦ absurd (omega arith)
-    ]
+from_completions p zero layer before z reaches there = grind (arith, member)
 from_completions p (suc left) layer before z reaches there =
     let in_list = from_lists _ _ z there in
     let rank = in_list.0 in
@@ -150,10 +146,7 @@ within_completions p zero layer before [] total reaches completion =
     let none : KeyValue = record { total = 0; ranks = [] } in
     rw completion.1 (here none [])
 within_completions p zero layer before (rank ∷ ranks) total reaches
-    (leg, penalty, rest, joined, there, later, sum) = absurd (omega (
-      arith,
-      layer_inside p _ _ _ there,
-    ))
+    (leg, penalty, rest, joined, there, later, sum) = grind (arith, layer_inside)
 within_completions p (suc left) layer before [] total reaches completion = absurd (omega arith)
 within_completions p (suc left) layer before (rank ∷ ranks) total reaches
     (leg, penalty, rest, joined, there, later, sum) =

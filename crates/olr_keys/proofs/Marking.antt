@@ -9,11 +9,8 @@ use Rattle.olr_keys.proofs.Remaining.{IsTotalBy, remaining_last, only_last, rema
 use Rattle.olr_keys.proofs.Sizes.{remaining_below}
 
 zero_at : (width number : ℕ) → slice_index (replicate width 0) number ≡ 0
-zero_at width number = elim (cases_lt number width) [
-  | inl inside ↦ get_or-replicate width number 0 0 inside
-  | inr outside ↦ get_or-eq_default (replicate width 0) 0 {n = number}
-      (omega (arith, length-replicate {A = ℕ} width 0))
-]
+zero_at width number =
+    grind (arith, cases_lt, get_or-replicate, get_or-eq_default, length-replicate)
 
 -- a row of zeros marks nothing
 pub empty_row : {P : ℕ → Type 0} (width : ℕ) → ((number : ℕ) → P number → ⊥)
@@ -46,17 +43,7 @@ one_row width one inside holds only = record {
 
 -- two bytes joined are 0 exactly where both are
 joined_some : (a b : ℕ) → 0 < bit_or a b → (0 < a) ⊎ (0 < b)
-joined_some a b some = elim (cases_lt 0 a) [
-  | inl left ↦ inl left
-  | inr none ↦ elim (cases_lt 0 b) [
-    | inl right ↦ inr right
-    | inr neither ↦
-        let first : a ≡ 0 = omega arith in
-        let second : b ≡ 0 = omega arith in
-        let both : bit_or a b ≡ 0 = cc in
-        absurd (omega arith)
-  ]
-]
+joined_some a b some = grind (arith, cases_lt)
 
 -- a row joined with another one
 pub row_joined : {P Q R : ℕ → Type 0} {width : ℕ} (shift : ℕ) {row other after : List ℕ}

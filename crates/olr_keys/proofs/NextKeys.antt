@@ -90,10 +90,7 @@ position_is_key p (Some after) position = is_matching _ _ position
 
 pub member_decides : {p q : Penalties} {key : KeyValue} {test : Bool} → p ≡ q
     → Decides test (IsKey p key) → Decides test (Contains (answers_of q) key)
-member_decides same decides = (
-  λ yes. is_answer _ (rw (← same) (decides.0 yes)),
-  λ there. decides.1 (rw same (is_matching _ _ there)),
-)
+member_decides same decides = grind (arith, is_answer, is_matching)
 
 -- the next key of all matchings is that of the answers
 pub next_listed : (p : Penalties) (after found : Option KeyValue) → IsNextKey p after found

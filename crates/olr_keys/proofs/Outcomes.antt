@@ -1,5 +1,6 @@
 -- What a call gave.
-use Rattle.olr_keys.proofs.Common.{◌≡◌, ℕ, true, not, List, Option, None, refl, pointwise, MatchOption, Result, Ok, nat_eq, Decides-eqb}
+use Rattle.std.proofs.Common.{arith}
+use Rattle.olr_keys.proofs.Common.{◌≡◌, ℕ, true, not, List, Option, None, pointwise, MatchOption, Result, Ok, nat_eq}
 use Rattle.std.proofs.lemmas.Slice.Eq.{slice_eq-Decides}
 
 -- what has to hold where a call gave none
@@ -13,7 +14,4 @@ same_ok a b one other = cc
 
 -- texts that were found to differ aren't the same
 pub differ : {a b : List ℕ} → true ≡ not (pointwise nat_eq a b) → a ≡ b → ⊥
-differ {a} {b} other same =
-    let decides = slice_eq-Decides Decides-eqb a b _ refl in
-    let yes = decides.1 same in
-    cc
+differ {a} {b} other same = grind (arith, slice_eq-Decides)

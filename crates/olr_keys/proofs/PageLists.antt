@@ -156,11 +156,7 @@ first_more keys found key rise first next some =
 
 pub one_longer : {grown : List KeyValue} (keys : List KeyValue) (key : KeyValue) {count : ℕ}
     → grown ≡ keys ++ key ∷ [] → length keys ≡ count → length grown ≡ count + 1
-one_longer keys key is counted = omega (
-  arith,
-  ap length is,
-  length-append keys (key ∷ []),
-)
+one_longer keys key is counted = grind (arith, length-append)
 
 pub position_after : {answers : List KeyValue} {after : Option KeyValue} (keys : List KeyValue)
     → AreFirst answers after keys → IsPosition answers (last_of after keys)
@@ -171,16 +167,8 @@ position_after keys first = position_within _ _ first.left
 page_before : {size : ℕ} (keys left : List KeyValue) {more : Bool}
     → more ≡ is_some (slice_get left 0) → (more ≡ true → length keys ≡ size) → length keys ≤ size
     → IsPageOf (keys ++ left) size (record { keys = keys; more = more })
-page_before keys [] is full at_most = record {
-  keys = sym (take_all _ _ (omega (arith, length-append keys [])) ∙ append-nil keys);
-  more = (λ more. absurd cc, λ longer. absurd (omega (arith, length-append keys [])));
-}
-page_before {size} keys (key ∷ others) is full at_most =
-    let count = full is in
-    record {
-      keys = sym (take_at keys (key ∷ others) size (omega arith));
-      more = (λ more. omega (arith, length-append keys (key ∷ others)), λ longer. is);
-    }
+page_before keys [] is full at_most = grind (arith, take_all, length-append, append-nil)
+page_before {size} keys (key ∷ others) is full at_most = grind (arith, take_at, length-append)
 
 -- ---- the same for what calls answer
 

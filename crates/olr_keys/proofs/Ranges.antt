@@ -1,5 +1,5 @@
 -- The key of a matching is in the ranges of a key.
-use Rattle.olr_keys.proofs.Common.{◌≡◌, ℕ, zero, suc, ◌+◌, ◌≤◌, List, [], ◌∷◌, length, All, Option, Some, None, arith, slice_index_or, All-cons, All-nil, slice_get_within, Penalties, IsTable, count_of, penalty_at, max_total, IsCompletion, KeysAreInRange}
+use Rattle.olr_keys.proofs.Common.{◌≡◌, ℕ, zero, suc, ◌+◌, ◌≤◌, List, [], ◌∷◌, length, All, Option, Some, None, arith, All-cons, All-nil, slice_get_within, Penalties, IsTable, count_of, penalty_at, max_total, IsCompletion, KeysAreInRange}
 use Rattle.olr_keys.proofs.Bounds.{count_at_most}
 use Rattle.olr_keys.proofs.Completions.{step_penalty, completion_at_most}
 
@@ -7,14 +7,7 @@ use Rattle.olr_keys.proofs.Completions.{step_penalty, completion_at_most}
 pub rank_inside : (p : Penalties) (layer rank penalty : ℕ) → penalty_at p layer rank ≡ Some penalty
     → (1 ≤ rank) × (rank ≤ count_of p layer)
 rank_inside p layer zero penalty is = absurd cc
-rank_inside p layer (suc index) penalty is = (
-  omega arith,
-  omega (
-    arith,
-    slice_get_within (slice_index_or p.candidates layer []) index
-        penalty is,
-  ),
-)
+rank_inside p layer (suc index) penalty is = grind (arith, slice_get_within)
 
 completion_ranks : (p : Penalties) (layer : ℕ) (before : Option ℕ) (ranks : List ℕ) (total : ℕ)
     → IsTable p → IsCompletion p layer before ranks total
@@ -40,18 +33,7 @@ start_at_most : {p : Penalties} (ranks : List ℕ) {total : ℕ} → IsTable p
     → IsCompletion p 0 None ranks total → total ≤ max_total
 start_at_most [] sound completion = omega arith
 start_at_most (rank ∷ ranks) sound (leg, penalty, rest, joined, there, later, sum) =
-    let none : leg ≡ 0 = cc in
-    omega (
-      arith,
-      step_penalty 0 _ sound there,
-      completion_at_most _ _ _ _ sound later,
-      completion_length _ _ _ _ _ later,
-    )
+    grind (arith, step_penalty, completion_at_most, completion_length)
 
 pub key_in_range : KeysAreInRange
-key_in_range p key sound is = record {
-  total_at_most = start_at_most _ sound is;
-  ranks_at_least = omega (arith, completion_length _ 0 _ _ _ is);
-  ranks_at_most = omega (arith, completion_length _ 0 _ _ _ is);
-  each = completion_ranks _ 0 _ _ _ sound is;
-}
+key_in_range p key sound is = grind (arith, start_at_most, completion_length, completion_ranks)

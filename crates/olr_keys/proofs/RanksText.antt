@@ -1,6 +1,6 @@
 -- Texts of ranks: in decimal, joined by dots.
 use Rattle.std.proofs.Common.{◌≡◌, ℕ, ◌+◌, ◌-◌, ◌<◌, List, [], ◌∷◌, ◌++◌, length, get_or, Option, Some, None, sym, ap, ◌∙◌, append_assoc, append-nil, length-append, take, suc, arith}
-use Rattle.olr_keys.proofs.Common.{◌≢◌, decimal, MatchOption, take-suc, decimal_injective, All-cons, All-tail, AreRanks, ranks_text, IsRank}
+use Rattle.olr_keys.proofs.Common.{◌≢◌, decimal, MatchOption, take-suc, decimal_injective, All-tail, AreRanks, ranks_text, IsRank}
 use Rattle.olr_keys.proofs.Lacking.{Lacks, IsCut, lacks_decimal, one_cut, not_cut}
 
 lacks_rank : {rank : ℕ} → IsRank rank → Lacks 46 (decimal rank)
@@ -99,18 +99,7 @@ joined (Some unit) old new cut room in_range first push ([], are, same, whole) =
     absurd (omega arith)
 joined (Some unit) {rest} {rank} old new cut room in_range first push
     (next ∷ more, are, same, whole) =
-    let one_more = ap length push ∙ length-append old (rank ∷ []) in (
-      rank ∷ next ∷ more,
-      record {
-        at_least = omega arith;
-        at_most = omega arith;
-        each = All-cons IsRank rank (next ∷ more) in_range are.each;
-      },
-      cut.whole ∙ ap (λ l. l ++ (46 ∷ rest)) first
-          ∙ ap (λ l. decimal rank ++ (46 ∷ l)) same,
-      whole ∙ ap (λ l. l ++ (next ∷ more)) push
-          ∙ append_assoc old (rank ∷ []) (next ∷ more),
-    )
+    grind (arith, length-append, rank, in_range, are, first, append_assoc)
 
 -- the text of the ranks after the first one
 abbrev pub later : List ℕ → List ℕ

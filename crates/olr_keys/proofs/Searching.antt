@@ -1,5 +1,6 @@
 -- The search for a completion, from one layer to the next.
-use Rattle.olr_keys.proofs.Common.{◌≡◌, ℕ, suc, ◌+◌, ◌-◌, ◌*◌, ◌<◌, ◌≤◌, ◌⊎◌, List, [], ◌∷◌, ◌++◌, length, take, Option, Some, inl, inr, refl, sym, ◌∙◌, ap, subst, arith, suc-mul, cases_eq, cases_order, Penalties, count_of, penalty_at, AreBefore, IsCompletion, IsRemainingTotal, IsStep, IsPredecessor, Appends, IsFirstStep, HasNoStep, HasCompletion, IsFirstCompletion, IsNextCompletion, HasNoNextCompletion}
+use Rattle.std.proofs.Common.{rules}
+use Rattle.olr_keys.proofs.Common.{◌≡◌, ℕ, ◌+◌, ◌-◌, ◌*◌, ◌<◌, ◌≤◌, ◌⊎◌, List, [], ◌∷◌, ◌++◌, length, take, Option, Some, inl, inr, refl, sym, subst, arith, suc-mul, cases_eq, cases_order, Penalties, count_of, penalty_at, AreBefore, IsCompletion, IsRemainingTotal, IsStep, IsPredecessor, Appends, IsFirstStep, HasNoStep, HasCompletion, IsFirstCompletion, IsNextCompletion, HasNoNextCompletion}
 use Rattle.std.proofs.lemmas.List.{append-nil, append_assoc, length-append, take_at}
 use Rattle.olr_keys.proofs.Ranges.{rank_inside}
 use Rattle.olr_keys.proofs.Completions.{layer_inside, same_some}
@@ -32,11 +33,7 @@ module _ {p : Penalties} {layer : ℕ} (before : Option ℕ) (above rest : ℕ) 
 -- what is left is known from the rank
 same_left : {p : Penalties} {layer : ℕ} {before : Option ℕ} {rank rest a b : ℕ}
     → IsStep p layer before rank rest a → IsStep p layer before rank rest b → a ≡ b
-same_left one other = omega (
-  arith,
-  same_some _ _ one.joined other.joined,
-  same_some _ _ one.there other.there,
-)
+same_left one other = grind (arith, same_some)
 
 -- ---- completions and steps
 
@@ -73,18 +70,7 @@ pub step_of_completion : (p : Penalties) (layer : ℕ) (before : Option ℕ) (ra
     (ranks : List ℕ) → IsCompletion p layer before (rank ∷ ranks) rest
     → Begins p layer before rank ranks rest
 step_of_completion p layer before rank rest ranks
-    (leg, penalty, left, joined, there, completion, sum) = (
-      left,
-      record {
-        leg = leg;
-        penalty = penalty;
-        joined = joined;
-        there = there;
-        sum = sum;
-        remaining = (ranks, (0, penalty, left, refl, there, completion, omega arith));
-      },
-      completion,
-    )
+    (leg, penalty, left, joined, there, completion, sum) = grind arith
 
 -- a layer with a step is in the table
 pub step_layer : {p : Penalties} {layer : ℕ} {before : Option ℕ} {rank rest left : ℕ}
@@ -101,10 +87,7 @@ only_empty p before rest (rank ∷ ranks) last there = inr tt
 pub empty_completion : {p : Penalties} {layer : ℕ} {before : Option ℕ} {rest : ℕ}
     → layer ≡ length p.candidates → HasCompletion p layer before rest
     → IsFirstCompletion p layer before rest []
-empty_completion last ([], completion) = record {
-  completion = completion;
-  first = λ other there. only_empty _ _ _ _ last there;
-}
+empty_completion last ([], completion) = grind (arith, only_empty)
 empty_completion last (rank ∷ ranks, completion) =
     let (left, step, later) = step_of_completion _ _ _ _ _ _ completion in
     absurd (omega (arith, step_layer step))
@@ -146,10 +129,7 @@ pub first_completion : {p : Penalties} {layer : ℕ} {before : Option ℕ} {rest
     {ranks : List ℕ} → IsFirstStep p layer before 0 rest rank left
     → IsFirstCompletion p (layer + 1) (Some rank) left ranks
     → IsFirstCompletion p layer before rest (rank ∷ ranks)
-first_completion step on = record {
-  completion = completion_of_step _ step.step on.completion;
-  first = λ other there. first_of _ step on there;
-}
+first_completion step on = search (rules, arith, completion_of_step, first_of)
 
 -- ---- the next completion
 
@@ -167,11 +147,7 @@ pub same_later : {p : Penalties} {layer : ℕ} {before : Option ℕ} {own rank r
     → IsCompletion p layer before (rank ∷ ranks) rest
     → IsCompletion p (layer + 1) (Some own) ranks left
 same_later {p} {layer} {before} {own} {rest} ranks step same there =
-    let (less, other, on) = step_of_completion _ _ _ _ _ _ there in
-    let again =
-    subst (λ (n : ℕ). IsStep p layer before n rest less) (sym same) other in
-    rw (← (same_left again step)) (
-    rw same on)
+    grind (arith, step_of_completion, same_left)
 
 -- the next completion has the same first rank, and then the next completion after it
 deeper_first : {p : Penalties} {layer : ℕ} {before : Option ℕ} {own rest left : ℕ}
@@ -181,11 +157,7 @@ deeper_first : {p : Penalties} {layer : ℕ} {before : Option ℕ} {own rest lef
     → (other ≡ own ∷ found) ⊎ AreBefore (own ∷ found) other
 deeper_first [] step next there later = absurd later
 deeper_first (rank ∷ ranks) step next there (inl higher) = inr (inl higher)
-deeper_first (rank ∷ ranks) step next there (inr (same, later)) =
-    elim (next.first ranks (same_later _ step same there) later) [
-      | inl equal ↦ inl (cc)
-      | inr before_it ↦ inr (inr (same, before_it))
-    ]
+deeper_first (rank ∷ ranks) step next there (inr (same, later)) = grind (arith, same_later)
 
 pub next_deeper : {p : Penalties} {layer : ℕ} {before : Option ℕ} {own rest left : ℕ}
     {others found : List ℕ} → IsStep p layer before own rest left
@@ -246,24 +218,15 @@ none_above p layer before step none no_step (rank ∷ ranks) there (inr (same, l
 -- a candidate to which there is a step precedes those of the next layer
 pub is_predecessor : {p : Penalties} {layer : ℕ} {before : Option ℕ} {rank rest left : ℕ}
     → IsStep p layer before rank rest left → IsPredecessor p (layer + 1) (Some rank)
-is_predecessor {p} {layer} {rank} step =
-    let within = rank_inside p _ _ _ step.there in (
-      omega arith,
-      within.0,
-      subst (λ n. rank ≤ count_of p n) {x = layer} (omega arith)
-          within.1,
-    )
+is_predecessor {p} {layer} {rank} step = grind (arith, rank_inside)
 
 -- ---- ranks that are found one by one
 
 pub appends_deeper : (P Q : List ℕ → Type 0) (ranks pushed longer : List ℕ) (rank : ℕ)
     → pushed ≡ ranks ++ rank ∷ [] → ((found : List ℕ) → P found → Q (rank ∷ found))
     → Appends pushed longer P → Appends ranks longer Q
-appends_deeper P Q ranks pushed longer rank is more (found, longer_is, on) = (
-  rank ∷ found,
-  longer_is ∙ ap (λ l. l ++ found) is ∙ append_assoc ranks (rank ∷ []) found,
-  more found on,
-)
+appends_deeper P Q ranks pushed longer rank is more (found, longer_is, on) =
+    grind (arith, append_assoc)
 
 pub pushed_length : {pushed : List ℕ} (ranks : List ℕ) (rank : ℕ) → pushed ≡ ranks ++ rank ∷ []
     → length pushed ≡ length ranks + 1
@@ -276,11 +239,7 @@ appends_nothing ranks on = ([], sym (append-nil ranks), on)
 pub popped_back : {pushed popped : List ℕ} (ranks deeper : List ℕ) (rank : ℕ)
     → pushed ≡ ranks ++ rank ∷ [] → deeper ≡ pushed → popped ≡ take (length deeper - 1) deeper
     → popped ≡ ranks
-popped_back ranks deeper rank is same taken =
-    let all = same ∙ is in
-    let long : length deeper ≡ length ranks + 1 = cc (length-append ranks (rank ∷ [])) in
-    taken ∙ ap (take (length deeper - 1)) all
-    ∙ take_at ranks (rank ∷ []) (length deeper - 1) (omega arith)
+popped_back ranks deeper rank is same taken = grind (arith, length-append, take_at)
 
 -- ---- the budget of probes
 
@@ -289,8 +248,4 @@ pub layer_budget : {first new count later : ℕ} (old layers layer most : ℕ) �
     → count ≤ most → first ≤ old + count → new ≤ first + later
     → later ≡ (layers - (layer + 1)) * most
     → new ≤ old + (layers - layer) * most
-layer_budget old layers layer most inside few one rest is =
-    let split =
-    ap (λ n. n * most) {x = layers - layer} {y = suc (layers - (layer + 1))} (omega arith)
-    ∙ suc-mul (layers - (layer + 1)) most in
-    omega arith
+layer_budget old layers layer most inside few one rest is = grind (arith, suc-mul)

@@ -1,5 +1,6 @@
 -- The width of a table: how great it is, and that each remaining total is less.
-use Rattle.olr_keys.proofs.Common.{slice_get-get_or, slice_get_within, get_or_from_slice_get, ◌≡◌, ℕ, zero, suc, ◌+◌, ◌-◌, ◌*◌, ◌<◌, ◌≤◌, max, List, [], ◌∷◌, length, map, drop, take, Option, Some, None, inl, inr, refl, ap, add-one, arith, slice_index_or, slice_get, unwrap_or, IfSome, get_or, All, sum_by, le-max_left, le-max_right, mul-le-mul_right, sum_by-cons, sum_by-take-drop, sum_by-le, get_or-eq_default, cases_lt, take_all, take_more, Penalties, IsTable, count_of, penalty_at, max_leg, max_penalty, max_total, leg_to, IsCompletion, greatest, greatest_leg, bytes_of, most_of, width_of, RemainingAreBelow, TotalsAreBelow}
+use Rattle.std.proofs.Common.{rules}
+use Rattle.olr_keys.proofs.Common.{slice_get-get_or, slice_get_within, get_or_from_slice_get, ◌≡◌, ℕ, zero, suc, ◌+◌, ◌-◌, ◌*◌, ◌<◌, ◌≤◌, max, List, [], ◌∷◌, length, map, drop, take, Option, Some, None, refl, ap, add-one, arith, slice_index_or, slice_get, unwrap_or, IfSome, get_or, All, sum_by, le-max_left, le-max_right, mul-le-mul_right, sum_by-cons, sum_by-take-drop, sum_by-le, get_or-eq_default, cases_lt, take_all, take_more, Penalties, IsTable, count_of, penalty_at, max_leg, max_penalty, max_total, leg_to, IsCompletion, greatest, greatest_leg, bytes_of, most_of, width_of, RemainingAreBelow, TotalsAreBelow}
 use Rattle.std.proofs.lemmas.List.Recursion.{max_push, max_bounds, max_least}
 use Rattle.olr_keys.proofs.Bounds.{layer_sound, legs_sound}
 
@@ -20,13 +21,7 @@ drop_sum f none xs index is = rw add-one (drop_sum_suc f none xs index is)
 
 pub sum_more : {X : Type 0} (f : X → ℕ) (none : X) (xs : List X) (index : ℕ) → f none ≡ 0
     → sum_by f (take (index + 1) xs) ≡ sum_by f (take index xs) + f (get_or xs index none)
-sum_more f none xs index is = omega (
-  arith,
-  drop_sum f none xs index is,
-  sum_by-take-drop f xs index,
-  sum_by-take-drop f xs
-      (index + 1),
-)
+sum_more f none xs index is = grind (arith, drop_sum, sum_by-take-drop)
 
 pub greatest_more : (numbers : List ℕ) (index : ℕ) → index < length numbers
     → greatest (take (index + 1) numbers)
@@ -70,13 +65,8 @@ layer_at_most p layer sound = let it = layer_sound _ _ sound in greatest_at_most
 
 pub legs_at_most : (p : Penalties) (layer : ℕ) → IsTable p
     → greatest_leg (slice_index_or p.legs layer []) ≤ max_leg
-legs_at_most p layer sound = elim (cases_lt (layer + 1) (length p.candidates)) [
-  | inl inside ↦ let it = legs_sound _ _ sound inside in greatest_leg_at_most _ it.each
-  | inr outside ↦
-      let none : greatest_leg (slice_index_or p.legs layer []) ≡ 0 =
-      ap greatest_leg (get_or-eq_default p.legs [] {n = layer} (omega arith)) in
-      omega arith
-]
+legs_at_most p layer sound =
+    grind (arith, cases_lt, legs_sound, greatest_leg_at_most, get_or-eq_default)
 
 pub width_at_most : (p : Penalties) → IsTable p → width_of p ≤ max_total + 1
 unfolding width_of
@@ -93,11 +83,7 @@ pub width_is : {p : Penalties} {layers sum : ℕ} → IsTable p → layers ≡ l
     → sum ≡ sum_by greatest (take layers p.candidates) + sum_by greatest_leg (take layers p.legs)
     + 1 → sum ≡ width_of p
 unfolding width_of
-width_is {p} {layers} sound all is = omega (
-  arith,
-  ap (sum_by greatest) (take_all layers p.candidates (omega (arith, all))),
-  ap (sum_by greatest_leg) (take_all layers p.legs (omega (arith, all, sound.between))),
-)
+width_is {p} {layers} sound all is = grind (arith, take_all)
 
 -- ---- candidates and bytes
 
@@ -109,11 +95,7 @@ length_greatest layers index inside =
 
 pub count_most : (p : Penalties) (layer : ℕ) → count_of p layer ≤ most_of p
 unfolding most_of
-count_most p layer = elim (cases_lt layer (length p.candidates)) [
-  | inl inside ↦ length_greatest _ _ inside
-  | inr outside ↦ let none : count_of p layer ≡ 0 =
-      ap length (get_or-eq_default p.candidates [] {n = layer} (omega arith)) in omega arith
-]
+count_most p layer = grind (arith, cases_lt, length_greatest, get_or-eq_default)
 
 pub bytes_at_most : (p : Penalties)
     → bytes_of p ≤ (length p.candidates * most_of p + 1) * width_of p
@@ -174,15 +156,8 @@ completion_below : (p : Penalties) (layer : ℕ) (before : Option ℕ) (ranks : 
     + (sum_by greatest (drop layer p.candidates) + sum_by greatest_leg (drop layer p.legs))
 completion_below p layer before [] total completion = omega arith
 completion_below p layer before (rank ∷ ranks) total
-    (leg, penalty, rest, joined, there, later, sum) = omega (
-      arith,
-      leg_at_greatest p layer before rank leg joined,
-      penalty_at_greatest p layer rank penalty there,
-      completion_below p (layer + 1) (Some rank) ranks rest later,
-      greatest_leg_next p layer rank,
-      drop_sum greatest [] p.candidates layer refl,
-      drop_sum greatest_leg [] p.legs layer refl,
-    )
+    (leg, penalty, rest, joined, there, later, sum) =
+    grind (arith, leg_at_greatest, penalty_at_greatest, greatest_leg_next, drop_sum, completion_below p (layer + 1) (Some rank) ranks rest later)
 
 drop_at_most : {X : Type 0} (f : X → ℕ) (xs : List X) (index : ℕ)
     → sum_by f (drop index xs) ≤ sum_by f xs
@@ -194,18 +169,9 @@ no_leg_to p layer = refl
 
 pub remaining_below : RemainingAreBelow
 unfolding width_of
-remaining_below p layer rank total (ranks, completion) = omega (
-  arith,
-  completion_below p layer None (rank ∷ ranks) total completion,
-  no_leg_to p layer,
-  drop_at_most greatest p.candidates layer,
-  drop_at_most greatest_leg p.legs layer,
-)
+remaining_below p layer rank total (ranks, completion) =
+    search (rules, arith, completion_below, no_leg_to, drop_at_most, greatest, greatest_leg)
 
 pub total_below : TotalsAreBelow
 unfolding width_of
-total_below p total (ranks, completion) = omega (
-  arith,
-  completion_below _ 0 None _ _ completion,
-  no_leg_to p 0,
-)
+total_below p total (ranks, completion) = grind (arith, completion_below, no_leg_to)

@@ -29,23 +29,11 @@ module _ (p : Penalties) (layer : ℕ) (before : Option ℕ) (rank rest leg pena
     (marks : IsRowOf (IsRemainingTotal p layer rank) (width_of p) row) where
   step_of_left : (left : ℕ) → IsLeft leg penalty row rest left
       → IsStep p layer before rank rest left
-  step_of_left left it = record {
-    leg = leg;
-    penalty = penalty;
-    joined = joined;
-    there = there;
-    sum = it.sum;
-    remaining = marks.only (penalty + left) it.marked;
-  }
+  step_of_left left it = grind arith
 
   left_of_step : (left : ℕ) → IsStep p layer before rank rest left
       → IsLeft leg penalty row rest left
-  left_of_step left step =
-      let same : step.penalty ≡ penalty = same_some step.penalty penalty step.there there in
-      record {
-        sum = omega (arith, same_some step.leg leg step.joined joined);
-        marked = marks.each (penalty + left) (rw (← same) step.remaining);
-      }
+  left_of_step left step = grind (arith, same_some)
 
   step_by : (found : Option ℕ) → MatchOption found ((left : ℕ) → IsLeft leg penalty row rest left
       → ⊥) (IsLeft leg penalty row rest)

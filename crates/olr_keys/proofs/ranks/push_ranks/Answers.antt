@@ -12,8 +12,7 @@ module _ {ranks others : List ℕ} {first : ℕ} (whole : ranks ≡ first ∷ ot
 
   -- the length of the text of the first rank, and of the other ones
   short_first : {text : List ℕ} → text ≡ decimal first → length text ≤ 2
-  short_first is =
-      omega (arith, ap length is, short (All-head IsRank first others each))
+  short_first is = omega (arith, ap length is, short (All-head IsRank first others each))
 
   short_other : {text : List ℕ} {i : ℕ} → i < length others → text ≡ decimal (get_or others i 0)
       → length text ≤ 2
