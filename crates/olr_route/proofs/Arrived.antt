@@ -87,22 +87,7 @@ module _ (search : Search) (arrival : Arrival)
     visited_now : (next : ℕ) → Contains lines next → (Contains banned next × (now next ≡ None))
         ⊎ (IsAllowed road line next × (now next ≡ Some arrival.at_end)
         × WaitsIn search Done new.queue next (arrival.at_end + length_at road next))
-    visited_now next among =
-        let at = ap (λ (o : Option ℕ). node_length (length_of new.starts.nodes) o)
-        (are.there next among).0 in
-        elim (visited.each next among) [
-          | inl (aside, none) ↦ inl (
-            aside,
-            by_parts road new.starts next (Some None)
-                (length_of new.starts.nodes node) none at,
-          )
-          | inr (allowed, own, waits) ↦ inr (
-            allowed,
-            by_parts road new.starts next (own_reached is_first arrival.at_end)
-                (length_of new.starts.nodes node) own at ∙ are.reached,
-            waits,
-          )
-        ]
+    visited_now next among = grind (arith, by_parts)
 
     changed : (next : ℕ) → (now next ≡ before next)
         ⊎ (Contains lines next × IsAllowed road line next × (now next ≡ Some arrival.at_end)
@@ -205,7 +190,7 @@ module _ (search : Search) (arrival : Arrival)
     left_elsewhere other differs = grind arith
 
     left_here : worth (2 ^ 63) (still_banned new node) ≡ length banned
-    left_here = grind (arith, left_of, are.node_here, are.banned_here)
+    left_here = grind (arith, left_of)
 
     pub has_arrived : HasArrived search arrival old new
     has_arrived = record {

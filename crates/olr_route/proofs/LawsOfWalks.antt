@@ -1,5 +1,5 @@
 -- What holds of all walks, and of the pieces of a route.
-use Rattle.olr_route.proofs.Common.{IsPlace, IsDeparture, IsSoundMap, RoadMap, Place, Piece, length_at, walk_length, IsWalk, start_of, IsLeastLength, RoadLine, ◌≡◌, ℕ, ◌<◌, ◌≤◌, List, [], ◌∷◌, ◌++◌, length, ap, sym, ◌∙◌, refl, arith, Some, subst, slice_get_within, AreTurns, last_line, pieces_from, id_at, ids_of, IsRoute, IsUpTo, IsRouteWithin, IsPieceOn, AreJoined, AreRoutePieces, slice_get, All, All-nil, All-cons}
+use Rattle.olr_route.proofs.Common.{IsPlace, IsDeparture, IsSoundMap, RoadMap, Place, Piece, length_at, walk_length, IsWalk, start_of, IsLeastLength, RoadLine, ◌≡◌, ℕ, ◌<◌, ◌≤◌, List, [], ◌∷◌, ◌++◌, length, ap, refl, arith, Some, slice_get_within, AreTurns, last_line, pieces_from, id_at, ids_of, IsRoute, IsUpTo, IsRouteWithin, IsPieceOn, AreJoined, AreRoutePieces, slice_get, All, All-cons}
 use Rattle.olr_route.proofs.Lines.{length_here, long_before_turn}
 use Rattle.olr_route.proofs.TightPaths.{ids_rise}
 use Rattle.olr_route.proofs.Walks.{long_walk, rest_last, rest_more}
@@ -59,13 +59,7 @@ pub no_beginning : (road : RoadMap) (class : ℕ) (from to : Place) (behind more
     → IsWalk road class from to (behind ++ more)
     → walk_length road from to (behind ++ more) ≡ walk_length road from to behind → more ≡ []
 no_beginning road class from to behind [] sound end is other same = refl
-no_beginning road class from to behind (next ∷ more) sound end is other same =
-    absurd (omega (
-      arith,
-      same,
-      longer road sound to end from behind _ _ other.on.turns
-          is.on.ends other.on.ends (λ none. omega (arith, is.forwards none)),
-    ))
+no_beginning road class from to behind (next ∷ more) sound end is other same = grind (arith, longer)
 
 -- ---- one route
 
@@ -81,19 +75,11 @@ module _ (road : RoadMap) (sound : IsSoundMap road) where
   same_walk line other [] (y ∷ b) turns others up down = absurd down
   same_walk line other (x ∷ a) [] turns others up down = absurd up
   same_walk line other (x ∷ a) (y ∷ b) (turn, turns) (next, others) up down =
-      let same : id_at road x ≡ id_at road y = grind arith in
-      let here = same_id x y (slice_get_within road.lines x turn.after turn.enters)
-      (slice_get_within road.lines y next.after next.enters) same in
-      ap (λ (r : ℕ). r ∷ a) here ∙ ap (λ (l : List ℕ). y ∷ l)
-      (same_walk x y a b turns others (grind arith) (grind arith))
+      grind (arith, same_id, slice_get_within, same_walk x y a b turns others (grind arith) (grind arith))
 
   pub route_once : (class : ℕ) (from to : Place) (a b : List ℕ) → IsRoute road class from to a
       → IsRoute road class from to b → a ≡ b
-  route_once class from to a b is other =
-      let long : walk_length road from to b ≡ walk_length road from to a =
-      omega (arith, is.least b other.is, other.least a is.is) in
-      same_walk from.line from.line a b is.is.on.turns other.is.on.turns (is.first b other.is long)
-      (other.first a is.is (sym long))
+  route_once class from to a b is other = grind (arith, same_walk)
 
 -- ---- the pieces of a route
 
@@ -101,15 +87,7 @@ module _ (road : RoadMap) (to : Place) (end : IsPlace road to) where
   all_on : (line at : ℕ) (here : RoadLine) (behind : List ℕ) → slice_get road.lines line ≡ Some here
       → at ≤ here.length → AreTurns road line behind → last_line line behind ≡ to.line
       → (behind ≡ [] → at ≤ to.at) → All (IsPieceOn road) (pieces_from road line at behind to.at)
-  all_on line at here [] is before turns ends forwards =
-      All-cons (IsPieceOn road) (record { line = line; from = at; to = to.at }) []
-      (record {
-        line = end.line;
-        at_rank = subst (λ (rank : ℕ). slice_get road.lines rank ≡ Some end.line) (sym ends)
-            end.at_rank;
-        forwards = forwards refl;
-        up_to_end = end.up_to_end;
-      }) (All-nil (IsPieceOn road))
+  all_on line at here [] is before turns ends forwards = grind arith
   all_on line at here (next ∷ behind) is before (turn, turns) ends forwards =
       All-cons (IsPieceOn road) (record { line = line; from = at; to = length_at road line })
       (pieces_from road next 0 behind to.at)
@@ -131,12 +109,4 @@ pub are_route_pieces : (road : RoadMap) (class : ℕ) (from to : Place) (limit :
     (pieces : List Piece) → IsSoundMap road → IsDeparture road from → IsPlace road to
     → IsRouteWithin road class from to limit pieces → AreRoutePieces road class from to pieces
 are_route_pieces road class from to limit pieces sound start end is =
-    let walk = is.is.is in
-    subst (λ (l : List Piece). AreRoutePieces road class from to l) (sym is.pieces_are) (record {
-      on_map = all_on road to end from.line from.at start.line is.behind start.at_rank
-          (omega arith) walk.on.turns walk.on.ends
-          (λ none. omega (arith, walk.forwards none));
-      joined = all_joined road to end from.line from.at is.behind walk.on.turns;
-      least = record { behind = is.behind; is = walk; long = refl; least = is.is.least };
-      positive = long_walk _ _ to _ start walk.forwards;
-    })
+    grind (arith, all_on, all_joined, long_walk)

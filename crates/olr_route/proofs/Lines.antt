@@ -39,13 +39,7 @@ length_here road rank line at =
 -- a line that another one follows has a length
 pub long_before_turn : (road : RoadMap) (a b : ℕ) → IsSoundMap road → IsTurn road a b
     → 0 < length_at road a
-long_before_turn road a b sound turn =
-    omega (
-      arith,
-      long_at _ a _ sound turn.leaves,
-      length_here road a turn.before
-          turn.leaves,
-    )
+long_before_turn road a b sound turn = grind (arith, long_at, length_here)
 
 -- ---- places
 
@@ -87,24 +81,11 @@ module _ (road : RoadMap) (line node : ℕ) (ends : EndsAt road node line) where
       (one_line road.lines line turn.before ends.here turn.leaves ends.at) ∙ ends.to
 
   pub starts_there : (next : ℕ) → IsTurn road line next → StartsAt road node next
-  starts_there next turn =
-      slice_get-map (λ (l : RoadLine). l.from) road.lines next
-      ∙ ap (option_map (λ (l : RoadLine). l.from)) turn.enters
-      ∙ ap Some (meets_there next turn)
+  starts_there next turn = grind (arith, slice_get-map, meets_there)
 
   pub turn_there : (next : ℕ) → StartsAt road node next → IsAllowed road line next
       → IsTurn road line next
-  turn_there next starts allowed =
-      let found = with_origin road node next starts in
-      record {
-        before = ends.here;
-        after = found.0;
-        leaves = ends.at;
-        enters = found.1;
-        meets =
-            ends.to ∙ sym found.2;
-        allowed = allowed;
-      }
+  turn_there next starts allowed = grind (arith, with_origin)
 
 -- a line by its head: its length, the nodes at which it starts and ends, and its class
 module _ (road : RoadMap) (rank : ℕ) (head : Line)
@@ -133,8 +114,7 @@ module _ (road : RoadMap) (rank : ℕ) (head : Line)
     record {
       line = row.0;
       at = row.1;
-      within =
-          omega (arith, ap (λ (h : Line). h.class) row.2);
+      within = omega (arith, ap (λ (h : Line). h.class) row.2);
     },
     ap (λ (h : Line). h.to) row.2,
   )
@@ -182,12 +162,7 @@ module _ (road : RoadMap) (line next : ℕ) (bans : List Ban) (are : AreBansFrom
     allowed_turn none is = none (ban_of line next) (are.each (ban_of line next) is refl) refl
 
     none_to : IsAllowed road line next → IsNoneTo bans next
-    none_to allowed ban among to =
-        let is = All-contains (λ (b : Ban). Contains road.bans b × (b.from ≡ line))
-        bans ban are.only
-        among in
-        let same : ban ≡ ban_of line next = λ i. record { from = is.1 i; to = to i } in
-        allowed (subst (λ (b : Ban). Contains road.bans b) same is.0)
+    none_to allowed ban among to = grind arith
 
     pub never_allowed : (IsNoneTo bans next → ⊥) → IsAllowed road line next → ⊥
     never_allowed some allowed = some (none_to allowed)
@@ -200,7 +175,7 @@ free_of_bans road line [] are = (
   λ _. refl,
 )
 free_of_bans road line (ban ∷ rest) are = (
-  λ never. absurd (grind (arith, nat_tests, never)),
+  λ never. absurd (grind (arith, nat_tests)),
   λ free. absurd
       (never_allowed road line ban.to (ban ∷ rest) are
       (λ none. none ban (0, omega arith, refl) refl)

@@ -10,55 +10,26 @@ zeros (suc count) (suc place) = zeros count place
 -- page 0 alone
 pub pages_begun : (pages lengths : List ℕ) (count : ℕ) → pages ≡ replicate count 0
     → lengths ≡ replicate 16 0 → ArePages pages lengths
-pages_begun pages lengths count first are = record {
-  whole = omega (arith, sixteen);
-  each = λ block. omega (arith, page block, sixteen);
-  apart = λ block other some differs. absurd (omega (arith, page block));
-  none = λ place inside. ap (λ (l : List ℕ). slice_index l place) are ∙ zeros 16 place;
-}
-  where
-    page : (block : ℕ) → slice_index pages block ≡ 0
-    page block = ap (λ (l : List ℕ). slice_index l block) first ∙ zeros count _
-
-    sixteen : length lengths ≡ 16
-    sixteen = ap (λ (l : List ℕ). length l) are ∙ length-replicate {A = ℕ} 16 0
+pages_begun pages lengths count first are = grind (arith, zeros, length-replicate)
 
 -- nothing has a length
 pub none_begun : (pages lengths : List ℕ) (count : ℕ) → pages ≡ replicate count 0
     → lengths ≡ replicate 16 0 → (node : ℕ)
     → length_of (record { pages = pages; lengths = lengths }) node ≡ None
-none_begun pages lengths count first are node =
-    let none =
-    ap (λ l. slice_index l (place_of pages node)) are
-    ∙ zeros 16 (place_of pages node) in grind (arith, none)
+none_begun pages lengths count first are node = grind (arith, zeros)
 
 -- another list with the same pages
 module _ (pages lengths more : List ℕ) (same : (block : ℕ)
     → slice_index more block ≡ slice_index pages block) where
   pub pages_wider : ArePages pages lengths → ArePages more lengths
-  pages_wider are = record {
-    whole = are.whole;
-    each = λ block. omega (arith, same block, are.each block);
-    apart = λ block other some differs at. are.apart block other (omega (arith, same block))
-        differs (omega (arith, same block, same other));
-    none = are.none;
-  }
+  pages_wider are = grind arith
 
 -- more blocks, which have no page
 pub wider : (pages : List ℕ) (count : ℕ) (more : List ℕ) → length pages ≤ count
     → more ≡ take count pages ++ replicate (count - length pages) 0
     → (block : ℕ) → slice_index more block ≡ slice_index pages block
 wider pages count more less is block =
-    ap (λ l. slice_index l block) (is
-    ∙ ap (λ l. l ++ replicate (count - length pages) 0) (take_all count pages less))
-    ∙ elim (cases_lt block (length pages)) [
-      | inl inside ↦ get_or_append_left pages (replicate (count - length pages) 0) 0 block inside
-      | inr past ↦ get_or-append_right pages (replicate (count - length pages) 0)
-          (length pages) block 0
-          refl past
-          ∙ zeros (count - length pages) (block - length pages)
-          ∙ sym (get_or_past pages block 0 past)
-    ]
+    grind (arith, take_all, cases_lt, get_or_append_left, get_or-append_right, zeros, get_or_past)
 
 -- a page more, of a block that had none, changes no length
 module _ (pages lengths : List ℕ) (are : ArePages pages lengths) (block : ℕ)

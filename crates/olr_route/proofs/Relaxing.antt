@@ -82,12 +82,7 @@ module _ (search : Search) (old new : Starts) where
   -- and so do others, one after the other
   pub lowered_more : (newer : Starts) (kept more : Bool) → IsLowered search kept old new
       → IsLowered search more new newer → IsLowered search (kept || more) old newer
-  lowered_more newer kept more first next = record {
-    sound = next.sound;
-    falls = λ line bound known. next.falls line bound (first.falls line bound known);
-    less = let lower = first.less in let still = next.less in grind arith;
-    same = λ none line. let one = first.same in let other = next.same in grind arith;
-  }
+  lowered_more newer kept more first next = grind arith
 
 -- ---- lines that are relaxed
 

@@ -1,6 +1,6 @@
 -- Walks to a place: their last piece, and the one along a line alone. From another departure that
 -- shares the search a walk goes over the same lines behind the first, and so does the route.
-use Rattle.olr_route.proofs.Common.{IsPlace, IsDeparture, RoadMap, IsSoundMap, RoadLine, Place, Groups, Piece, Search, IsLeastLength, IsLengthWithin, HasWalksTo, rest_of_line, IsOpen, IsTurn, length_at, walk_length, pieces_of, IsDrivable, IsWalk, start_of, LeadTo, ◌≡◌, ℕ, ◌-◌, ◌<◌, ◌≤◌, List, [], ◌∷◌, Option, Some, None, inl, inr, subst, ap, sym, ◌∙◌, refl, arith, ◌+◌, MatchOption, All-cons, All-nil, IsRouteWithin, IsRoute, LeadOnAlike, Serves, AreOnShortestPaths, FollowsFirstTight}
+use Rattle.olr_route.proofs.Common.{IsPlace, IsDeparture, RoadMap, IsSoundMap, RoadLine, Place, Groups, Piece, Search, IsLeastLength, IsLengthWithin, HasWalksTo, rest_of_line, IsOpen, IsTurn, walk_length, pieces_of, IsDrivable, IsWalk, start_of, LeadTo, ◌≡◌, ℕ, ◌-◌, ◌<◌, ◌≤◌, List, [], ◌∷◌, Option, Some, None, inl, inr, subst, ap, sym, ◌∙◌, refl, arith, ◌+◌, MatchOption, IsRouteWithin, IsRoute, LeadOnAlike, Serves, AreOnShortestPaths, FollowsFirstTight}
 use Rattle.olr_route.proofs.Lines.{length_here, long_before_turn, one_line}
 use Rattle.olr_route.proofs.TightPaths.{first_route}
 use Rattle.olr_route.proofs.Walks.{as_walk, behind_first, departure_length, first_open, last_piece, lead_more, rest_last, rest_more}
@@ -38,48 +38,19 @@ module _ (road : RoadMap) (class : ℕ) (from to : Place) (limit : ℕ) where
       (drivable : IsDrivable road class (last_piece to)) where
     -- the walk that goes forwards on the line
     forwards : IsWalk road class from to []
-    forwards = record {
-      on = record {
-        turns = tt;
-        ends = sym same;
-        drivable = All-cons (IsDrivable road class)
-            (record { line = from.line; from = from.at; to = to.at }) []
-            (λ _. subst (λ (l : ℕ). IsOpen road class l) same (drivable (omega arith)))
-            (All-nil (IsDrivable road class));
-      };
-      forwards = λ _. ahead;
-    }
+    forwards = grind arith
 
     no_shorter : (other : List ℕ) → IsWalk road class from to other
         → walk_length road from to [] ≤ walk_length road from to other
     no_shorter [] is = omega arith
-    no_shorter (next ∷ rest) is =
-        omega (
-          arith,
-          rest_last road from to,
-          rest_more road from to next rest,
-          end.up_to_end,
-          length_here road to.line end.line end.at_rank,
-          ap (λ (l : ℕ). length_at road l) same,
-        )
+    no_shorter (next ∷ rest) is = grind (arith, rest_last, rest_more, length_here)
 
     pub along : IsLeastLength road class from to (to.at - from.at)
-    along = record {
-      behind = [];
-      is = forwards;
-      long = rest_last road from to;
-      least =
-          λ other is. omega (arith, rest_last road from to, no_shorter other is);
-    }
+    along = grind (arith, forwards, rest_last, no_shorter)
 
     pub route_ahead : (len : ℕ) → IsLengthWithin road class from to limit (Some len)
         → IsRouteWithin road class from to limit (pieces_of road from to [])
-    route_ahead len (is_least, within) = record {
-      behind = [];
-      is = record { is = forwards; least = no_shorter; first = λ other _ _. tt };
-      within = omega (arith, no_shorter is_least.behind is_least.is);
-      pieces_are = refl;
-    }
+    route_ahead len (is_least, within) = grind (arith, forwards, no_shorter)
 
 -- ---- departures that share a search
 
@@ -106,10 +77,7 @@ MovesOn road class a b = IsOpen road class a.line → IsOpen road class b.line
 both_move : (road : RoadMap) (class : ℕ) (start from : Place) → Serves road class start from
     → MovesOn road class start from × MovesOn road class from start
     × (rest_of_line road start ≤ rest_of_line road from)
-both_move road class start from (inl same) =
-    subst (λ (p : Place). MovesOn road class start p × MovesOn road class p start
-    × (rest_of_line road start ≤ rest_of_line road p)) same
-    (λ clear. (clear, λ next turn. turn), λ clear. (clear, λ next turn. turn), omega arith)
+both_move road class start from (inl same) = grind arith
 both_move road class start from (inr (alike, less)) =
     let other : LeadOnAlike road class from.line start.line =
     record {
@@ -133,18 +101,7 @@ module _ (road : RoadMap) (class : ℕ) (sound : IsSoundMap road) (p q : Place)
       → LeadTo road class (start_of line) q rest
       × (walk_length road (start_of line) q rest + p.at
       ≡ walk_length road (start_of line) p rest + q.at)
-  other_end line [] on =
-      let ends = on.ends ∙ same in (
-        record {
-          turns = tt;
-          ends = ends;
-          drivable = All-cons (IsDrivable road class) (record { line = line; from = 0; to = q.at })
-              []
-              (λ positive. subst (λ (l : ℕ). IsOpen road class l) (sym ends) (drivable positive))
-              (All-nil (IsDrivable road class));
-        },
-        omega (arith, rest_last road (start_of line) p, rest_last road (start_of line) q),
-      )
+  other_end line [] on = grind (arith, rest_last)
   other_end line (next ∷ rest) on =
       let found = other_end next rest (behind_first on) in (
         lead_more (start_of line) (first_open on (long_before_turn road line next sound on.turns.0))

@@ -1,6 +1,6 @@
 -- Walks of least length to the start of a line are just the tight paths to it. Taking the first
 -- tight turn again and again gives the first of them by the ids of its lines, and its pieces.
-use Rattle.olr_route.proofs.Common.{IsDeparture, RoadMap, IsSoundMap, Place, Piece, length_at, pieces_of, walk_length, IsWalk, start_of, LeadTo, IsLeastLength, IsLengthWithin, HasWalksTo, ReachesStart, rest_of_line, RoadLine, Groups, Search, ◌≡◌, ℕ, zero, suc, ◌+◌, ◌<◌, ◌≤◌, List, [], ◌∷◌, Option, Some, None, subst, ap, sym, ◌∙◌, refl, arith, ◌++◌, length, get_or, inl, inr, IsTightPath, AreFirstTight, AreGroups, FollowsFirstTight, IsFirstTight, AreOnShortestPaths, IsTightIn, unwrap_or, append_assoc, length-map, line_ids, cases_lt, slice_get-map, unwrap_or-slice_get, slice_get_within, id_at, ids_of, IsRoute, IsUpTo}
+use Rattle.olr_route.proofs.Common.{IsDeparture, RoadMap, IsSoundMap, Place, Piece, length_at, pieces_of, walk_length, IsWalk, start_of, LeadTo, IsLeastLength, IsLengthWithin, HasWalksTo, ReachesStart, rest_of_line, Groups, Search, ◌≡◌, ℕ, zero, suc, ◌+◌, ◌<◌, ◌≤◌, List, [], ◌∷◌, Option, Some, None, ap, sym, ◌∙◌, refl, arith, ◌++◌, length, get_or, IsTightPath, AreFirstTight, AreGroups, FollowsFirstTight, IsFirstTight, AreOnShortestPaths, IsTightIn, unwrap_or, append_assoc, length-map, line_ids, cases_lt, slice_get-map, unwrap_or-slice_get, slice_get_within, id_at, ids_of, IsRoute, IsUpTo}
 use Rattle.olr_route.proofs.Lines.{long_before_turn, long_at}
 use Rattle.olr_route.proofs.Walks.{as_walk, at_once, behind_first, first_open, lead_more, long_walk, rest_last, rest_more}
 pub use Rattle.olr_route.proofs.Walks.{departure_length}
@@ -17,15 +17,7 @@ id_is road rank =
 pub ids_rise : (road : RoadMap) (a b : ℕ) → IsSoundMap road → a < b → b < length road.lines
     → id_at road a < id_at road b
 ids_rise road a b sound less inside =
-    omega (
-      arith,
-      id_is road a,
-      id_is road b,
-      length-map road.lines (λ line. line.id),
-      below_from_sorted _ a b 0
-          (sorted_from_strictly_increasing _ sound.lines.rise) less
-          (omega (arith, length-map road.lines (λ (line : RoadLine). line.id))),
-    )
+    grind (arith, id_is, length-map, below_from_sorted, sorted_from_strictly_increasing)
 
 -- ---- walks of least length and tight paths
 
@@ -98,15 +90,7 @@ module _ (search : Search) (target : ℕ) (table : ℕ → Option ℕ) (sound : 
   -- ---- and the other way round
 
   rest_of : (place : Place) (len : ℕ) (rest : List ℕ) → Path place len rest → LeadOn place len rest
-  rest_of place len [] (here, known) = subst (λ p. LeadOn p len []) (sym here) (
-    at_once _ _ _,
-    omega (
-      arith,
-      same_length len least (table target) known reached_target,
-      rest_last road
-          (start_of target) (start_of target),
-    ),
-  )
+  rest_of place len [] (here, known) = grind (arith, at_once, same_length, rest_last)
   rest_of place len (next ∷ rest) (tight, on) =
       let behind = rest_of (start_of next) (len + rest_of_line road place) rest on in (
         lead_more _ tight.clear tight.turn behind.0,
@@ -116,13 +100,7 @@ module _ (search : Search) (target : ℕ) (table : ℕ → Option ℕ) (sound : 
   tight_walk : (behind : List ℕ) → Path from 0 behind
       → IsWalk road class from (start_of target) behind
       × (walk_length road from (start_of target) behind ≡ least)
-  tight_walk [] (here, known) = absurd
-      (omega (
-        arith,
-        same_length 0 least (table target) known reached_target,
-        is_least.long,
-        long_walk road from (start_of target) is_least.behind start is_least.is.forwards,
-      ))
+  tight_walk [] (here, known) = grind (arith, same_length, is_least, long_walk)
   tight_walk (next ∷ rest) path = let found = rest_of _ 0 (next ∷ rest) path in
       (as_walk found.0, omega arith)
 
@@ -137,39 +115,16 @@ module _ (search : Search) (target : ℕ) (table : ℕ → Option ℕ) (sound : 
 
     to_tight : (place : Place) (len next : ℕ) (rest : List ℕ) → Path place len (next ∷ rest)
         → IsTightIn search groups place len next
-    to_tight place len next rest (tight, on) =
-        record {
-          clear = tight.clear;
-          turn = tight.turn;
-          least =
-              are.each next (len + rest_of_line road place) (tight.least, (rest, on));
-        }
+    to_tight place len next rest (tight, on) = grind arith
 
     compare : (place : Place) (len next : ℕ) (rest : List ℕ) → 0 < rest_of_line road place
         → ((other : ℕ) → IsTightIn search groups place len other → next ≤ other)
         → IsFirst (start_of next) (len + rest_of_line road place) rest → (others : List ℕ)
         → Path place len others → IsUpTo (ids_of road (next ∷ rest)) (ids_of road others)
     compare place len next rest further lowest behind [] (here, known) =
-        absurd (omega (
-          arith,
-          (rest_of (start_of next) (len + rest_of_line road place) rest
-              behind.on).1,
-          same_length len least (table target) known reached_target,
-        ))
+        grind (arith, rest_of, same_length)
     compare place len next rest further lowest behind (other ∷ others) (tight, on) =
-        elim (cases_lt next other) [
-          | inl less ↦ inl (ids_rise road next other sound less
-              (slice_get_within road.lines other tight.turn.after tight.turn.enters))
-          | inr no_less ↦
-              let same : other ≡ next = omega
-              (arith, no_less, lowest other (to_tight place len other others (tight, on))) in
-              inr (
-                ap (λ (r : ℕ). id_at road r) (sym same),
-                behind.first others
-                    (subst (λ (r : ℕ). Path (start_of r) (len + rest_of_line road place) others)
-                    same on),
-              )
-        ]
+        grind (arith, cases_lt, ids_rise, slice_get_within, to_tight)
 
     first_of : (place : Place) (len : ℕ) (rest : List ℕ)
         → ((next : ℕ) → IsTightIn search groups place len next → 0 < rest_of_line road place)

@@ -167,7 +167,7 @@ module _ (search : Search) where
           → ((arrival.line ≡ line) × (arrival.at_end ≡ at_end)) ⊎ Awaits after line at_end
       which line at_end (other, is, same_line, same_end) = let at =
           in_front arrival other items (Contains-permutation all (arrival ∷ items) other taken
-          is) in grind (arith, goes.kept)
+          is) in grind arith
 
       waiting_old : (line at_end : ℕ) → EndsAfter old line at_end → IsOpen road class line
           → MayGoOn search line at_end

@@ -53,8 +53,7 @@ module _ (search : Search) (step : Step) (so_far : ℕ) (items : List Arrival)
         clear = record {
           line = over.ends.here;
           at = over.ends.at;
-          within =
-              omega arith;
+          within = omega arith;
         };
         ends = over.ends;
         long = refl;
@@ -130,11 +129,11 @@ module _ (search : Search) (Done : ℕ → Type 0) (arrival : Arrival) (is_first
           let at = which other is in
           let was = first.each other in
           let put = Contains-append_left banned (next ∷ []) other in
-          grind (arith, none, Contains-push banned next);
+          grind (arith, Contains-push banned next);
       others = others_now;
       aside = λ other is.
           let at = Contains-push_cases banned next other is in let was = first.aside other in
-          let among = more other in grind (arith, here, never);
+          let among = more other in grind (arith, here);
       kept = first.kept;
       added = added_before;
       grows = omega (

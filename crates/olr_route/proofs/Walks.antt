@@ -1,7 +1,7 @@
 -- The start of a line is reached after some length just where a walk to that start has this length.
 -- So a search in which every line is relaxed holds the least lengths.
 use Rattle.std.proofs.lemmas.List.Sums.{sum_by-cons}
-use Rattle.olr_route.proofs.Common.{RoadMap, IsSoundMap, Place, Piece, IsOpen, IsTurn, length_at, pieces_of, walk_length, IsDrivable, IsWalk, start_of, LeadTo, ReachesStart, rest_of_line, IsAskedFor, IsKnownWithin, IsRelaxed, IsUseful, IsDeparture, IsLengthWithin, HasWalksTo, ◌≡◌, ℕ, zero, suc, ◌+◌, ◌-◌, ◌<◌, List, [], ◌∷◌, subst, sym, ◌∙◌, refl, ap, arith, ◌≤◌, Option, Some, None, All-cons, All-nil, piece_length, IsSearch}
+use Rattle.olr_route.proofs.Common.{RoadMap, IsSoundMap, Place, Piece, IsOpen, IsTurn, length_at, pieces_of, walk_length, IsWalk, start_of, LeadTo, ReachesStart, rest_of_line, IsAskedFor, IsKnownWithin, IsRelaxed, IsUseful, IsDeparture, IsLengthWithin, HasWalksTo, ◌≡◌, ℕ, zero, suc, ◌+◌, ◌-◌, ◌<◌, List, [], ◌∷◌, subst, sym, ◌∙◌, refl, ap, arith, ◌≤◌, Option, Some, None, piece_length, IsSearch}
 use Rattle.olr_route.proofs.Lines.{long_before_turn, length_here}
 
 pub departure_length : (road : RoadMap) (place : Place) → IsDeparture road place
@@ -45,23 +45,12 @@ as_walk on = record { on = on; forwards = λ none. absurd cc }
 
 pub at_once : (road : RoadMap) (class line : ℕ)
     → LeadTo road class (start_of line) (start_of line) []
-at_once road class line = record {
-  turns = tt;
-  ends = refl;
-  drivable = All-cons (IsDrivable road class) (last_piece (start_of line)) []
-      (λ positive. absurd (omega arith)) (All-nil (IsDrivable road class));
-}
+at_once road class line = grind arith
 
 pub lead_more : {road : RoadMap} {class : ℕ} {to : Place} {next : ℕ} {rest : List ℕ} (place : Place)
     → IsOpen road class place.line → IsTurn road place.line next
     → LeadTo road class (start_of next) to rest → LeadTo road class place to (next ∷ rest)
-lead_more {road} {class} {to} {next} {rest} place clear turn on = record {
-  turns = (turn, on.turns);
-  ends = on.ends;
-  drivable = All-cons (IsDrivable road class)
-      (record { line = place.line; from = place.at; to = length_at road place.line })
-      (pieces_of road (start_of next) to rest) (λ _. clear) on.drivable;
-}
+lead_more {road} {class} {to} {next} {rest} place clear turn on = grind arith
 
 pub behind_first : {road : RoadMap} {class : ℕ} {place to : Place} {next : ℕ} {rest : List ℕ}
     → LeadTo road class place to (next ∷ rest) → LeadTo road class (start_of next) to rest
@@ -162,15 +151,7 @@ module _ (road : RoadMap) (class : ℕ) (asked : Option (List ℕ)) where
   -- a lesser length is useful, too, and one up to a farther limit
   pub useful_more : {limit line len : ℕ} (farther less : ℕ) → limit ≤ farther → less ≤ len
       → IsUseful road class asked limit line len → IsUseful road class asked farther line less
-  useful_more farther less far le is =
-      record {
-        target = is.target;
-        is_asked = is.is_asked;
-        rest = is.rest;
-        on = is.on;
-        within =
-            omega arith;
-      }
+  useful_more farther less far le is = grind arith
 
   -- so is the length to the line before
   useful_before : {limit len : ℕ} (line next : ℕ) → IsOpen road class line → IsTurn road line next
@@ -191,13 +172,7 @@ module _ (road : RoadMap) (class : ℕ) (asked : Option (List ℕ)) where
   -- the length to a line that is asked for
   useful_here : {limit : ℕ} (line len : ℕ) → IsAskedFor asked line → len ≤ limit
       → IsUseful road class asked limit line len
-  useful_here line len is within = record {
-    target = line;
-    is_asked = is;
-    rest = [];
-    on = at_once _ _ _;
-    within = omega (arith, rest_last road (start_of line) (start_of line));
-  }
+  useful_here line len is within = grind (arith, at_once, rest_last)
 
 module _ (road : RoadMap) (class : ℕ) (from : Place) (asked : Option (List ℕ)) (limit : ℕ)
     (table : ℕ → Option ℕ) (search : IsSearch road class from asked limit table)
