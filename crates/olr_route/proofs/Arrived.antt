@@ -211,15 +211,5 @@ pub arrived_done : (search : Search) (arrival : Arrival)
     → EndsAt search.map.now arrival.node arrival.line → (state : State)
     → AreNodes search.map.now state → IsDoneAt state arrival.node
     → HasArrived search arrival state state
-arrived_done search arrival ends state nodes is = record {
-  arrived = record {
-    each = λ next. inl refl;
-    all = done_ahead _ _ nodes _
-        (record { node = arrival.node; ends = ends; done = is });
-    kept = λ other was. was;
-    added = λ other was. inl was;
-    waits = λ next none some. absurd cc;
-  };
-  nodes = nodes;
-  bounded = omega arith;
-}
+arrived_done search arrival ends state nodes is =
+    grind (arith, arrived, done_ahead _ _ nodes _ (record { node = arrival.node; ends = ends; done = is }))

@@ -55,16 +55,7 @@ module _ (road : RoadMap) (lengths : Lengths) (sound : IsSoundMap road)
       far = λ least _ within. omega arith;
     }
   ]
-  told_up_to line is (Some len) known (shortest, within) = record {
-    is = (shortest, omega arith);
-    far = λ least other _. omega (
-      arith,
-      within,
-      shortest.long,
-      other.least shortest.behind
-          shortest.is,
-    );
-  }
+  told_up_to line is (Some len) known (shortest, within) = grind arith
 
   told : (line : ℕ) → IsAskedFor lengths.asked line → IsTold line (table line)
   told line is = told_up_to line is (table line) refl

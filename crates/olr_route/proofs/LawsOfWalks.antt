@@ -1,5 +1,5 @@
 -- What holds of all walks, and of the pieces of a route.
-use Rattle.olr_route.proofs.Common.{IsPlace, IsDeparture, IsSoundMap, RoadMap, Place, Piece, length_at, walk_length, IsWalk, start_of, IsLeastLength, RoadLine, ◌≡◌, ℕ, ◌<◌, ◌≤◌, List, [], ◌∷◌, ◌++◌, length, ap, refl, arith, Some, slice_get_within, AreTurns, last_line, pieces_from, id_at, ids_of, IsRoute, IsUpTo, IsRouteWithin, IsPieceOn, AreJoined, AreRoutePieces, slice_get, All, All-cons}
+use Rattle.olr_route.proofs.Common.{IsPlace, IsDeparture, IsSoundMap, RoadMap, Place, Piece, length_at, walk_length, IsWalk, start_of, IsLeastLength, RoadLine, ◌≡◌, ℕ, ◌<◌, ◌≤◌, List, [], ◌∷◌, ◌++◌, length, refl, arith, Some, slice_get_within, AreTurns, last_line, pieces_from, id_at, ids_of, IsRoute, IsUpTo, IsRouteWithin, IsPieceOn, AreJoined, AreRoutePieces, slice_get, All, All-cons}
 use Rattle.olr_route.proofs.Lines.{length_here, long_before_turn}
 use Rattle.olr_route.proofs.TightPaths.{ids_rise}
 use Rattle.olr_route.proofs.Walks.{long_walk, rest_last, rest_more}
@@ -26,26 +26,7 @@ module _ (road : RoadMap) (sound : IsSoundMap road) (to : Place) (end : IsPlace 
       → last_line place.line (behind ++ next ∷ more) ≡ to.line → (behind ≡ [] → place.at ≤ to.at)
       → walk_length road place to behind < walk_length road place to (behind ++ next ∷ more)
   longer place [] next more (turn, turns) ends ends_more before =
-      let size : to.at ≤ length_at road place.line =
-      omega (
-        arith,
-        end.up_to_end,
-        length_here road to.line end.line end.at_rank,
-        ap
-            (λ (l : ℕ). length_at road l) ends,
-      ) in
-      let positive =
-      long_before_turn road place.line next sound turn in
-      omega (
-        arith,
-        rest_last road place to,
-        rest_more road place to next more,
-        rest_ends next more
-            ends_more,
-        size,
-        positive,
-        before refl,
-      )
+      grind (arith, length_here road to.line end.line end.at_rank, long_before_turn road place.line next sound turn, rest_last road place to, rest_more road place to next more, rest_ends next more ends_more)
   longer place (first ∷ behind) next more (turn, turns) ends ends_more before =
       omega (
         arith,

@@ -1,5 +1,6 @@
 -- Pages of lengths, and what a page or a length more changes.
-use Rattle.olr_route.proofs.Common.{◌≡◌, ◌+◌, ◌*◌, ◌/◌, ◌%◌, ◌<◌, ◌≤◌, ◌++◌, ◌-◌, ℕ, zero, suc, List, length, take, None, inl, inr, ap, sym, ◌∙◌, refl, arith, slice_index, get_or-append-add, get_or-append_right, get_or_past, get_or-set_other, get_or-set_same, get_or_append_left, length-replicate, take_all, cases_eq, cases_lt, ArePages, length_of, place_of}
+use Rattle.std.proofs.lemmas.Grind.{common_steps}
+use Rattle.olr_route.proofs.Common.{◌≡◌, ◌/◌, ◌<◌, ◌≤◌, ◌++◌, ◌-◌, ℕ, zero, suc, List, length, take, None, refl, arith, slice_index, get_or-append-add, get_or-append_right, get_or_past, get_or-set_other, get_or-set_same, get_or_append_left, length-replicate, take_all, cases_eq, cases_lt, ArePages, length_of, place_of}
 use Rattle.std.proofs.Math.ListN.{set, replicate}
 
 zeros : (count place : ℕ) → slice_index (replicate {A = ℕ} count 0) place ≡ 0
@@ -39,24 +40,4 @@ module _ (pages lengths : List ℕ) (are : ArePages pages lengths) (block : ℕ)
       → slice_index more (place_of (set pages block page) node)
       ≡ slice_index lengths (place_of pages node)
   same_more page next more is node =
-      ap (λ l. slice_index l (place_of (set pages block page) node)) is
-      ∙ elim (cases_eq (node / 16) block) [
-        | inl same ↦
-            let new =
-            ap (λ b. slice_index (set pages block page) b) same
-            ∙ get_or-set_same pages block page 0 within in
-            let end : place_of (set pages block page) node ≡ length lengths + node % 16 =
-            omega arith in
-            let was = ap (slice_index pages) same
-            ∙ none in
-            let old =
-            are.none (place_of pages node) (omega arith) in
-            ap (λ place. slice_index (lengths ++ replicate 16 0) place) end
-            ∙ get_or-append-add lengths (replicate 16 0) (node % 16) 0 ∙ zeros 16 (node % 16)
-            ∙ sym old
-        | inr differs ↦
-            ap (λ page. slice_index (lengths ++ replicate 16 0) (page * 16 + node % 16))
-            (get_or-set_other pages block (node / 16) page 0 differs)
-            ∙ get_or_append_left lengths (replicate 16 0) 0 (place_of pages node)
-            (omega (arith, are.each (node / 16)))
-      ]
+      grind (arith, common_steps, cases_eq, get_or-set_same, get_or-append-add, zeros, get_or-set_other, get_or_append_left)

@@ -65,19 +65,8 @@ module _ (search : Search) (old new : Starts) where
       → len ≤ search.limit → Reaches search line len → IsShorter len (before line)
       → now line ≡ Some len
       → ((other : ℕ) → other ≢ line → now other ≡ before other) → IsLowered search true old new
-  lowered sound line len inside within reached shorter here elsewhere = record {
-    sound = λ other known is. let was = sound other known in let far = elsewhere other in
-        grind arith;
-    falls = λ other bound known. let least = shorter bound in let far = elsewhere other in
-        grind arith;
-    less = omega (
-      arith,
-      total_at search.limit (length search.map.now.lines) before now line inside elsewhere,
-      ap (λ (o : Option ℕ). worth search.limit o) here,
-      worth_shorter search.limit len (before line) within shorter,
-    );
-    same = λ never. absurd cc;
-  }
+  lowered sound line len inside within reached shorter here elsewhere =
+      grind (arith, total_at search.limit (length search.map.now.lines) before now line, worth_shorter search.limit len (before line) within shorter)
 
   -- and so do others, one after the other
   pub lowered_more : (newer : Starts) (kept more : Bool) → IsLowered search kept old new

@@ -103,17 +103,7 @@ module _ (road : RoadMap) (class : ℕ) (sound : IsSoundMap road) (p q : Place)
       ≡ walk_length road (start_of line) p rest + q.at)
   other_end line [] on = grind (arith, rest_last)
   other_end line (next ∷ rest) on =
-      let found = other_end next rest (behind_first on) in (
-        lead_more (start_of line) (first_open on (long_before_turn road line next sound on.turns.0))
-            on.turns.0 found.0,
-        omega (
-          arith,
-          found.1,
-          rest_more road (start_of line) p next rest,
-          rest_more road
-              (start_of line) q next rest,
-        ),
-      )
+      grind (arith, behind_first on, lead_more, first_open on (long_before_turn road line next sound on.turns.0), rest_more road (start_of line) p next rest, rest_more road (start_of line) q next rest, other_end next rest (behind_first on))
 
   -- a walk that leaves the line of `a` gives one from `b`, to another place of its last line
   moved : (a b : Place) → MovesOn road class a b → IsDeparture road a → (next : ℕ) (rest : List ℕ)

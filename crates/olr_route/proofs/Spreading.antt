@@ -3,7 +3,7 @@
 use Rattle.std.specs.BTreeMap.{get, UpdatesBy}
 use Rattle.std.specs.Option.{IsSome, is_some}
 use Rattle.std.specs.declared.cmp.Ordering.TheVariants.{Less}
-use Rattle.olr_route.proofs.Common.{Groups, by_key, group_of, items_in, IsLinesOf, RoadMap, IsSoundMap, Place, Search, EndsAt, StartsAt, AreWithin, rest_of_line, length_at, start_of, ◌≡◌, ℕ, [], false, Option, None, Some, ap, refl, arith, Vec, Global, ◌⊎◌, inl, inr, List, ◌∷◌, ◌++◌, sym, subst, ◌∙◌, add-one, drop, drop-cons, get_or, length, ◌+◌, ◌<◌, ◌≤◌, is_lt, common_steps, Contains, IsSome, option_map, slice_get, Contains-append_left, Contains-push, Contains-push_cases, All-get_or, IsIn, AreGroups, AreOnShortestPaths, IsOnPath, IsTightIn, IsTightPath, LeadsOn, length-map, same_Some, slice_get-map, slice_get_within, destinations_of}
+use Rattle.olr_route.proofs.Common.{Groups, by_key, group_of, items_in, IsLinesOf, RoadMap, IsSoundMap, Place, Search, EndsAt, StartsAt, AreWithin, rest_of_line, length_at, start_of, ◌≡◌, ℕ, [], false, Option, None, Some, ap, refl, arith, Vec, Global, ◌⊎◌, inl, inr, List, ◌∷◌, ◌++◌, sym, subst, ◌∙◌, add-one, drop, drop-cons, get_or, length, ◌+◌, ◌<◌, ◌≤◌, is_lt, common_steps, Contains, IsSome, option_map, slice_get, Contains-append_left, Contains-push_cases, IsIn, AreGroups, AreOnShortestPaths, IsOnPath, IsTightIn, IsTightPath, LeadsOn, length-map, same_Some, slice_get-map, slice_get_within, destinations_of}
 use Rattle.olr_route.specs.Groups.{HasGroup, IsBefore, IsAdded, IsLastBefore}
 use Rattle.std.proofs.Math.Seq.{drop-length}
 use Rattle.olr_route.proofs.Lines.{length_here, long_at, origin_inside, starts_there}
@@ -79,11 +79,7 @@ module _ (node len line : ℕ) (before after : Groups) (add : IsAdded node len l
         (n, grind (arith, add.here))
 
     pub added_here : IsIn after line len
-    added_here = (
-      node,
-      subst (λ (g : List ℕ). Contains g line) (sym add.here)
-          (Contains-push (group_of before node len) line),
-    )
+    added_here = grind (arith, common_steps)
 
 -- ---- the lines on a shortest path
 
@@ -346,10 +342,7 @@ module _ (search : Search) (table : ℕ → Option ℕ) (target : ℕ) where
 pub line_inside : (road : RoadMap) (node : ℕ) (lines : List ℕ)
     → IsLinesOf (destinations_of road.lines) node lines → (i : ℕ) → i < length lines
     → get_or lines i 0 < length road.lines
-line_inside road node lines are i inside =
-    let ends = All-get_or (λ rank. slice_get (destinations_of road.lines) rank ≡ Some node) lines i
-    0 inside are.only in
-    grind (arith, slice_get_within, length-map)
+line_inside road node lines are i inside = grind (arith, slice_get_within, length-map)
 
 -- the next line, and those behind it
 pub next_line : (lines : List ℕ) (i : ℕ) → i < length lines

@@ -1,6 +1,6 @@
 -- Walks of least length to the start of a line are just the tight paths to it. Taking the first
 -- tight turn again and again gives the first of them by the ids of its lines, and its pieces.
-use Rattle.olr_route.proofs.Common.{IsDeparture, RoadMap, IsSoundMap, Place, Piece, length_at, pieces_of, walk_length, IsWalk, start_of, LeadTo, IsLeastLength, IsLengthWithin, HasWalksTo, ReachesStart, rest_of_line, Groups, Search, ◌≡◌, ℕ, zero, suc, ◌+◌, ◌<◌, ◌≤◌, List, [], ◌∷◌, Option, Some, None, ap, sym, ◌∙◌, refl, arith, ◌++◌, length, get_or, IsTightPath, AreFirstTight, AreGroups, FollowsFirstTight, IsFirstTight, AreOnShortestPaths, IsTightIn, unwrap_or, append_assoc, length-map, line_ids, cases_lt, slice_get-map, unwrap_or-slice_get, slice_get_within, id_at, ids_of, IsRoute, IsUpTo}
+use Rattle.olr_route.proofs.Common.{IsDeparture, RoadMap, IsSoundMap, Place, Piece, length_at, pieces_of, walk_length, IsWalk, start_of, LeadTo, IsLeastLength, IsLengthWithin, HasWalksTo, ReachesStart, rest_of_line, Groups, Search, ◌≡◌, ℕ, zero, suc, ◌+◌, ◌<◌, ◌≤◌, List, [], ◌∷◌, Option, Some, None, ap, ◌∙◌, refl, arith, ◌++◌, length, get_or, IsTightPath, AreFirstTight, AreGroups, FollowsFirstTight, IsFirstTight, AreOnShortestPaths, IsTightIn, append_assoc, length-map, line_ids, cases_lt, slice_get-map, unwrap_or-slice_get, slice_get_within, id_at, ids_of, IsRoute, IsUpTo}
 use Rattle.olr_route.proofs.Lines.{long_before_turn, long_at}
 use Rattle.olr_route.proofs.Walks.{as_walk, at_once, behind_first, first_open, lead_more, long_walk, rest_last, rest_more}
 pub use Rattle.olr_route.proofs.Walks.{departure_length}
@@ -9,10 +9,7 @@ use Rattle.std.proofs.lemmas.Map.Keys.{below_from_sorted, sorted_from_strictly_i
 
 -- ids rise with ranks
 id_is : (road : RoadMap) (rank : ℕ) → id_at road rank ≡ get_or (line_ids road.lines) rank 0
-id_is road rank =
-    ap (λ o. unwrap_or o 0)
-    (sym (slice_get-map (λ line. line.id) road.lines rank))
-    ∙ unwrap_or-slice_get (line_ids road.lines) rank 0
+id_is road rank = grind (arith, slice_get-map, unwrap_or-slice_get (line_ids road.lines) rank 0)
 
 pub ids_rise : (road : RoadMap) (a b : ℕ) → IsSoundMap road → a < b → b < length road.lines
     → id_at road a < id_at road b

@@ -1,5 +1,6 @@
 -- Dijkstra's search by the order of its arrivals. None that is still to come is nearer than the
 -- last one, so what is reached has its least length.
+use Rattle.std.proofs.lemmas.Grind.{common_steps}
 use Rattle.olr_route.proofs.Common.{RoadMap, Place, Arrival, Search, AreAllReached, HasEnded, IsArrivalOver, IsArrived, IsPushed, MayGoOn, IsTurn, IsOpen, AreWithin, ReachesStart, IsKnownWithin, IsUseful, rest_of_line, length_at, ◌≡◌, ℕ, zero, suc, ◌+◌, ◌<◌, ◌≤◌, ◌⊎◌, List, [], ◌∷◌, All, length, Option, Some, None, inl, inr, subst, sym, ◌∙◌, refl, arith, Contains, IsPermutation, IsSome, All-contains, Contains-permutation, IsPermutation-sym, Awaits, asked_of}
 use Rattle.olr_route.proofs.Walks.{useful_more, useful_within}
 
@@ -115,11 +116,7 @@ module _ (search : Search) where
 
       sound_now : (line length : ℕ) → new line ≡ Some length → (length ≤ arrival.at_end)
           × ((n : ℕ) × ReachesStart road class from n line length)
-      sound_now line length known = elim (goes.each line) [
-        | inl same ↦ let was = underway.sound line length (sym same ∙ known) in
-            (omega (arith, was.0, arrives.1), was.1)
-        | inr (none, turn, now) ↦ let reaches = arrives.0.reaches line turn in grind arith
-      ]
+      sound_now line length known = grind (arith, common_steps, arrives)
 
       -- what is reached is so after no greater length than this arrival's
       known_now : (line bound : ℕ) → arrival.at_end ≤ bound → IsSome (new line)

@@ -1,7 +1,8 @@
 -- The start of a line is reached after some length just where a walk to that start has this length.
 -- So a search in which every line is relaxed holds the least lengths.
+use Rattle.std.proofs.lemmas.Grind.{common_steps}
 use Rattle.std.proofs.lemmas.List.Sums.{sum_by-cons}
-use Rattle.olr_route.proofs.Common.{RoadMap, IsSoundMap, Place, Piece, IsOpen, IsTurn, length_at, pieces_of, walk_length, IsWalk, start_of, LeadTo, ReachesStart, rest_of_line, IsAskedFor, IsKnownWithin, IsRelaxed, IsUseful, IsDeparture, IsLengthWithin, HasWalksTo, ◌≡◌, ℕ, zero, suc, ◌+◌, ◌-◌, ◌<◌, List, [], ◌∷◌, subst, sym, ◌∙◌, refl, ap, arith, ◌≤◌, Option, Some, None, piece_length, IsSearch}
+use Rattle.olr_route.proofs.Common.{RoadMap, IsSoundMap, Place, Piece, IsOpen, IsTurn, length_at, walk_length, IsWalk, start_of, LeadTo, ReachesStart, rest_of_line, IsAskedFor, IsKnownWithin, IsRelaxed, IsUseful, IsDeparture, IsLengthWithin, HasWalksTo, ◌≡◌, ℕ, zero, suc, ◌+◌, ◌-◌, ◌<◌, List, [], ◌∷◌, subst, sym, ◌∙◌, refl, ap, arith, ◌≤◌, Option, Some, None, piece_length, IsSearch}
 use Rattle.olr_route.proofs.Lines.{long_before_turn, length_here}
 
 pub departure_length : (road : RoadMap) (place : Place) → IsDeparture road place
@@ -13,13 +14,7 @@ departure_length road place start =
 pub rest_more : (road : RoadMap) (place to : Place) (next : ℕ) (rest : List ℕ)
     → walk_length road place to (next ∷ rest) ≡ rest_of_line road place
     + walk_length road (start_of next) to rest
-rest_more road place to next rest =
-    sum_by-cons piece_length (record {
-      line = place.line;
-      from = place.at;
-      to =
-          length_at road place.line;
-    }) (pieces_of road (start_of next) to rest)
+rest_more road place to next rest = grind (arith, common_steps, sum_by-cons)
 
 pub rest_last : (road : RoadMap) (place to : Place)
     → walk_length road place to [] ≡ to.at - place.at
