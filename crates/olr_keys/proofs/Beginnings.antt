@@ -120,12 +120,7 @@ module _ (p : Penalties) (before : Option ℕ) (total : ℕ) (ranks : List ℕ) 
         → CompletesBelow p before total ranks (last + 1) key
         → CompletesBelow p before total ranks last key
         ⊎ CompletesThrough p before total ranks rank key
-    next_rank {last} rank next (other, most, through) = elim (cases_lt last other) [
-      | inl above ↦
-          let same : other ≡ rank = omega arith in
-          inr (rw (← same) through)
-      | inr below ↦ inl (other, below, through)
-    ]
+    next_rank {last} rank next (other, most, through) = grind (arith, cases_lt last other)
 
     -- with one candidate more, all of whose keys come after the one found
     pub least_left : (last rank : ℕ) (found : Option KeyValue) → rank ≡ last + 1

@@ -1,5 +1,6 @@
 -- Pages, one after the other, of a rising list.
-use Rattle.olr_keys.proofs.Common.{◌≡◌, ℕ, zero, suc, ◌+◌, ◌-◌, ◌<◌, ◌≤◌, ◌++◌, true, false, List, [], ◌∷◌, length, map, drop, Option, Some, None, inl, inr, refl, sym, ap, ◌∙◌, append_assoc, length-append, length-drop, length-take, arith, AllPairs, slice_get, cases_lt, append-nil, map-append, take-append-drop, take_all, slice_get_within, IsPosition, AreAllPages, AreEnded, AreResumed, joined, KeyValue, IsBefore, asymmetric, PageValue, IsRestAfter, IsPageOf, IsPageAfter, last_key_of, last_of, page_of, same_list}
+use Rattle.std.proofs.lemmas.Grind.{common_steps}
+use Rattle.olr_keys.proofs.Common.{◌≡◌, ℕ, zero, suc, ◌+◌, ◌-◌, ◌<◌, ◌≤◌, ◌++◌, true, false, List, [], ◌∷◌, length, map, drop, Option, Some, None, refl, sym, ap, ◌∙◌, append_assoc, length-append, length-drop, length-take, arith, AllPairs, slice_get, cases_lt, append-nil, map-append, take-append-drop, take_all, slice_get_within, IsPosition, AreAllPages, AreEnded, AreResumed, joined, KeyValue, IsBefore, asymmetric, PageValue, IsRestAfter, IsPageOf, IsPageAfter, last_key_of, last_of, page_of, same_list}
 use Rattle.olr_keys.specs.declared.pages.Page.{Page}
 use Rattle.olr_keys.proofs.PageLists.{after_keys, in_answers, in_rest, position_within, rest_of, rest_rises_too}
 
@@ -49,10 +50,7 @@ last_key_found before pages page is =
 -- a page without more has all that is left
 short_rest : (rest : List KeyValue) (size : ℕ) (page : PageValue) → IsPageOf rest size page
     → page.more ≡ false → length rest ≤ size
-short_rest rest size page is last = elim (cases_lt size (length rest)) [
-  | inl longer ↦ let more = is.more.1 longer in absurd cc
-  | inr at_most ↦ at_most
-]
+short_rest rest size page is last = grind (arith, cases_lt size (length rest))
 
 page_and_rest : {rest : List KeyValue} {size : ℕ} {page : PageValue} → IsPageOf rest size page
     → page.keys ++ drop size rest ≡ rest
@@ -92,13 +90,7 @@ rest_at_most answers (Some after) rest (front, is) = grind (arith, length-append
 
 pub chain_start : {answers : List KeyValue} (after : Option KeyValue) {size : ℕ}
     → IsPosition answers after → IsChainSoFar answers after size []
-chain_start after position =
-    let rest = rest_of _ _ position in record {
-      left = rest.0;
-      rest = rest.1;
-      at_most = omega (arith, rest_at_most _ _ _ rest.1);
-      goes_on = λ others resumed ended. (resumed, ended);
-    }
+chain_start after position = grind (arith, common_steps, rest_of, rest_at_most)
 
 ended_later : (page : PageValue) (others : List PageValue) → page.more ≡ true → AreEnded others
     → AreEnded (page ∷ others)

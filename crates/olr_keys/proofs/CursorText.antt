@@ -1,4 +1,6 @@
 -- Texts of cursors: a key, and perhaps `@` and the digits of a mark.
+use Rattle.std.proofs.Common.{arith}
+use Rattle.std.proofs.lemmas.Grind.{common_steps}
 use Rattle.olr_keys.proofs.Common.{◌≡◌, ℕ, List, [], ◌∷◌, ◌++◌, Option, None, Some, refl, sym, ap, ◌∙◌, append_assoc, ◌≢◌, Result, Ok, Err, IsCursorOf, IsMark, cursor_text, hexadecimal, key_text, KeyValue, IsInRange, Mark}
 use Rattle.olr_keys.specs.declared.cursor.BadCursor.{BadCursor}
 use Rattle.olr_keys.specs.declared.cursor.CursorRead.{CursorRead}
@@ -31,16 +33,7 @@ pub parts_of : {text front digits : List ℕ} → IsCut 64 text front digits
     → HasParts key mark front digits
 parts_of cut None cursor = absurd
     (not_cut _ _ _ _ (lacks_key cursor.in_range) (sym cursor.same ∙ cut.whole))
-parts_of cut (Some mark) cursor =
-    let parts = one_cut _ _ _ _ cut.lacks (lacks_key cursor.in_range) (cc (at_sign _ _)) in
-    record {
-      its = mark;
-      is = refl;
-      is_mark = cursor.is_mark;
-      key_is = parts.0;
-      digits_are =
-          parts.1;
-    }
+parts_of cut (Some mark) cursor = grind (arith, common_steps, one_cut, lacks_key, at_sign)
 
 -- ---- cursors have one text
 

@@ -43,10 +43,5 @@ module _ {p : Penalties} {marks : List (List (List ℕ))}
 pub held_is : {p : Penalties} {marks : List (List (List ℕ))} {totals : List ℕ}
     → AreLastLayers p (length p.candidates) marks → IsRowOf (IsTotal p) (width_of p) totals
     → held_bytes marks totals ≡ bytes_of p
-held_is {p} {marks} they whole = omega (
-  arith,
-  layers_bytes they (length p.candidates) 0 (omega arith),
-  ap (λ (l : List (List (List ℕ))). sum_by (λ (rows : List (List ℕ)). sum_by length rows) l)
-      (take_all (length p.candidates) marks (omega (arith, they.layers))),
-  suc-mul (sum_by length p.candidates) (width_of p),
-)
+held_is {p} {marks} they whole =
+    grind (arith, layers_bytes they (length p.candidates) 0 (omega arith), take_all (length p.candidates) marks (omega (arith, they.layers)), suc-mul (sum_by length p.candidates) (width_of p))

@@ -1,7 +1,8 @@
 -- Rows that mark numbers.
+use Rattle.std.proofs.lemmas.Grind.{common_steps}
 use Rattle.olr_keys.proofs.Ranges.{rank_inside}
 use Rattle.olr_keys.proofs.Bounds.{each_more}
-use Rattle.olr_keys.proofs.Common.{◌≡◌, ℕ, ◌+◌, ◌-◌, ◌<◌, ◌≤◌, ◌⊎◌, List, [], ◌∷◌, ◌++◌, length, add-zero, set, replicate, slice_index, bit_or, Some, None, inl, inr, refl, sym, ◌∙◌, subst, arith, slice_index_or, get_or, Vec, get_or-eq_default, cases_lt, cases_eq, Penalties, IsTable, count_of, penalty_at, leg_at, IsRemainingTotal, IsCompletion, AreRowsOf, IsRowOf, IsTotal, rows_of, width_of}
+use Rattle.olr_keys.proofs.Common.{◌≡◌, ℕ, ◌+◌, ◌<◌, ◌≤◌, ◌⊎◌, List, [], ◌∷◌, ◌++◌, length, add-zero, set, replicate, slice_index, bit_or, Some, None, inl, inr, refl, sym, arith, slice_index_or, get_or, Vec, get_or-eq_default, cases_lt, cases_eq, Penalties, IsTable, count_of, penalty_at, leg_at, IsRemainingTotal, IsCompletion, AreRowsOf, IsRowOf, IsTotal, rows_of, width_of}
 use Rattle.std.proofs.lemmas.List.{length-replicate, length-set, get_or-replicate, get_or-set_same, get_or-set_other, get_or-map, length-map, length-append, map-append}
 use Rattle.std.proofs.lemmas.Nat.{le_or_l, le_or_r}
 use Rattle.olr_keys.specs.Shifted.{IsOrShifted}
@@ -15,31 +16,13 @@ zero_at width number =
 -- a row of zeros marks nothing
 pub empty_row : {P : ℕ → Type 0} (width : ℕ) → ((number : ℕ) → P number → ⊥)
     → IsRowOf P width (replicate width 0)
-empty_row width none = record {
-  wide = length-replicate {A = ℕ} width 0;
-  only = λ number marked. absurd (omega (arith, zero_at width number));
-  each = λ number holds. absurd (none number holds);
-}
+empty_row width none = grind (arith, common_steps, length-replicate, zero_at)
 
 -- a row with one byte
 pub one_row : {P : ℕ → Type 0} (width one : ℕ) → one < width → P one
     → ((number : ℕ) → P number → number ≡ one) → IsRowOf P width (set (replicate width 0) one 1)
-one_row width one inside holds only = record {
-  wide = length-set {A = ℕ} (replicate width 0) one 1 ∙ length-replicate {A = ℕ} width 0;
-  only = λ number marked. elim (cases_eq number one) [
-    | inl same ↦ rw same holds
-    | inr other ↦ absurd (omega (
-      arith,
-      get_or-set_other {A = ℕ} (replicate width 0) one number 1 0 other,
-      zero_at width number,
-    ))
-  ];
-  each = λ number holds.
-      let here : slice_index (set _ _ 1) one ≡ 1 =
-      get_or-set_same {A = ℕ} (replicate width 0) one 1 0
-      (omega (arith, length-replicate {A = ℕ} width 0)) in
-      rw (only number holds) (omega arith);
-}
+one_row width one inside holds only =
+    grind (arith, common_steps, length-set, length-replicate, cases_eq, get_or-set_other, zero_at, get_or-set_same)
 
 -- two bytes joined are 0 exactly where both are
 joined_some : (a b : ℕ) → 0 < bit_or a b → (0 < a) ⊎ (0 < b)
@@ -53,56 +36,12 @@ pub row_joined : {P Q R : ℕ → Type 0} {width : ℕ} (shift : ℕ) {row other
     → IsRowOf P width row → IsRowOf Q width other → IsOrShifted row other shift after
     → IsRowOf R width after
 row_joined {R} {width} shift {row} {other} {after} from_row from_other below split it that joined =
-    record {
-      wide = cc;
-      only = λ number marked. elim (cases_lt number shift) [
-        | inl before ↦ from_row number (it.only number (omega (arith, joined.same number before)))
-        | inr later ↦ elim (cases_lt number width) [
-          | inl inside ↦
-              elim (joined_some _ _ (omega arith)) [
-                | inl left ↦ from_row number (it.only number left)
-                | inr right ↦ subst R {x = number - shift + shift} (omega arith)
-                    (from_other (number - shift) (that.only (number - shift) right))
-              ]
-          | inr outside ↦
-              let none : slice_index after number ≡ 0 =
-              get_or-eq_default after 0 {n = number} (omega arith) in
-              absurd (omega arith)
-        ]
-      ];
-      each = λ number holds.
-          let inside = below number holds in
-          elim (split _ holds) [
-            | inl left ↦ elim (cases_lt number shift) [
-              | inl before ↦ omega (arith, joined.same number before, it.each number left)
-              | inr later ↦ omega (
-                arith,
-                joined.joined number later (omega arith),
-                it.each number left,
-                le_or_l (slice_index row number) (slice_index other (number - shift)),
-              )
-            ]
-            | inr right ↦
-                let later : shift ≤ number = omega arith in
-                let position : right.0 ≡ number - shift = omega arith in
-                let there : 0 < slice_index other (number - shift) =
-                rw (← position) (that.each right.0 right.1.0) in
-                omega (
-                  arith,
-                  joined.joined number later (omega (arith, inside, it.wide)),
-                  le_or_r (slice_index row number) (slice_index other (number - shift)),
-                )
-          ];
-    }
+    grind (arith, common_steps, cases_lt, joined_some, get_or-eq_default, split, le_or_l, le_or_r)
 
 -- a row of a property marks what is the same
 pub row_same : {P Q : ℕ → Type 0} {width : ℕ} {row : List ℕ} → ((number : ℕ) → P number → Q number)
     → ((number : ℕ) → Q number → P number) → IsRowOf P width row → IsRowOf Q width row
-row_same to from it = record {
-  wide = it.wide;
-  only = λ number marked. to number (it.only number marked);
-  each = λ number holds. it.each number (from number holds);
-}
+row_same to from it = grind arith
 
 -- ---- the totals with one candidate more
 
@@ -118,16 +57,7 @@ module _ (p : Penalties) (layer rank penalty count : ℕ) where
       ⊎ ((leg : ℕ) × (rest : ℕ) × (leg_at p (layer + 1) rank (count + 1) ≡ Some leg)
       × IsRemainingTotal p (layer + 1) (count + 1) rest × (total ≡ rest + (penalty + leg)))
   split total (second, leg, rest, least, most, joined, on, sum) =
-      elim (cases_eq second (count + 1)) [
-        | inl same ↦ inr (
-          leg,
-          rest,
-          rw (← same) joined,
-          rw (← same) on,
-          sum,
-        )
-        | inr other ↦ inl (second, leg, rest, least, omega arith, joined, on, sum)
-      ]
+      grind (arith, cases_eq second (count + 1))
 
   -- there is no leg to the next one
   pub row_without : {width : ℕ} {row : List ℕ} → leg_at p (layer + 1) rank (count + 1) ≡ None

@@ -1,5 +1,6 @@
 -- Texts of ranks: in decimal, joined by dots.
-use Rattle.std.proofs.Common.{◌≡◌, ℕ, ◌+◌, ◌-◌, ◌<◌, List, [], ◌∷◌, ◌++◌, length, get_or, Option, Some, None, sym, ap, ◌∙◌, append_assoc, append-nil, length-append, take, suc, arith}
+use Rattle.std.proofs.lemmas.Grind.{common_steps}
+use Rattle.std.proofs.Common.{◌≡◌, ℕ, ◌+◌, ◌-◌, ◌<◌, List, [], ◌∷◌, ◌++◌, length, get_or, Option, Some, None, sym, ap, ◌∙◌, append_assoc, append-nil, length-append, take, arith}
 use Rattle.olr_keys.proofs.Common.{◌≢◌, decimal, MatchOption, take-suc, decimal_injective, All-tail, AreRanks, ranks_text, IsRank}
 use Rattle.olr_keys.proofs.Lacking.{Lacks, IsCut, lacks_decimal, one_cut, not_cut}
 
@@ -119,7 +120,4 @@ later-push (first ∷ ranks) rank =
 
 pub later-next : (ranks : List ℕ) (i : ℕ) → i < length ranks
     → later (take (i + 1) ranks) ≡ later (take i ranks) ++ (46 ∷ decimal (get_or ranks i 0))
-later-next ranks i inside =
-    let next : i + 1 ≡ suc i = omega arith in
-    ap (λ n. later (take n ranks)) next ∙ ap later (take-suc ranks i 0 inside)
-    ∙ later-push _ _
+later-next ranks i inside = grind (arith, common_steps, take-suc, later-push)
