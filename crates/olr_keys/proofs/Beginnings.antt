@@ -72,8 +72,7 @@ module _ (p : Penalties) (before : Option ℕ) (total : ℕ) (ranks : List ℕ) 
 
   pub ends_here : {key : KeyValue} → length ranks ≡ length p.candidates
       → Completes p before total ranks key → key ≡ record { total = total; ranks = ranks }
-  ends_here last ([], more, completion, same) = same
-      ∙ same_key (omega arith) (append-nil ranks)
+  ends_here last ([], more, completion, same) = grind (arith, same_key, append-nil)
   ends_here last (rank ∷ rest, more, (leg, penalty, left, joined, there, later, sum), same) =
       grind (arith, layer_inside)
 

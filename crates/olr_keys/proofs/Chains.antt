@@ -31,8 +31,7 @@ found_at : (before : Option KeyValue) (pages : List Page) (index : ℕ) (page : 
     → suc index ≡ length pages → Some page ≡ slice_get pages index
     → last_of before page.keys.items ≡ last_key_of before (map page_of pages)
 found_at before [] index page last is = absurd (omega arith)
-found_at before (first ∷ []) zero page last is = let same : page ≡ first = cc in
-    ap (λ p. last_of before p.keys.items) same
+found_at before (first ∷ []) zero page last is = grind arith
 found_at before (first ∷ []) (suc index) page last is = absurd (omega arith)
 found_at before (first ∷ second ∷ pages) zero page last is = absurd (omega arith)
 found_at before (first ∷ second ∷ pages) (suc index) page last is =
@@ -41,9 +40,7 @@ found_at before (first ∷ second ∷ pages) (suc index) page last is =
 pub last_key_found : (before : Option KeyValue) (pages : List Page) (page : Page)
     → Some page ≡ slice_get pages (length pages - 1)
     → last_of before page.keys.items ≡ last_key_of before (map page_of pages)
-last_key_found before pages page is =
-    found_at _ _ (length pages - 1) page
-    (omega (arith, slice_get_within pages (length pages - 1) page (sym is))) is
+last_key_found before pages page is = grind (arith, found_at, slice_get_within)
 
 -- ---- pages that are resumed and end
 
@@ -54,8 +51,7 @@ short_rest rest size page is last = grind (arith, cases_lt size (length rest))
 
 page_and_rest : {rest : List KeyValue} {size : ℕ} {page : PageValue} → IsPageOf rest size page
     → page.keys ++ drop size rest ≡ rest
-page_and_rest {rest} {size} is = ap (λ l. l ++ drop size rest) is.keys
-    ∙ take-append-drop _ _
+page_and_rest {rest} {size} is = grind (arith, take-append-drop)
 
 module _ (answers : List KeyValue) (size : ℕ) (rise : AllPairs IsBefore answers) where
   pub pages_join : (after : Option KeyValue) (pages : List PageValue)
@@ -102,8 +98,7 @@ module _ (answers : List KeyValue) (after : Option KeyValue) (size : ℕ) (pages
     (so_far : IsChainSoFar answers after size pages)
     (next : IsPageAfter answers (last_key_of after pages) size page) where
   is_page : IsPageOf so_far.left size page
-  is_page = let same = one_rest _ _ rise next.is_rest so_far.rest in
-      rw (← same) next.is_page
+  is_page = grind (arith, one_rest)
 
   chain_more : 1 ≤ size → page.more ≡ true → IsChainSoFar answers after size (pages ++ page ∷ [])
   chain_more least more =
@@ -173,8 +168,7 @@ module _ {now answers : List KeyValue} (same : now ≡ answers) {position : Opti
     continues least more = grind (arith, grown_pages, chain_more, next_page)
 
     pub ends : page.more ≡ false → AreAllPages answers after size (map page_of grown)
-    ends last = rw grown_pages (chain_end answers after size (map page_of pages) (page_of page) rise
-        so_far next_page last)
+    ends last = grind (arith, grown_pages, chain_end, next_page)
 
     pub fewer_left : page.more ≡ true
         → length answers - length (map page_of grown) < length answers - length (map page_of pages)

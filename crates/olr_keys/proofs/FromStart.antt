@@ -7,9 +7,7 @@ completes : (p : Penalties) (key : KeyValue) → IsKey p key → Completes p Non
 completes p key is = (key.ranks, key.total, is, same_key (omega arith) refl)
 
 matching : (p : Penalties) {key : KeyValue} → Completes p None 0 [] key → IsKey p key
-matching p (rest, more, completion, same) =
-    subst (λ (k : KeyValue). IsKey p k) (sym (same ∙ same_key (omega arith) refl))
-    completion
+matching p (rest, more, completion, same) = grind (arith, same_key)
 
 pub next_of : (p : Penalties) (after : Option KeyValue) {ranks : List ℕ} (found : Option KeyValue)
     → ranks ≡ []

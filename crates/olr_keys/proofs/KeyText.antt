@@ -23,9 +23,7 @@ pub record AreParts (key : KeyValue) (total ranks : List ℕ) : Type 0 where
 
 pub parts_of : {text total ranks : List ℕ} {key : KeyValue} → IsCut 58 text total ranks
     → IsInRange key → text ≡ key_text key → AreParts key total ranks
-parts_of cut in_range same =
-    let parts = one_cut _ _ _ _ cut.lacks (lacks_total in_range) (cc (colon _)) in
-    record { total_is = parts.0; ranks_are = parts.1 }
+parts_of cut in_range same = grind (arith, one_cut, lacks_total, colon)
 
 -- a text of one rank isn't that of a key
 pub too_few : {text total ranks : List ℕ} {key : KeyValue} {found : List ℕ}

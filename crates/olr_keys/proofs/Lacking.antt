@@ -62,6 +62,4 @@ pub record IsCut (byte : ℕ) (text front later : List ℕ) : Type 0 where
 pub cut_at : {byte : ℕ} {text : List ℕ} (found : Option (Bor (List ℕ) × Bor (List ℕ)))
     (parts : Bor (List ℕ) × Bor (List ℕ)) → IsSplitOnceResult byte text found → byte < 128
     → found ≡ Some parts → IsCut byte text parts.0.now parts.1.now
-cut_at {byte} {text} found parts split ascii some =
-    let cut = rw some at (split_parts _ _ found split ascii) in
-    record { whole = cut.0; lacks = lacks_each cut.1 }
+cut_at {byte} {text} found parts split ascii some = grind (arith, split_parts, lacks_each)

@@ -142,9 +142,7 @@ within_completions : (p : Penalties) (left layer : ℕ) (before : Option ℕ) (r
     (total : ℕ) → layer + left ≡ length p.candidates → IsCompletion p layer before ranks total
     → Contains (completions p left layer before) (record { total = total; ranks = ranks })
 unfolding completions
-within_completions p zero layer before [] total reaches completion =
-    let none : KeyValue = record { total = 0; ranks = [] } in
-    rw completion.1 (here none [])
+within_completions p zero layer before [] total reaches completion = grind (arith, here)
 within_completions p zero layer before (rank ∷ ranks) total reaches
     (leg, penalty, rest, joined, there, later, sum) = grind (arith, layer_inside)
 within_completions p (suc left) layer before [] total reaches completion = absurd (omega arith)

@@ -1,4 +1,5 @@
 -- Pages of a rising list: those after one position and of one size are the same.
+use Rattle.std.proofs.Common.{arith}
 use Rattle.olr_keys.proofs.Chains.{one_rest}
 use Rattle.olr_keys.proofs.Common.{◌≡◌, ℕ, Bool, true, false, List, [], ◌∷◌, Option, Some, sym, ap, ◌∙◌, AllPairs, same_from_decides, AreEnded, AreResumed, KeyValue, IsBefore, PageValue, IsPageOf, IsPageAfter, last_of, NoPageBehindOthers}
 use Rattle.olr_keys.proofs.PageLists.{position_within}
@@ -10,8 +11,7 @@ page_with keys more = record { keys = keys; more = more }
 
 same_page : (page other : PageValue) → page.keys ≡ other.keys → page.more ≡ other.more
     → page ≡ other
-same_page page other keys more = ap (λ l. page_with l page.more) keys
-    ∙ ap (page_with other.keys) more
+same_page page other keys more = grind arith
 
 -- a page with more is no page without more
 differ : {page other : PageValue} → page ≡ other → page.more ≡ false → other.more ≡ true → ⊥
@@ -26,9 +26,7 @@ page_of_rest page other one two =
 module _ (answers : List KeyValue) (rise : AllPairs IsBefore answers) where
   pub one_page : (after : Option KeyValue) (size : ℕ) (page other : PageValue)
       → IsPageAfter answers after size page → IsPageAfter answers after size other → page ≡ other
-  one_page after size page other one two =
-      let same = one_rest _ _ rise two.is_rest one.is_rest in
-      page_of_rest _ _ one.is_page (rw (← same) two.is_page)
+  one_page after size page other one two = grind (arith, one_rest, page_of_rest)
 
   -- ---- one list of pages
 

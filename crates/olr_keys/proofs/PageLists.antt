@@ -14,9 +14,7 @@ found_at before (first ∷ second ∷ keys) (suc index) key last is =
 
 pub last_found : (before : Option KeyValue) (keys : List KeyValue) (key : KeyValue)
     → Some key ≡ slice_get keys (length keys - 1) → Some key ≡ last_of before keys
-last_found before keys key is =
-    found_at _ _ (length keys - 1) key
-    (omega (arith, slice_get_within keys (length keys - 1) key (sym is))) is
+last_found before keys key is = grind (arith, found_at, slice_get_within)
 
 -- ---- what is left
 
@@ -109,8 +107,7 @@ module _ (answers : List KeyValue) (rise : AllPairs IsBefore answers) where
   pub next_is : (after : Option KeyValue) (rest : List KeyValue) (found : Option KeyValue)
       → IsRestAfter answers after rest → IsNext answers after found → found ≡ slice_get rest 0
   next_is after [] None is next = refl
-  next_is after [] (Some key) is next = let there = in_rest _ [] _ is next.0.0 next.0.1 in
-      absurd (omega arith)
+  next_is after [] (Some key) is next = grind (arith, in_rest)
   next_is after (first ∷ others) None is next =
       absurd (next first (in_answers _ _ is (here first _)))
   next_is after (first ∷ others) (Some key) is next =
@@ -160,8 +157,7 @@ one_longer keys key is counted = grind (arith, length-append)
 
 pub position_after : {answers : List KeyValue} {after : Option KeyValue} (keys : List KeyValue)
     → AreFirst answers after keys → IsPosition answers (last_of after keys)
-position_after keys first = position_within _ _ first.left
-    (after_keys _ _ keys first.left first.rest)
+position_after keys first = grind (arith, position_within, after_keys)
 
 -- a page is the keys before what is left: all of them, or as many as its size
 page_before : {size : ℕ} (keys left : List KeyValue) {more : Bool}

@@ -15,10 +15,7 @@ completion_ranks : (p : Penalties) (layer : ℕ) (before : Option ℕ) (ranks : 
 completion_ranks p layer before [] total sound completion = All-nil _
 completion_ranks p layer before (rank ∷ ranks) total sound
     (leg, penalty, rest, joined, there, later, sum) =
-    let inside = rank_inside p _ _ _ there in
-    All-cons (λ rank. (1 ≤ rank) × (rank ≤ 64)) rank ranks
-    (inside.0, omega (arith, count_at_most p layer sound))
-    (completion_ranks p (layer + 1) (Some rank) ranks rest sound later)
+    grind (arith, rank_inside, count_at_most, completion_ranks p (layer + 1) (Some rank) ranks rest sound later)
 
 -- it has a rank for each layer
 pub completion_length : (p : Penalties) (layer : ℕ) (before : Option ℕ) (ranks : List ℕ) (total : ℕ)

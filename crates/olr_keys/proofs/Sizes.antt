@@ -121,9 +121,7 @@ penalty_greatest numbers index number is = omega (
 leg_greatest : (legs : List (Option ℕ)) (index leg : ℕ) → slice_index_or legs index None ≡ Some leg
     → leg ≤ greatest_leg legs
 leg_greatest [] index leg is = absurd cc
-leg_greatest (x ∷ xs) zero leg is =
-    let same : unwrap_or x 0 ≡ leg = cc in
-    omega (arith, le-max_left (unwrap_or x 0) (greatest_leg xs))
+leg_greatest (x ∷ xs) zero leg is = grind (arith, le-max_left)
 leg_greatest (x ∷ xs) (suc index) leg is =
     omega (arith, leg_greatest xs index leg is, le-max_right (unwrap_or x 0) (greatest_leg xs))
 

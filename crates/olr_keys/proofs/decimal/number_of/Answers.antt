@@ -15,11 +15,7 @@ returns-in_default c n at_most same =
 
 pub returns-then-number-most : goal.returns-then-number-most
 returns-then-number-most c n at_most same =
-    omega (
-      arith,
-      same_ok _ n c.in-Ok.is
-          (parsed (omega arith) at_most same c.parse.ensures.value.0),
-    )
+    grind (arith, same_ok, parsed (omega arith) at_most same c.parse.ensures.value.0)
 
 pub returns-then-ne : goal.returns-then-ne
 returns-then-ne c n at_most same =

@@ -39,11 +39,7 @@ module _ (penalties : List (Vec ℕ)) (legs : List (Vec (Option ℕ))) where
 
   -- the lists of a table pass the three tests
   lengths_of : IsTable table → HaveLengths
-  lengths_of is = (
-    omega (arith, count_is, is.layers_at_least),
-    omega (arith, count_is, is.layers_at_most),
-    omega (arith, count_is, legs_is, is.between),
-  )
+  lengths_of is = grind (arith, count_is, legs_is)
 
   layers_of : IsTable table → All (λ (layer : Vec ℕ). IsLayer layer.items) penalties
   layers_of is = λ k d inside.

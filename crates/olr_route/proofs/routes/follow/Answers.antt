@@ -25,5 +25,5 @@ loop-next-smaller c =
     )
 
 pub returns : goal.returns
-returns c = rw c.in_ok-push-2.ensures.items
-    (following_over _ _ _ _ _ _ _ _ c.loop-next.invariant c.in_default.ensures)
+returns c =
+    grind (arith, following_over _ _ _ _ _ _ _ _ c.loop-next.invariant c.in_default.ensures)

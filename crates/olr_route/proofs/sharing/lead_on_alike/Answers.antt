@@ -19,8 +19,5 @@ returns-then-is_empty c =
     )
 
 pub returns-else-is_empty : goal.returns-else-is_empty
-returns-else-is_empty c = (
-  λ is. absurd (cc (is, c.if-is_empty.false)),
-  λ alike. c.is_empty.ensures
-      ∙ (free_of_bans c.args.map.now _ _ c.bans_from.ensures).1 alike.free,
-)
+returns-else-is_empty c =
+    grind (arith, free_of_bans c.args.map.now _ _ c.bans_from.ensures)

@@ -1,3 +1,4 @@
+use Rattle.std.proofs.Common.{arith}
 use Rattle.std.proofs.Common.{sym, ◌∙◌}
 use Rattle.olr_route.proofs.Spreading.{groups_within, next_line, no_line_left, spread_all, spread_begun, spread_more, spread_next, spread_over, spread_skip}
 use Rattle.olr_route.proofs.Lines.{origin_inside, origin_of}
@@ -20,9 +21,7 @@ start_on_path-requires-clause-groups c =
 
 pub loop-line-preserved-in_default-start_on_path : goal.loop-line-preserved-in_default-start_on_path
 loop-line-preserved-in_default-start_on_path c =
-    spread_skip _ _ _ _ _ _ _ _ (rw
-    (next_line _ _ c.loop-line-test.true)
-    at c.loop-line.invariant) c.in_default-start_on_path.ensures
+    grind (arith, spread_skip, next_line _ _ c.loop-line-test.true)
 
 pub loop-line-preserved : goal.loop-line-preserved
 loop-line-preserved c =
