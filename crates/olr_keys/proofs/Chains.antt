@@ -114,22 +114,7 @@ module _ (answers : List KeyValue) (after : Option KeyValue) (size : ℕ) (pages
       ≡ last_key_of after (pages ++ page ∷ []) =
       last_of_some _ after _ some ∙ sym (last_key_more after pages page) in
       let parts : page.keys ++ drop size so_far.left ≡ so_far.left = page_and_rest is_page in
-      record {
-        left = drop size so_far.left;
-        rest = rw (← position) (after_keys _ _ page.keys (drop size so_far.left)
-            (rw parts so_far.rest));
-        at_most = omega (
-          arith,
-          so_far.at_most,
-          length-append pages (page ∷ []),
-          length-drop size
-              so_far.left,
-        );
-        goes_on = λ others resumed ended.
-            rw (append_assoc pages (page ∷ []) others)
-            (so_far.goes_on (page ∷ others) (next, rw position resumed)
-            (ended_later page others more ended));
-      }
+      grind (arith, after_keys, length-append, length-drop, append_assoc, ended_later)
 
   chain_end : page.more ≡ false → AreAllPages answers after size (pages ++ page ∷ [])
   chain_end last = grind (arith, pages_join)

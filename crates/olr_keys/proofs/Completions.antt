@@ -26,7 +26,13 @@ pub completion_at_most : (p : Penalties) (layer : ℕ) (before : Option ℕ) (ra
 completion_at_most p layer before [] sound completion = omega arith
 completion_at_most p layer before (rank ∷ ranks) sound
     (leg, penalty, rest, joined, there, later, sum) =
-    grind (arith, layer_inside, step_leg, step_penalty, completion_at_most p (layer + 1) (Some rank) ranks {total = rest} sound later)
+    grind (
+      arith,
+      layer_inside,
+      step_leg,
+      step_penalty,
+      completion_at_most p (layer + 1) (Some rank) ranks {total = rest} sound later,
+    )
 
 -- ---- one total
 

@@ -1,5 +1,5 @@
 -- The keys that complete the empty beginning are the answers.
-use Rattle.olr_keys.proofs.Common.{◌≡◌, ℕ, ◌⊎◌, List, [], Option, None, refl, sym, ◌∙◌, subst, arith, Penalties, answers_of, IsAfter, IsNext, IsLeastOf, KeyValue, IsKey, same_key, Completes, IsHeld}
+use Rattle.olr_keys.proofs.Common.{◌≡◌, ℕ, ◌⊎◌, List, [], Option, None, refl, arith, Penalties, answers_of, IsAfter, IsNext, IsLeastOf, KeyValue, IsKey, same_key, Completes, IsHeld}
 use Rattle.olr_keys.proofs.Least.{same_least}
 use Rattle.olr_keys.proofs.NextKeys.{next_listed}
 

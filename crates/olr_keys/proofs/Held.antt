@@ -44,4 +44,9 @@ pub held_is : {p : Penalties} {marks : List (List (List ℕ))} {totals : List �
     → AreLastLayers p (length p.candidates) marks → IsRowOf (IsTotal p) (width_of p) totals
     → held_bytes marks totals ≡ bytes_of p
 held_is {p} {marks} they whole =
-    grind (arith, layers_bytes they (length p.candidates) 0 (omega arith), take_all (length p.candidates) marks (omega (arith, they.layers)), suc-mul (sum_by length p.candidates) (width_of p))
+    grind (
+      arith,
+      layers_bytes they (length p.candidates) 0 (omega arith),
+      take_all (length p.candidates) marks (omega (arith, they.layers)),
+      suc-mul (sum_by length p.candidates) (width_of p),
+    )

@@ -127,16 +127,7 @@ from_completions p (suc left) layer before z reaches there =
     let rank = in_list.0 in
     let with_rank = from_completions_with _ _ _ in_list.1 in
     let later = from_completions p left (layer + 1) (Some rank) with_rank.2 (omega arith)
-    with_rank.5 in
-    rw (← with_rank.6) (
-      with_rank.0,
-      with_rank.1,
-      with_rank.2.total,
-      with_rank.3,
-      with_rank.4,
-      later,
-      refl,
-    )
+    with_rank.5 in grind arith
 
 within_completions : (p : Penalties) (left layer : ℕ) (before : Option ℕ) (ranks : List ℕ)
     (total : ℕ) → layer + left ≡ length p.candidates → IsCompletion p layer before ranks total

@@ -3,7 +3,7 @@ use Rattle.std.proofs.lemmas.Grind.{common_steps}
 use Rattle.olr_keys.proofs.Ranges.{rank_inside}
 use Rattle.olr_keys.proofs.Bounds.{each_more}
 use Rattle.olr_keys.proofs.Common.{◌≡◌, ℕ, ◌+◌, ◌<◌, ◌≤◌, ◌⊎◌, List, [], ◌∷◌, ◌++◌, length, add-zero, set, replicate, slice_index, bit_or, Some, None, inl, inr, refl, sym, arith, slice_index_or, get_or, Vec, get_or-eq_default, cases_lt, cases_eq, Penalties, IsTable, count_of, penalty_at, leg_at, IsRemainingTotal, IsCompletion, AreRowsOf, IsRowOf, IsTotal, rows_of, width_of}
-use Rattle.std.proofs.lemmas.List.{length-replicate, length-set, get_or-replicate, get_or-set_same, get_or-set_other, get_or-map, length-map, length-append, map-append}
+use Rattle.std.proofs.lemmas.List.{length-replicate, get_or-replicate, get_or-map, length-map, length-append, map-append}
 use Rattle.std.proofs.lemmas.Nat.{le_or_l, le_or_r}
 use Rattle.olr_keys.specs.Shifted.{IsOrShifted}
 use Rattle.olr_keys.proofs.Remaining.{IsTotalBy, remaining_last, only_last, remaining_by, by_remaining}
@@ -22,7 +22,7 @@ empty_row width none = grind (arith, common_steps, length-replicate, zero_at)
 pub one_row : {P : ℕ → Type 0} (width one : ℕ) → one < width → P one
     → ((number : ℕ) → P number → number ≡ one) → IsRowOf P width (set (replicate width 0) one 1)
 one_row width one inside holds only =
-    grind (arith, common_steps, length-set, length-replicate, cases_eq, get_or-set_other, zero_at, get_or-set_same)
+    grind (arith, common_steps, length-replicate, cases_eq, zero_at)
 
 -- two bytes joined are 0 exactly where both are
 joined_some : (a b : ℕ) → 0 < bit_or a b → (0 < a) ⊎ (0 < b)

@@ -1,5 +1,5 @@
 -- The key of a matching is in the ranges of a key.
-use Rattle.olr_keys.proofs.Common.{◌≡◌, ℕ, zero, suc, ◌+◌, ◌≤◌, List, [], ◌∷◌, length, All, Option, Some, None, arith, All-cons, All-nil, slice_get_within, Penalties, IsTable, count_of, penalty_at, max_total, IsCompletion, KeysAreInRange}
+use Rattle.olr_keys.proofs.Common.{◌≡◌, ℕ, zero, suc, ◌+◌, ◌≤◌, List, [], ◌∷◌, length, All, Option, Some, None, arith, All-nil, slice_get_within, Penalties, IsTable, count_of, penalty_at, max_total, IsCompletion, KeysAreInRange}
 use Rattle.olr_keys.proofs.Bounds.{count_at_most}
 use Rattle.olr_keys.proofs.Completions.{step_penalty, completion_at_most}
 
@@ -15,7 +15,12 @@ completion_ranks : (p : Penalties) (layer : ℕ) (before : Option ℕ) (ranks : 
 completion_ranks p layer before [] total sound completion = All-nil _
 completion_ranks p layer before (rank ∷ ranks) total sound
     (leg, penalty, rest, joined, there, later, sum) =
-    grind (arith, rank_inside, count_at_most, completion_ranks p (layer + 1) (Some rank) ranks rest sound later)
+    grind (
+      arith,
+      rank_inside,
+      count_at_most,
+      completion_ranks p (layer + 1) (Some rank) ranks rest sound later,
+    )
 
 -- it has a rank for each layer
 pub completion_length : (p : Penalties) (layer : ℕ) (before : Option ℕ) (ranks : List ℕ) (total : ℕ)

@@ -155,7 +155,14 @@ completion_below : (p : Penalties) (layer : ℕ) (before : Option ℕ) (ranks : 
 completion_below p layer before [] total completion = omega arith
 completion_below p layer before (rank ∷ ranks) total
     (leg, penalty, rest, joined, there, later, sum) =
-    grind (arith, leg_at_greatest, penalty_at_greatest, greatest_leg_next, drop_sum, completion_below p (layer + 1) (Some rank) ranks rest later)
+    grind (
+      arith,
+      leg_at_greatest,
+      penalty_at_greatest,
+      greatest_leg_next,
+      drop_sum,
+      completion_below p (layer + 1) (Some rank) ranks rest later,
+    )
 
 drop_at_most : {X : Type 0} (f : X → ℕ) (xs : List X) (index : ℕ)
     → sum_by f (drop index xs) ≤ sum_by f xs

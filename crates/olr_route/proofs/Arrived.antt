@@ -212,4 +212,8 @@ pub arrived_done : (search : Search) (arrival : Arrival)
     → AreNodes search.map.now state → IsDoneAt state arrival.node
     → HasArrived search arrival state state
 arrived_done search arrival ends state nodes is =
-    grind (arith, arrived, done_ahead _ _ nodes _ (record { node = arrival.node; ends = ends; done = is }))
+    grind (
+      arith,
+      arrived,
+      done_ahead _ _ nodes _ (record { node = arrival.node; ends = ends; done = is }),
+    )

@@ -26,7 +26,14 @@ module _ (road : RoadMap) (sound : IsSoundMap road) (to : Place) (end : IsPlace 
       → last_line place.line (behind ++ next ∷ more) ≡ to.line → (behind ≡ [] → place.at ≤ to.at)
       → walk_length road place to behind < walk_length road place to (behind ++ next ∷ more)
   longer place [] next more (turn, turns) ends ends_more before =
-      grind (arith, length_here road to.line end.line end.at_rank, long_before_turn road place.line next sound turn, rest_last road place to, rest_more road place to next more, rest_ends next more ends_more)
+      grind (
+        arith,
+        length_here road to.line end.line end.at_rank,
+        long_before_turn road place.line next sound turn,
+        rest_last road place to,
+        rest_more road place to next more,
+        rest_ends next more ends_more,
+      )
   longer place (first ∷ behind) next more (turn, turns) ends ends_more before =
       omega (
         arith,
@@ -56,7 +63,12 @@ module _ (road : RoadMap) (sound : IsSoundMap road) where
   same_walk line other [] (y ∷ b) turns others up down = absurd down
   same_walk line other (x ∷ a) [] turns others up down = absurd up
   same_walk line other (x ∷ a) (y ∷ b) (turn, turns) (next, others) up down =
-      grind (arith, same_id, slice_get_within, same_walk x y a b turns others (grind arith) (grind arith))
+      grind (
+        arith,
+        same_id,
+        slice_get_within,
+        same_walk x y a b turns others (grind arith) (grind arith),
+      )
 
   pub route_once : (class : ℕ) (from to : Place) (a b : List ℕ) → IsRoute road class from to a
       → IsRoute road class from to b → a ≡ b

@@ -1,6 +1,6 @@
 -- Pages of lengths, and what a page or a length more changes.
 use Rattle.std.proofs.lemmas.Grind.{common_steps}
-use Rattle.olr_route.proofs.Common.{◌≡◌, ◌/◌, ◌<◌, ◌≤◌, ◌++◌, ◌-◌, ℕ, zero, suc, List, length, take, None, refl, arith, slice_index, get_or-append-add, get_or-append_right, get_or_past, get_or-set_other, get_or-set_same, get_or_append_left, length-replicate, take_all, cases_eq, cases_lt, ArePages, length_of, place_of}
+use Rattle.olr_route.proofs.Common.{◌≡◌, ◌/◌, ◌<◌, ◌≤◌, ◌++◌, ◌-◌, ℕ, zero, suc, List, length, take, None, refl, arith, slice_index, get_or-append-add, get_or-append_right, get_or_past, get_or_append_left, length-replicate, take_all, cases_eq, cases_lt, ArePages, length_of, place_of}
 use Rattle.std.proofs.Math.ListN.{set, replicate}
 
 zeros : (count place : ℕ) → slice_index (replicate {A = ℕ} count 0) place ≡ 0
@@ -40,4 +40,4 @@ module _ (pages lengths : List ℕ) (are : ArePages pages lengths) (block : ℕ)
       → slice_index more (place_of (set pages block page) node)
       ≡ slice_index lengths (place_of pages node)
   same_more page next more is node =
-      grind (arith, common_steps, cases_eq, get_or-set_same, get_or-append-add, zeros, get_or-set_other, get_or_append_left)
+      grind (arith, common_steps, cases_eq, zeros, get_or-append-add)

@@ -66,7 +66,11 @@ module _ (search : Search) (old new : Starts) where
       → now line ≡ Some len
       → ((other : ℕ) → other ≢ line → now other ≡ before other) → IsLowered search true old new
   lowered sound line len inside within reached shorter here elsewhere =
-      grind (arith, total_at search.limit (length search.map.now.lines) before now line, worth_shorter search.limit len (before line) within shorter)
+      grind (
+        arith,
+        total_at search.limit (length search.map.now.lines) before now line,
+        worth_shorter search.limit len (before line) within shorter,
+      )
 
   -- and so do others, one after the other
   pub lowered_more : (newer : Starts) (kept more : Bool) → IsLowered search kept old new

@@ -103,7 +103,15 @@ module _ (road : RoadMap) (class : ℕ) (sound : IsSoundMap road) (p q : Place)
       ≡ walk_length road (start_of line) p rest + q.at)
   other_end line [] on = grind (arith, rest_last)
   other_end line (next ∷ rest) on =
-      grind (arith, behind_first on, lead_more, first_open on (long_before_turn road line next sound on.turns.0), rest_more road (start_of line) p next rest, rest_more road (start_of line) q next rest, other_end next rest (behind_first on))
+      grind (
+        arith,
+        behind_first on,
+        lead_more,
+        first_open on (long_before_turn road line next sound on.turns.0),
+        rest_more road (start_of line) p next rest,
+        rest_more road (start_of line) q next rest,
+        other_end next rest (behind_first on),
+      )
 
   -- a walk that leaves the line of `a` gives one from `b`, to another place of its last line
   moved : (a b : Place) → MovesOn road class a b → IsDeparture road a → (next : ℕ) (rest : List ℕ)
@@ -113,11 +121,8 @@ module _ (road : RoadMap) (class : ℕ) (sound : IsSoundMap road) (p q : Place)
       ≡ walk_length road a p (next ∷ rest) + (rest_of_line road b + q.at))
   moved a b moves start next rest is =
       let on = moves (first_open is.on (departure_length road a start)) in
-      let found = other_end next rest (behind_first is.on) in (
-        as_walk (lead_more b on.0 (on.1 next is.on.turns.0) found.0),
-        omega
-            (arith, found.1, rest_more road a p next rest, rest_more road b q next rest),
-      )
+      let found = other_end next rest (behind_first is.on) in
+      grind (arith, as_walk, lead_more, rest_more)
 
 -- ---- the route
 
@@ -171,14 +176,9 @@ module _ (search : Search) (from to : Place) (sound : IsSoundMap search.map.now)
       → IsLeastLength road class start (start_of to.line) len
       → IsLeastLength road class from to
       (len + ((rest_of_line road from - rest_of_line road start) + to.at))
-  least_moved drivable len least = let both =
-      here_of drivable least.behind least.is in record {
-        behind = least.behind;
-        is = both.here;
-        long = omega (arith, both.lengths, least.long, nearer);
-        least = λ other is. let moved = there_of other is in
-            omega (arith, moved.lengths, least.least other moved.there, nearer);
-      }
+  least_moved drivable len least =
+      let both =
+      here_of drivable least.behind least.is in grind (arith, nearer, moved, there_of)
 
   pub none_moved : IsLengthWithin road class start (start_of to.line) limit None
       → IsLengthWithin road class from to limit None
@@ -202,18 +202,7 @@ module _ (search : Search) (from to : Place) (sound : IsSoundMap search.map.now)
       let longer : (other : List ℕ) → IsWalk road class from to other
       → walk_length road from to behind ≤ walk_length road from to other =
       λ other is. let moved = there_of other is in
-      omega (arith, route.least other moved.there) in
-      record {
-        behind = behind;
-        is = record {
-          is = both.here;
-          least = longer;
-          first = λ other is same. let moved = there_of other is in
-              route.first other moved.there (omega arith);
-        };
-        within = omega (arith, longer least.behind least.is);
-        pieces_are = refl;
-      }
+      omega (arith, route.least other moved.there) in grind (arith, moved, there_of)
 
   pub route_followed : (table : ℕ → Option ℕ)
       → IsLengthWithin road class start (start_of to.line) limit (table to.line)

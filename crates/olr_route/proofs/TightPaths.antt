@@ -149,12 +149,7 @@ module _ (search : Search) (target : ℕ) (table : ℕ → Option ℕ) (sound : 
         let found =
         first_of from 0 behind (λ next is. omega (arith, departure_length road from start)) tight
         is_least.behind (walk_tight is_least.behind is_least.is is_least.long) in
-        let made = tight_walk behind found.on in
-        record {
-          is = made.0;
-          least = λ other is. omega (arith, is_least.least other is);
-          first = λ other is same. found.first other (walk_tight other is (same ∙ made.1));
-        }
+        let made = tight_walk behind found.on in grind (arith, is_least, walk_tight)
 
 -- ---- the pieces of the walk that takes the first tight turn again and again
 

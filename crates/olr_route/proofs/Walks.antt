@@ -102,10 +102,7 @@ module _ (road : RoadMap) (class : ℕ) (from : Place) where
         × ReachesStart road class from m target sum
     follow n line len reaches target [] on sum long =
         let same : len ≡ sum =
-        omega (arith, rest_last road (start_of line) (start_of target)) in (
-          n,
-          rw on.ends at (subst (λ (w : ℕ). ReachesStart road class from n line w) same reaches),
-        )
+        omega (arith, rest_last road (start_of line) (start_of target)) in grind arith
     follow n line len reaches target (next ∷ rest) on sum long =
         follow (suc n) next (len + length_at road line) (
           line,

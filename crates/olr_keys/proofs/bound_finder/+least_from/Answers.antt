@@ -6,7 +6,8 @@ use Rattle.olr_keys.proofs.bound_finder.+least_from.Goals.{in-Some, in_default}
 
 pub invariant_of-key : goal.invariant_of-key
 invariant_of-key t c =
-    let last : length c.args.beginning.ranks.items ≡ length c.args.bounds.now.candidates = omega arith in
+    let last : length c.args.beginning.ranks.items ≡ length c.args.bounds.now.candidates =
+    omega arith in
     whole_in_range _ _ _ _ c.layers.ensures.sound last c.requires.keys
 
 pub least_from-least-requires : goal.least_from-least-requires

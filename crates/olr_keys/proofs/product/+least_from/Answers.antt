@@ -7,7 +7,8 @@ use Rattle.olr_keys.proofs.product.+least_from.Goals.{in-Some, in_default}
 
 pub invariant_of-key : goal.invariant_of-key
 invariant_of-key t c =
-    let last : length c.args.beginning.ranks.items ≡ length c.args.table.now.candidates = omega arith in
+    let last : length c.args.beginning.ranks.items ≡ length c.args.table.now.candidates =
+    omega arith in
     whole_in_range _ _ _ _ c.layers.ensures.sound last c.requires.keys
 
 pub least_from-least-requires : goal.least_from-least-requires
@@ -45,10 +46,12 @@ loop-index-preserved t c =
           rw (← c.len-layer.ensures.value)
           (_, _, w.in-Some.ensures.joined.0, w.in-Some.ensures.joined.1, refl) in
           rw w.least-is (least_with _ _ _ _ _ _ _ _ _ _ _ _ _ refl w.longer-longer.ensures.total
-          w.longer-longer.ensures.ranks step c.loop-index.invariant (rw w.longer-longer.ensures.before at w.least_from-least.ensures))
+          w.longer-longer.ensures.ranks step c.loop-index.invariant
+          (rw w.longer-longer.ensures.before at w.least_from-least.ensures))
       | in_default w ↦
           let none : (sum : ℕ) → IsJoined p (length ranks) c.args.beginning.before rank sum → ⊥ =
           rw (← c.len-layer.ensures.value) w.in_default.ensures.joined in
-          rw w.least-is (least_left p c.args.beginning.before c.args.beginning.total ranks after _ _ _ _ refl
+          rw w.least-is (least_left p c.args.beginning.before c.args.beginning.total ranks after
+          _ _ _ _ refl
           (left_unjoined p c.args.beginning.before _ ranks rank _ none) c.loop-index.invariant)
     ]

@@ -6,5 +6,6 @@ abbrev pub decreases-least_from : goal.decreases-least_from
 decreases-least_from l = length l.table.now.candidates - length l.beginning.ranks.items
 
 abbrev pub invariant-loop-index : goal.invariant-loop-index
-invariant-loop-index l = IsLeastBelow l.table l.beginning.before l.beginning.total l.beginning.ranks.items
+invariant-loop-index l = IsLeastBelow l.table l.beginning.before l.beginning.total
+    l.beginning.ranks.items
     (option_map (λ at. at.now) l.after) l.fn.held l.index l.least

@@ -4,4 +4,8 @@ use Rattle.olr_keys.proofs.width.width.Goals as goal
 
 pub returns-clause-at_most : goal.returns-clause-at_most
 returns-clause-at_most c =
-    grind (arith, width_is c.layers-layer-end.ensures.sound (omega arith) c.loop-layer.invariant.0, width_at_most _ c.layers-layer-end.ensures.sound)
+    grind (
+      arith,
+      width_is c.layers-layer-end.ensures.sound (omega arith) c.loop-layer.invariant.0,
+      width_at_most _ c.layers-layer-end.ensures.sound,
+    )

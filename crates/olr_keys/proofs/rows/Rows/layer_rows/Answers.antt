@@ -1,4 +1,4 @@
-use Rattle.olr_keys.proofs.Common.{ap, arith, length-map, rows_of}
+use Rattle.olr_keys.proofs.Common.{arith, length-map}
 use Rattle.olr_keys.proofs.Stepping.{rows_of_layer}
 use Rattle.olr_keys.proofs.rows.Rows.layer_rows.Goals as goal
 

@@ -1,4 +1,4 @@
-use Rattle.olr_keys.proofs.Common.{length, ap, arith, length-map}
+use Rattle.olr_keys.proofs.Common.{arith, length-map}
 use Rattle.olr_keys.proofs.Marking.{next_row, total_row_more, whole_totals}
 use Rattle.olr_keys.proofs.rows.fill.join_all.Goals as goal
 
