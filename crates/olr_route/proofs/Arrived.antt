@@ -29,17 +29,13 @@ pub own_length : (road : RoadMap) (nodes : ℕ → Option ℕ) (own : ℕ → Op
     (kept : Option (Option ℕ)) → own line ≡ kept
     → start_length road nodes own line
     ≡ unwrap_or kept (node_length nodes (slice_get (origins_of road.lines) line))
-own_length road nodes own line kept is =
-    ap (λ o. unwrap_or o
-    (node_length nodes (slice_get (origins_of road.lines) line))) is
+own_length road nodes own line kept is = grind arith
 
 pub by_parts : (road : RoadMap) (starts : Starts) (line : ℕ) (own : Option (Option ℕ))
     (origin : Option ℕ) → get nat_eq starts.own line ≡ own
     → node_length (length_of starts.nodes) (slice_get (origins_of road.lines) line) ≡ origin
     → table_in road starts line ≡ unwrap_or own origin
-by_parts road starts line own origin kept at =
-    own_length road (length_of starts.nodes) (get nat_eq starts.own) line own kept
-    ∙ ap (unwrap_or own) at
+by_parts road starts line own origin kept at = grind (arith, own_length)
 
 module _ (search : Search) (arrival : Arrival)
     (ends : EndsAt search.map.now arrival.node arrival.line)
@@ -121,8 +117,7 @@ module _ (search : Search) (arrival : Arrival)
     still next some = grind arith
 
     reached_here : (next : ℕ) → StartsAt road node next → IsSome (now next) ⊎ Contains banned next
-    reached_here next starts = let at = are.rest next starts in let there = visited_now next in
-        grind (arith, still)
+    reached_here next starts = grind (arith, visited_now, still)
 
     arrived : IsArrived search line arrival.at_end before now old.queue new.queue
     arrived = record {

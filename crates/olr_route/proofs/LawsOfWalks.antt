@@ -54,8 +54,7 @@ no_beginning road class from to behind (next ∷ more) sound end is other same =
 module _ (road : RoadMap) (sound : IsSoundMap road) where
   same_id : (a b : ℕ) → a < length road.lines → b < length road.lines → id_at road a ≡ id_at road b
       → a ≡ b
-  same_id a b a_inside b_inside same = let less = ids_rise road a b sound in
-      let more = ids_rise road b a sound in grind arith
+  same_id a b a_inside b_inside same = grind (arith, ids_rise)
 
   same_walk : (line other : ℕ) (a b : List ℕ) → AreTurns road line a → AreTurns road other b
       → IsUpTo (ids_of road a) (ids_of road b) → IsUpTo (ids_of road b) (ids_of road a) → a ≡ b
@@ -63,12 +62,7 @@ module _ (road : RoadMap) (sound : IsSoundMap road) where
   same_walk line other [] (y ∷ b) turns others up down = absurd down
   same_walk line other (x ∷ a) [] turns others up down = absurd up
   same_walk line other (x ∷ a) (y ∷ b) (turn, turns) (next, others) up down =
-      grind (
-        arith,
-        same_id,
-        slice_get_within,
-        same_walk x y a b turns others (grind arith) (grind arith),
-      )
+      grind (arith, same_id, slice_get_within, same_walk x y a b turns others (grind arith) (grind arith))
 
   pub route_once : (class : ℕ) (from to : Place) (a b : List ℕ) → IsRoute road class from to a
       → IsRoute road class from to b → a ≡ b

@@ -68,17 +68,13 @@ of_value f (Some a) b is = (a, refl, same_Some (f a) b is)
 
 with_origin : (road : RoadMap) (node line : ℕ) → StartsAt road node line → (here : RoadLine)
     × (slice_get road.lines line ≡ Some here) × (here.from ≡ node)
-with_origin road node line starts =
-    of_value _ _ _
-    (sym (slice_get-map (λ (l : RoadLine). l.from) road.lines line) ∙ starts)
+with_origin road node line starts = grind (arith, of_value, slice_get-map)
 
 -- the lines that start where a line ends and to which the turn isn't banned are those that may
 -- follow
 module _ (road : RoadMap) (line node : ℕ) (ends : EndsAt road node line) where
   pub meets_there : (next : ℕ) (turn : IsTurn road line next) → turn.after.from ≡ node
-  meets_there next turn =
-      sym turn.meets ∙ ap (λ (l : RoadLine). l.to)
-      (one_line road.lines line turn.before ends.here turn.leaves ends.at) ∙ ends.to
+  meets_there next turn = grind (arith, one_line)
 
   pub starts_there : (next : ℕ) → IsTurn road line next → StartsAt road node next
   starts_there next turn = grind (arith, slice_get-map, meets_there)
@@ -97,8 +93,7 @@ module _ (road : RoadMap) (rank : ℕ) (head : Line)
   head_length = length_here road rank row.0 row.1 ∙ ap (λ (h : Line). h.length) row.2
 
   pub origin_of : StartsAt road head.from rank
-  origin_of = slice_get-map (λ (l : RoadLine). l.from) road.lines rank
-      ∙ ap (option_map (λ (l : RoadLine). l.from)) row.1 ∙ ap (λ (h : Line). Some h.from) row.2
+  origin_of = grind (arith, slice_get-map)
 
   abbrev pub end_of : EndsAt road head.to rank
   end_of = record { here = row.0; at = row.1; to = ap (λ (h : Line). h.to) row.2 }

@@ -39,5 +39,4 @@ module _ (pages lengths : List ℕ) (are : ArePages pages lengths) (block : ℕ)
       → more ≡ lengths ++ replicate 16 0 → (node : ℕ)
       → slice_index more (place_of (set pages block page) node)
       ≡ slice_index lengths (place_of pages node)
-  same_more page next more is node =
-      grind (arith, common_steps, cases_eq, zeros, get_or-append-add)
+  same_more page next more is node = grind (arith, common_steps, cases_eq, zeros, get_or-append-add)

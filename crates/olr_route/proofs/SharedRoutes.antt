@@ -182,8 +182,7 @@ module _ (search : Search) (from to : Place) (sound : IsSoundMap search.map.now)
 
   pub none_moved : IsLengthWithin road class start (start_of to.line) limit None
       → IsLengthWithin road class from to limit None
-  none_moved none = λ behind is. let both = there_of behind is in
-      omega (arith, none behind both.there, both.lengths, nearer)
+  none_moved none = grind (arith, there_of, nearer)
 
   -- where a walk is within the limit, the search reached the start of its last line
   known_start : (least : ℕ) → IsLengthWithin road class from to limit (Some least)

@@ -3,7 +3,7 @@
 use Rattle.std.specs.BTreeMap.{get, UpdatesBy}
 use Rattle.std.specs.Option.{IsSome, is_some}
 use Rattle.std.specs.declared.cmp.Ordering.TheVariants.{Less}
-use Rattle.olr_route.proofs.Common.{Groups, by_key, group_of, items_in, IsLinesOf, RoadMap, IsSoundMap, Place, Search, EndsAt, StartsAt, AreWithin, rest_of_line, length_at, start_of, ◌≡◌, ℕ, [], false, Option, None, Some, ap, refl, arith, Vec, Global, ◌⊎◌, inl, inr, List, ◌∷◌, ◌++◌, sym, subst, ◌∙◌, add-one, drop, drop-cons, get_or, length, ◌+◌, ◌<◌, ◌≤◌, is_lt, common_steps, Contains, IsSome, option_map, slice_get, Contains-append_left, Contains-push_cases, IsIn, AreGroups, AreOnShortestPaths, IsOnPath, IsTightIn, IsTightPath, LeadsOn, length-map, same_Some, slice_get-map, slice_get_within, destinations_of}
+use Rattle.olr_route.proofs.Common.{Groups, by_key, group_of, items_in, IsLinesOf, RoadMap, IsSoundMap, Place, Search, EndsAt, StartsAt, AreWithin, rest_of_line, length_at, start_of, ◌≡◌, ℕ, [], false, Option, None, Some, ap, refl, arith, Vec, Global, ◌⊎◌, inl, inr, List, ◌∷◌, ◌++◌, sym, subst, ◌∙◌, add-one, drop, drop-cons, get_or, length, ◌+◌, ◌<◌, ◌≤◌, is_lt, common_steps, Contains, IsSome, slice_get, Contains-append_left, Contains-push_cases, IsIn, AreGroups, AreOnShortestPaths, IsOnPath, IsTightIn, IsTightPath, LeadsOn, length-map, same_Some, slice_get-map, slice_get_within, destinations_of}
 use Rattle.olr_route.specs.Groups.{HasGroup, IsBefore, IsAdded, IsLastBefore}
 use Rattle.std.proofs.Math.Seq.{drop-length}
 use Rattle.olr_route.proofs.Lines.{length_here, long_at, origin_inside, starts_there}
@@ -102,8 +102,7 @@ IsLeft road length node lines line len = EndsBefore road length node line len
 -- the line is among those that end at the node
 ends_there : (road : RoadMap) (node line : ℕ) → EndsAt road node line
     → slice_get (destinations_of road.lines) line ≡ Some node
-ends_there road node line ends = slice_get-map (λ l. l.to) road.lines line
-    ∙ ap (option_map (λ l. l.to)) ends.at ∙ ap Some ends.to
+ends_there road node line ends = grind (arith, slice_get-map)
 
 module _ (search : Search) (table : ℕ → Option ℕ) (target : ℕ) where
   abbrev road : RoadMap
@@ -297,9 +296,7 @@ module _ (search : Search) (table : ℕ → Option ℕ) (target : ℕ) where
   pub spread_over : (length node : ℕ) (lines : List ℕ) → lines ≡ [] → (groups : Groups)
       → AreSpread (IsLeft road length node lines) groups
       → AreSpread (EndsBefore road length node) groups
-  spread_over length node lines none groups spread =
-      fewer (IsLeft road length node lines) (EndsBefore road length node) groups spread
-      (λ line len next some tight left. let empty = left in grind (arith, none))
+  spread_over length node lines none groups spread = grind (arith, fewer)
 
   pub spread_next : (length node last_length last_node : ℕ) (groups : Groups)
       → IsLastBefore groups (length, node) (Some (last_length, last_node))
@@ -360,8 +357,7 @@ no_line_left lines i inside over =
 no_end : (road : RoadMap) (class : ℕ) (table : ℕ → Option ℕ) (target : ℕ) → table target ≡ None
     → (place : Place) (len : ℕ) (rest : List ℕ) → IsTightPath road class table target place len rest
     → ⊥
-no_end road class table target none place len [] (here, known) = let wrong =
-    sym known ∙ none in cc
+no_end road class table target none place len [] (here, known) = grind arith
 no_end road class table target none place len (next ∷ rest) (tight, on) =
     no_end road class table target none (start_of next) (len + rest_of_line road place) rest on
 

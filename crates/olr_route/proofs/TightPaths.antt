@@ -61,9 +61,7 @@ module _ (search : Search) (target : ℕ) (table : ℕ → Option ℕ) (sound : 
 
   tight_from : (n line len : ℕ) (rest : List ℕ) → ReachesStart road class from n line len
       → LeadOn (start_of line) len rest → (table line ≡ Some len) × Path (start_of line) len rest
-  tight_from n line len [] reaches on =
-      let known = exact n line len [] reaches on in
-      (known, (ap start_of on.0.ends, rw on.0.ends at known))
+  tight_from n line len [] reaches on = grind (arith, exact)
   tight_from n line len (next ∷ rest) reaches on =
       let turn = on.0.turns.0 in
       let clear = first_open on.0 (long_before_turn _ _ _ sound turn) in

@@ -121,9 +121,7 @@ module _ (search : Search) where
       -- what is reached is so after no greater length than this arrival's
       known_now : (line bound : ℕ) → arrival.at_end ≤ bound → IsSome (new line)
           → IsKnownWithin (new line) bound
-      known_now line bound farther some =
-          known_within (new line) bound some
-          (λ length known. omega (arith, (sound_now line length known).0))
+      known_now line bound farther some = grind (arith, known_within, sound_now)
 
       arrivals_now : (other : Arrival) → Contains after other → IsArrival other
           × (arrival.at_end ≤ other.at_end)

@@ -2,7 +2,7 @@
 -- So a search in which every line is relaxed holds the least lengths.
 use Rattle.std.proofs.lemmas.Grind.{common_steps}
 use Rattle.std.proofs.lemmas.List.Sums.{sum_by-cons}
-use Rattle.olr_route.proofs.Common.{RoadMap, IsSoundMap, Place, Piece, IsOpen, IsTurn, length_at, walk_length, IsWalk, start_of, LeadTo, ReachesStart, rest_of_line, IsAskedFor, IsKnownWithin, IsRelaxed, IsUseful, IsDeparture, IsLengthWithin, HasWalksTo, ◌≡◌, ℕ, zero, suc, ◌+◌, ◌-◌, ◌<◌, List, [], ◌∷◌, subst, sym, ◌∙◌, refl, ap, arith, ◌≤◌, Option, Some, None, piece_length, IsSearch}
+use Rattle.olr_route.proofs.Common.{RoadMap, IsSoundMap, Place, Piece, IsOpen, IsTurn, length_at, walk_length, IsWalk, start_of, LeadTo, ReachesStart, rest_of_line, IsAskedFor, IsKnownWithin, IsRelaxed, IsUseful, IsDeparture, IsLengthWithin, HasWalksTo, ◌≡◌, ℕ, zero, suc, ◌+◌, ◌-◌, ◌<◌, List, [], ◌∷◌, ◌∙◌, refl, ap, arith, ◌≤◌, Option, Some, None, IsSearch}
 use Rattle.olr_route.proofs.Lines.{long_before_turn, length_here}
 
 pub departure_length : (road : RoadMap) (place : Place) → IsDeparture road place
@@ -18,8 +18,7 @@ rest_more road place to next rest = grind (arith, common_steps, sum_by-cons)
 
 pub rest_last : (road : RoadMap) (place to : Place)
     → walk_length road place to [] ≡ to.at - place.at
-rest_last road place to = sum_by-cons piece_length
-    (record { line = place.line; from = place.at; to = to.at }) [] ∙ omega arith
+rest_last road place to = grind (arith, sum_by-cons)
 
 -- a walk is at least one decimetre long
 pub long_walk : (road : RoadMap) (from to : Place) (behind : List ℕ) → IsDeparture road from
@@ -172,9 +171,7 @@ module _ (road : RoadMap) (class : ℕ) (from : Place) (asked : Option (List ℕ
   -- each useful length that reaches the start of a line is known, or a lesser one
   pub known : (n line len : ℕ) → ReachesStart road class from n line len
       → IsUseful road class asked limit line len → IsKnownWithin (table line) len
-  known zero line len (clear, turn, long) useful =
-      rw (sym long) at (search.first line clear turn
-      (subst (λ (w : ℕ). IsUseful road class asked limit line w) long useful))
+  known zero line len (clear, turn, long) useful = grind arith
   known (suc n) line len (before, so_far, reaches, clear, turn, long) useful =
       let there = rw long at useful in
       let old = known_length _ _

@@ -25,5 +25,4 @@ loop-next-smaller c =
     )
 
 pub returns : goal.returns
-returns c =
-    grind (arith, following_over _ _ _ _ _ _ _ _ c.loop-next.invariant c.in_default.ensures)
+returns c = grind (arith, following_over _ _ _ _ _ _ _ _ c.loop-next.invariant c.in_default.ensures)

@@ -19,5 +19,4 @@ returns-then-is_empty c =
     )
 
 pub returns-else-is_empty : goal.returns-else-is_empty
-returns-else-is_empty c =
-    grind (arith, free_of_bans c.args.map.now _ _ c.bans_from.ensures)
+returns-else-is_empty c = grind (arith, free_of_bans c.args.map.now _ _ c.bans_from.ensures)
