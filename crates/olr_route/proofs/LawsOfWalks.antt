@@ -62,7 +62,7 @@ module _ (road : RoadMap) (sound : IsSoundMap road) where
   same_walk line other [] (y ∷ b) turns others up down = absurd down
   same_walk line other (x ∷ a) [] turns others up down = absurd up
   same_walk line other (x ∷ a) (y ∷ b) (turn, turns) (next, others) up down =
-      grind (arith, same_id, slice_get_within, same_walk x y a b turns others (grind arith) (grind arith))
+      grind (arith, same_id, slice_get_within, same_walk x y a b turns others)
 
   pub route_once : (class : ℕ) (from to : Place) (a b : List ℕ) → IsRoute road class from to a
       → IsRoute road class from to b → a ≡ b
