@@ -40,7 +40,6 @@ impl<'a> Bounds<'a> {
     /// # Errors
     ///
     /// [`NoMemory`] where the allocator refused memory.
-    #[tactic(auto, using(crate::proofs::Bounding::next_bounds))]
     pub(crate) fn build(alloc: Global, table: &'a Table) -> Result<Bounds<'a>, NoMemory>
         ensures { IfOk result (λ bounds. bounds ≡ table.now) }
     {
