@@ -1,20 +1,14 @@
 -- A ban is among those of a map where its key is.
-use Rattle.olr_road.proofs.Common.{Ban, RoadLine, ban_key, ban_keys, IsAdjacent, AreSoundBans, ◌≡◌, Bool, ℕ, ◌<◌, List, length, get_or, Option, Some, None, sym, ◌∙◌, subst, arith, MatchBool, MatchOption, is_some, slice_get, Contains, length-map, get_or-map, All-get_or, Contains-get_or, get_or_from_slice_get, slice_get_within}
+use Rattle.olr_road.proofs.Common.{Ban, RoadLine, ban_key, ban_keys, IsAdjacent, AreSoundBans, ◌≡◌, Bool, ℕ, ◌<◌, List, length, get_or, Option, Some, None, sym, ◌∙◌, arith, MatchBool, MatchOption, is_some, slice_get, Contains, length-map, get_or-map, All-get_or, Contains-get_or, get_or_from_slice_get, slice_get_within}
 
 -- two bans of one key are one
 key_once : (a b : Ban) → a.to < 4294967296 → b.to < 4294967296 → ban_key a ≡ ban_key b → a ≡ b
-key_once a b few other same =
-    let from : a.from ≡ b.from = omega arith in
-    let to : a.to ≡ b.to = omega arith in
-    λ i. record { from = from i; to = to i }
+key_once a b few other same = grind arith
 
 -- a ban that is there
 pub has_key : (bans : List Ban) (ban : Ban) → Contains bans ban
     → Contains (ban_keys bans) (ban_key ban)
-has_key bans ban contains =
-    subst (λ (b : Ban). Contains (ban_keys bans) (ban_key b)) contains.2
-    (subst (λ (n : ℕ). Contains (ban_keys bans) n) (get_or-map _ _ _ _ 0 contains.1)
-    (Contains-get_or _ _ 0 (omega (arith, length-map bans ban_key))))
+has_key bans ban contains = grind (arith, get_or-map, Contains-get_or, length-map)
 
 -- a ban whose key is there
 pub has_ban : (lines : List RoadLine) (bans : List Ban) (ban : Ban) (rank : ℕ)
@@ -26,12 +20,10 @@ has_ban lines bans ban rank sound few to there =
     let inside : rank < length bans =
     omega (arith, slice_get_within keys rank (ban_key ban) there) in
     let found = get_or bans rank ban in
-    let key : ban_key found ≡ ban_key ban = sym (get_or-map ban_key _ _ ban 0 inside)
-    ∙ get_or_from_slice_get keys rank _ 0 there in
     let meets = All-get_or (IsAdjacent lines) _ _ ban inside sound.each in
-    let below : found.to < 4294967296 =
-    omega (arith, slice_get_within lines found.to meets.second meets.to) in
-    rw (← (key_once _ _ below to key)) (Contains-get_or _ _ _ inside)
+    rw (← (key_once _ _ (omega (arith, slice_get_within lines found.to meets.second meets.to)) to
+    (sym (get_or-map ban_key _ _ ban 0 inside) ∙ get_or_from_slice_get keys rank _ 0 there)))
+    (Contains-get_or _ _ _ inside)
 
 -- whether a ban is there, by a search for its key
 pub is_there : (lines : List RoadLine) (bans : List Ban) (ban : Ban) (found : Option ℕ)

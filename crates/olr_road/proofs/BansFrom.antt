@@ -1,6 +1,6 @@
 -- The bans of a first rank are those on turns from the line of that rank.
 use Rattle.olr_index.specs.Pairs.{first_of, AreOfFirst}
-use Rattle.olr_road.proofs.Common.{Ban, RoadLine, ban_key, IsAdjacent, AreSoundBans, ◌≡◌, ℕ, ◌+◌, ◌*◌, ◌/◌, ◌<◌, List, length, ◌∙◌, arith, Contains, length-map, get_or-map, All-contains, slice_get_within}
+use Rattle.olr_road.proofs.Common.{Ban, RoadLine, ban_key, AreSoundBans, ◌≡◌, ℕ, ◌+◌, ◌*◌, ◌/◌, ◌<◌, List, length, ◌∙◌, arith, Contains, length-map, get_or-map, All-contains, slice_get_within}
 use Rattle.olr_road.specs.BansFrom.{AreBansFrom}
 
 first_of_pair : (from to : ℕ) → to < 4294967296 → (from * 4294967296 + to) / 4294967296 ≡ from
@@ -9,9 +9,7 @@ first_of_pair from to small = omega arith
 module _ (lines : List RoadLine) (bans : List Ban) (sound : AreSoundBans lines bans)
     (few : length lines < 4294967296) where
   first_is : (ban : Ban) → Contains bans ban → first_of (ban_key ban) ≡ ban.from
-  first_is ban there =
-      let meets = All-contains (IsAdjacent lines) _ _ sound.each there in
-      first_of_pair _ _ (omega (arith, slice_get_within lines ban.to meets.second meets.to))
+  first_is ban there = grind (arith, All-contains, first_of_pair, slice_get_within)
 
   pub bans_of_first : (line : ℕ) (found : List Ban) → AreOfFirst ban_key bans line found
       → AreBansFrom bans line found

@@ -1,23 +1,18 @@
 -- The rows of a map's canonical text, by number.
 use Rattle.std.proofs.lemmas.List.Folds.{concat-append}
-use Rattle.olr_road.proofs.Common.{Degrees, Coordinates, coordinates_of, Node, node_ids, RoadLine, joined, between_ends, line_fields, part, shape_text, row_text, ◌≡◌, ℕ, zero, suc, ◌+◌, ◌-◌, ◌<◌, List, [], ◌∷◌, ◌++◌, append_assoc, map, length, get_or, take, drop, Some, refl, ap, ◌∙◌, subst, arith, codes, decimal, unwrap_or, option_map, slice_get, slice_index, concat, append-nil, length-map, take-map, drop-map, take_more, head_of, line_of}
+use Rattle.olr_road.proofs.Common.{Degrees, Coordinates, coordinates_of, Node, node_ids, RoadLine, joined, between_ends, line_fields, part, shape_text, row_text, ◌≡◌, ℕ, zero, suc, ◌+◌, ◌-◌, ◌<◌, List, [], ◌∷◌, ◌++◌, append_assoc, map, length, get_or, take, drop, Some, refl, ap, ◌∙◌, arith, codes, decimal, option_map, slice_get, slice_index, concat, append-nil, length-map, take-map, drop-map, take_more, head_of, line_of}
 use Rattle.olr_road.specs.declared.line.Line.{Line}
 
 -- ---- the row of a line
 
 -- the row of the line of a rank, by what `line` and `points` give
 row_of_line : (nodes : List Node) (lines : List RoadLine) (rank : ℕ) (head : Line)
-    (points : List Coordinates)
-    → option_map head_of (slice_get lines rank) ≡ Some head
+    (points : List Coordinates) → option_map head_of (slice_get lines rank) ≡ Some head
     → option_map (λ (line : RoadLine). line.points) (slice_get lines rank) ≡ Some points
     → get_or (map row_text (map (line_fields nodes) lines)) rank []
     ≡ row_text (line_fields nodes (line_of head points))
 row_of_line nodes [] rank head points its its_points = absurd cc
-row_of_line nodes (line ∷ lines) zero head points its its_points =
-    let same = ap (λ o. unwrap_or o head) its in
-    let same_points = ap (λ o. unwrap_or o points) its_points in
-    ap (λ (h : Line). row_text (line_fields nodes (line_of h line.points))) same
-    ∙ ap (λ (l : List Coordinates). row_text (line_fields nodes (line_of head l))) same_points
+row_of_line nodes (line ∷ lines) zero head points its its_points = grind arith
 row_of_line nodes (line ∷ lines) (suc rank) head points its its_points =
     row_of_line nodes lines rank head points its its_points
 
@@ -25,18 +20,14 @@ row_of_line nodes (line ∷ lines) (suc rank) head points its its_points =
 between_places : (points : List Degrees)
     → map coordinates_of (take (length points - 1 - 1) (drop 1 points))
     ≡ between_ends (map coordinates_of points)
-between_places points = rw (length-map) (cc (
-  take-map coordinates_of (length points - 1 - 1) (drop 1 points),
-  drop-map coordinates_of 1 points,
-))
+between_places points = grind (arith, length-map, take-map, drop-map)
 
 -- the pieces of such a row, one after the other
 by_pieces : (comma end old id from to class form size shape : List ℕ)
     → ((old ++ (id
     ++ (comma ++ (from
     ++ (comma ++ (to
-    ++ (comma ++ (class ++ (comma ++ (form ++ (comma ++ (size ++ comma)))))))))))) ++ shape)
-    ++ end
+    ++ (comma ++ (class ++ (comma ++ (form ++ (comma ++ (size ++ comma)))))))))))) ++ shape) ++ end
     ≡ old ++ (joined comma (id ∷ from ∷ to ∷ class ∷ form ∷ size ∷ shape ∷ []) ++ end)
 by_pieces comma end old id from to class form size shape = simp (append_assoc, append-nil)
 
@@ -50,8 +41,7 @@ pub line_added : (nodes : List Node) (lines : List RoadLine) (rank : ℕ) (head 
     → from ≡ slice_index (node_ids nodes) head.from → to ≡ slice_index (node_ids nodes) head.to
     → fields ≡ old ++ (decimal head.id ++ 44
     ∷ (decimal from ++ 44 ∷ (decimal to ++ 44
-    ∷ (decimal head.class ++ 44 ∷ (decimal head.form ++ 44
-    ∷ (decimal head.length ++ 44 ∷ []))))))
+    ∷ (decimal head.class ++ 44 ∷ (decimal head.form ++ 44 ∷ (decimal head.length ++ 44 ∷ []))))))
     → shaped ≡ fields ++ shape_text
     (map coordinates_of (take (length points - 1 - 1) (drop 1 points)))
     → text ≡ shaped ++ codes "\n"
@@ -59,14 +49,11 @@ pub line_added : (nodes : List Node) (lines : List RoadLine) (rank : ℕ) (head 
 line_added nodes lines rank head points from to old its its_points from_is to_is first second
     third =
     let shape = shape_text (map coordinates_of (take (length points - 1 - 1) (drop 1 points))) in
-    let row : row_text (decimal head.id ∷ decimal from ∷ decimal to ∷ decimal head.class
-    ∷ decimal head.form ∷ decimal head.length ∷ shape ∷ [])
-    ≡ get_or (map row_text (map (line_fields nodes) lines)) rank [] =
-    rw (row_of_line _ _ _ _ _ its its_points, from_is, to_is, between_places points) in
     third ∙ ap (λ (l : List ℕ). l ++ codes "\n") (cc)
     ∙ by_pieces (codes ",") (codes "\n") old (decimal head.id) (decimal from) (decimal to)
     (decimal head.class) (decimal head.form) (decimal head.length) shape
-    ∙ ap (λ (l : List ℕ). old ++ l) row
+    ∙ ap (λ (l : List ℕ). old ++ l)
+    (rw (row_of_line _ _ _ _ _ its its_points, from_is, to_is, between_places points))
 
 -- ---- the rows of a part
 
@@ -84,17 +71,15 @@ pub row_added : {X : Type 0} (fields : X → List (List ℕ)) (name : List ℕ) 
     → slice_get xs (number - 1) ≡ Some x → text ≡ before ++ row_text (fields x)
     → text ≡ before ++ get_or (map row_text (part name (map fields xs))) number []
 row_added fields name xs zero x before other its added = absurd (other refl)
-row_added fields name xs (suc rank) x before other its added =
-    cc (row_behind fields xs rank x (subst (λ (n : ℕ). slice_get xs n ≡ Some x) (omega arith) its))
+row_added fields name xs (suc rank) x before other its added = grind (arith, row_behind)
 
 -- ---- the rows of the text
 
 -- the rows so far, and one more
 pub row_more : (rows : List (List ℕ)) (number : ℕ) → number < length rows
     → concat (take number rows) ++ get_or rows number [] ≡ concat (take (number + 1) rows)
-row_more rows number inside =
-    cc (
-      append-nil (get_or rows number []),
-      concat-append (take number rows) (get_or rows number [] ∷ []),
-      take_more _ _ [] inside,
-    )
+row_more rows number inside = cc (
+  append-nil (get_or rows number []),
+  concat-append (take number rows) (get_or rows number [] ∷ []),
+  take_more _ _ [] inside,
+)

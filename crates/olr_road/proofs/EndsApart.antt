@@ -1,6 +1,6 @@
 -- How far apart on an axis the nodes can be from which and to which lines lead.
 use Rattle.std.proofs.lemmas.Bool.{cases_eq}
-use Rattle.olr_road.proofs.Common.{RoadMap, RoadLine, ◌≡◌, ℕ, zero, suc, ◌+◌, ◌<◌, ◌≤◌, ◌⊎◌, List, length, get_or, set, Some, inl, inr, ap, ◌∙◌, arith, length-set, get_or-set_other, slice_get, sum, abs_diff, sum_by-set, slice_get_within, Joins}
+use Rattle.olr_road.proofs.Common.{RoadMap, RoadLine, ◌≡◌, ℕ, zero, suc, ◌+◌, ◌≤◌, ◌⊎◌, List, length, get_or, set, Some, inl, inr, ap, ◌∙◌, arith, length-set, get_or-set_other, slice_get, sum, abs_diff, sum_by-set, slice_get_within, Joins}
 
 same_line : (lines : List RoadLine) (one other : ℕ) (line found : RoadLine) → other ≡ one
     → slice_get lines one ≡ Some line → slice_get lines other ≡ Some found → line ≡ found
@@ -52,8 +52,11 @@ module _ (road : RoadMap) (position : ℕ → ℕ) (start : ℕ) where
   climb (suc count) from to long near left (rank, line, more, is, begins, rest, adds) size are
       here =
       let begin : IsNear near line.from = rw begins here in
-      let inside : rank < length left = omega (arith, slice_get_within road.lines rank line is) in
       let end = climb count line.to to more (near + (line.length + get_or left rank 0)) (set _ _ 0)
       rest (length-set left rank 0 ∙ size)
       (used_up left near rank line is are begin) (ends_near left near rank line is are begin) in
-      omega (arith, sum_by-set (λ (n : ℕ). n) left rank 0 0 inside)
+      omega (
+        arith,
+        sum_by-set (λ (n : ℕ). n) left rank 0 0
+            (omega (arith, slice_get_within road.lines rank line is)),
+      )

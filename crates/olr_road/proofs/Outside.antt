@@ -50,15 +50,13 @@ module _ (nodes : List NodeByRank) (entries : List Entry) (points : List Degrees
         omega (arith, sum-map (deficit_of position) entries)
 
     pub goals_on : (positions : List Position) (deficits : Deficits) (low high : Position)
-        (lines : List ℕ) (north east : Span)
-        → AreDeficits entries positions deficits
+        (lines : List ℕ) (north east : Span) → AreDeficits entries positions deficits
         → All (StartsBetween entries positions low high) lines
         → north.low ≡ low.north - deficits.north → north.high ≡ high.north + deficits.north
         → east.low ≡ low.east - deficits.east → east.high ≡ high.east + deficits.east
         → AreGoalsOn road (record { lines = lines; least = least_of positions north east })
     goals_on positions deficits low high lines north east are between north_low north_high east_low
-        east_high
-        target node count long line is_goal is joins =
+        east_high target node count long line is_goal is joins =
         let (entry, at, same) = entry_at points entries target line is in
         let from = entry.line.from in
         let start = All-contains (StartsBetween entries positions low high) lines target between
@@ -67,10 +65,8 @@ module _ (nodes : List NodeByRank) (entries : List Entry) (points : List Degrees
         = rw (ap (λ (l : RoadLine). l.from) same) joins in
         least_at positions north east node long
         (on_axis low.north high.north deficits.north long (north_of positions from)
-        (north_of positions node) north
-        north_low north_high start.north_low start.north_high
+        (north_of positions node) north north_low north_high start.north_low start.north_high
         (omega (arith, near (north_of positions) count node from long joined)))
         (on_axis low.east high.east deficits.east long (east_of positions from)
-        (east_of positions node) east
-        east_low east_high start.east_low start.east_high
+        (east_of positions node) east east_low east_high start.east_low start.east_high
         (omega (arith, near (east_of positions) count node from long joined)))

@@ -1,6 +1,7 @@
--- The rows of a file by rising id.
+-- The nodes and lines of which a road map is made: their ids, the ranks at which they stand, and
+-- that sorting them sorts the nodes and lines of the map.
 use Rattle.std.proofs.lemmas.Simd.{map-map}
-use Rattle.olr_road.proofs.Common.{Degrees, Entry, Node, node_ids, RoadLine, line_ids, IsSoundLine, node_of, Sorts, starts_of, ends_of, nodes_of, line_in, lines_in, entry_id, ◌≡◌, ℕ, zero, suc, ◌<◌, List, [], ◌∷◌, map, length, get_or, refl, sym, ap, arith, Option, Some, None, MatchOption, All, slice_get, unwrap_or, All-head, All-tail, IsPermutation-map, origins_of, destinations_of, node_key}
+use Rattle.olr_road.proofs.Common.{Degrees, Entry, Node, node_ids, RoadLine, line_ids, IsSoundLine, Sorts, starts_of, ends_of, nodes_of, line_in, lines_in, entry_id, ◌≡◌, ℕ, zero, suc, ◌<◌, List, [], ◌∷◌, map, length, get_or, sym, arith, Option, Some, None, MatchOption, All, slice_get, All-head, All-tail, IsPermutation-map, origins_of, destinations_of, node_key}
 use Rattle.olr_road.specs.declared.node.Node.{Node as NodeByRank}
 
 pub ids_of_rows : (rows : List NodeByRank)
@@ -24,24 +25,17 @@ pub entry_at : (points : List Degrees) (entries : List Entry) (rank : ℕ) (line
     → slice_get (lines_in points entries) rank ≡ Some line
     → (entry : Entry) × (slice_get entries rank ≡ Some entry) × (line_in points entry ≡ line)
 entry_at points [] rank line is = absurd cc
-entry_at points (entry ∷ entries) zero line is =
-    (entry, refl, ap (λ (o : Option RoadLine). unwrap_or o line) is)
+entry_at points (entry ∷ entries) zero line is = grind arith
 entry_at points (entry ∷ entries) (suc rank) line is = entry_at points entries rank line is
 
--- rows sorted are nodes sorted, and so with lines
+-- nodes by rank that are sorted by id are nodes of the map sorted by id, and so with lines
 pub sorted_nodes : (old new : List NodeByRank) → Sorts node_key old new
     → Sorts (λ (node : Node). node.id) (nodes_of old) (nodes_of new)
-sorted_nodes old new sorts = record {
-  same = IsPermutation-map node_of old new sorts.same;
-  rise = rw (ids_of_rows _) sorts.rise;
-}
+sorted_nodes old new sorts = grind (arith, IsPermutation-map, ids_of_rows)
 
 pub sorted_lines : (points : List Degrees) (old new : List Entry) → Sorts entry_id old new
     → Sorts (λ (line : RoadLine). line.id) (lines_in points old) (lines_in points new)
-sorted_lines points old new sorts = record {
-  same = IsPermutation-map (line_in points) old new sorts.same;
-  rise = rw (ids_of_entries _ _) sorts.rise;
-}
+sorted_lines points old new sorts = grind (arith, IsPermutation-map, ids_of_entries)
 
 -- ---- what the tables of a map rest on
 
@@ -51,8 +45,7 @@ nodes_known : (node_at : Entry → ℕ) (nodes : ℕ) (points : List Degrees)
     → (entries : List Entry) → All (IsSoundLine nodes) (lines_in points entries) → (i : ℕ)
     → i < length (map node_at entries) → get_or (map node_at entries) i 0 < nodes
 nodes_known node_at nodes points known [] sound i inside = absurd (omega arith)
-nodes_known node_at nodes points known (entry ∷ entries) sound zero inside =
-    known _ (All-head (IsSoundLine nodes) (line_in points entry) _ sound)
+nodes_known node_at nodes points known (entry ∷ entries) sound zero inside = grind (arith, All-head)
 nodes_known node_at nodes points known (entry ∷ entries) sound (suc i) inside =
     nodes_known _ _ _ known entries (All-tail (IsSoundLine nodes) (line_in points entry) _ sound) i
     (omega arith)

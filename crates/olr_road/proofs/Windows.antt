@@ -1,5 +1,5 @@
 -- The lines of a window, by their bounding boxes, and those of a band.
-use Rattle.olr_road.proofs.Common.{Degrees, Coordinates, coordinates_of, IsInRange, BoundingBox, Entry, RoadLine, RoadMap, IsSoundMap, IsSoundLine, line_in, lines_in, HasBoundingBox, ◌≡◌, ℕ, zero, suc, ◌+◌, ◌<◌, ℤ, pos, ◌≤ℤ◌, true, false, List, [], ◌∷◌, ◌++◌, map, length, take, get_or, Some, None, Option, refl, sym, ap, ◌∙◌, arith, int_lt, neg_ℤ, slice_get, slice_range, All, Contains, IsSomeAnd, AllZip, ints, take_more, map-append, All-weaker, All-contains, bounding_boxes_of, AreInOrder, placed_from, slice_get-map, slice_get_within, get_or_from_slice_get}
+use Rattle.olr_road.proofs.Common.{Degrees, Coordinates, coordinates_of, IsInRange, BoundingBox, Entry, RoadLine, RoadMap, IsSoundMap, IsSoundLine, line_in, lines_in, HasBoundingBox, ◌≡◌, ℕ, zero, suc, ◌+◌, ◌<◌, ℤ, pos, ◌≤ℤ◌, true, false, List, [], ◌∷◌, ◌++◌, map, length, take, get_or, Some, None, Option, refl, ap, arith, int_lt, neg_ℤ, slice_get, slice_range, All, Contains, IsSomeAnd, AllZip, ints, take_more, map-append, All-weaker, All-contains, bounding_boxes_of, AreInOrder, slice_get-map, slice_get_within, get_or_from_slice_get}
 use Rattle.olr_index.specs.Window.{IsSpan, Meets, MeetsAt, IsWindow}
 use Rattle.olr_index.specs.declared.window.PlacedLine.{PlacedLine}
 use Rattle.olr_index.proofs.ByRank.{placed_from-push, with_bounding_box}
@@ -15,13 +15,11 @@ some_and P (Some x) has = (x, refl, has)
 
 -- the other element at a place
 zip_left : {A B : Type 0} (R : A → B → Type 0) (xs : List A) (ys : List B) (at : ℕ) (y : B)
-    → AllZip R xs ys → slice_get ys at ≡ Some y
-    → (x : A) × (slice_get xs at ≡ Some x) × R x y
+    → AllZip R xs ys → slice_get ys at ≡ Some y → (x : A) × (slice_get xs at ≡ Some x) × R x y
 zip_left R xs ys at y all is = some_and _ _ (rw is at (AllZip-right R xs ys all at))
 
 zip_right : {A B : Type 0} (R : A → B → Type 0) (xs : List A) (ys : List B) (at : ℕ) (x : A)
-    → AllZip R xs ys → slice_get xs at ≡ Some x
-    → (y : B) × (slice_get ys at ≡ Some y) × R x y
+    → AllZip R xs ys → slice_get xs at ≡ Some x → (y : B) × (slice_get ys at ≡ Some y) × R x y
 zip_right R xs ys at x all is = some_and _ _ (rw is at (AllZip-left R xs ys all at))
 
 -- ---- points and one of their coordinates
@@ -30,8 +28,7 @@ point_at : (of : Coordinates → ℤ) (points : List Degrees) (number : ℤ)
     → Contains (map (λ (p : Degrees). of (coordinates_of p)) points) number
     → (place : Coordinates) × Contains (map coordinates_of points) place × (of place ≡ number)
 point_at of [] number has = absurd (omega arith)
-point_at of (point ∷ points) number (zero, inside, e) =
-    (coordinates_of point, (0, omega arith, refl), e)
+point_at of (point ∷ points) number (zero, inside, e) = grind arith
 point_at of (point ∷ points) number (suc k, inside, e) =
     let deeper = point_at of points number (k, omega arith, e) in
     (deeper.0, (suc deeper.1.0, omega arith, deeper.1.2), deeper.2)
@@ -59,9 +56,8 @@ up a b c first second = omega (arith, ints)
 -- ---- bounding boxes that meet a window
 
 meets_window : (points : List Degrees) (entry : Entry) {bounding_box window : BoundingBox}
-    → window.south ≤ℤ window.north → window.west ≤ℤ window.east → HasBoundingBox points entry bounding_box
-    → Meets window bounding_box
-    → MeetsWindow window (line_in points entry)
+    → window.south ≤ℤ window.north → window.west ≤ℤ window.east → HasBoundingBox points entry
+    bounding_box → Meets window bounding_box → MeetsWindow window (line_in points entry)
 meets_window points entry lats lons is meets =
     let part = slice_range points entry.start entry.end in
     let south = point_at (λ (c : Coordinates). c.lat) _ _ is.lats.least_is in
@@ -119,12 +115,11 @@ rank_meets points entries bounding_boxes window rank lats lons placed meets =
     let there = zip_left _ _ _ _ _ placed found.1 in (
       line_in points there.0,
       line_at _ entries rank _ there.1,
-      meets_window points there.0 lats lons
-          there.2 found.2,
+      meets_window points there.0 lats lons there.2 found.2,
     )
 
-bounding_box_at : (points : List Degrees) (entries : List Entry) (bounding_boxes : List BoundingBox) (window : BoundingBox)
-    (rank : ℕ) → AllZip (HasBoundingBox points) entries bounding_boxes
+bounding_box_at : (points : List Degrees) (entries : List Entry) (bounding_boxes : List BoundingBox)
+    (window : BoundingBox) (rank : ℕ) → AllZip (HasBoundingBox points) entries bounding_boxes
     → RankMeetsWindow (lines_in points entries) window rank → MeetsAt bounding_boxes window rank
 bounding_box_at points entries bounding_boxes window rank placed meets =
     let found = entry_at _ _ rank _ meets.1 in
@@ -132,12 +127,14 @@ bounding_box_at points entries bounding_boxes window rank placed meets =
     rw there.1 (bounding_box_meets points found.0 there.2 (rw found.2 meets.2))
 
 pub window_of : (points : List Degrees) (entries : List Entry) (bounding_boxes : List BoundingBox)
-    (window : BoundingBox) (ranks : List ℕ) → window.south ≤ℤ window.north → window.west ≤ℤ window.east
+    (window : BoundingBox) (ranks : List ℕ) → window.south ≤ℤ window.north → window.west ≤ℤ
+    window.east
     → AllZip (HasBoundingBox points) entries bounding_boxes → IsWindow bounding_boxes window ranks
     → IsWindowOf (lines_in points entries) window ranks
 window_of points entries bounding_boxes window ranks lats lons placed is = record {
   once = is.once;
-  only = All-weaker (MeetsAt bounding_boxes window) (RankMeetsWindow (lines_in points entries) window)
+  only = All-weaker (MeetsAt bounding_boxes window)
+      (RankMeetsWindow (lines_in points entries) window)
       (λ rank meets. rank_meets _ _ _ _ _ lats lons placed meets) _ is.only;
   each = λ rank meets. is.each rank (bounding_box_at _ _ _ _ _ placed meets);
 }
@@ -151,8 +148,8 @@ nothing_meets none = record {
   each = λ rank meets. absurd (none meets.0 meets.2);
 }
 
-pub no_latitude : {lines : List RoadLine} {window : BoundingBox} → (window.south ≤ℤ window.north → ⊥)
-    → IsWindowOf lines window []
+pub no_latitude : {lines : List RoadLine} {window : BoundingBox}
+    → (window.south ≤ℤ window.north → ⊥) → IsWindowOf lines window []
 no_latitude empty = nothing_meets (λ line meets. empty meets.lats.band)
 
 pub no_longitude : {lines : List RoadLine} {window : BoundingBox} → (window.west ≤ℤ window.east → ⊥)
@@ -168,25 +165,21 @@ out_of_order e le = omega (arith, ints)
 -- ---- one line more, with its bounding box
 
 pub in_order_more : (lines more : List PlacedLine) (rank : ℕ) (bounding_box : BoundingBox)
-    → more ≡ lines ++ with_bounding_box rank bounding_box ∷ [] → rank ≡ length (bounding_boxes_of lines)
-    → AreInOrder lines → AreInOrder more
+    → more ≡ lines ++ with_bounding_box rank bounding_box ∷ [] → rank ≡ length
+    (bounding_boxes_of lines) → AreInOrder lines → AreInOrder more
 in_order_more lines more rank bounding_box is place before =
-    let bounding_boxes : bounding_boxes_of more ≡ bounding_boxes_of lines ++ bounding_box ∷ [] =
-    cc (map-append (λ (line : PlacedLine). line.bounding_box) lines (with_bounding_box rank bounding_box ∷ [])) in
-    let at : 0 + length (bounding_boxes_of lines) ≡ rank = omega arith in
-    is ∙ ap (λ (l : List PlacedLine). l ++ with_bounding_box rank bounding_box ∷ []) before
-    ∙ ap (λ (r : ℕ). placed_from 0 (bounding_boxes_of lines) ++ with_bounding_box r bounding_box ∷ []) (sym at)
-    ∙ sym (placed_from-push 0 _ _)
-    ∙ ap (placed_from 0) (cc)
+    grind (arith, map-append, with_bounding_box, placed_from-push)
 
 pub bounding_boxes_more : (points : List Degrees) (entries : List Entry) (i : ℕ) (d : Entry)
     (lines more : List PlacedLine) (rank : ℕ) (bounding_box : BoundingBox) → i < length entries
-    → more ≡ lines ++ with_bounding_box rank bounding_box ∷ [] → HasBoundingBox points (get_or entries i d) bounding_box
+    → more ≡ lines ++ with_bounding_box rank bounding_box ∷ [] → HasBoundingBox points
+    (get_or entries i d) bounding_box
     → AllZip (HasBoundingBox points) (take i entries) (bounding_boxes_of lines)
     → AllZip (HasBoundingBox points) (take (i + 1) entries) (bounding_boxes_of more)
 bounding_boxes_more points entries i d lines more rank bounding_box inside is has before =
     let bounding_boxes : bounding_boxes_of more ≡ bounding_boxes_of lines ++ bounding_box ∷ [] =
-    cc (map-append (λ (line : PlacedLine). line.bounding_box) lines (with_bounding_box rank bounding_box ∷ [])) in
+    cc (map-append (λ (line : PlacedLine). line.bounding_box) lines
+    (with_bounding_box rank bounding_box ∷ [])) in
     rw bounding_boxes (rw (take_more _ i d inside) (zip_push _ _ _ _ _ before has))
 
 -- ---- bands, which are windows of all longitudes
@@ -197,14 +190,12 @@ wide low high = record {
   south = low;
   north = high;
   west = neg_ℤ (pos 180000000);
-  east =
-      pos 180000000;
+  east = pos 180000000;
 }
 
 sound_line : (nodes : ℕ) (lines : List RoadLine) (rank : ℕ) (line : RoadLine)
     → All (IsSoundLine nodes) lines → slice_get lines rank ≡ Some line → IsSoundLine nodes line
-sound_line nodes lines rank line all at =
-    rw (← (get_or_from_slice_get lines rank _ line at))
+sound_line nodes lines rank line all at = rw (← (get_or_from_slice_get lines rank _ line at))
     (all rank line (slice_get_within lines rank line at))
 
 -- a line that meets a band meets its window: any of its points will do

@@ -79,11 +79,11 @@ impl LineSet {
         self.entries[place as usize].line
     }
 
-    /// Adds a line with these points, of which there are 1 to 66.
+    /// Adds a line with these points, of which there are 1 to 66, behind fewer than 200,000 others.
     ///
     /// # Errors
     ///
-    /// [`NoMemory`] where the allocator refused memory.
+    /// [`NoMemory`] where the allocator refused memory. The lines are as before then.
     #[tactic(auto, using(crate::proofs::Gathered::pushed))]
     pub fn push(&mut self, line: Line, points: &[Degrees]) -> Result<(), NoMemory>
         requires room { length self.old < 200000 }
@@ -136,7 +136,7 @@ impl LineSet {
         Ok(repeat)
     }
 
-    /// The place of the line of an id among lines by rising id.
+    /// The place of the line of an id among lines by rising id; none where no line has this id.
     pub fn find(&self, id: u64) -> Option<u32>
         requires { IsStrictlyIncreasing (line_ids self.now) }
         ensures { MatchOption result

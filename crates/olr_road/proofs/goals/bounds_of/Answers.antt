@@ -24,17 +24,15 @@ loop-rank-preserved c =
     let low = c.lesser-low.result in
     let high = c.greater-high.result in
     let start = c.position_of-start.result in
-    let lines = c.args.lines.now in
-    let Old = StartsBetween c.args.entries.now c.args.positions.now c.loop-rank.low
-    c.loop-rank.high in
     let New = StartsBetween c.args.entries.now c.args.positions.now low high in
     let lesser = c.lesser-low.ensures in
     let greater = c.greater-high.ensures in
     All-more New _ _ 0 c.loop-rank-test.true
-    (All-weaker Old New (λ rank is entry at. wider _ _ _ low high lesser.north lesser.east
+    (All-weaker (StartsBetween c.args.entries.now c.args.positions.now c.loop-rank.low
+    c.loop-rank.high) New (λ rank is entry at. wider _ _ _ low high lesser.north lesser.east
     greater.north greater.east _ (is entry at)) _ c.loop-rank.invariant)
-    (starts_between c.args.entries.now _ low high start (get_or lines c.loop-rank.rank-index 0) _
-    c.position_of-start.ensures
+    (starts_between c.args.entries.now _ low high start
+    (get_or c.args.lines.now c.loop-rank.rank-index 0) _ c.position_of-start.ensures
     (here c.loop-rank.low c.loop-rank.high start low high lesser.north lesser.east greater.north
     greater.east))
 

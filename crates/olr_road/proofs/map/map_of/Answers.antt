@@ -11,8 +11,7 @@ known : (nodes_in : List Entry → List ℕ) (nodes count : ℕ) (entries read :
     → read ≡ entries → nodes ≡ count
     → ((i : ℕ) → i < length (nodes_in entries) → get_or (nodes_in entries) i 0 < nodes) → (i : ℕ)
     → i < length (nodes_in read) → get_or (nodes_in read) i 0 < count
-known nodes_in nodes count entries read same size is =
-    rw same (rw (← size) is)
+known nodes_in nodes count entries read same size is = rw same (rw (← size) is)
 
 sound_lines : (nodes : List NodeByRank) (entries : List Entry) (points : List Degrees)
     (bans : List Ban) → IsSoundMap (road_of nodes entries points bans)
@@ -26,14 +25,13 @@ by_start_of-requires-clause-known c =
 
 grouped : (nodes_in : List Entry → List ℕ) {nodes : ℕ} {entries read : List Entry} {count : ℕ}
     {groups : List (List ℕ)} → read ≡ entries → count ≡ nodes
-    → IsGrouping (nodes_in read) count groups
-    → IsGrouping (nodes_in entries) nodes groups
-grouped nodes_in same size is =
-    rw (← size) (rw (← same) is)
+    → IsGrouping (nodes_in read) count groups → IsGrouping (nodes_in entries) nodes groups
+grouped nodes_in same size is = rw (← size) (rw (← same) is)
 
-placed : (points read : List Degrees) (entries taken : List Entry) (bounding_boxes kept : List BoundingBox)
-    → read ≡ points → taken ≡ entries → kept ≡ bounding_boxes → AllZip (HasBoundingBox read) taken bounding_boxes
-    → AllZip (HasBoundingBox points) entries kept
+placed : (points read : List Degrees) (entries taken : List Entry)
+    (bounding_boxes kept : List BoundingBox)
+    → read ≡ points → taken ≡ entries → kept ≡ bounding_boxes → AllZip (HasBoundingBox read) taken
+    bounding_boxes → AllZip (HasBoundingBox points) entries kept
 placed points read entries taken bounding_boxes kept same each is all =
     rw is (rw (← each) (rw (← same) all))
 
@@ -42,16 +40,14 @@ placed_lines-requires-clause-within c =
     rw c.deref-2.ensures.value (rw c.deref-3.ensures.value c.requires.within)
 
 pub steps_of-requires : goal.steps_of-requires
-steps_of-requires c =
-    let same = c.deref.ensures.value ∙ sym c.deref-4.ensures.value in
-    rw c.lines.ensures (lines_known _ _ _
-    (grouped starts_of same refl c.in_ok-by_start.ensures))
+steps_of-requires c = rw c.lines.ensures (lines_known _ _ _
+    (grouped starts_of (c.deref.ensures.value ∙ sym c.deref-4.ensures.value) refl
+    c.in_ok-by_start.ensures))
 
 pub by_end_of-requires-clause-known : goal.by_end_of-requires-clause-known
 by_end_of-requires-clause-known c =
     known ends_of _ _ c.args.entries.items c.deref-5.result.now c.deref-5.ensures.value
-    (search rules)
-    (ends_known _ c.args.points.items _ (sound_lines _ _ _ _ c.requires.map))
+    (search rules) (ends_known _ c.args.points.items _ (sound_lines _ _ _ _ c.requires.map))
 
 pub invariant_of-result : goal.invariant_of-result
 invariant_of-result c =

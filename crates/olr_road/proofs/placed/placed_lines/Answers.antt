@@ -12,8 +12,8 @@ loop-entry-preserved c =
     record {
       rank = cc;
       in_order = in_order_more _ _ _ _ c.in_ok-push.ensures.items place inv.in_order;
-      bounding_boxes = bounding_boxes_more _ _ _ _ _ _ _ _ c.loop-entry-test.true c.in_ok-push.ensures.items
-          c.bounding_box_of-bounding_box.ensures inv.bounding_boxes;
+      bounding_boxes = bounding_boxes_more _ _ _ _ _ _ _ _ c.loop-entry-test.true
+          c.in_ok-push.ensures.items c.bounding_box_of-bounding_box.ensures inv.bounding_boxes;
     }
 
 pub returns-clause-bounding_boxes : goal.returns-clause-bounding_boxes

@@ -6,5 +6,6 @@ abbrev pub invariant-loop-entry : goal.invariant-loop-entry
 invariant-loop-entry l = record {
   rank : l.rank ≡ l.entry-index;
   in_order : AreInOrder l.lines.items;
-  bounding_boxes : AllZip (HasBoundingBox l.points) (take l.entry-index l.entries) (bounding_boxes_of l.lines.items);
+  bounding_boxes : AllZip (HasBoundingBox l.points) (take l.entry-index l.entries)
+      (bounding_boxes_of l.lines.items);
 }

@@ -4,9 +4,8 @@ use Rattle.olr_road.proofs.goals.Goals.new.Goals as goal
 
 pub returns-clause-goals : goal.returns-clause-goals
 returns-clause-goals c nodes points bans =
-    let deficits = c.args.axes.now.deficits in
     let are = subst (λ (positions : List Position). AreDeficits c.args.entries.now positions
-    deficits) (sym c.deref-positions.ensures.value) c.requires.deficits in
+    c.args.axes.now.deficits) (sym c.deref-positions.ensures.value) c.requires.deficits in
     let north = c.new-north.ensures in
     let east = c.new-east.ensures in
     goals_on nodes _ _ bans _ _ _ _ _ _ _

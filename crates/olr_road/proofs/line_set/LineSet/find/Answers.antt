@@ -7,6 +7,5 @@ rank_of_key-requires-clause-rise c =
     (rw c.self.view_is c.requires))
 
 pub returns : goal.returns
-returns c =
-    rw (← c.self.view_is) (rw (ids_of_entries c.self.inside.points.items _)
+returns c = rw (← c.self.view_is) (rw (ids_of_entries c.self.inside.points.items _)
     (rw c.deref.ensures.value at c.rank_of_key.ensures))

@@ -23,5 +23,4 @@ pub returns-clause-sorted : goal.returns-clause-sorted
 returns-clause-sorted c =
     let points = c.self.inside.points.items in
     rw (← c.self.view_is) (option_cases _ _ c.in_ok-repeat.repeat c.in_ok-repeat.ensures.sorted
-    (sorted_lines points _ _)
-    (λ place first. rw (ids_of_entries points _) first))
+    (sorted_lines points _ _) (λ place first. rw (ids_of_entries points _) first))

@@ -6,9 +6,7 @@ pub returns : goal.returns
 returns c =
     let bans = c.self.inside.bans in
     let ban = ban_of c.args.from c.args.to in
-    let sound = c.self.invariant.sound in
     let found = subst (λ (key : ℕ). MatchOption c.find.result (Contains (ban_keys bans) key → ⊥)
     (λ rank. slice_get (ban_keys bans) rank ≡ Some key)) c.key.ensures c.find.ensures in
-    let there = is_there _ _ _ _ sound.bans (omega arith)
-    (omega arith) found in
-    rw (← c.self.view_is) (answered _ _ c.is_some.ensures there)
+    rw (← c.self.view_is) (answered _ _ c.is_some.ensures
+    (is_there _ _ _ _ c.self.invariant.sound.bans (omega arith) (omega arith) found))

@@ -6,8 +6,7 @@ pub returns-in_ok-push_ban : goal.returns-in_ok-push_ban
 returns-in_ok-push_ban c =
     let road = c.args.self.now in
     let place = c.args.number - 1 in
-    let old = string_bytes c.args.text.now in
     row_added (ban_fields road.lines) (codes "bans") road.bans c.args.number
-    (get_or road.bans place (ban_of 0 0)) old (λ none. omega arith)
+    (get_or road.bans place (ban_of 0 0)) (string_bytes c.args.text.now) (λ none. omega arith)
     (slice_get-get_or road.bans place (ban_of 0 0) (omega arith))
     (cc (c.in_ok-push_ban.ensures, c.bans-bans.ensures.bans))

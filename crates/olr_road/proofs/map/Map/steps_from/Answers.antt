@@ -10,12 +10,10 @@ as_many steps lines same = cc (length-map steps (λ (s : Step). s.line))
 -- the lines of a part of the steps
 line_ranks_of_part : (steps : List Step) (lines : List ℕ) (begin end : ℕ) → line_ranks steps ≡ lines
     → line_ranks (slice_range steps begin end) ≡ slice_range lines begin end
-line_ranks_of_part steps lines begin end same =
-    cc (
-      take-map (λ (s : Step). s.line) (end - begin) (drop begin steps),
-      drop-map
-          (λ (s : Step). s.line) begin steps,
-    )
+line_ranks_of_part steps lines begin end same = cc (
+  take-map (λ (s : Step). s.line) (end - begin) (drop begin steps),
+  drop-map (λ (s : Step). s.line) begin steps,
+)
 
 pub offset_bounds-deref-begin : goal.offset_bounds-deref-begin
 offset_bounds-deref-begin c =
@@ -25,9 +23,7 @@ offset_bounds-deref-begin c =
     search rules
 
 pub returns-clause-lines : goal.returns-clause-lines
-returns-clause-lines c =
-    let lines = line_ranks_of_part c.deref.result.now (concat c.self.inside.by_start)
-    c.bounds-begin.result.0 c.bounds-begin.result.1 (cc) in
-    rw lines (rw (← c.self.view_is)
+returns-clause-lines c = rw (line_ranks_of_part c.deref.result.now (concat c.self.inside.by_start)
+    c.bounds-begin.result.0 c.bounds-begin.result.1 (cc)) (rw (← c.self.view_is)
     (rw (← (starts_of_entries _ _))
     (c.self.invariant.started.each c.args.node _ c.bounds-begin.ensures.lines)))
