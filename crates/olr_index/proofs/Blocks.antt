@@ -40,9 +40,7 @@ pub entered : (window : BoundingBox) (at_hand lines : List PlacedLine) {first re
     {value : List ℕ} → first ≡ take m lines → rest ≡ drop m lines → ranks_in window at_hand ≡ []
     → ranks_in window at_hand ++ ranks_in window lines ≡ value
     → ranks_in window first ++ ranks_in window rest ≡ value
-entered window at_hand lines m first_is rest_is none left =
-    rw (first_is, rest_is) (ranks_split _ m _)
-    ∙ sym (ap (λ (ranks : List ℕ). ranks ++ ranks_in window lines) none) ∙ left
+entered window at_hand lines m first_is rest_is none left = grind (arith, ranks_split)
 
 -- a block that doesn't
 pub passed : (window : BoundingBox) (at_hand : List PlacedLine) {lines : List PlacedLine}
@@ -62,11 +60,7 @@ pub over : (window : BoundingBox) (at_hand lines : List PlacedLine) (blocks : Li
     {value : List ℕ} → AreBlocks 64 lines blocks → length blocks ≡ 0 → ranks_in window at_hand ≡ []
     → ranks_in window at_hand ++ ranks_in window lines ≡ value → (value ≡ [])
     × (ranks_in window at_hand ++ ranks_in window lines ≡ [])
-over window at_hand lines blocks are none first left =
-    let size : length lines ≡ 0 = omega arith in
-    let all : ranks_in window at_hand ++ ranks_in window lines ≡ [] =
-    rw first (cc (nil_from_length _ size, ranks_in-nil _)) in
-    (sym left ∙ all, all)
+over window at_hand lines blocks are none first left = grind (arith, nil_from_length, ranks_in-nil)
 
 -- ---- groups of blocks
 
@@ -81,8 +75,7 @@ none_at size window lines blocks j d e some are inside fails =
     let below : j / size < length blocks =
     (div-lt_iff_lt-mul some).1 (omega (arith, mul_comm size (length blocks))) in
     let covers = are.cover (j / size) (j % size) d e below (mod-lt j some) (omega arith) in
-    none_within _ (get_or lines j d).bounding_box
-    (rw place at covers) fails
+    none_within _ _ (rw place at covers) fails
 
 ranks_none : (window : BoundingBox) (lines : List PlacedLine)
     → All (λ line. meets window line.bounding_box ≡ false) lines → ranks_in window lines ≡ []
@@ -129,8 +122,7 @@ module _ (size : ℕ) (window : BoundingBox) (lines : List PlacedLine) (blocks :
       ] in
       let k = j / size - end in
       let place : end + k ≡ j / size = omega arith in
-      rw (get_or-drop (size * end) lines i d)
-      (none_at _ _ _ _ j d _ some are long
+      rw (get_or-drop (size * end) lines i d) (none_at _ _ _ _ j d _ some are long
       (rw (get_or-drop end blocks k no_bounding_box, place) at
       (none k no_bounding_box (omega (arith, length-drop end blocks)))))
 
@@ -140,12 +132,10 @@ module _ (size : ℕ) (window : BoundingBox) (lines : List PlacedLine) (blocks :
   ranks_between before behind =
       let kept = take (size * end) lines in
       sym (ap (λ (ranks : List ℕ). ranks ++ ranks_in window (drop (size * first) kept))
-      (ranks_none _ _ (none_before before)))
-      ∙ ranks_split _ _ _
+      (ranks_none _ _ (none_before before))) ∙ ranks_split _ _ _
       ∙ sym (append-nil (ranks_in window kept))
       ∙ sym (ap (λ (ranks : List ℕ). ranks_in window kept ++ ranks)
-      (ranks_none _ _ (none_behind behind)))
-      ∙ ranks_split _ _ _
+      (ranks_none _ _ (none_behind behind))) ∙ ranks_split _ _ _
 
 -- their blocks
 pub blocks_between : (first end : ℕ) (lines : List PlacedLine) (blocks : List BoundingBox)
@@ -171,8 +161,7 @@ blocks_between first end lines blocks are =
             get_or-drop (64 * first) kept_blocks b e,
             get_or-take (64 * end) blocks (64 * first + b) e there_block,
             place,
-          )
-          (are.cover (64 * first + b) i d e (omega arith) i_in (omega arith));
+          ) (are.cover (64 * first + b) i d e (omega arith) i_in (omega arith));
     }
 
 -- the start: no line is at hand, and those between are left

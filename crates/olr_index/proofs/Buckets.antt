@@ -1,68 +1,43 @@
 -- Ids in buckets.
-use Rattle.olr_index.proofs.Common.{◌≡◌, ℕ, ◌+◌, ◌-◌, ◌/◌, ◌^◌, ◌<◌, ◌≤◌, List, map, length, drop, get_or, Result, Ok, Err, MatchResult, sym, ap, ◌∙◌, arith, slice_index, slice_range, slice_get, Contains, Some, nat_cmp, IsBinarySearchResult, IsSearchInRange, IsStrictlyIncreasing, div-mul-le_self, IsHead, AreHeads, IsIndex, length-take, length-drop, get_or-take, get_or-drop, get_or_default, get_or_from_slice_get, slice_get-get_or, slice_get_within}
+use Rattle.olr_index.proofs.Common.{◌≡◌, ℕ, ◌+◌, ◌-◌, ◌/◌, ◌^◌, ◌<◌, ◌≤◌, List, map, length, get_or, Result, Ok, Err, MatchResult, sym, ap, ◌∙◌, arith, slice_index, slice_range, slice_get, Contains, Some, nat_cmp, IsBinarySearchResult, IsSearchInRange, IsStrictlyIncreasing, div-mul-le_self, IsHead, AreHeads, IsIndex, length-take, length-drop, get_or-take, get_or-drop, get_or_default, get_or_from_slice_get, slice_get-get_or, slice_get_within}
 use Rattle.std.proofs.lemmas.Nat.{le-div, pow_pos}
 use Rattle.olr_index.proofs.Finding.{found_by_key, part_keys, rises}
 
 -- a greater key is in no earlier bucket
 bucket_rises : (shift a b : ℕ) → a ≤ b → a / 2 ^ shift ≤ b / 2 ^ shift
-bucket_rises shift a b le = le-div _ b _ (pow_pos shift)
-    (omega (arith, div-mul-le_self a (2 ^ shift)))
+bucket_rises shift a b le = grind (arith, le-div, pow_pos, div-mul-le_self)
 
 -- where the keys of a bucket begin
 pub head_here : (shift : ℕ) (keys : List ℕ) (bucket next : ℕ) → IsStrictlyIncreasing keys
     → next ≤ length keys → ((k : ℕ) → k < next → slice_index keys k / 2 ^ shift < bucket)
     → (next < length keys → bucket ≤ slice_index keys next / 2 ^ shift)
     → IsHead shift keys bucket next
-head_here shift keys bucket next up within below here = record {
-  within = within;
-  below = below;
-  above = λ k le inside.
-      let first = here (omega arith) in
-      let more = bucket_rises shift (slice_index keys next) (slice_index keys k)
-      (rises keys up next k le inside) in
-      omega arith;
-}
+head_here shift keys bucket next up within below here = grind (arith, bucket_rises, rises)
 
 -- heads of each bucket up to that of the greatest id, and of one more, make an index
 pub index_of : (keys : List ℕ) (shift last : ℕ) {heads : List ℕ} → IsStrictlyIncreasing keys
     → length keys < 2 ^ 32 → shift < 64 → AreHeads shift keys heads
     → length heads ≡ last / 2 ^ shift + 1 + 1
     → ((k : ℕ) → k < length keys → slice_index keys k ≤ last) → IsIndex keys shift heads
-index_of keys shift last rise few small heads_of count most = record {
-  rise = rise;
-  at_most = few;
-  small = small;
-  heads_of = heads_of;
-  fits = λ k inside. omega (arith, bucket_rises shift (slice_index keys k) last (most k inside));
-}
+index_of keys shift last rise few small heads_of count most = grind (arith, bucket_rises)
 
 -- a bucket begins where the one before it ends, or further on
 pub heads_rise : {shift : ℕ} {keys : List ℕ} {bucket : ℕ} (low high : ℕ)
-    → IsHead shift keys bucket low
-    → IsHead shift keys (bucket + 1) high → low ≤ high
-heads_rise low high at_low at_high =
-    let no : high < low → ⊥ = λ less. let early = at_low.below high less in omega arith in
-    omega arith
+    → IsHead shift keys bucket low → IsHead shift keys (bucket + 1) high → low ≤ high
+heads_rise low high at_low at_high = grind arith
 
 -- a part of a list
 pub part_at : {X : Type 0} (xs : List X) (low high k : ℕ) (d : X) → k < high - low
     → get_or (slice_range xs low high) k d ≡ get_or xs (low + k) d
-part_at xs low high k d inside =
-    get_or-take (high - low) (drop low xs) k d inside ∙ get_or-drop low xs k d
+part_at xs low high k d inside = grind (arith, get_or-take, get_or-drop)
 
 pub part_length : {X : Type 0} (xs : List X) (low high : ℕ) → high ≤ length xs
     → length (slice_range xs low high) ≡ high - low
-part_length xs low high within =
-    omega (arith, length-take (high - low) (drop low xs), length-drop low xs)
+part_length xs low high within = grind (arith, length-take, length-drop)
 
 pub part_rises : (keys : List ℕ) (low high : ℕ) → low ≤ high → high ≤ length keys
     → IsStrictlyIncreasing keys → IsStrictlyIncreasing (slice_range keys low high)
-part_rises keys low high le within up k inside =
-    let size = part_length keys low high within in
-    let here = part_at keys low high k 0 (omega arith) in
-    let next = part_at keys low high (k + 1) 0 (omega arith) in
-    let same : low + k + 1 ≡ low + (k + 1) = omega arith in
-    omega (arith, ap (λ (i : ℕ). get_or keys i 0) same)
+part_rises keys low high le within up k inside = grind (arith, part_length, part_at)
 
 found_there : (keys : List ℕ) (low high place id : ℕ) → low ≤ high → high ≤ length keys
     → slice_get (slice_range keys low high) place ≡ Some id → slice_get keys (low + place) ≡ Some id

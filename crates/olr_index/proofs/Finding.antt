@@ -1,30 +1,21 @@
 -- A number among numbers that rise.
-use Rattle.olr_index.proofs.Common.{◌≡◌, ℕ, ◌-◌, ◌<◌, ◌≤◌, List, [], ◌∷◌, map, length, drop, get_or, Result, Ok, Err, MatchResult, Some, inl, inr, ap, ◌∙◌, arith, slice_get, slice_range, Contains, nat_cmp, IsStrictlyIncreasing, IsBinarySearchResult, IsSearchInRange, eq-or-lt_of_le, length-map, get_or-map, get_or_default, take-map, drop-map, cases_lt, slice_get-get_or, AllPairs-from_increasing, searched}
+use Rattle.olr_index.proofs.Common.{◌≡◌, ℕ, ◌-◌, ◌<◌, ◌≤◌, List, [], ◌∷◌, map, length, drop, get_or, Result, Ok, Err, MatchResult, Some, ap, ◌∙◌, arith, slice_get, slice_range, Contains, nat_cmp, IsStrictlyIncreasing, IsBinarySearchResult, IsSearchInRange, eq-or-lt_of_le, length-map, get_or-map, get_or_default, take-map, drop-map, cases_lt, slice_get-get_or, AllPairs-from_increasing, searched}
 
 pub rises : (xs : List ℕ) → IsStrictlyIncreasing xs → (i j : ℕ) → i ≤ j → j < length xs
     → get_or xs i 0 ≤ get_or xs j 0
-rises xs up i j le inside = elim (eq-or-lt_of_le {n = i} {m = j} le) [
-  | inl same ↦ let e = ap (λ (k : ℕ). get_or xs k 0) same in omega arith
-  | inr less ↦ let below = AllPairs-from_increasing _ up i j 0 less inside in omega arith
-]
+rises xs up i j le inside = grind (arith, eq-or-lt_of_le, AllPairs-from_increasing)
 
 -- what a search answers
 search_finds : (xs : List ℕ) (x : ℕ) (r : Result ℕ ℕ) → IsStrictlyIncreasing xs
     → IsBinarySearchResult (λ y. nat_cmp y x) xs r
     → MatchResult r (λ i. (i < length xs) × (get_or xs i 0 ≡ x)) (λ i. (i ≤ length xs)
-    × ((k : ℕ) → k < i → get_or xs k 0 < x)
-    × ((k : ℕ) → i ≤ k → k < length xs → x < get_or xs k 0))
+    × ((k : ℕ) → k < i → get_or xs k 0 < x) × ((k : ℕ) → i ≤ k → k < length xs → x < get_or xs k 0))
 search_finds xs x r up found = searched _ x r found (rises _ up)
 
 -- a number that isn't among them
 not_found : (xs : List ℕ) (x at : ℕ) → ((k : ℕ) → k < at → get_or xs k 0 < x)
     → ((k : ℕ) → at ≤ k → k < length xs → x < get_or xs k 0) → Contains xs x → ⊥
-not_found xs x at below above contains =
-    let same = get_or_default xs contains.0 0 x contains.1 ∙ contains.2 in
-    elim (cases_lt contains.0 at) [
-      | inl before ↦ let less = below contains.0 before in omega arith
-      | inr behind ↦ omega arith
-    ]
+not_found xs x at below above contains = grind (arith, get_or_default, cases_lt)
 
 -- a search by key is one among the keys
 search_keys : {X : Type 0} (f : X → ℕ) (xs : List X) (x : ℕ) (r : Result ℕ ℕ)
@@ -33,8 +24,7 @@ search_keys : {X : Type 0} (f : X → ℕ) (xs : List X) (x : ℕ) (r : Result �
 search_keys f [] x (Ok i) inside found = absurd (omega arith)
 search_keys f (e ∷ es) x (Ok i) inside found =
     λ d. rw (get_or-map f (e ∷ es) i e d inside) (found e)
-search_keys f [] x (Err i) inside found =
-    λ up. (λ k d low below. absurd (omega arith), λ k d low below. absurd (omega arith))
+search_keys f [] x (Err i) inside found = grind arith
 search_keys f (e ∷ es) x (Err i) inside found = λ up.
     let all = e ∷ es in
     let size = length-map all f in

@@ -1,20 +1,16 @@
 -- The items of a first number are those of one bucket.
-use Rattle.olr_index.proofs.Common.{◌≡◌, ℕ, ◌+◌, ◌-◌, ◌<◌, ◌≤◌, List, [], map, length, get_or, ap, ◌∙◌, arith, slice_index, slice_range, IsStrictlyIncreasing, length-map, get_or-map, Contains-get_or, IsHead, AreHeads, IsIndex}
+use Rattle.olr_index.proofs.Common.{◌≡◌, ℕ, ◌+◌, ◌-◌, ◌<◌, ◌≤◌, List, [], map, length, get_or, ap, ◌∙◌, arith, slice_index, slice_range, IsStrictlyIncreasing, length-map, get_or-map, Contains-get_or, IsHead, IsIndex}
 use Rattle.olr_index.specs.Pairs.{first_of, AreOfFirst}
 use Rattle.olr_index.proofs.Buckets.{heads_rise, part_at, part_length, part_rises}
 use Rattle.olr_index.proofs.Finding.{part_keys}
 
 -- where the items of a first number begin and end, as it was read
 pub bucket_at : {keys heads read : List ℕ} {first bucket low high : ℕ} → IsIndex keys 32 heads
-    → read ≡ heads → bucket ≡ first
-    → (bucket + 1 < length read) × (low ≡ slice_index read bucket)
+    → read ≡ heads → bucket ≡ first → (bucket + 1 < length read) × (low ≡ slice_index read bucket)
     × (high ≡ slice_index read (bucket + 1)) → IsHead 32 keys first low
     × IsHead 32 keys (first + 1) high
 bucket_at {keys} {heads} {read} {first} {bucket} index same is (inside, at_low, at_high) =
-    let heads_of : AreHeads 32 keys read = rw same index.heads_of in (
-      rw (← is) (rw at_low (heads_of bucket (omega arith))),
-      rw (← is) (rw at_high (heads_of (bucket + 1) inside)),
-    )
+    grind arith
 
 module _ {T : Type 0} (key_of : T → ℕ) (items : List T) (first : ℕ) where
   first_at : (k : ℕ) (d : T) → k < length items
@@ -24,15 +20,7 @@ module _ {T : Type 0} (key_of : T → ℕ) (items : List T) (first : ℕ) where
   -- no item has a first number that has no bucket
   pub none_behind : (heads : List ℕ) → IsIndex (map key_of items) 32 heads
       → length heads ≤ first + 1 → AreOfFirst key_of items first []
-  none_behind heads index past = record {
-    only = λ k d lt. absurd (omega arith);
-    each = λ item (k, inside, same) is.
-        let size = length-map items key_of in
-        let fits = index.fits k (omega arith) in
-        let here = first_at k _ inside ∙ ap (λ (i : T). first_of (key_of i)) same ∙ is in
-        absurd (omega arith);
-    rising = λ k lt. absurd (omega arith);
-  }
+  none_behind heads index past = grind (arith, length-map, first_at)
 
   module _ {low high : ℕ} (at_low : IsHead 32 (map key_of items) first low)
       (at_high : IsHead 32 (map key_of items) (first + 1) high) where
@@ -62,8 +50,7 @@ module _ {T : Type 0} (key_of : T → ℕ) (items : List T) (first : ℕ) where
           let small : k < high - low = omega (arith, part_length items low high inside_all) in
           rw (part_at items low high k d small) (
             Contains-get_or items (low + k) d (omega (arith, small, inside_all)),
-            first_is k d
-                small,
+            first_is k d small,
           );
       each = λ item (k, inside, same) is.
           let size = length-map items key_of in

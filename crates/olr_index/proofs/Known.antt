@@ -17,8 +17,7 @@ nothing_known empty = record {
 
 -- the id at the place, which the set lacks, comes in
 pub one_more_known : (ids : List ℕ) (place : ℕ) {known : BTreeSet ℕ} (more : BTreeSet ℕ)
-    → IsKnown ids place known
-    → place < length ids
+    → IsKnown ids place known → place < length ids
     → contains nat_cmp known (get_or ids place 0) ≡ false
     → Updates nat_cmp known more (get_or ids place 0) true → IsKnown ids (place + 1) more
 one_more_known ids place more is inside new updates = record {

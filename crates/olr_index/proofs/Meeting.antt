@@ -1,5 +1,5 @@
 -- The lines that meet a window.
-use Rattle.olr_index.proofs.Common.{◌≡◌, ℤ, Bool, true, false, List, [], ◌∷◌, ◌++◌, Some, None, refl, ◌∙◌, arith, int_le, ◌≤ℤ◌, Option, IsSomeAnd, All, filter, ints, and_parts, and_from, map-append, All-head, All-tail, filter-append, Meets, meets_in_latitude, meets_in_longitude, meets, ranks_in, Covers, BoundingBox, PlacedLine}
+use Rattle.olr_index.proofs.Common.{◌≡◌, ℤ, Bool, true, false, List, [], ◌∷◌, ◌++◌, Some, None, refl, ◌∙◌, arith, int_le, ◌≤ℤ◌, Option, IsSomeAnd, All, ints, and_parts, and_from, map-append, All-head, All-tail, filter-append, Meets, meets, ranks_in, Covers, BoundingBox, PlacedLine}
 
 -- ---- the test
 
@@ -10,23 +10,10 @@ if_le : {a b : ℤ} → a ≤ℤ b → int_le a b ≡ true
 if_le h = grind (arith, ints)
 
 pub meets_if : (window bounding_box : BoundingBox) → meets window bounding_box ≡ true → Meets window bounding_box
-meets_if window bounding_box h =
-    let both = and_parts (meets_in_latitude window bounding_box) (meets_in_longitude window bounding_box) h in
-    let lats = and_parts (int_le bounding_box.south window.north) (int_le window.south bounding_box.north)
-    both.0 in
-    let lons = and_parts (int_le bounding_box.west window.east) (int_le window.west bounding_box.east) both.1 in
-    record {
-      not_north = le_if lats.0;
-      not_south = le_if lats.1;
-      not_east = le_if lons.0;
-      not_west = le_if lons.1;
-    }
+meets_if window bounding_box h = grind (arith, and_parts, le_if)
 
 pub if_meets : (window bounding_box : BoundingBox) → Meets window bounding_box → meets window bounding_box ≡ true
-if_meets window bounding_box h =
-    and_from _ _
-    (and_from _ _ (if_le h.not_north) (if_le h.not_south))
-    (and_from _ _ (if_le h.not_east) (if_le h.not_west))
+if_meets window bounding_box h = grind (arith, and_from, if_le)
 
 -- the bounding box of a rank that meets a window
 pub met_bounding_box : (o : Option BoundingBox) (P : BoundingBox → Type 0) → IsSomeAnd o P → (bounding_box : BoundingBox)
@@ -39,20 +26,12 @@ by_test true h = absurd (h refl)
 by_test false h = refl
 
 wider : (window outer inner : BoundingBox) → Covers outer inner → Meets window inner → Meets window outer
-wider window outer inner covers h =
-    record {
-      not_north = omega (arith, ints);
-      not_south = omega (arith, ints);
-      not_east = omega (arith, ints);
-      not_west = omega (arith, ints);
-    }
+wider window outer inner covers h = grind (arith, ints)
 
 -- what lies within a bounding box that doesn't meet a window doesn't meet it
 pub none_within : (window : BoundingBox) {outer : BoundingBox} (inner : BoundingBox) → Covers outer inner
-    → meets window outer ≡ false
-    → meets window inner ≡ false
-none_within window inner covers none =
-    by_test _ (λ h. let yes = if_meets _ _ (wider _ _ _ covers (meets_if _ _ h)) in absurd (cc))
+    → meets window outer ≡ false → meets window inner ≡ false
+none_within window inner covers none = grind (arith, by_test, if_meets, wider, meets_if)
 
 -- ---- the ranks
 
@@ -75,13 +54,7 @@ ranks_in-passed window lines all e h = rw (e, h) refl
 pub ranks_in-append : (window : BoundingBox) (xs ys : List PlacedLine)
     → ranks_in window (xs ++ ys) ≡ ranks_in window xs ++ ranks_in window ys
 unfolding ranks_in
-ranks_in-append window xs ys =
-    let test : PlacedLine → Bool = λ line. meets window line.bounding_box in
-    cc (
-      filter-append test xs ys,
-      map-append (λ (line : PlacedLine). line.rank) (filter test xs)
-          (filter test ys),
-    )
+ranks_in-append window xs ys = grind (arith, filter-append, map-append)
 
 -- a block that doesn't meet the window has no line that does
 pub ranks_in-covered : (window block : BoundingBox) (lines : List PlacedLine)

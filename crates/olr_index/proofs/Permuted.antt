@@ -1,33 +1,29 @@
 -- Numbers that differ, in another order.
-use Rattle.olr_index.proofs.Common.{◌≡◌, ℕ, ◌+◌, ◌<◌, ◌≤◌, Bool, true, false, List, [], ◌∷◌, length, map, get_or, Option, Some, None, MatchOption, ltb, sym, refl, arith, ◌↔◌, IsTrue, IsAllAdjacentAnswer, IsPermutation, IsNonDecreasingBy, IsStrictlyIncreasing, IsSorted, nat_cmp, ltb-true, ltb-false, Decides-eqb, nat_eq_equiv, get_or-map, length-map, IsPermutation-map, IsPermutation-sym, IsNonDecreasingBy-from_sort, AllPairs-from_increasing, AllDiffer, IsFirstRepeat, Sorts}
+use Rattle.olr_index.proofs.Common.{rules, ◌≡◌, ℕ, ◌+◌, ◌<◌, ◌≤◌, Bool, true, false, List, [], ◌∷◌, length, map, get_or, Option, Some, None, MatchOption, ltb, sym, refl, arith, ◌↔◌, IsTrue, IsAllAdjacentAnswer, IsPermutation, IsNonDecreasingBy, IsStrictlyIncreasing, IsSorted, nat_cmp, ltb-true, ltb-false, Decides-eqb, nat_eq_equiv, get_or-map, length-map, IsPermutation-map, IsPermutation-sym, IsNonDecreasingBy-from_sort, AllPairs-from_increasing, AllDiffer, IsFirstRepeat, Sorts}
 use Rattle.std.proofs.lemmas.Map.Keys.{IsDistinct-IsPermutation}
 use Rattle.std.proofs.lemmas.Map.Made.{AllPairs-from_IsDistinct, IsDistinct-from_AllPairs}
 
 -- numbers that differ do so in any order
 pub differ_permuted : {xs ys : List ℕ} → IsPermutation xs ys → AllDiffer xs → AllDiffer ys
-differ_permuted moved differ =
-    AllPairs-from_IsDistinct Decides-eqb _
+differ_permuted moved differ = AllPairs-from_IsDistinct Decides-eqb _
     (IsDistinct-IsPermutation _ nat_eq_equiv.symm _ _ moved
     (IsDistinct-from_AllPairs Decides-eqb _ differ))
 
 -- numbers that rise differ
 pub rising_differ : (xs : List ℕ) → IsStrictlyIncreasing xs → AllDiffer xs
-rising_differ xs rise i j d below inside same =
-    omega (arith, AllPairs-from_increasing _ rise i j d below inside)
+rising_differ xs rise i j d below inside same = grind (arith, AllPairs-from_increasing)
 
 -- numbers that don't fall, and that differ, rise
 pub differing_rise : (xs : List ℕ)
     → ((k : ℕ) → k + 1 < length xs → get_or xs k 0 ≤ get_or xs (k + 1) 0) → AllDiffer xs
     → IsStrictlyIncreasing xs
-differing_rise xs up differ k inside =
-    omega (arith, up k inside, differ k _ 0 (omega arith) inside)
+differing_rise xs up differ k inside = grind arith
 
 -- ---- the keys of elements
 
 pub keys_differ_permuted : {X : Type 0} (f : X → ℕ) (xs ys : List X) → IsPermutation xs ys
     → AllDiffer (map f xs) → AllDiffer (map f ys)
-keys_differ_permuted f xs ys moved differ =
-    differ_permuted (IsPermutation-map f xs ys moved) differ
+keys_differ_permuted f xs ys moved differ = differ_permuted (IsPermutation-map f xs ys moved) differ
 
 keys_up : {X : Type 0} (f : X → ℕ) (xs : List X) → IsNonDecreasingBy f xs → (k : ℕ)
     → k + 1 < length (map f xs) → get_or (map f xs) k 0 ≤ get_or (map f xs) (k + 1) 0
@@ -47,17 +43,15 @@ keys_rise f xs up differ = differing_rise _ (keys_up f _ up) differ
 
 pub sorts_or_first : {X : Type 0} (f : X → ℕ) {xs ys : List X} {ids : List ℕ} (repeat : Option ℕ)
     → IsPermutation xs ys → (AllDiffer (map f xs) → IsStrictlyIncreasing (map f ys))
-    → ids ≡ map f xs
-    → MatchOption repeat (AllDiffer ids) (IsFirstRepeat ids)
+    → ids ≡ map f xs → MatchOption repeat (AllDiffer ids) (IsFirstRepeat ids)
     → MatchOption repeat (Sorts f xs ys) (IsFirstRepeat (map f xs))
-sorts_or_first f None moved rise same differ =
-    record { same = moved; rise = rise (rw (← same) differ) }
+sorts_or_first f None moved rise same differ = grind arith
 sorts_or_first f (Some at) moved rise same first = rw (← same) first
 
 -- elements whose keys rise once they are sorted differ
 pub sorts_differ : {X : Type 0} (f : X → ℕ) (xs ys : List X) → Sorts f xs ys → AllDiffer (map f xs)
-sorts_differ f xs ys sorts = keys_differ_permuted f _ _ (IsPermutation-sym xs ys sorts.same)
-    (rising_differ _ sorts.rise)
+sorts_differ f xs ys sorts =
+    search (rules, arith, keys_differ_permuted, IsPermutation-sym, rising_differ)
 
 -- ---- the answer of a look at each neighbour
 
@@ -67,8 +61,7 @@ pub rising_answer : (xs : List ℕ) (r : Bool)
 rising_answer xs true all = (λ yes k inside. ltb-true _ _ (sym (all k 0 inside)), λ rise. refl)
 rising_answer xs false some = (
   λ no. absurd (cc),
-  λ rise. absurd
-      (omega (arith, rise some.0 some.1, ltb-false _ _ (sym (some.2 0)))),
+  λ rise. absurd (omega (arith, rise some.0 some.1, ltb-false _ _ (sym (some.2 0)))),
 )
 
 -- the same of keys
@@ -83,8 +76,7 @@ keys_rising_answer f (x ∷ xs) true all = (
       omega (
         arith,
         get_or-map f (x ∷ xs) k x 0 (omega (arith, below)),
-        get_or-map f (x ∷ xs)
-            (k + 1) x 0 below,
+        get_or-map f (x ∷ xs) (k + 1) x 0 below,
       ),
   λ rise. refl,
 )
@@ -99,8 +91,7 @@ keys_rising_answer f (x ∷ xs) false some = (
       absurd (omega (
         arith,
         get_or-map f (x ∷ xs) k x 0 (omega (arith, below)),
-        get_or-map f
-            (x ∷ xs) (k + 1) x 0 below,
+        get_or-map f (x ∷ xs) (k + 1) x 0 below,
       )),
 )
 

@@ -1,5 +1,6 @@
 -- The least and the greatest latitude and longitude so far.
-use Rattle.olr_index.proofs.Common.{◌≡◌, ℕ, ◌+◌, ◌<◌, ◌≤◌, ℤ, Bool, true, false, cond, List, length, map, take, get_or, arith, sym, ap, ◌∙◌, w32, to_z, of_z, FitsSigned, ◌≤ℤ◌, ints, clamps, to_z-of_z, take_all, length-map, get_or-map, All-more, All-weaker, Degrees, IsSpan, Covers, BoundingBox, PlacedLine}
+use Rattle.std.proofs.lemmas.Grind.{common_steps}
+use Rattle.olr_index.proofs.Common.{rules, ◌≡◌, ℕ, ◌+◌, ◌<◌, ◌≤◌, ℤ, Bool, true, false, cond, List, length, map, take, get_or, arith, sym, ap, ◌∙◌, w32, to_z, of_z, FitsSigned, ◌≤ℤ◌, ints, clamps, to_z-of_z, take_all, length-map, get_or-map, All-more, All-weaker, Degrees, IsSpan, Covers, BoundingBox, PlacedLine}
 use Rattle.std.specs.Int.{int_min, int_max}
 use Rattle.std.specs.List.{All, Contains}
 
@@ -7,11 +8,9 @@ use Rattle.std.specs.List.{All, Contains}
 
 -- a bound that the code computes
 bound_is : (pick : ℤ → ℤ → ℤ) {bound x y : ℤ} → FitsSigned w32 bound → FitsSigned w32 x
-    → FitsSigned w32 y
-    → bound ≡ pick (to_z w32 (of_z w32 x)) (to_z w32 (of_z w32 y))
+    → FitsSigned w32 y → bound ≡ pick (to_z w32 (of_z w32 x)) (to_z w32 (of_z w32 y))
     → to_z w32 (of_z w32 bound) ≡ pick x y
-bound_is pick {bound} {x} {y} fits first second same =
-    to_z-of_z w32 bound fits ∙ (rw (to_z-of_z w32 x first, to_z-of_z w32 y second) at same)
+bound_is pick {bound} {x} {y} fits first second same = grind (arith, to_z-of_z)
 
 pub least_is : {bound x y : ℤ} → FitsSigned w32 bound → FitsSigned w32 x → FitsSigned w32 y
     → bound ≡ int_min (to_z w32 (of_z w32 x)) (to_z w32 (of_z w32 y))
@@ -27,27 +26,18 @@ greatest_is = bound_is int_max
 
 covers_all : (outer middle inner : BoundingBox) → Covers outer middle → Covers middle inner
     → Covers outer inner
-covers_all outer middle inner first second =
-    record {
-      south = omega (arith, ints);
-      north = omega (arith, ints);
-      west = omega (arith, ints);
-      east = omega (arith, ints);
-    }
+covers_all outer middle inner first second = grind (arith, ints)
 
 -- bounds that the code computes for a bounding box that holds two others
 pub least_covers : {bound x y : ℤ} → FitsSigned w32 bound → FitsSigned w32 x → FitsSigned w32 y
     → bound ≡ int_min (to_z w32 (of_z w32 x)) (to_z w32 (of_z w32 y))
     → (to_z w32 (of_z w32 bound) ≤ℤ x) × (to_z w32 (of_z w32 bound) ≤ℤ y)
-least_covers fits first second same =
-    rw (least_is fits first second same) (omega (arith, ints, clamps), omega (arith, ints, clamps))
+least_covers fits first second same = grind (arith, least_is, ints, clamps)
 
 pub greatest_covers : {bound x y : ℤ} → FitsSigned w32 bound → FitsSigned w32 x → FitsSigned w32 y
     → bound ≡ int_max (to_z w32 (of_z w32 x)) (to_z w32 (of_z w32 y))
     → (x ≤ℤ to_z w32 (of_z w32 bound)) × (y ≤ℤ to_z w32 (of_z w32 bound))
-greatest_covers fits first second same =
-    rw (greatest_is fits first second same)
-    (omega (arith, ints, clamps), omega (arith, ints, clamps))
+greatest_covers fits first second same = grind (arith, greatest_is, ints, clamps)
 
 -- one line more, in a bounding box that holds its bounding box and the one before
 pub cover_more : (old new : BoundingBox) (lines : List PlacedLine) (i : ℕ) (d : PlacedLine)
@@ -55,10 +45,7 @@ pub cover_more : (old new : BoundingBox) (lines : List PlacedLine) (i : ℕ) (d 
     → All (λ l. Covers old l.bounding_box) (take i lines)
     → All (λ l. Covers new l.bounding_box) (take (i + 1) lines)
 cover_more old new lines i d inside wider holds before =
-    All-more (λ (l : PlacedLine). Covers new l.bounding_box) lines i d inside
-    (All-weaker (λ (l : PlacedLine). Covers old l.bounding_box) (λ (l : PlacedLine). Covers new l.bounding_box)
-    (λ l h. covers_all new old l.bounding_box wider h) (take i lines) before)
-    holds
+    search (rules, arith, All-more, All-weaker, covers_all, wider)
 
 -- ---- latitudes
 
@@ -67,22 +54,17 @@ Between least greatest lat = (least ≤ℤ lat) × (lat ≤ℤ greatest)
 
 wider : (least greatest new x : ℤ) → Between least greatest x
     → Between (int_min least new) (int_max greatest new) x
-wider least greatest new x h = let a = h.0 in
-    (omega (arith, ints, clamps), omega (arith, ints, clamps))
+wider least greatest new x h = grind (arith, ints, clamps)
 
 itself : (least greatest new : ℤ) → Between (int_min least new) (int_max greatest new) new
 itself least greatest new = (omega (arith, ints, clamps), omega (arith, ints, clamps))
 
 -- one latitude more
 pub within_more : (least greatest : ℤ) (lats : List ℤ) (i : ℕ) (lat : ℤ) → i < length lats
-    → get_or lats i lat ≡ lat
-    → All (Between least greatest) (take i lats)
+    → get_or lats i lat ≡ lat → All (Between least greatest) (take i lats)
     → All (Between (int_min least lat) (int_max greatest lat)) (take (i + 1) lats)
 within_more least greatest lats i lat inside same before =
-    All-more (Between (int_min least lat) (int_max greatest lat)) lats i lat inside
-    (All-weaker (Between least greatest) (Between (int_min least lat) (int_max greatest lat))
-    (wider least greatest lat) (take i lats) before)
-    (rw same (itself least greatest lat))
+    grind (arith, common_steps, All-more, All-weaker, wider, itself)
 
 contains_one : (lats : List ℤ) (b : Bool) (x y : ℤ) → Contains lats x → Contains lats y
     → Contains lats (cond b x y)

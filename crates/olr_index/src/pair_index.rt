@@ -44,6 +44,7 @@ impl<T: Keyed> PairIndex<T> {
     /// # Errors
     ///
     /// [`NoMemory`] where the allocator refused memory.
+    #[tactic(auto, using(crate::proofs::Buckets::index_of))]
     pub fn new(alloc: Global, items: Vec<T>) -> Result<PairIndex<T>, NoMemory>
         requires rise { IsStrictlyIncreasing (map T.key_of items.items) }
         requires at_most { length items.items < 2 ^ 32 }

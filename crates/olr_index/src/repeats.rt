@@ -27,6 +27,7 @@ fn all_differ(alloc: Global, numbers: &[u64]) -> Result<bool, NoMemory>
 }
 
 /// Adds numbers to a set, up to the first that the set has already, and answers that one's place.
+#[tactic(auto, using(crate::proofs::Known::nothing_known))]
 fn first_known(numbers: &[u64], known: &mut BTreeSet<u64>) -> Result<Option<usize>, NoMemory>
     requires { IsEmpty known.old }
     ensures { IfOk result (λ found. MatchOption found

@@ -164,6 +164,7 @@ pub fn bounding_box_of(points: &[Degrees]) -> BoundingBox
 }
 
 /// A bounding box within which those of all the lines lie.
+#[tactic(auto, using(std::proofs::lemmas::List::take_all))]
 fn cover(lines: &[PlacedLine]) -> BoundingBox
     requires { 0 < length lines.now }
     ensures { All (λ line. Covers result line.bounding_box) lines.now }
@@ -229,6 +230,7 @@ impl ByBoundingBox {
     }
 
     /// The lines whose bounding box meets a window; each once, in an order of its own.
+    #[tactic(auto, using(crate::proofs::Blocks::blocks_between))]
     pub fn window(&self, bounds: &BoundingBox) -> Window<'_>
         ensures { IsWindow self.now bounds.now result }
     {
@@ -244,6 +246,7 @@ impl ByBoundingBox {
 }
 
 /// How many bounding boxes stand before the first one that meets a window: all, where none does.
+#[tactic(auto, using(std::proofs::lemmas::List::take_all))]
 fn first_that_meets(bounding_boxes: &[BoundingBox], window: &BoundingBox) -> usize
     ensures at_most { result ≤ length bounding_boxes.now }
     ensures none { NoneMeets window.now (take result bounding_boxes.now) }
@@ -304,6 +307,7 @@ impl<'a> Iterator for Window<'a> {
 
     ghost remaining = { item_count (λ rest. rest) };
 
+    #[tactic(auto, using(crate::proofs::Blocks::over))]
     fn next(&mut self) -> Option<u32> {
         loop {
             if let Some((rank, rest)) = first_in(self.at_hand, &self.bounds) {

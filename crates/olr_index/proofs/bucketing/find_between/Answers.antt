@@ -14,6 +14,5 @@ pub returns : goal.returns
 returns g c =
     let key_of = g.T.Keyed.key_of in
     found_between key_of c.args.items.now c.args.shift c.args.low c.args.high c.args.key
-    (Ok c.in-Ok.place)
-    c.requires.low c.requires.high c.requires.rise c.in-Ok.ensures.bound
+    (Ok c.in-Ok.place) c.requires.low c.requires.high c.requires.rise c.in-Ok.ensures.bound
     (c.in-Ok.ensures.position key_of (answers_always _ _ _ (λ f a r q h. search rules)))

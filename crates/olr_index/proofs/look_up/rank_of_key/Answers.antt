@@ -12,6 +12,5 @@ returns-in_default g c =
 pub returns : goal.returns
 returns g c =
     let key_of = g.T.Keyed.key_of in
-    found_by_key _ _ c.args.key (Ok c.in-Ok.rank) c.requires.rise
-    c.in-Ok.ensures.bound
+    found_by_key _ _ c.args.key (Ok c.in-Ok.rank) c.requires.rise c.in-Ok.ensures.bound
     (c.in-Ok.ensures.position key_of (answers_always _ _ _ (λ f a r q h. search rules)))

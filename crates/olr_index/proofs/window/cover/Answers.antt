@@ -1,13 +1,6 @@
-use Rattle.olr_index.proofs.Common.{◌≤◌, length, arith, take_all}
 use Rattle.olr_index.proofs.Spans.{cover_more}
 use Rattle.olr_index.proofs.window.cover.Goals as goal
 
 pub loop-line-preserved : goal.loop-line-preserved
-loop-line-preserved c =
-    cover_more _ _ _ _ _ c.loop-line-test.true
+loop-line-preserved c = cover_more _ _ _ _ _ c.loop-line-test.true
     c.joined-bounding_box.ensures.first c.joined-bounding_box.ensures.second c.loop-line.invariant
-
-pub returns : goal.returns
-returns c =
-    let all : length c.args.lines.now ≤ c.loop-line.line-index = omega arith in
-    rw (take_all c.loop-line.line-index c.args.lines.now all) at c.loop-line.invariant

@@ -7,9 +7,7 @@ loop-line-preserved c =
     cc (ranks_in-passed _ _ _ c.in-Some.ensures.cases.0 (sym c.if-meets.ensures))
 
 pub returns-then-meets : goal.returns-then-meets
-returns-then-meets c =
-    cc (ranks_in-met _ _ _ c.in-Some.ensures.cases.0 (sym c.if-meets.ensures))
+returns-then-meets c = cc (ranks_in-met _ _ _ c.in-Some.ensures.cases.0 (sym c.if-meets.ensures))
 
 pub returns : goal.returns
-returns c =
-    cc (c.loop-line.invariant, nil_from_length _ c.in_default.ensures.cases, ranks_in-nil _)
+returns c = cc (c.loop-line.invariant, nil_from_length _ c.in_default.ensures.cases, ranks_in-nil _)

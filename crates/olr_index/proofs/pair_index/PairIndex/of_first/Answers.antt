@@ -3,8 +3,7 @@ use Rattle.olr_index.proofs.Firsts.{bucket_at, none_behind, ordered, are_of_firs
 use Rattle.olr_index.proofs.pair_index.PairIndex.of_first.Goals as goal
 
 pub returns-in_default : goal.returns-in_default
-returns-in_default g c =
-    rw (← c.self.view_is) (none_behind _ _ _ _ c.self.invariant
+returns-in_default g c = rw (← c.self.view_is) (none_behind _ _ _ _ c.self.invariant
     (omega (arith, ap length c.deref.ensures.value)))
 
 pub slice_bounds-result-count : goal.slice_bounds-result-count

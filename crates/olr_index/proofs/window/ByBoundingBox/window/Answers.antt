@@ -1,13 +1,7 @@
 use Rattle.olr_index.proofs.Common.{drop, take, ap, ◌∙◌, arith, NoneMeets, ranks_in}
 use Rattle.olr_index.proofs.ByRank.{is_window}
-use Rattle.olr_index.proofs.Blocks.{blocks_between, ranks_between, started}
+use Rattle.olr_index.proofs.Blocks.{ranks_between, started}
 use Rattle.olr_index.proofs.window.ByBoundingBox.window.Goals as goal
-
-pub invariant_of-result : goal.invariant_of-result
-invariant_of-result c =
-    rw (c.between.ensures, c.between-2.ensures, c.deref-4.ensures.value, c.deref-5.ensures.value)
-    (blocks_between c.first_that_meets-first.result c.end_of_those_that_meet-end.result
-    _ _ c.self.invariant.1)
 
 pub returns : goal.returns
 returns c =

@@ -1,13 +1,6 @@
-use Rattle.olr_index.proofs.Blocks.{blocks_after, entered, passed, over}
+use Rattle.olr_index.proofs.Blocks.{blocks_after, entered, passed}
 use Rattle.olr_index.proofs.window.WindowIterator.next.Goals.{then-meets, else-meets}
 use Rattle.olr_index.proofs.window.WindowIterator.next.Goals as goal
-
-pub returns-in_err-block-clause-steps : goal.returns-in_err-block-clause-steps
-returns-in_err-block-clause-steps c =
-    rw c.from_residual.ensures
-    (over _ _ _ _
-    c.loop-rank.invariant.covered c.in_err-block.ensures.cases c.in_default.ensures
-    c.loop-rank.invariant.left)
 
 pub loop-rank-preserved : goal.loop-rank-preserved
 loop-rank-preserved c =
@@ -16,11 +9,9 @@ loop-rank-preserved c =
     record {
       covered = rw c.split_at.ensures.back (blocks_after _ _ are c.min.ensures);
       left = elim c.if-meets.branch [
-        | then-meets w ↦ rw w.self-is
-            (entered _ _ _ _
+        | then-meets w ↦ rw w.self-is (entered _ _ _ _
             c.split_at.ensures.front c.split_at.ensures.back none c.loop-rank.invariant.left)
-        | else-meets w ↦ rw w.self-is
-            (passed _ _ _ _ _
+        | else-meets w ↦ rw w.self-is (passed _ _ _ _ _
             are c.min.ensures c.split_at.ensures.back (cc) none c.loop-rank.invariant.left)
       ];
     }
