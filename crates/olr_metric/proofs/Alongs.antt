@@ -43,8 +43,7 @@ pub is_at : {spots : List Spot} {s i : ℕ} → i + 1 < length spots → IsAt sp
 is_at {spots} {s} {i} within is polyline =
     let at = read s i within is in (
       polyline.apart i (spot_at spots i) (spot_at spots (i + 1)) at.segment,
-      ends_behind _ s i _ _
-          at,
+      ends_behind _ s i _ _ at,
     )
 
 pub is_along : {spots : List Spot} {s i start : ℕ} {spot : Spot} → i + 1 < length spots

@@ -7,10 +7,4 @@ apart x y small_x small_y = omega (arith, ints)
 
 -- the sum of two squares
 pub squares_below : (x y : ℕ) → x ≤ 2 ^ 34 → y ≤ 2 ^ 34 → x * x + y * y < 2 ^ 70
-squares_below x y small_x small_y =
-    omega (
-      arith,
-      mul-le x x (2 ^ 34) (2 ^ 34) small_x small_x,
-      mul-le y y (2 ^ 34) (2 ^ 34) small_y
-          small_y,
-    )
+squares_below x y small_x small_y = grind (arith, mul-le)

@@ -1,5 +1,5 @@
 -- The arcs of a polyline's spots.
-use Rattle.olr_metric.proofs.Common.{◌≡◌, ℕ, zero, suc, ◌+◌, ◌-◌, ◌<◌, ◌≤◌, arith, add-one, List, [], ◌∷◌, length, get_or, Some, refl, sym, ap, slice_get, same_Some, none-some, slice_get-get_or, Spot, distance, arc, arc_at, IsPolyline}
+use Rattle.olr_metric.proofs.Common.{◌≡◌, ℕ, zero, suc, ◌+◌, ◌-◌, ◌<◌, ◌≤◌, arith, add-one, List, [], ◌∷◌, length, get_or, Some, refl, ap, slice_get, same_Some, none-some, slice_get-get_or, Spot, distance, arc, arc_at, IsPolyline}
 use Rattle.std.proofs.Math.Seq.{take-length}
 use Rattle.olr_metric.proofs.SpotDistances.{distance_positive}
 
@@ -8,21 +8,18 @@ pub arc_segment : (spots : List Spot) (i : ℕ) (a b : Spot) → slice_get spots
     → slice_get spots (suc i) ≡ Some b → arc_at spots (suc i) ≡ arc_at spots i + distance a b
 arc_segment [] i a b start end = absurd (none-some a start)
 arc_segment (x ∷ []) i a b start end = absurd (none-some b end)
-arc_segment (x ∷ y ∷ rest) zero a b start end =
-    rw (sym (same_Some x a start), sym (same_Some y b end)) (omega arith)
+arc_segment (x ∷ y ∷ rest) zero a b start end = grind (arith, same_Some)
 arc_segment (x ∷ y ∷ rest) (suc i) a b start end =
     omega (arith, arc_segment (y ∷ rest) i a b start end)
 
 arc_step : (spots : List Spot) (i : ℕ) (d : Spot) → suc i < length spots
     → arc_at spots (suc i) ≡ arc_at spots i + distance (get_or spots i d) (get_or spots (suc i) d)
-arc_step spots i d within = arc_segment _ i _ _ (slice_get-get_or _ i d (omega arith))
-    (slice_get-get_or _ _ d within)
+arc_step spots i d within = grind (arith, arc_segment, slice_get-get_or)
 
 -- one segment more
 pub arc_more : (spots : List Spot) (i : ℕ) (d : Spot) → i + 1 < length spots
     → arc_at spots (i + 1) ≡ arc_at spots i + distance (get_or spots i d) (get_or spots (i + 1) d)
-arc_more spots i d within =
-    rw add-one (arc_step _ i d (omega arith))
+arc_more spots i d within = rw add-one (arc_step _ i d (omega arith))
 
 -- all segments
 pub arc_all : (spots : List Spot) → 0 < length spots → arc_at spots (length spots - 1) ≡ arc spots
@@ -49,7 +46,6 @@ arc_positive (a ∷ b ∷ rest) is =
     omega (arith, distance_positive a b (is.apart 0 a b (record { start = refl; end = refl })))
 
 pub end_within : (spots : List Spot) (i : ℕ) (a b : Spot) (beyond : ℕ) → slice_get spots i ≡ Some a
-    → slice_get spots (suc i) ≡ Some b → beyond ≤ distance a b
-    → arc_at spots i + beyond ≤ arc spots
+    → slice_get spots (suc i) ≡ Some b → beyond ≤ distance a b → arc_at spots i + beyond ≤ arc spots
 end_within spots i a b beyond start end within =
     omega (arith, arc_segment spots i a b start end, arc_within spots (suc i))

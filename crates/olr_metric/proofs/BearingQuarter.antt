@@ -55,8 +55,7 @@ clockwise_behind zero s inside =
 clockwise_behind (suc k) s inside =
     let here : s + 8 * suc k ≡ (s + 8 * k) + 8 = omega arith in
     let next : suc s + 8 * suc k ≡ (suc s + 8 * k) + 8 = omega arith in
-    rw (here, next, ray_turned _, ray_turned _, cross_turned _ _)
-    (clockwise_behind k s inside)
+    rw (here, next, ray_turned _, ray_turned _, cross_turned _ _) (clockwise_behind k s inside)
 
 clockwise_at : (s k r : ℕ) → r < 8 → s ≡ r + 8 * k → cross (ray s) (ray (s + 1)) <ℤ pos 0
 clockwise_at s k r inside here =
@@ -69,8 +68,7 @@ clockwise s = clockwise_at s (s / 8) (s % 8) (omega arith) (omega arith)
 -- from north to east each ray lies further clockwise of a direction
 rises_of : (x y x' y' a b : ℕ) → x ≤ x' → y' ≤ y
     → cross (ray_to x y) (ray_to a b) ≤ℤ cross (ray_to x' y') (ray_to a b)
-rises_of x y x' y' a b east north =
-    omega (arith, ints, mul-le x b x' b east (omega arith), mul-le y' a y a north (omega arith))
+rises_of x y x' y' a b east north = grind (arith, ints, mul-le)
 
 rises : (s a b : ℕ) → s < 8 → cross (ray s) (ray_to a b) ≤ℤ cross (ray (suc s)) (ray_to a b)
 rises s a b inside =
@@ -145,9 +143,7 @@ no_earlier a b s t inside earlier is_s is_t =
 
 pub one_in_quarter : (a b s t : ℕ) → 0 < b → IsSector (ray_to a b) s → IsSector (ray_to a b) t
     → s ≡ t
-one_in_quarter a b s t up is_s is_t = neither_less
-    (λ less. no_earlier a b s t (in_quarter a b t up is_t) less is_s is_t)
-    (λ more. no_earlier a b t s (in_quarter a b s up is_s) more is_t is_s)
+one_in_quarter a b s t up is_s is_t = grind (arith, neither_less, no_earlier, in_quarter)
 
 pub passes_first : (a b : ℕ) → cross (ray 0) (ray_to a b) ≤ℤ pos 0
 unfolding ray
@@ -170,8 +166,7 @@ in_last a b s up last passed = record {
 before_ray : (a b k : ℕ) → k ≤ 8 → pos 0 <ℤ cross (ray k) (ray_to a b) → (s : ℕ)
     × IsSector (ray_to a b) s
 before_ray a b zero inside ahead = absurd (omega (arith, ints, passes_first a b))
-before_ray a b (suc k) inside ahead = by_lt_z _ _
-    (λ ahead'. before_ray a b k (omega arith) ahead')
+before_ray a b (suc k) inside ahead = by_lt_z _ _ (λ ahead'. before_ray a b k (omega arith) ahead')
     (λ passed. (k, record { in_range = omega arith; begins = passed; ends = rw add-one ahead }))
 
 pub some_in_quarter : (a b : ℕ) → 0 < b → (s : ℕ) × IsSector (ray_to a b) s

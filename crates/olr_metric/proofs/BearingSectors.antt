@@ -49,9 +49,7 @@ IsInOne d = (s t : ℕ) → IsSector d s → IsSector d t → s ≡ t
 turned_on : {d : Direction} (s : ℕ) → IsSector (turned d) s
     → IsSector d ((((s + 8) % 32 + 8) % 32 + 8) % 32)
 turned_on {d} s is =
-    let twice = sector_turned _ s is in
-    let thrice = sector_turned _ _ twice in
-    rw (← turned_round d) (sector_turned _ _ thrice)
+    rw (← turned_round d) (sector_turned _ _ (sector_turned _ _ (sector_turned _ s is)))
 
 one_turned : (k : ℕ) (d : Direction) → IsInOne d → IsInOne (turns k d)
 unfolding IsInOne
@@ -62,8 +60,7 @@ one_turned (suc k) d one = λ s t is_s is_t.
 
 one_of_quarter : (d : Direction) → Quarter d → IsInOne d
 unfolding IsInOne
-one_of_quarter d q = rw (sym q.is) at
-    (one_turned q.turn (ray_to q.a q.b) (λ s t is_s is_t. one_in_quarter q.a _ s t q.up is_s is_t))
+one_of_quarter d q = grind (arith, one_turned, one_in_quarter)
 
 -- the zero direction lies in none
 none_of : (r : Direction) → pos 0 <ℤ cross r zero_direction → ⊥
@@ -87,24 +84,21 @@ turned_by (suc k) e s few first is =
     rw further (sector_turned (turns k e) (8 * k + s) (turned_by k e s (omega arith) first is))
 
 pub from_east : {east north : ℤ} {x y s : ℕ} → pos 0 <ℤ east → north ≤ℤ pos 0 → x ≡ nat_abs east
-    → y ≡ nat_abs north
-    → s < 8 → IsSector (ray_to y x) s → IsSector (towards east north) (8 + s)
+    → y ≡ nat_abs north → s < 8 → IsSector (ray_to y x) s → IsSector (towards east north) (8 + s)
 from_east {east} {north} {x} {y} some none x_is y_is first is =
     let east_is : east ≡ pos x = omega (arith, ints) in
     let north_is : north ≡ neg_ℤ (pos y) = omega (arith, ints) in
     rw (east_is, north_is) (turned_by 1 _ _ (omega arith) first is)
 
 pub from_south : {east north : ℤ} {x y s : ℕ} → east ≤ℤ pos 0 → north <ℤ pos 0 → x ≡ nat_abs east
-    → y ≡ nat_abs north
-    → s < 8 → IsSector (ray_to x y) s → IsSector (towards east north) (16 + s)
+    → y ≡ nat_abs north → s < 8 → IsSector (ray_to x y) s → IsSector (towards east north) (16 + s)
 from_south {east} {north} {x} {y} none some x_is y_is first is =
     let east_is : east ≡ neg_ℤ (pos x) = omega (arith, ints) in
     let north_is : north ≡ neg_ℤ (pos y) = omega (arith, ints) in
     rw (east_is, north_is) (turned_by 2 _ _ (omega arith) first is)
 
 pub from_west : {east north : ℤ} {x y s : ℕ} → east <ℤ pos 0 → pos 0 ≤ℤ north → x ≡ nat_abs east
-    → y ≡ nat_abs north
-    → s < 8 → IsSector (ray_to y x) s → IsSector (towards east north) (24 + s)
+    → y ≡ nat_abs north → s < 8 → IsSector (ray_to y x) s → IsSector (towards east north) (24 + s)
 from_west {east} {north} {x} {y} some none x_is y_is first is =
     let east_is : east ≡ neg_ℤ (pos x) = omega (arith, ints) in
     let north_is : north ≡ neg_ℤ (neg_ℤ (pos y)) = omega (arith, ints) in

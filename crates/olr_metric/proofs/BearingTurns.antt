@@ -1,13 +1,10 @@
 -- Quarter turns of directions, of rays and of sectors.
-use Rattle.olr_metric.proofs.Common.{◌≡◌, ℕ, zero, suc, ◌+◌, ◌*◌, ◌/◌, ◌%◌, ◌<◌, arith, ℤ, pos, negsuc, neg_ℤ, ◌-ℤ◌, ◌*ℤ◌, refl, sym, ap, inl, inr, ◌∙◌, ints, cases_lt, neg_ℤ-neg_ℤ, *ℤ-zero, *ℤ-negsuc, *ℤ_comm, Direction, cross, turned, turns, ray, IsSector}
+use Rattle.olr_metric.proofs.Common.{◌≡◌, ℕ, zero, suc, ◌+◌, ◌*◌, ◌%◌, ◌<◌, arith, ℤ, pos, negsuc, neg_ℤ, ◌-ℤ◌, ◌*ℤ◌, refl, sym, ap, inl, inr, ◌∙◌, ints, cases_lt, neg_ℤ-neg_ℤ, *ℤ-zero, *ℤ-negsuc, *ℤ_comm, Direction, cross, turned, turns, ray, IsSector}
 
 -- a ray is a quarter turn clockwise of the one eight before
 pub ray_turned : (s : ℕ) → ray (s + 8) ≡ turned (ray s)
 unfolding ray
-ray_turned s =
-    let next : (s + 8) / 8 ≡ suc (s / 8) = omega arith in
-    let same : (s + 8) % 8 ≡ s % 8 = omega arith in
-    rw (next, same) refl
+ray_turned s = grind arith
 
 pub ray_turned_by : (k s : ℕ) → ray (s + 8 * k) ≡ turns k (ray s)
 ray_turned_by zero s = let none : s + 8 * 0 ≡ s = omega arith in rw none refl

@@ -1,19 +1,13 @@
 -- What lies between two numbers.
-use Rattle.olr_metric.proofs.Common.{◌≡◌, ℕ, zero, suc, ◌*◌, ◌/◌, ◌^◌, ◌<◌, ◌≤◌, arith, ℤ, pos, negsuc, ◌+ℤ◌, ◌-ℤ◌, ◌*ℤ◌, ◌≤ℤ◌, to_z, of_z, w64, refl, nat_abs, neg_ℤ, ints, by_lt_z, floor, between, IsBetween}
+use Rattle.olr_metric.proofs.Common.{◌≡◌, ℕ, zero, suc, ◌/◌, ◌^◌, ◌<◌, ◌≤◌, arith, ℤ, pos, negsuc, ◌+ℤ◌, ◌-ℤ◌, ◌*ℤ◌, ◌≤ℤ◌, to_z, of_z, w64, refl, nat_abs, neg_ℤ, ints, by_lt_z, floor, between, IsBetween}
 use Rattle.olr_metric.proofs.Floors.{share_near, share_at_most, small_is}
 
 step_up : (a b f : ℤ) (n : ℕ) → b -ℤ a ≡ pos n → nat_abs f ≤ n → pos 0 ≤ℤ f → IsBetween a b (a +ℤ f)
-step_up a b f n up near positive = (
-  λ le. (omega (arith, ints), omega (arith, ints)),
-  λ ge. (omega (arith, ints), omega (arith, ints)),
-)
+step_up a b f n up near positive = grind (arith, ints)
 
 step_down : (a b f : ℤ) (n : ℕ) → b -ℤ a ≡ negsuc n → nat_abs f ≤ suc n → f ≤ℤ pos 0
     → IsBetween a b (a +ℤ f)
-step_down a b f n down near negative = (
-  λ le. absurd (omega (arith, ints)),
-  λ ge. (omega (arith, ints), omega (arith, ints)),
-)
+step_down a b f n down near negative = grind (arith, ints)
 
 floor_of_positive : (m d : ℕ) → pos 0 ≤ℤ floor (pos m) d
 floor_of_positive m d = omega (arith, ints)
@@ -24,11 +18,9 @@ floor_of_negative (suc m) d some = omega arith
 
 lies : (a b d : ℤ) (part whole : ℕ) → b -ℤ a ≡ d → part ≤ whole → 0 < whole
     → IsBetween a b (a +ℤ floor (d *ℤ pos part) whole)
-lies a b (pos n) part whole is within some =
-    step_up a b _ n is (share_near (pos n) _ _ within some)
+lies a b (pos n) part whole is within some = step_up a b _ n is (share_near (pos n) _ _ within some)
     (floor_of_positive _ _)
-lies a b (negsuc n) part whole is within some =
-    step_down a b _ n is
+lies a b (negsuc n) part whole is within some = step_down a b _ n is
     (share_near (negsuc n) _ _ within some) (floor_of_negative _ _ some)
 
 -- what lies between two numbers is from the one to the other
@@ -40,9 +32,7 @@ near_up : (a b x : ℤ) (m : ℕ) → nat_abs a ≤ m → nat_abs b ≤ m → (a
 near_up a b x m near_a near_b lies = omega (arith, ints)
 
 lies_near : (a b x : ℤ) (m : ℕ) → nat_abs a ≤ m → nat_abs b ≤ m → IsBetween a b x → nat_abs x ≤ m
-lies_near a b x m near_a near_b lies =
-    by_lt_z b a (λ lt. near_up b a x m near_b near_a (lies.1 (omega (arith, ints))))
-    (λ ge. near_up a b x m near_a near_b (lies.0 ge))
+lies_near a b x m near_a near_b lies = grind (arith, by_lt_z, near_up, ints)
 
 pub between_near : (a b : ℤ) (part whole m : ℕ) → nat_abs a ≤ m → nat_abs b ≤ m → part ≤ whole
     → 0 < whole → nat_abs (between a b part whole) ≤ m
@@ -55,10 +45,4 @@ pub between_is : (a b d share : ℤ) (part whole : ℕ) → d ≡ b -ℤ a
     → nat_abs a ≤ 2 ^ 33 → nat_abs d ≤ 2 ^ 34 → part ≤ whole → 0 < whole
     → to_z w64 (of_z w64 a) +ℤ to_z w64 (of_z w64 share) ≡ between a b part whole
 between_is a b d share part whole is_d is_share small_a small_d within some =
-    let is = simp (small_is d small_d) at is_share in
-    rw (
-      small_is a (omega arith),
-      small_is _ (share_at_most d _ is small_d within some),
-      is,
-      is_d,
-    ) refl
+    grind (arith, small_is, share_at_most)

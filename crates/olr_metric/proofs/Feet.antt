@@ -20,8 +20,7 @@ foot_between axis axis_is p a b =
     cond_both (int_le (dot_product a p b) (pos 0)) a _ (λ s. IsBetween (axis a) (axis b) (axis s))
     (λ before. at_start)
     (λ above. cond_both (int_le (dot_product a b b) (dot_product a p b)) b _
-    (λ s. IsBetween (axis a) (axis b) (axis s))
-    (λ behind. at_end)
+    (λ s. IsBetween (axis a) (axis b) (axis s)) (λ behind. at_end)
     (λ below. let is = parts (dot_product a p b) (dot_product a b b) above below in
     rw (axis_is a b (nat_abs (dot_product a p b)) (nat_abs (dot_product a b b)))
     (lies_between _ _ is.0 is.1)))

@@ -9,20 +9,17 @@ floor_near (negsuc a) d m positive near = omega (arith, div_below a d m positive
 -- the same of a product
 pub floor_product_near : (z : ℤ) (n d m : ℕ) → 0 < d → nat_abs z * n ≤ m * d
     → nat_abs (floor (z *ℤ pos n) d) ≤ m
-floor_product_near z n d m positive near =
-    floor_near _ d m positive (rw (unsigned_abs-mul z _) near)
+floor_product_near z n d m positive near = grind (arith, floor_near, unsigned_abs-mul)
 
 -- a part of a displacement is no longer than the whole
 pub share_near : (d : ℤ) (part whole : ℕ) → part ≤ whole → 0 < whole
     → nat_abs (floor (d *ℤ pos part) whole) ≤ nat_abs d
-share_near d part whole within positive = floor_product_near d _ _ _ positive
-    (mul-le (nat_abs d) part (nat_abs d) whole (omega arith) within)
+share_near d part whole within positive = grind (arith, floor_product_near, mul-le)
 
 -- that part as the code has it, in a wider type
 pub share_at_most : (d : ℤ) {part whole : ℕ} (r : ℤ) → r ≡ floor (d *ℤ pos part) whole
     → nat_abs d ≤ 2 ^ 34 → part ≤ whole → 0 < whole → nat_abs r ≤ 2 ^ 34
-share_at_most d r same at_most within positive =
-    rw same (omega (arith, share_near d _ _ within positive))
+share_at_most d r same at_most within positive = grind (arith, share_near)
 
 pub small_is_wide : {r : ℤ} → nat_abs r ≤ 2 ^ 34 → to_z w128 (of_z w128 r) ≡ r
 small_is_wide {r} at_most = to_z-of_z w128 r (fits_signed_from_abs _ r (omega arith))

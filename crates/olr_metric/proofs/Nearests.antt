@@ -17,8 +17,7 @@ IsFoot spots p i spot = (a b : Spot) → slice_get spots i ≡ Some a → slice_
 pub foot_read : (spots : List Spot) (p : Spot) (i : ℕ) (spot d : Spot)
     → spot ≡ foot p (get_or spots i d) (get_or spots (i + 1) d) → IsFoot spots p i spot
 foot_read spots p i spot d is a b start end =
-    let one : i + 1 ≡ suc i = omega arith in
-    is ∙ ap (λ k. foot p (get_or spots i d) (get_or spots k d)) one
+    is ∙ ap (λ k. foot p (get_or spots i d) (get_or spots k d)) (omega arith)
     ∙ ap (λ s. foot p s (get_or spots (suc i) d)) (get_or_from_slice_get _ i a d start)
     ∙ ap (foot p a) (get_or_from_slice_get spots (suc i) b d end)
 
@@ -35,8 +34,7 @@ no_nearer_read spots p i d least low a b start end =
 -- the distance to that foot is the distance from that segment
 pub gap_of_foot : (spots : List Spot) (p : Spot) (i : ℕ) (spot : Spot) (gap : ℕ)
     → IsFoot spots p i spot → gap ≡ distance p spot → IsGap spots p i gap
-gap_of_foot spots p i spot gap is gap_is a b start end = gap_is
-    ∙ ap (distance p) (is a b start end)
+gap_of_foot spots p i spot gap is gap_is a b start end = gap_is ∙ ap (distance p) (is a b start end)
 
 -- of the first n segments the one of number i is the first that is nearest to p
 pub record IsNearestOf (spots : List Spot) (p : Spot) (n i gap : ℕ) : Type 0 where
@@ -100,16 +98,12 @@ start_at spots i within = slice_get-get_or _ i _ (omega arith)
 
 pub end_at : (spots : List Spot) (i : ℕ) → i + 1 < length spots
     → slice_get spots (suc i) ≡ Some (spot_at spots (i + 1))
-end_at spots i within =
-    rw add-one (slice_get-get_or spots (suc i) (record { x = pos 0; y = pos 0 }) (omega arith))
+end_at spots i within = grind (arith, add-one, slice_get-get_or)
 
 pub is_nearest : {spots : List Spot} {p : Spot} {i : ℕ} {near : Near} → i + 1 < length spots
-    → IsFirst spots p i
-    → IsFoot spots p i near.spot
-    → near.distance ≡ distance p near.spot
+    → IsFirst spots p i → IsFoot spots p i near.spot → near.distance ≡ distance p near.spot
     → near.arc ≡ arc_at spots i + min (distance (spot_at spots i) near.spot)
-    (distance (spot_at spots i) (spot_at spots (i + 1)))
-    → IsNearest spots p near
+    (distance (spot_at spots i) (spot_at spots (i + 1))) → IsNearest spots p near
 is_nearest {spots} {i} within is is_foot distance_is arc_is = record {
   i = i;
   a = spot_at spots i;
@@ -131,6 +125,5 @@ arc_is_within spots i beyond within small =
 pub nearest_within : (spots : List Spot) (p : Spot) (near : Near) → IsNearest spots p near
     → near.arc ≤ arc spots
 nearest_within spots p near is =
-    let beyond : min (distance is.a near.spot) (distance is.a is.b) ≤ distance is.a is.b =
-    omega arith in
-    rw is.arc_of (end_within _ _ _ _ _ is.nearest.segment.start is.nearest.segment.end beyond)
+    rw is.arc_of (end_within _ _ _ _ _ is.nearest.segment.start is.nearest.segment.end
+    (omega arith))

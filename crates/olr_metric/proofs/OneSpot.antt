@@ -8,20 +8,11 @@ record SameEnds (a b c d : Spot) : Type 0 where
 
 same_ends : {spots : List Spot} {i j : ℕ} {a b c d : Spot} → i ≡ j → IsSegment spots i a b
     → IsSegment spots j c d → SameEnds a b c d
-same_ends {a} {b} {c} {d} same one other =
-    let segment = rw same at one in
-    record {
-      start = same_Some a c (sym segment.start ∙ other.start);
-      end = same_Some b d (sym segment.end ∙ other.end);
-    }
+same_ends {a} {b} {c} {d} same one other = grind (arith, same_Some)
 
 not_before : {spots : List Spot} {p : Spot} {a b : Near} (one : IsNearest spots p a)
     (other : IsNearest spots p b) → one.i < other.i → ⊥
-not_before one other less = omega (
-  arith,
-  other.nearest.first one.i one.a one.b less one.nearest.segment,
-  one.nearest.least other.i other.a other.b other.nearest.segment,
-)
+not_before one other less = grind arith
 
 pub one_nearest : (spots : List Spot) (p : Spot) (a b : Near) → IsNearest spots p a
     → IsNearest spots p b → a ≡ b

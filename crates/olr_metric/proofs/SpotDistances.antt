@@ -1,5 +1,5 @@
 -- The distance of spots.
-use Rattle.olr_metric.proofs.Common.{◌≡◌, ◌≢◌, ℕ, zero, suc, ◌+◌, ◌*◌, ◌<◌, arith, ℤ, ◌-ℤ◌, inl, inr, refl, nat_abs, ints, cases_eq, Spot, root, root_within, distance}
+use Rattle.olr_metric.proofs.Common.{◌≡◌, ◌≢◌, ℕ, zero, suc, ◌*◌, ◌<◌, arith, ℤ, ◌-ℤ◌, refl, nat_abs, ints, cases_eq, Spot, root, root_within, distance}
 use Rattle.olr_metric.proofs.Roots.{root_is}
 
 pub same_spot : (a b : Spot) → a.x ≡ b.x → a.y ≡ b.y → a ≡ b
@@ -11,8 +11,7 @@ zero_square (suc n) none = absurd (omega arith)
 
 zero_root : (n : ℕ) → root n ≡ 0 → n ≡ 0
 zero_root n none =
-    let next : n < (root n + 1) * (root n + 1) = (root_is n).next in
-    let below = rw none at next in
+    let below = rw none at ((root_is n).next) in
     omega arith
 
 same_number : {x y : ℤ} → nat_abs (x -ℤ y) ≡ 0 → x ≡ y
@@ -23,10 +22,7 @@ turned_number x y = omega (arith, ints)
 
 -- only a spot itself is at distance 0
 pub distance_zero : (a b : Spot) → distance a b ≡ 0 → a ≡ b
-distance_zero a b none =
-    let squares = zero_root _ none in
-    same_spot a b (same_number (zero_square _ (omega arith)))
-    (same_number (zero_square _ (omega arith)))
+distance_zero a b none = grind (arith, zero_root, same_spot, same_number, zero_square)
 
 no_displacement : (x : ℤ) → nat_abs (x -ℤ x) ≡ 0
 no_displacement x = omega (arith, ints)
@@ -40,7 +36,4 @@ pub distance_turned : (a b : Spot) → distance a b ≡ distance b a
 distance_turned a b = rw (turned_number _ _, turned_number a.y b.y) refl
 
 pub distance_positive : (a b : Spot) → a ≢ b → 0 < distance a b
-distance_positive a b apart = elim (cases_eq (distance a b) 0) [
-  | inl none ↦ absurd (apart (distance_zero a b none))
-  | inr some ↦ omega arith
-]
+distance_positive a b apart = grind (arith, cases_eq, distance_zero)

@@ -13,9 +13,6 @@ not_both fits not some = grind (arith, ints)
 
 pub returns-then-east-gt0 : goal.returns-then-east-gt0
 returns-then-east-gt0 c =
-    let x = rw (to_z-of_z w64 c.args.east c.ranges.east) at c.unsigned_abs-along_x.ensures.value in
-    let y = rw (to_z-of_z w64 c.args.north c.ranges.north) at
-    c.unsigned_abs-along_y.ensures.value in
     let some : pos 0 <ℤ c.args.east = grind (arith, ints) in
     let none : c.args.north ≤ℤ pos 0 = elim c.else-east-ge0.branch [
       | else-east-ge0-via-then-east-ge0+else-north-gt0 w
@@ -23,24 +20,23 @@ returns-then-east-gt0 c =
       | else-east-ge0-via-else-east-ge0 w ↦ absurd (not_both c.ranges.east w.if-east-ge0.false some)
     ] in
     let is = c.sector_in_quarter-then-east-gt0.ensures in
-    from_east some none x y is.quarter is.sector
+    from_east some none (rw (to_z-of_z w64 c.args.east c.ranges.east) at
+    c.unsigned_abs-along_x.ensures.value)
+    (rw (to_z-of_z w64 c.args.north c.ranges.north) at c.unsigned_abs-along_y.ensures.value)
+    is.quarter is.sector
 
 pub returns-then-north-lt0 : goal.returns-then-north-lt0
 returns-then-north-lt0 c =
-    let x = rw (to_z-of_z w64 c.args.east c.ranges.east) at c.unsigned_abs-along_x.ensures.value in
-    let y = rw (to_z-of_z w64 c.args.north c.ranges.north) at
-    c.unsigned_abs-along_y.ensures.value in
-    let none : c.args.east ≤ℤ pos 0 = grind (arith, ints) in
-    let some : c.args.north <ℤ pos 0 = grind (arith, ints) in
     let is = c.sector_in_quarter-then-north-lt0.ensures in
-    from_south none some x y is.quarter is.sector
+    from_south (grind (arith, ints)) (grind (arith, ints))
+    (rw (to_z-of_z w64 c.args.east c.ranges.east) at c.unsigned_abs-along_x.ensures.value)
+    (rw (to_z-of_z w64 c.args.north c.ranges.north) at c.unsigned_abs-along_y.ensures.value)
+    is.quarter is.sector
 
 pub returns-then-east-lt0 : goal.returns-then-east-lt0
 returns-then-east-lt0 c =
-    let x = rw (to_z-of_z w64 c.args.east c.ranges.east) at c.unsigned_abs-along_x.ensures.value in
-    let y = rw (to_z-of_z w64 c.args.north c.ranges.north) at
-    c.unsigned_abs-along_y.ensures.value in
-    let some : c.args.east <ℤ pos 0 = grind (arith, ints) in
-    let none : pos 0 ≤ℤ c.args.north = grind (arith, ints) in
     let is = c.sector_in_quarter-then-east-lt0.ensures in
-    from_west some none x y is.quarter is.sector
+    from_west (grind (arith, ints)) (grind (arith, ints))
+    (rw (to_z-of_z w64 c.args.east c.ranges.east) at c.unsigned_abs-along_x.ensures.value)
+    (rw (to_z-of_z w64 c.args.north c.ranges.north) at c.unsigned_abs-along_y.ensures.value)
+    is.quarter is.sector

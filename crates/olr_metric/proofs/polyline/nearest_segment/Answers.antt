@@ -1,12 +1,12 @@
-use Rattle.olr_metric.proofs.Common.{arith, ◌≡◌, ◌≤◌, ◌<◌, ◌+◌, ◌∙◌, length, ap, refl, root, distance}
+use Rattle.olr_metric.proofs.Common.{arith, ◌≤◌, ◌<◌, ◌∙◌, ap, refl, root}
 use Rattle.olr_metric.proofs.Nearests.{gap_of_foot, nearest_next, nearest_still, nearest_of_all}
 use Rattle.olr_metric.proofs.Roots.{root_at_least, root_less}
 use Rattle.olr_metric.proofs.polyline.nearest_segment.Goals as goal
 
-pub loop-segment-preserved-then-not-may_be_nearer : goal.loop-segment-preserved-then-not-may_be_nearer
+pub loop-segment-preserved-then-not-may_be_nearer :
+    goal.loop-segment-preserved-then-not-may_be_nearer
 loop-segment-preserved-then-not-may_be_nearer c = record {
-  nearest = nearest_still c.loop-segment.invariant.nearest
-      (c.if-not-may_be_nearer.ensures refl);
+  nearest = nearest_still c.loop-segment.invariant.nearest (c.if-not-may_be_nearer.ensures refl);
   foot = c.loop-segment.invariant.foot;
   distance = c.loop-segment.invariant.distance;
   at_most = c.loop-segment.invariant.at_most;
@@ -15,9 +15,8 @@ loop-segment-preserved-then-not-may_be_nearer c = record {
 
 pub loop-segment-preserved-then-square-squared : goal.loop-segment-preserved-then-square-squared
 loop-segment-preserved-then-square-squared c =
-    let gap_is = ap root c.square_distance-square.ensures.square in
-    let gap =
-    gap_of_foot c.args.spots.now _ c.loop-segment.segment _ _ c.foot_on-found.ensures.foot gap_is in
+    let gap = gap_of_foot c.args.spots.now _ c.loop-segment.segment _ _ c.foot_on-found.ensures.foot
+    (ap root c.square_distance-square.ensures.square) in
     let no_nearer : c.loop-segment.least ≤ root c.square_distance-square.result =
     root_at_least _ _ (omega arith) in
     record {
@@ -31,15 +30,13 @@ loop-segment-preserved-then-square-squared c =
 
 pub loop-segment-preserved : goal.loop-segment-preserved
 loop-segment-preserved c =
-    let gap_is = c.root_of-least.ensures.root ∙ ap root
-    c.square_distance-square.ensures.square in
+    let gap_is = c.root_of-least.ensures.root ∙ ap root c.square_distance-square.ensures.square in
     let nearer : root c.square_distance-square.result < c.loop-segment.least =
     root_less _ _ (omega arith) in
     record {
       nearest = nearest_next c.loop-segment.invariant.nearest
           (gap_of_foot c.args.spots.now _ c.loop-segment.segment _ _ c.foot_on-found.ensures.foot
-          gap_is)
-          (omega arith);
+          gap_is) (omega arith);
       foot = c.foot_on-found.ensures.foot;
       distance = gap_is;
       at_most = c.root_of-least.ensures.at_most;
@@ -48,5 +45,4 @@ loop-segment-preserved c =
 
 pub returns-clause-nearest : goal.returns-clause-nearest
 returns-clause-nearest c a b start end =
-    let all : c.loop-segment.segment + 1 ≡ length c.args.spots.now = omega arith in
-    nearest_of_all a b all c.loop-segment.invariant.nearest start end
+    nearest_of_all a b (omega arith) c.loop-segment.invariant.nearest start end

@@ -23,6 +23,5 @@ returns-clause-between c =
 
 pub returns-clause-at_most : goal.returns-clause-at_most
 returns-clause-at_most c =
-    let near = between_near c.args.a c.args.b _ _ _ c.requires.a c.requires.b c.requires.part
-    c.requires.positive in
-    rw (returns-clause-between c) near
+    rw (returns-clause-between c) (between_near c.args.a c.args.b _ _ _ c.requires.a c.requires.b
+    c.requires.part c.requires.positive)

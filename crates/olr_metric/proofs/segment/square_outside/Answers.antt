@@ -11,15 +11,12 @@ returns c =
     let least_x = simp (
       near c.args.p.x c.requires.p.x,
       near c.args.a.x c.requires.a.x,
-      near c.args.b.x
-          c.requires.b.x,
+      near c.args.b.x c.requires.b.x,
     ) at c.outside.ensures.least in
     let least_y = simp (
       near c.args.p.y c.requires.p.y,
       near c.args.a.y c.requires.a.y,
-      near c.args.b.y
-          c.requires.b.y,
+      near c.args.b.y c.requires.b.y,
     ) at c.outside-2.ensures.least in
     rw c.sum_of_squares.ensures.sum
-    (foot_outside c.args.p c.args.a c.args.b c.outside.result c.outside-2.result least_x
-    least_y)
+    (foot_outside c.args.p c.args.a c.args.b c.outside.result c.outside-2.result least_x least_y)
