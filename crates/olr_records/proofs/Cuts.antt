@@ -17,11 +17,11 @@ pub one_way : (byte : ℕ) (a b x y : List ℕ) → Avoids byte a → Avoids byt
 one_way byte [] b [] y fa fx e = (refl, ap behind_first e)
 one_way byte [] b (d ∷ x) y fa fx e = absurd (fx 0 (omega arith) (cc))
 one_way byte (c ∷ a) b [] y fa fx e = absurd (fa 0 (omega arith) (cc))
-one_way byte (c ∷ a) b (d ∷ x) y fa fx e =
-    let rest = one_way byte a b x y (λ k inside. fa (suc k) (omega arith))
-    (λ k inside. fx (suc k) (omega arith))
-    (ap behind_first e) in
-    (cc rest.0, rest.1)
+one_way byte (c ∷ a) b (d ∷ x) y fa fx e = grind (
+  arith,
+  one_way byte a b x y (λ k inside. fa (suc k) (omega arith))
+      (λ k inside. fx (suc k) (omega arith)) (ap behind_first e),
+)
 
 -- what is taken apart at a byte doesn't avoid it
 pub not_avoided : (byte : ℕ) (text front rest : List ℕ) → text ≡ front ++ byte ∷ rest

@@ -16,10 +16,7 @@ small text i k inside short digits =
 pub value_after : (text : List ℕ) (i : ℕ) {value : ℕ} → i < length text
     → IsAsciiDigit (get_or text i 0) → value ≡ digits_value 10 (take i text)
     → 10 * value + (get_or text i 0 - 48) ≡ digits_value 10 (take (i + 1) text)
-value_after text i inside digit same =
-    let d = digit_value_digit _ digit in
-    let more = digits_value_more 10 text i inside in
-    omega arith
+value_after text i inside digit same = grind (arith, digit_value_digit, digits_value_more)
 
 -- ---- the digits with which a text begins
 
@@ -36,8 +33,7 @@ not_both byte digit other = elim other [ inl low ↦ omega arith | inr high ↦ 
 no_digit_behind : {byte : ℕ} (rest : Option (List ℕ)) → IsSeparator byte
     → 0 < length (behind byte rest) → IsNotAsciiDigit (get_or (behind byte rest) 0 0)
 no_digit_behind None separates some = absurd (omega arith)
-no_digit_behind (Some rest) separates some =
-    elim separates [ inl low ↦ inl (omega arith) | inr high ↦ inr (omega arith) ]
+no_digit_behind (Some rest) separates some = grind arith
 
 -- a number in front of a text has all of these digits
 pub all_digits : (text : List ℕ) (count : ℕ) (byte n : ℕ) (rest : Option (List ℕ))
@@ -56,10 +52,9 @@ all_digits text count byte n rest separates are begins =
     (omega (arith, length-take-le count text are.within))))
     (no_digit_behind _ separates (omega arith)) in
     let more : count < length front → ⊥ = λ less.
-    let there = ap (λ (l : List ℕ). get_or l count 0) begins.whole
-    ∙ get_or-append front tail 0 _ less in
     not_both _ (digit_at front count begins.spelled.digits.1 less)
-    (subst IsNotAsciiDigit there (are.all (omega arith) (omega arith))) in
+    (subst IsNotAsciiDigit (ap (λ (l : List ℕ). get_or l count 0) begins.whole ∙ get_or-append front
+    tail 0 _ less) (are.all (omega arith) (omega arith))) in
     omega arith
 
 -- and what follows it follows them
@@ -68,9 +63,8 @@ pub behind_digits : (text : List ℕ) (count : ℕ) (byte n : ℕ) (rest : Optio
     → Begins (λ front. IsNumber front n) byte text rest
     → take (length text - count) (drop count text) ≡ behind byte rest
 behind_digits text count byte n rest separates are begins =
-    let count_is = all_digits text count byte n rest separates are begins in
     ap (λ (k : ℕ). take k (drop count text)) (sym (length-drop count text))
     ∙ take-length (drop count text)
-    ∙ ap (λ (k : ℕ). drop k text) (sym count_is)
+    ∙ ap (λ (k : ℕ). drop k text) (sym (all_digits text count byte n rest separates are begins))
     ∙ ap (λ (l : List ℕ). drop (length begins.front) l) begins.whole
     ∙ drop-append_seam begins.front (behind _ _)

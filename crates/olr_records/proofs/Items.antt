@@ -7,8 +7,7 @@ use Rattle.olr_records.proofs.Signs.{signed_avoids, begins_once, whole_begins}
 item_avoids : (text : List ℕ) {place : Coordinates} → IsItem text place → Avoids 59 text
 item_avoids text is = rw is.spaced
     (avoids_parts _ _ _ _ (signed_avoids _ (inr (omega arith)) is.longitude.number)
-    (λ e. omega (arith, e))
-    (signed_avoids _ (inr (omega arith)) is.latitude.number))
+    (λ e. omega (arith, e)) (signed_avoids _ (inr (omega arith)) is.latitude.number))
 
 -- ---- the two numbers of an item in front of a text
 
@@ -29,12 +28,7 @@ longitude_of_item text place rest begins =
 number_of : {text : List ℕ} {rest : Option (List ℕ)} {lon : ℤ}
     → Begins (λ front. SpellsLongitude front lon) 32 text rest
     → Begins (λ front. IsSignedNumber front lon) 32 text rest
-number_of begins = record {
-  front = begins.front;
-  whole = begins.whole;
-  spelled =
-      begins.spelled.number;
-}
+number_of begins = grind arith
 
 -- behind that longitude there is a space
 pub spaced : (text : List ℕ) {lon : ℤ} (place : Coordinates) (rest : Option (List ℕ))
@@ -47,8 +41,7 @@ spaced text place rest first begins =
 
 -- and then a latitude
 pub latitude_of_item : (text : List ℕ) (lon : ℤ) (after : List ℕ) (place : Coordinates)
-    (rest : Option (List ℕ))
-    → Begins (λ front. SpellsLongitude front lon) 32 text (Some after)
+    (rest : Option (List ℕ)) → Begins (λ front. SpellsLongitude front lon) 32 text (Some after)
     → Begins (λ front. IsItem front place) 59 text rest
     → Begins (λ front. SpellsLatitude front place.lat) 59 after rest
 latitude_of_item text lon after place rest first begins =
@@ -57,8 +50,7 @@ latitude_of_item text lon after place rest first begins =
     record {
       front = begins.spelled.lat;
       whole = ap behind_first same.1;
-      spelled =
-          begins.spelled.latitude;
+      spelled = begins.spelled.latitude;
     }
 
 -- both are an item
@@ -74,8 +66,7 @@ item_of_both place first second = record {
     lon = first.front;
     lat = second.front;
     spaced = refl;
-    longitude =
-        first.spelled;
+    longitude = first.spelled;
     latitude = second.spelled;
   };
 }
@@ -84,9 +75,8 @@ item_of_both place first second = record {
 pub item_once : (text : List ℕ) (a b : Coordinates) → IsItem text a → IsItem text b → a ≡ b
 item_once text a b is other =
     let first = longitude_of_item text a None (whole_begins _ 59 text is) in
-    let second = longitude_of_item text b None (whole_begins _ 59 text other) in
     let lon = (begins_once text 32 a.lon b.lon _ _ (inl (omega arith)) (number_of first)
-    (number_of second)).0 in
+    (number_of (longitude_of_item text b None (whole_begins _ 59 text other)))).0 in
     let rest = latitude_of_item text a.lon _ b None first (whole_begins _ 59 text other) in
     let lat = (begins_once _ 59 a.lat b.lat None None (inr (omega arith))
     (record { front = is.lat; whole = refl; spelled = is.latitude.number })
@@ -114,8 +104,7 @@ at_start = record { forth = λ place others are. are; back = some_place }
 
 -- what a rest spells begins with what its first item spells
 pub rest_of_item : (rest others : List ℕ) (place next : Coordinates) (places : List Coordinates)
-    → Begins (λ front. IsItem front place) 59 rest (Some others)
-    → AreItems rest (next ∷ places)
+    → Begins (λ front. IsItem front place) 59 rest (Some others) → AreItems rest (next ∷ places)
     → (next ≡ place) × (q : Coordinates) × (qs : List Coordinates) × (places ≡ q ∷ qs)
     × AreItems others (q ∷ qs)
 rest_of_item rest others place next [] begins are =
@@ -135,8 +124,7 @@ pub one_more_item : (text : List ℕ) (front : List Coordinates) (rest others : 
     → Continues text front rest → Begins (λ front. IsItem front place) 59 rest (Some others)
     → Continues text (front ++ place ∷ []) others
 one_more_item text front rest others place continues begins = record {
-  forth = λ next places are.
-      rw (append_assoc front (place ∷ []) (next ∷ places))
+  forth = λ next places are. rw (append_assoc front (place ∷ []) (next ∷ places))
       (continues.forth place (next ∷ places)
       (begins.front, others, begins.whole, begins.spelled, are));
   back = λ places are.

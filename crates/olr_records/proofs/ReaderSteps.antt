@@ -1,5 +1,5 @@
 -- What one read of a record leaves of the records of a reader over the bytes of a text.
-use Rattle.olr_records.proofs.Common.{◌≡◌, ℕ, ◌+◌, Bool, true, false, cond, List, [], ◌∷◌, length, Some, None, refl, sym, ap, ◌∙◌, arith, inl, inr, add-one, Option, MatchBool, not, Read, next_record, ends_at_end, default_config, records_from, records_next, strip_bom, NextIs, ReadRecord, Ready, source_of, pending_of, has_failed, is_flexible, took_first, reader_state, State}
+use Rattle.olr_records.proofs.Common.{◌≡◌, ℕ, ◌+◌, Bool, true, false, cond, List, [], ◌∷◌, length, Some, None, refl, sym, ap, ◌∙◌, arith, add-one, Option, MatchBool, not, Read, next_record, ends_at_end, default_config, records_from, records_next, strip_bom, NextIs, ReadRecord, Ready, source_of, pending_of, has_failed, is_flexible, took_first, reader_state, State}
 use Rattle.std.proofs.lemmas.Bool.{cases_Bool}
 use denote.Ref.{Bor}
 use Rattle.csv.specs.declared.parser.State.TheVariants as st
@@ -29,19 +29,15 @@ IsOneRead s s2 xs ys found fields = (found ≡ true → ends_at_end s2 ≡ false
 
 read_as : (s s2 : State) (xs ys : List ℕ) (r : Option Read) (found : Bool) (fields : List (List ℕ))
     → ends_at_end s ≡ false → next_record default_config s [] [] xs ≡ r
-    → NextIs r found fields s2 ys
-    → IsOneRead s s2 xs ys found fields
+    → NextIs r found fields s2 ys → IsOneRead s s2 xs ys found fields
 read_as s s2 xs ys None true fields state e next = absurd cc
 read_as s s2 xs ys None false fields state e next = (λ h. absurd cc, opened s _ e)
 read_as s s2 xs ys (Some p) false fields state e next = absurd cc
 read_as s s2 xs ys (Some p) true fields state e (found, first, second, third) =
-    let left = left_after s _ p state e in
-    let same : records_from default_config (length xs) p.1 p.2
-    ≡ records_from default_config (length p.2 + 1) p.1 p.2 =
-    same_records _ _ _ _ left.state left.shorter (omega arith) in (
+    let left = left_after s _ p state e in (
       λ h. rw second left.state,
-      rw (first, second, third) (opened s _ e
-          ∙ ap (λ (rs : List (List (List ℕ))). p.0 ∷ rs) same),
+      rw (first, second, third) (opened s _ e ∙ ap (λ (rs : List (List (List ℕ))). p.0 ∷ rs)
+          (same_records _ _ _ _ left.state left.shorter (omega arith))),
     )
 
 -- ---- readers
@@ -88,10 +84,7 @@ read_one old new found fields plain read first works flexible =
 
 -- the next read of such a reader is of one record
 pub plain_ready : (reader : Reader (Bor (List ℕ))) → IsPlain reader → Ready reader
-plain_ready reader plain = elim (cases_Bool (took_first reader)) [
-  | inl taken ↦ inl taken
-  | inr none ↦ inr (inr (plain.headers none))
-]
+plain_ready reader plain = grind (arith, cases_Bool)
 
 -- the same records, of what is over where none was found
 pub after_read : (found over : Bool) {value : List (List (List ℕ))} (fields : List (List ℕ))

@@ -14,8 +14,7 @@ pub record BytesLeft (text : List ℕ) (p : Read) : Type 0 where
   pub state : ends_at_end p.1 ≡ false
 
 cases_read : (b : Bool) (here : Read) (more : Option Read) (p : Read)
-    → cond b (Some here) more ≡ Some p
-    → ((b ≡ true) × (here ≡ p)) ⊎ (more ≡ Some p)
+    → cond b (Some here) more ≡ Some p → ((b ≡ true) × (here ≡ p)) ⊎ (more ≡ Some p)
 cases_read true here more p e = inl (refl, cc)
 cases_read false here more p e = inr e
 
@@ -23,14 +22,7 @@ next_shorter : (rest : List ℕ) (c : ℕ) (s : State) (fields : List (List ℕ)
     (p : Read)
     → next_record default_config s fields field (c ∷ rest) ≡ Some p → BytesLeft (c ∷ rest) p
 unfolding next_record
-next_shorter [] c s fields field p e =
-    elim (cases_read (is_end (step default_config s c).1) _ _ p e) [
-      | inl here ↦ rw (← here.1) (record { shorter = omega arith; state = end_state s c here.0 })
-      | inr last ↦ elim (cases_read (ends_at_end (step default_config s c).0) _ None p last) [
-        | inl here ↦ rw (← here.1) (record { shorter = omega arith; state = refl })
-        | inr none ↦ absurd cc
-      ]
-    ]
+next_shorter [] c s fields field p e = grind (arith, cases_read, end_state)
 next_shorter (d ∷ rest) c s fields field p e =
     elim (cases_read (is_end (step default_config s c).1) _ _ p e) [
       | inl here ↦ rw (← here.1) (record { shorter = omega arith; state = end_state s c here.0 })
@@ -42,21 +34,16 @@ next_shorter (d ∷ rest) c s fields field p e =
 pub left_after : (s : State) (text : List ℕ) (p : Read) → ends_at_end s ≡ false
     → next_record default_config s [] [] text ≡ Some p → BytesLeft text p
 unfolding next_record
-left_after s [] p state e = elim (cases_read (ends_at_end s) _ None p e) [
-  | inl here ↦ absurd cc
-  | inr none ↦ absurd cc
-]
+left_after s [] p state e = grind (arith, cases_read)
 left_after s (c ∷ rest) p state e = next_shorter _ c s _ _ p e
 
 -- more turns than bytes give the same records
 pub same_records : (m n : ℕ) (s : State) (text : List ℕ) → ends_at_end s ≡ false → length text < m
-    → length text < n
-    → records_from default_config m s text ≡ records_from default_config n s text
+    → length text < n → records_from default_config m s text ≡ records_from default_config n s text
 unfolding records_from
 same_records zero n s text state a b = absurd (omega arith)
 same_records (suc m) zero s text state a b = absurd (omega arith)
-same_records (suc m) (suc n) s text state a b =
-    elim (next_record default_config s [] [] text)
+same_records (suc m) (suc n) s text state a b = elim (next_record default_config s [] [] text)
     as (λ r. next_record default_config s [] [] text ≡ r
     → records_next (records_from default_config m) r
     ≡ records_next (records_from default_config n) r) [

@@ -10,21 +10,18 @@ use Rattle.olr_records.proofs.Cuts.{Avoids, behind_first, one_way, not_avoided}
 pub none_plain : {text : List ℕ} {first : ℕ} {digits : List ℕ} (byte : ℕ) → text ≡ first ∷ digits
     → first ≢ 45
     → ((n : ℕ) (rest : Option (List ℕ)) → ¬ (Begins (λ front. IsNumber front n) byte text rest))
-    → (z : ℤ) (rest : Option (List ℕ)) → Begins (λ front. IsSignedNumber front z) byte text rest
-    → ⊥
+    → (z : ℤ) (rest : Option (List ℕ)) → Begins (λ front. IsSignedNumber front z) byte text rest → ⊥
 none_plain byte whole other none z rest begins = elim begins.spelled [
   | inl plain ↦ none plain.0 rest
       (record { front = begins.front; whole = begins.whole; spelled = plain.1 })
-  | inr negative ↦
-      other (ap (λ (l : List ℕ). get_or l 0 0) (sym whole ∙ begins.whole
+  | inr negative ↦ other (ap (λ (l : List ℕ). get_or l 0 0) (sym whole ∙ begins.whole
       ∙ ap (λ (l : List ℕ). l ++ behind byte rest) negative.minus))
 ]
 
 -- a sign, and what begins with no number
 pub none_negative : {text digits : List ℕ} (byte : ℕ) → text ≡ 45 ∷ digits
     → ((n : ℕ) (rest : Option (List ℕ)) → ¬ (Begins (λ front. IsNumber front n) byte digits rest))
-    → (z : ℤ) (rest : Option (List ℕ)) → Begins (λ front. IsSignedNumber front z) byte text rest
-    → ⊥
+    → (z : ℤ) (rest : Option (List ℕ)) → Begins (λ front. IsSignedNumber front z) byte text rest → ⊥
 none_negative byte whole none z rest begins = elim begins.spelled [
   | inl plain ↦
       let first = ap (λ (l : List ℕ). get_or l 0 0) (sym whole ∙ begins.whole)
@@ -62,8 +59,7 @@ is_negative digits n whole begins small = record {
     digits = begins.front;
     n = n;
     minus = refl;
-    number =
-        begins.spelled;
+    number = begins.spelled;
     value = negated n small;
   });
 }
@@ -72,51 +68,31 @@ is_negative digits n whole begins small = record {
 
 number_avoids : {byte : ℕ} (text : List ℕ) (n : ℕ) → IsSeparator byte → IsNumber text n
     → Avoids byte text
-number_avoids text n separates is k inside e =
-    let range = digit_at text k is.digits.1 inside in
-    elim separates [ inl low ↦ omega arith | inr high ↦ omega arith ]
+number_avoids text n separates is k inside e = grind (arith, digit_at)
 
 negative_avoids : {byte : ℕ} {digits : List ℕ} (n : ℕ) → IsSeparator byte → IsNumber digits n
     → Avoids byte (45 ∷ digits)
-negative_avoids n separates is zero inside e =
-    elim separates [ inl low ↦ omega arith | inr high ↦ omega arith ]
+negative_avoids n separates is zero inside e = grind arith
 negative_avoids n separates is (suc k) inside e = number_avoids _ n separates is k (omega arith) e
 
 -- a signed number has no separator
 pub signed_avoids : {byte : ℕ} {text : List ℕ} (z : ℤ) → IsSeparator byte → IsSignedNumber text z
     → Avoids byte text
-signed_avoids {byte = byte} z separates is = elim is [
-  | inl plain ↦ number_avoids _ _ separates plain.1
-  | inr negative ↦ rw negative.minus (negative_avoids _ separates negative.number)
-]
+signed_avoids {byte = byte} z separates is = grind (arith, plain, number_avoids, negative_avoids)
 
 plain_or_not : (text : List ℕ) {n : ℕ} {digits : List ℕ} → IsNumber text n → text ≡ 45 ∷ digits → ⊥
-plain_or_not text is minus =
-    let range = digit_at text 0 is.digits.1 is.digits.0 in
-    let first = ap (λ (l : List ℕ). get_or l 0 0) minus in
-    omega arith
+plain_or_not text is minus = grind (arith, digit_at)
 
 -- a text spells one signed number
 pub signed_once : (text : List ℕ) (y z : ℤ) → IsSignedNumber text y → IsSignedNumber text z → y ≡ z
-signed_once text y z a b = elim a [
-  | inl p ↦ elim b [
-    | inl q ↦ cc
-    | inr q ↦ absurd (plain_or_not _ p.1 q.minus)
-  ]
-  | inr p ↦ elim b [
-    | inl q ↦ absurd (plain_or_not _ q.1 p.minus)
-    | inr q ↦ cc (ap behind_first (sym p.minus ∙ q.minus))
-  ]
-]
+signed_once text y z a b = grind (arith, plain_or_not, behind_first)
 
 front_once : {byte : ℕ} (a x : List ℕ) (b y : Option (List ℕ)) → Avoids byte a → Avoids byte x
     → a ++ behind byte b ≡ x ++ behind byte y → (a ≡ x) × (behind byte b ≡ behind byte y)
 front_once a x None None fa fx e = (sym (append-nil a) ∙ e ∙ append-nil x, refl)
 front_once a x None (Some y) fa fx e = absurd (not_avoided _ a x y (sym (append-nil a) ∙ e) fa)
 front_once a x (Some b) None fa fx e = absurd (not_avoided _ x a b (sym (append-nil x) ∙ sym e) fx)
-front_once {byte = byte} a x (Some b) (Some y) fa fx e =
-    let same = one_way _ a b x y fa fx e in
-    (same.0, ap (λ (l : List ℕ). byte ∷ l) same.1)
+front_once {byte = byte} a x (Some b) (Some y) fa fx e = grind (arith, one_way)
 
 -- and begins with one, before the same text
 pub begins_once : (text : List ℕ) (byte : ℕ) (y z : ℤ) (r s : Option (List ℕ)) → IsSeparator byte

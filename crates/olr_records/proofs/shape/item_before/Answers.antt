@@ -23,7 +23,6 @@ returns-in_default-latitude_before c = λ place rest begins.
 
 pub returns : goal.returns
 returns c =
-    let both =
-    item_of_both _ (first_is _ _ c.in-Some-behind.is c.in-Some.ensures)
+    let both = item_of_both _ (first_is _ _ c.in-Some-behind.is c.in-Some.ensures)
     c.in-Some-latitude_before.ensures in
     search rules

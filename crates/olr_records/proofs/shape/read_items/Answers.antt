@@ -10,14 +10,11 @@ returns-in_default c = λ places are. no_item _ _ c.loop.invariant.1 c.in_defaul
 
 pub loop-preserved : goal.loop-preserved
 loop-preserved c =
-    let items = c.in_ok-push.ensures.items in
     let begins = subst (λ (part : Option (Bor (List ℕ))). Begins
     (λ front. IsItem front (coordinates_of c.in-Some.place)) 59 c.loop.rest.now
-    (option_map (λ part. part.now) part))
-    c.in-Some-others.is c.in-Some.ensures in
-    let more = one_more_item _ _ _ _ _ c.loop.invariant.1 begins in
-    rw items (
+    (option_map (λ part. part.now) part)) c.in-Some-others.is c.in-Some.ensures in
+    rw c.in_ok-push.ensures.items (
       omega (arith, length-append c.loop.shape.items (c.in-Some.place ∷ [])),
-      rw
-          (map-append coordinates_of c.loop.shape.items (c.in-Some.place ∷ [])) more,
+      rw (map-append coordinates_of c.loop.shape.items (c.in-Some.place ∷ []))
+          (one_more_item _ _ _ _ _ c.loop.invariant.1 begins),
     )

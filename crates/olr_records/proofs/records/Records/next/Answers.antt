@@ -20,8 +20,6 @@ pub returns-clause-found : goal.returns-clause-found
 returns-clause-found c =
     let plain = c.self.invariant c.if-self.false in
     let h = c.in-Ok.ensures in
-    let step = read_one _ _ _ _ plain
-    (h.reads plain.untrimmed (plain_ready c.self.inside.reader plain)) (h.ready plain.untrimmed)
-    h.goes h.flexible in
-    after_read _ _ _ _
-    _ c.if-self.false c.self.view_is step.1
+    after_read _ _ _ _ _ c.if-self.false c.self.view_is
+    (read_one _ _ _ _ plain (h.reads plain.untrimmed (plain_ready c.self.inside.reader plain))
+    (h.ready plain.untrimmed) h.goes h.flexible).1
