@@ -1,12 +1,11 @@
 -- The first line of an input.
-use Rattle.olr_messages.proofs.Common.{◌≡◌, ◌≢◌, ℕ, List, [], ◌∷◌, ◌++◌, refl, sym, ap, ◌∙◌, append_assoc, append-nil, inl, inr, Option, Some, None, Consumes, IsAtEnd, eqb_tells, All-head, All-tail, lines_of, onto, HasNoLf, IsNext}
+use Rattle.olr_messages.proofs.Common.{arith, ◌≡◌, ◌≢◌, ℕ, List, [], ◌∷◌, ◌++◌, refl, ap, ◌∙◌, append_assoc, append-nil, Option, Some, None, Consumes, IsAtEnd, eqb_tells, All-head, All-tail, lines_of, onto, HasNoLf, IsNext}
 
 -- a byte that isn't LF goes to the front of the first line
 lines_of-other : (byte : ℕ) (rest : List ℕ) → byte ≢ 10
     → lines_of (byte ∷ rest) ≡ onto byte (lines_of rest)
 unfolding lines_of
-lines_of-other byte rest other =
-    elim (eqb_tells byte 10) [ inl same ↦ absurd (other same.1) | inr differs ↦ rw differs.0 refl ]
+lines_of-other byte rest other = grind (arith, eqb_tells)
 
 -- a line before an LF
 pub lines_of-lf : (line rest : List ℕ) → HasNoLf line
@@ -32,8 +31,7 @@ pub next_of_lf : (line : List ℕ) (a b : Option (List ℕ)) → HasNoLf line
     → Consumes a b (line ++ 10 ∷ []) → IsNext line a b
 next_of_lf line None b free consumed = tt
 next_of_lf line (Some xs) None free consumed = absurd consumed
-next_of_lf line (Some xs) (Some ys) free consumed =
-    ap lines_of (consumed ∙ append_assoc line (10 ∷ []) ys) ∙ lines_of-lf _ _ free
+next_of_lf line (Some xs) (Some ys) free consumed = grind (arith, append_assoc, lines_of-lf)
 
 -- an empty input
 pub no_more : lines_of [] ≡ []
@@ -46,6 +44,4 @@ pub next_of_end : {line : List ℕ} (a b : Option (List ℕ)) → HasNoLf line �
 next_of_end None b free some consumed ended = tt
 next_of_end (Some xs) None free some consumed ended = absurd consumed
 next_of_end {line = line} (Some xs) (Some ys) free some consumed ended =
-    ap lines_of (consumed ∙ ap (λ (l : List ℕ). line ++ l) ended ∙ append-nil line)
-    ∙ lines_of-last _ free some
-    ∙ ap (λ (l : List (List ℕ)). line ∷ l) (sym (ap lines_of ended ∙ no_more))
+    grind (arith, append-nil, lines_of-last, no_more)

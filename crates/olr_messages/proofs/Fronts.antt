@@ -1,14 +1,8 @@
 -- The front of a line, and why it tells the message of the line.
-use Rattle.olr_messages.proofs.Common.{◌≡◌, ℕ, zero, suc, ◌+◌, ◌-◌, ◌<◌, ◌≤◌, min, List, [], ◌∷◌, ◌++◌, length, take, get_or, refl, sym, ap, ◌∙◌, inl, inr, arith, cases_lt, eqb_tells, length-take, take_all, take-append-le, take-append-add, IsMessage, Message, Empty, Long, record_of, front_of}
+use Rattle.olr_messages.proofs.Common.{◌≡◌, ℕ, zero, suc, ◌+◌, ◌-◌, ◌<◌, ◌≤◌, min, List, [], ◌∷◌, ◌++◌, length, take, refl, sym, ap, ◌∙◌, inl, inr, arith, cases_lt, eqb_tells, length-take, take_all, take-append-le, take-append-add, IsMessage, Message, Empty, Long, record_of, front_of}
 
 take-take-append : (n : ℕ) (xs ys : List ℕ) → take n (take n xs ++ ys) ≡ take n (xs ++ ys)
-take-take-append n xs ys = elim (cases_lt n (length xs)) [
-  | inl short ↦
-      let size = length-take n xs in
-      take-append-le n (take n xs) ys (omega arith) ∙ take_all n (take n xs) (omega arith)
-      ∙ sym (take-append-le n xs ys (omega arith))
-  | inr all ↦ ap (λ (l : List ℕ). take n (l ++ ys)) (take_all n xs all)
-]
+take-take-append n xs ys = grind (arith, cases_lt, length-take, take-append-le, take_all)
 
 -- what is appended to the front of a line is appended to the line
 pub front_of-front_of : (xs ys : List ℕ) → front_of (front_of xs ++ ys) ≡ front_of (xs ++ ys)
@@ -16,10 +10,7 @@ unfolding front_of
 front_of-front_of xs ys = take-take-append 65538 xs ys
 
 take-min : (n : ℕ) (xs : List ℕ) → take (min (length xs) n) xs ≡ take n xs
-take-min n xs = elim (cases_lt n (length xs)) [
-  | inl short ↦ let least : min (length xs) n ≡ n = omega arith in ap (λ (k : ℕ). take k xs) least
-  | inr all ↦ take_all (min (length xs) n) xs (omega arith) ∙ sym (take_all n xs all)
-]
+take-min n xs = grind (arith, cases_lt, take_all)
 
 -- so much of what is appended is held
 pub held_front : (line part : List ℕ) → length line ≤ 65538
@@ -49,10 +40,7 @@ front_none line none = take_none 65538 line (omega arith) none
 
 -- a line has one byte more than its record at most
 record_short : (line : List ℕ) → length line ≤ length (record_of line) + 1
-record_short line = elim (eqb_tells (get_or line (length line - 1) 0) 13) [
-  | inl same ↦ rw same.0 (omega (arith, length-take (length line - 1) line))
-  | inr differs ↦ rw differs.0 (omega arith)
-]
+record_short line = grind (arith, eqb_tells, length-take)
 
 only_long : (bytes line : List ℕ) (message : Message) → 65536 < length bytes → 65536 < length line
     → IsMessage bytes message → IsMessage line message

@@ -11,9 +11,7 @@ same_text : (bytes : List ℕ) (k l : Option (List ℕ)) (s t : List ℕ) → Is
 same_text bytes None None s t a b = ap (λ (x : List ℕ). Text None x) (a.0 ∙ sym b.0)
 same_text bytes None (Some l) s t a b = absurd (not_avoided 9 _ l t b.0 (avoids_tab _ a.1))
 same_text bytes (Some k) None s t a b = absurd (not_avoided 9 _ k s a.0 (avoids_tab _ b.1))
-same_text bytes (Some k) (Some l) s t a b =
-    let same = one_way 9 k s l t (avoids_tab k a.1) (avoids_tab l b.1) (sym a.0 ∙ b.0) in
-    ap (λ (x : List ℕ). Text (Some x) s) same.0 ∙ ap (λ (x : List ℕ). Text (Some l) x) same.1
+same_text bytes (Some k) (Some l) s t a b = grind (arith, one_way, avoids_tab)
 
 not_long : {bytes : List ℕ} → bytes ≡ [] → 65536 < length bytes → ⊥
 not_long none long = omega (arith, ap length none)

@@ -1,5 +1,5 @@
 -- From the parts of a step to the next line.
-use Rattle.olr_messages.proofs.Common.{◌≡◌, ◌≢◌, ℕ, ◌+◌, ◌-◌, ◌^◌, ◌≤◌, List, [], ◌∷◌, ◌++◌, length, refl, sym, ap, ◌∙◌, append_assoc, length-append, inl, inr, arith, Option, Some, None, Bool, true, false, ◌==◌, Contains, MatchBool, not, Consumes, IsAtEnd, Keeps, prepend_known, eqb_tells, All-append, All-contains, All-nil, one_more, HasNoLf, IsCutOff, IsGiven, IsOver, Reading, ReadsAll, ReadsLine, ReadsToLf, front_of, left_of}
+use Rattle.olr_messages.proofs.Common.{◌≡◌, ◌≢◌, ℕ, ◌+◌, ◌-◌, ◌^◌, ◌≤◌, List, [], ◌∷◌, ◌++◌, length, refl, sym, ap, ◌∙◌, append_assoc, length-append, inl, arith, Option, Some, None, Bool, true, false, ◌==◌, Contains, MatchBool, not, Consumes, IsAtEnd, Keeps, prepend_known, eqb_tells, All-append, All-contains, All-nil, one_more, HasNoLf, IsCutOff, IsGiven, IsOver, Reading, ReadsAll, ReadsLine, ReadsToLf, front_of, left_of}
 use Rattle.std.proofs.KnownBytes.{Consumes-nil, Consumes-trans}
 use Rattle.olr_messages.proofs.Fronts.{front_none, front_of-front_of}
 use Rattle.olr_messages.proofs.FirstLine.{next_of_end, next_of_lf}
@@ -22,9 +22,7 @@ hand_to_lf : {hand : List ℕ} (part rest : List ℕ) (left : Option (List ℕ))
     → hand ≡ part ++ 10 ∷ rest
     → Consumes (prepend_known hand left) (prepend_known rest left) (part ++ 10 ∷ [])
 hand_to_lf part rest None split = tt
-hand_to_lf part rest (Some xs) split =
-    ap (λ (l : List ℕ). l ++ xs) split ∙ append_assoc part (10 ∷ rest) xs
-    ∙ sym (append_assoc part (10 ∷ []) (rest ++ xs))
+hand_to_lf part rest (Some xs) split = grind (arith, append_assoc)
 
 all_at_hand : (hand : List ℕ) (left : Option (List ℕ))
     → Consumes (prepend_known hand left) left hand
@@ -36,8 +34,7 @@ none_first None = refl
 none_first (Some xs) = refl
 
 given_first : (a b c : Option (List ℕ)) (part bytes : List ℕ) → Consumes a b part
-    → Consumes b c bytes
-    → Consumes a (prepend_known bytes c) part
+    → Consumes b c bytes → Consumes a (prepend_known bytes c) part
 given_first None b c part bytes p q = tt
 given_first (Some x) None c part bytes p q = absurd p
 given_first (Some x) (Some y) None part bytes p q = absurd q
@@ -51,23 +48,13 @@ keeps_nothing (Some x) (Some y) kept = sym kept
 by_length : (xs : List ℕ) {P Q : Type 0} → (xs ≢ [] → P) → (xs ≡ [] → Q)
     → MatchBool (not (length xs == 0)) P Q
 by_length [] some none = none refl
-by_length (x ∷ xs) some none = elim (eqb_tells (length (x ∷ xs)) 0) [
-  | inl same ↦ absurd (omega arith)
-  | inr differs ↦ rw differs.0 (some (λ e. absurd cc))
-]
+by_length (x ∷ xs) some none = grind (arith, eqb_tells)
 
 -- ---- the steps
 
 pub none_read : {hand : List ℕ} {left : Option (List ℕ)} {now : Reading} → now.at_hand ≡ hand
-    → now.front ≡ []
-    → HasRead (prepend_known hand left) left now 0
-none_read same empty = record {
-  part = [];
-  consumed = rw same (Consumes-nil _);
-  no_lf = All-nil (λ b. b ≢ 10);
-  front = empty ∙ sym no_front;
-  many = omega arith;
-}
+    → now.front ≡ [] → HasRead (prepend_known hand left) left now 0
+none_read same empty = grind (arith, Consumes-nil, All-nil, no_front)
 
 module _ {a left : Option (List ℕ)} {now : Reading} {calls : ℕ} (has : HasRead a left now calls)
   where
@@ -142,8 +129,7 @@ module _ {a left : Option (List ℕ)} {now : Reading} {calls : ℕ} (has : HasRe
 
     -- it fails
     pub cut_off : (new : Reading) (next : Option (List ℕ)) {old_failed new_failed : ℕ}
-        → now.at_hand ≡ []
-        → new.at_hand ≡ [] → Keeps left next → new_failed ≡ one_more old_failed
+        → now.at_hand ≡ [] → new.at_hand ≡ [] → Keeps left next → new_failed ≡ one_more old_failed
         → IsCutOff a (left_of new next) new.at_hand old_failed new_failed
     cut_off new next empty none kept failed = record {
       lost = has.part;
@@ -156,18 +142,12 @@ module _ {a left : Option (List ℕ)} {now : Reading} {calls : ℕ} (has : HasRe
 pub endless : {a left : Option (List ℕ)} {now : Reading} {calls old_failed new_failed : ℕ}
     → HasRead a left now calls → 2 ^ 64 - 1 ≤ calls → new_failed ≡ old_failed
     → IsCutOff a (left_of now left) now.at_hand old_failed new_failed
-endless has most same = record {
-  lost = has.part;
-  consumed = has.consumed;
-  no_lf = has.no_lf;
-  cause = inr (same, omega arith);
-}
+endless has most same = grind arith
 
 -- ---- a line that is at hand as a whole
 
 pub line_of_hand : {hand : List ℕ} {now new : Reading} → ReadsToLf now new → now.at_hand ≡ hand
-    → now.front ≡ []
-    → ReadsLine (Some hand) (Some new.at_hand) new.front
+    → now.front ≡ [] → ReadsLine (Some hand) (Some new.at_hand) new.front
 line_of_hand {hand} {now} {new} reads same empty = record {
   line = reads.part;
   is_next = next_of_lf _ (Some hand) (Some new.at_hand) reads.no_lf
@@ -177,5 +157,4 @@ line_of_hand {hand} {now} {new} reads same empty = record {
 
 pub not_all : {hand : List ℕ} {now new : Reading} → ReadsAll now new → now.at_hand ≡ hand
     → Contains hand 10 → ⊥
-not_all {hand} reads same has =
-    All-contains (λ byte. byte ≢ 10) hand 10 (rw same at reads.no_lf) has refl
+not_all {hand} reads same has = grind (arith, All-contains)

@@ -9,8 +9,7 @@ abbrev pub is_tab : ℕ → Bool
 is_tab byte = eqb byte 9
 
 before_tab : (bytes : List ℕ) (i : ℕ) → i < position_or_len is_tab bytes → get_or bytes i 0 ≢ 9
-before_tab bytes i before tab =
-    eqb-false (get_or bytes i 0) 9 (fails_before_first is_tab bytes i 0 before) tab
+before_tab bytes i before tab = grind (arith, eqb-false, fails_before_first)
 
 -- a record without a TAB
 pub no_tab : (bytes : List ℕ) → position_or_len is_tab bytes ≡ length bytes
@@ -30,11 +29,10 @@ key_has_none bytes some =
 pub at_tab : (bytes : List ℕ) {key text : List ℕ} → position_or_len is_tab bytes < length bytes
     → key ≡ before_first is_tab bytes → text ≡ after_first is_tab bytes
     → (bytes ≡ key ++ 9 ∷ text) × All (λ byte. byte ≢ 9) key
-at_tab bytes some is_key is_text =
-    let tab = eqb-true (get_or bytes (position_or_len is_tab bytes) 0) 9
-    (passes_at_first is_tab bytes 0 some) in
-    let whole = split_at_first is_tab bytes 0 some in (
-      rw (is_key, is_text) (whole ∙ ap
-          (λ (b : ℕ). before_first is_tab bytes ++ (b ∷ after_first is_tab bytes)) tab),
-      rw is_key (key_has_none _ some),
-    )
+at_tab bytes some is_key is_text = (
+  rw (is_key, is_text) ((split_at_first is_tab bytes 0 some) ∙ ap
+      (λ (b : ℕ). before_first is_tab bytes ++ (b ∷ after_first is_tab bytes))
+      (eqb-true (get_or bytes (position_or_len is_tab bytes) 0) 9
+      (passes_at_first is_tab bytes 0 some))),
+  rw is_key (key_has_none _ some),
+)

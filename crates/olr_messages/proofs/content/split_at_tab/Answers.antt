@@ -5,15 +5,12 @@ use Rattle.olr_messages.proofs.content.split_at_tab.Goals as goal
 
 pub returns-in-Some : goal.returns-in-Some
 returns-in-Some c =
-    let key = c.in-Some.key in
-    let text = c.in-Some.text in
-    let parts = split_once_first 9 c.args.whole.now (Some (key, text)) c.in-Some.ensures.cases
-    (omega arith) in
+    let parts = split_once_first 9 c.args.whole.now (Some (c.in-Some.key, c.in-Some.text))
+    c.in-Some.ensures.cases (omega arith) in
     at_tab _ parts.0 parts.1 parts.2
 
 pub returns-in-None : goal.returns-in-None
 returns-in-None c = (
   refl,
-  no_tab _ (split_once_first 9 c.args.whole.now None c.in-None.ensures.cases
-      (omega arith)),
+  no_tab _ (split_once_first 9 c.args.whole.now None c.in-None.ensures.cases (omega arith)),
 )

@@ -1,4 +1,4 @@
-use Rattle.olr_messages.proofs.Common.{◌≡◌, refl, ap, ◌∙◌, length, arith, rules, ◌==◌, vec_len, one_more, Reading}
+use Rattle.olr_messages.proofs.Common.{refl, ap, ◌∙◌, length, arith, rules, ◌==◌, one_more, Reading}
 use Rattle.std.proofs.lemmas.Result.{err_from_is_err_and}
 use Rattle.olr_messages.proofs.Steps.{all_read, cut_off, endless, line_of_hand, line_read, none_given, none_read, not_all, some_given}
 use Rattle.olr_messages.proofs.messages.Messages.next.Goals as goal
@@ -51,17 +51,15 @@ returns-in_err-refill-clause-cut_off g c =
     let given = c.in_err-refill.ensures in
     rw (err_from_is_err_and c.from_residual.result c.from_residual.ensures.1).1
     (cut_off (all_read before.has_read reads) c.refill.new.self _ reads.none_at_hand
-    given.none_at_hand given.err
-    (given.counts ∙ ap one_more before.none_failed))
+    given.none_at_hand given.err (given.counts ∙ ap one_more before.none_failed))
 
 pub returns-then-not-branch-clause-moves : goal.returns-then-not-branch-clause-moves
 returns-then-not-branch-clause-moves g c =
     let reads = c.if-read_to_lf.ensures in
     let given = c.in_ok-refill.ensures in
-    let size : vec_len c.self.inside.line ≡ length c.self.inside.line.items = search rules in
     none_given (all_read c.loop-call.invariant.has_read reads) _ reads.none_at_hand given.gives
     c.if-not-branch.true given.same_line
-    (c.is_empty.ensures ∙ ap (λ n. n == 0) size
+    (c.is_empty.ensures ∙ ap (λ n. n == 0) (search rules)
     ∙ ap (λ (r : Reading). length r.front == 0) c.self.view_is)
 
 pub returns-clause-cut_off : goal.returns-clause-cut_off

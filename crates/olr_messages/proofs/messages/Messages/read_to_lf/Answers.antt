@@ -51,12 +51,9 @@ returns c =
     let old_hand = ap (λ (l : List ℕ). slice_range l it.from it.to) c.deref.ensures.value
     ∙ ap (λ (r : Reading). r.at_hand) c.self.view_is in
     let old_front = ap (λ (r : Reading). r.front) c.self.view_is in
-    let inside : it.to ≤ length c.deref.result.now =
-    rw c.deref.ensures.value c.self.invariant.inside in
-    let behind = behind_lf _ c.self.invariant.ordered inside c.in-Some.ensures.0.high in
-    let rest =
-    rest_at_hand _ _ _ _ behind ∙ ap (λ (l : List ℕ). slice_range l (it.from + (end + 1)) it.to)
-    c.deref.ensures.value in
+    let rest = rest_at_hand _ _ _ _ (behind_lf _ c.self.invariant.ordered
+    (rw c.deref.ensures.value c.self.invariant.inside) c.in-Some.ensures.0.high) ∙ ap
+    (λ (l : List ℕ). slice_range l (it.from + (end + 1)) it.to) c.deref.ensures.value in
     record {
       part = take end hand;
       split = sym old_hand ∙ lf_found _ _ c.in-Some.ensures.0 c.in-Some.ensures.1
