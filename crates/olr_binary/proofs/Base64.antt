@@ -6,12 +6,10 @@ use Rattle.base64.proofs.EngineFacts.{decode_of_strict, decode_of-encode_of}
 -- what decodes is the base64 of what it decodes to
 pub base64_from_decoded : (text bytes : List ℕ) → AreBytes text → AreBytes bytes
     → decode_of standard text ≡ Ok bytes → IsBase64 text bytes
-base64_from_decoded text bytes text_bytes fits e =
-    record {
-      each_byte = fits;
-      spelling =
-          decode_of_strict standard text bytes (refl, refl) text_bytes e;
-    }
+base64_from_decoded text bytes text_bytes fits e = record {
+  each_byte = fits;
+  spelling = decode_of_strict standard text bytes (refl, refl) text_bytes e;
+}
 
 -- the base64 of bytes decodes to them
 pub decoded_from_base64 : (text bytes : List ℕ) → IsBase64 text bytes
@@ -26,5 +24,4 @@ not_base64 text bytes e failed h = cc (decoded_from_base64 _ bytes h)
 
 -- a text is the base64 of one byte list at most
 pub base64_is_one : (text a b : List ℕ) → IsBase64 text a → IsBase64 text b → a ≡ b
-base64_is_one text a b p q =
-    cc (decoded_from_base64 _ a p, decoded_from_base64 _ b q)
+base64_is_one text a b p q = cc (decoded_from_base64 _ a p, decoded_from_base64 _ b q)

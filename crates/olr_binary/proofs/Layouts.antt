@@ -10,8 +10,7 @@ pub layout_from : (size : ℕ) → 16 ≤ size → (size - 2) % 7 ≤ 2
 layout_from size long few = record {
   between = (size - 16) / 7;
   with_ends = omega arith;
-  whole =
-      omega arith;
+  whole = omega arith;
   at_most_two = few;
 }
 
@@ -39,9 +38,6 @@ long_enough PointAlong size (inr e) = omega arith
 -- the layout by division, of a location
 pub laid_out : (location : LocationType) (size : ℕ) → IsSizeOf location size
     → IsLayout size ((size - 2) / 7) ((size - 2) % 7) × HasTwoPoints location ((size - 2) / 7)
-laid_out Line size (count, offsets, layout) = (
-  layout_from _ (omega arith) (omega arith),
-  tt,
-)
+laid_out Line size (count, offsets, layout) = grind (arith, layout_from)
 laid_out PointAlong size (inl e) = (layout_from _ (omega arith) (omega arith), omega arith)
 laid_out PointAlong size (inr e) = (layout_from _ (omega arith) (omega arith), omega arith)

@@ -1,5 +1,5 @@
 -- A text has one refusal at most.
-use Rattle.olr_binary.proofs.Common.{◌≡◌, ℕ, ◌<◌, ◌≤◌, List, length, refl, ap, subst, arith, inl, inr, ints, Coordinates, Refused, TooLong, NotBase64, Empty, BadVersion, OtherKind, PoiWithAccess, BadLength, TooManyPoints, OffsetFlags, OutOfRange, Area, GeoCoordinate, IsFirstPlace, order_of, BytesCondition, Refuses, RefusesBytes, IsFirstOutOfRange, IsBase64}
+use Rattle.olr_binary.proofs.Common.{◌≡◌, ℕ, ◌<◌, ◌≤◌, List, length, refl, subst, arith, inl, inr, ints, Coordinates, Refused, TooLong, NotBase64, Empty, BadVersion, OtherKind, PoiWithAccess, BadLength, TooManyPoints, OffsetFlags, OutOfRange, Area, GeoCoordinate, IsFirstPlace, order_of, BytesCondition, Refuses, RefusesBytes, IsFirstOutOfRange, IsBase64}
 use Rattle.olr_binary.proofs.Base64.{base64_is_one}
 use Rattle.olr_binary.proofs.Layouts.{layout_is_one}
 
@@ -15,8 +15,7 @@ first_place_is_one {bytes} {a} {b} p q =
 -- no earlier point is beyond the ranges
 not_before : (bytes : List ℕ) (i j : ℕ) → IsFirstOutOfRange bytes i → IsFirstOutOfRange bytes j
     → i < j → ⊥
-not_before bytes i j p q lt =
-    p.beyond (rw (first_place_is_one p.place q.place) (q.before i lt))
+not_before bytes i j p q lt = grind (arith, first_place_is_one)
 
 beyond_is_one : (bytes : List ℕ) (i j : ℕ) → IsFirstOutOfRange bytes i → IsFirstOutOfRange bytes j
     → i ≡ j
@@ -42,18 +41,14 @@ same_order bytes (OtherKind GeoCoordinate) (OtherKind Area) r p q =
     absurd (not_both_kinds bytes q p)
 same_order bytes PoiWithAccess PoiWithAccess r p q = refl
 same_order bytes (BadLength m) (BadLength n) r p q = cc
-same_order bytes (TooManyPoints c) (TooManyPoints d) r p q =
-    ap TooManyPoints (layout_is_one p.2 q.2).0
+same_order bytes (TooManyPoints c) (TooManyPoints d) r p q = grind (arith, layout_is_one)
 same_order bytes OffsetFlags OffsetFlags r p q = refl
 same_order bytes (OutOfRange m) (OutOfRange n) r p q = cc (beyond_is_one bytes p.0 q.0 p.6 q.6)
 same_order bytes e f r p q = absurd (omega arith)
 
 bytes_refusal_is_one : (bytes : List ℕ) (e f : Refused) → RefusesBytes bytes e
     → RefusesBytes bytes f → e ≡ f
-bytes_refusal_is_one bytes e f p q =
-    let le : order_of e < order_of f → ⊥ = λ lt. q.first e lt p.holds in
-    let ge : order_of f < order_of e → ⊥ = λ lt. p.first f lt q.holds in
-    same_order bytes e f (omega arith) p.holds q.holds
+bytes_refusal_is_one bytes e f p q = grind (arith, same_order)
 
 -- the refusal of a text is one
 pub refusal_is_one : (text : List ℕ) (e f : Refused) → Refuses text e → Refuses text f → e ≡ f

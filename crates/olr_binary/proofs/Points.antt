@@ -1,5 +1,5 @@
 -- Reading points one after the other.
-use Rattle.olr_binary.proofs.Common.{◌≡◌, ℕ, zero, suc, ◌+◌, ◌-◌, ◌*◌, ◌<◌, List, [], ◌∷◌, ◌++◌, length, Some, refl, arith, inl, inr, slice_get, Coordinates, Point, place_of, moved, two_bytes_at, IsPoint}
+use Rattle.olr_binary.proofs.Common.{◌≡◌, ℕ, zero, suc, ◌+◌, ◌-◌, ◌*◌, ◌<◌, List, [], ◌∷◌, ◌++◌, length, Some, arith, inl, inr, slice_get, Coordinates, Point, place_of, moved, two_bytes_at, IsPoint}
 use Rattle.olr_base.proofs.Contained.{first_or_last}
 
 -- the place of a point that isn't the first, from the place of the one before
@@ -8,10 +8,7 @@ pub place_of-next : (bytes : List ℕ) (first before : Coordinates) (i : ℕ) �
     → moved before (two_bytes_at bytes (3 + 7 * i)) (two_bytes_at bytes (3 + 7 * i + 2))
     ≡ place_of bytes first i
 place_of-next bytes first before zero some e = absurd (omega arith)
-place_of-next bytes first before (suc i) some e =
-    let at : suc i - 1 ≡ i = omega arith in
-    let north : 3 + 7 * suc i + 2 ≡ 5 + 7 * suc i = omega arith in
-    rw (e, at, north) refl
+place_of-next bytes first before (suc i) some e = grind arith
 
 -- one point more at the end
 pub each-push : (bytes : List ℕ) (first : Coordinates) (count n : ℕ) (points : List Point)

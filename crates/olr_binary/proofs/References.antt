@@ -1,12 +1,11 @@
 -- What the bytes of a reference say: that they say it of one reference alone, and that no refusal
 -- holds of them.
-use Rattle.olr_binary.proofs.Common.{◌≡◌, ℕ, zero, suc, ◌+◌, ◌*◌, ◌<◌, ◌≤◌, List, length, Option, Some, None, refl, ap, ◌∙◌, arith, inl, inr, Bool, true, false, ◌==◌, if◌then◌else◌, MatchOption, replicate, standard, Coordinates, IsInRange, Point, Next, Reference, Line, PointAlong, Refused, TooLong, NotBase64, Empty, BadVersion, OtherKind, PoiWithAccess, BadLength, TooManyPoints, OffsetFlags, OutOfRange, Area, GeoCoordinate, place_of, IsLayout, status_of, last_attribute_of, IsPoint, IsNext, ArePoints, IsReferenceOf, IsReference, AreLinked, IsOffset, offset_of, points_of, BytesCondition, flags_set, IsFirstOutOfRange, IsPointAlongSize, IsSize, AreBytes, IsBase64}
+use Rattle.olr_binary.proofs.Common.{◌≡◌, ℕ, zero, suc, ◌+◌, ◌*◌, ◌<◌, ◌≤◌, List, length, Option, Some, None, refl, ap, ◌∙◌, arith, inl, inr, Bool, true, false, if◌then◌else◌, MatchOption, Coordinates, IsInRange, Point, Next, Reference, Line, PointAlong, Refused, TooLong, NotBase64, Empty, BadVersion, OtherKind, PoiWithAccess, BadLength, TooManyPoints, OffsetFlags, OutOfRange, Area, GeoCoordinate, place_of, IsLayout, status_of, last_attribute_of, IsPoint, IsNext, ArePoints, IsReferenceOf, IsReference, AreLinked, IsOffset, offset_of, points_of, BytesCondition, flags_set, IsFirstOutOfRange, IsPointAlongSize, IsSize, AreBytes, IsBase64}
 use Rattle.std.proofs.lemmas.List.{length-append, length-replicate}
 use Rattle.std.proofs.lemmas.Option.{slice_get_cases}
 use Rattle.arrayvec.specs.ArrayVec.{ArrayVec}
 use Rattle.base64.proofs.RoundTrip.{length-encode_symbols}
-use Rattle.base64.specs.Rfc4648.{encode_symbols, padding_len}
-use Rattle.olr_binary.specs.Bits.{area_flags_of, attribute_flag_of, point_flag_of, positive_flag_of, version_of}
+use Rattle.olr_binary.specs.Bits.{area_flags_of, attribute_flag_of, point_flag_of, version_of}
 use Rattle.olr_binary.proofs.Layouts.{layout_is_one}
 use Rattle.olr_binary.proofs.Outcomes.{first_place_is_one}
 use Rattle.olr_binary.proofs.Same.{same_degrees, same_next, same_point, same_points}
@@ -23,14 +22,11 @@ next_is_one bytes count i (Some x) (Some y) p q = ap Some (same_next (cc) (cc))
 
 point_is_one : {bytes : List ℕ} {first : Coordinates} {count i : ℕ} {a b : Point}
     → IsPoint bytes first count i a → IsPoint bytes first count i b → a ≡ b
-point_is_one {bytes} {first} {count} {i} p q =
-    same_point (same_degrees (cc) (cc)) (cc) (cc) (cc)
-    (next_is_one bytes count i _ _ p.attributes.next q.attributes.next)
+point_is_one {bytes} {first} {count} {i} p q = grind (arith, same_point, same_degrees, next_is_one)
 
 points_are_one : {bytes : List ℕ} {xs ys : List Point} → length xs ≡ length ys → ArePoints bytes xs
     → ArePoints bytes ys → xs ≡ ys
-points_are_one len p q = same_points _ _ len (λ i x y at_x at_y.
-    point_is_one (p.each i x at_x)
+points_are_one len p q = same_points _ _ len (λ i x y at_x at_y. point_is_one (p.each i x at_x)
     (rw (first_place_is_one p.place q.place, len) (q.each i y at_y)))
 
 linked : (bytes : List ℕ) (points : List Point) → ArePoints bytes points → AreLinked points
@@ -57,8 +53,7 @@ inside {bytes} {points} p i lt = elim (slice_get_cases points i).1 [
 
 none_beyond : {bytes : List ℕ} {points : List Point} {i : ℕ} → ArePoints bytes points
     → i < length points → IsFirstOutOfRange bytes i → ⊥
-none_beyond {bytes} {points} {i} p lt beyond =
-    beyond.beyond (rw (first_place_is_one beyond.place p.place) (inside p i lt))
+none_beyond {bytes} {points} {i} p lt beyond = grind (arith, first_place_is_one, inside)
 
 -- ---- references
 
@@ -67,31 +62,28 @@ either true x y p q = p
 either false x y p q = q
 
 offset_in_range : (flag byte : ℕ) → byte < 256 → IsOffset (offset_of flag byte)
-offset_in_range flag byte lt = elim (flag == 1) as (λ b. IsOffset (if b then Some byte else None))
-    [ true ↦ lt | false ↦ tt ]
+offset_in_range flag byte lt = grind arith
 
 -- what holds of every reference
 pub is_reference : (bytes : List ℕ) (r : Reference) → AreBytes bytes → IsReferenceOf bytes r
     → IsReference r
-is_reference bytes (Line points positive negative) fits h =
-    record {
-      at_least = omega arith;
-      at_most = h.at_most;
-      linked = linked _ _ h.each_point;
-      positive_in_range = rw h.positive_offset
-          (offset_in_range _ _ (fits (2 + 7 * length points.items)));
-      negative_in_range = rw h.negative_offset
-          (offset_in_range _ _ (either _ _ _ (fits (3 + 7 * length points.items))
-          (fits (2 + 7 * length points.items))));
-    }
-is_reference bytes (PointAlong points orientation side positive) fits h =
-    record {
-      two = h.two;
-      linked = linked _ _ h.each_point;
-      orientation_in_range = omega arith;
-      side_in_range = omega arith;
-      positive_in_range = rw h.positive_offset (offset_in_range _ _ (fits 16));
-    }
+is_reference bytes (Line points positive negative) fits h = record {
+  at_least = omega arith;
+  at_most = h.at_most;
+  linked = linked _ _ h.each_point;
+  positive_in_range = rw h.positive_offset
+      (offset_in_range _ _ (fits (2 + 7 * length points.items)));
+  negative_in_range = rw h.negative_offset
+      (offset_in_range _ _ (either _ _ _ (fits (3 + 7 * length points.items))
+      (fits (2 + 7 * length points.items))));
+}
+is_reference bytes (PointAlong points orientation side positive) fits h = record {
+  two = h.two;
+  linked = linked _ _ h.each_point;
+  orientation_in_range = omega arith;
+  side_in_range = omega arith;
+  positive_in_range = rw h.positive_offset (offset_in_range _ _ (fits 16));
+}
 
 same_items : (xs ys : ArrayVec Point) → xs.items ≡ ys.items → xs ≡ ys
 same_items xs ys e = λ i. record { items = e i }
@@ -102,8 +94,8 @@ pub reference_is_one : (bytes : List ℕ) (r s : Reference) → IsReferenceOf by
 reference_is_one bytes (Line xs p n) (PointAlong ys o s q) a b = absurd (omega arith)
 reference_is_one bytes (PointAlong ys o s q) (Line xs p n) a b = absurd (omega arith)
 reference_is_one bytes (Line xs p n) (Line ys q m) a b =
-    let counts = layout_is_one a.layout b.layout in
-    let points : xs ≡ ys = same_items _ _ (points_are_one counts.0 a.each_point b.each_point) in
+    let points : xs ≡ ys = same_items _ _
+    (points_are_one (layout_is_one a.layout b.layout).0 a.each_point b.each_point) in
     let positive : p ≡ q = cc in
     let negative : n ≡ m = cc in
     cc
@@ -131,30 +123,8 @@ one_or_none (suc zero) lt = inr refl
 one_or_none (suc (suc n)) lt = absurd (omega arith)
 
 is_read : (bytes : List ℕ) (r : Reference) → IsReferenceOf bytes r → IsRead bytes (points_of r)
-is_read bytes (Line points p n) r = record {
-  version = r.status.version;
-  area = r.status.area;
-  attributes = r.status.attributes;
-  sized = rw r.status.point (length points.items, r.offsets, r.layout);
-  at_poi = λ point. absurd (omega arith);
-  offsets = r.offsets;
-  layout = r.layout;
-  at_most = r.at_most;
-  flags = rw r.status.point r.flags;
-  each_point = r.each_point;
-}
-is_read bytes (PointAlong points o s p) r = record {
-  version = r.status.version;
-  area = r.status.area;
-  attributes = r.status.attributes;
-  sized = rw (r.status.point, r.size) (one_or_none _ (omega arith));
-  at_poi = λ point. omega arith;
-  offsets = positive_flag_of (last_attribute_of bytes 2);
-  layout = record { between = 0; with_ends = r.two; whole = r.size; at_most_two = omega arith };
-  at_most = omega arith;
-  flags = rw (r.status.point, r.two) refl;
-  each_point = r.each_point;
-}
+is_read bytes (Line points p n) r = grind arith
+is_read bytes (PointAlong points o s p) r = grind (arith, one_or_none)
 
 not_refused : (bytes : List ℕ) (points : List Point) → IsRead bytes points → (e : Refused)
     → BytesCondition bytes e → ⊥
@@ -169,9 +139,8 @@ not_refused bytes points r PoiWithAccess (point, _, inl e) = omega (arith, r.at_
 not_refused bytes points r PoiWithAccess (point, _, inr e) = omega (arith, r.at_poi point)
 not_refused bytes points r (BadLength size) h = h.1 (rw h.0 r.sized)
 not_refused bytes points r (TooManyPoints count) (line, o, layout, many) =
-    omega (arith, (layout_is_one r.layout layout).0)
-not_refused bytes points r OffsetFlags (count, o, layout, differ) =
-    let same = layout_is_one layout r.layout in differ (rw same.0 (same.1 ∙ r.flags))
+    grind (arith, layout_is_one)
+not_refused bytes points r OffsetFlags (count, o, layout, differ) = grind (arith, layout_is_one)
 not_refused bytes points r (OutOfRange point) (i, at, count, o, layout, lt, beyond) =
     none_beyond r.each_point (omega (arith, (layout_is_one r.layout layout).0)) beyond
 
@@ -185,13 +154,4 @@ reference_refused bytes r is = not_refused bytes (points_of r) (is_read bytes r 
 pub text_of_reference : (text bytes : List ℕ) (r : Reference) → IsBase64 text bytes
     → IsReferenceOf bytes r → length text ≤ 344
 text_of_reference text bytes r b h =
-    let size = is_read bytes r h in
-    let symbols : List ℕ = encode_symbols standard.encode_table bytes in
-    let padding : List ℕ = replicate (padding_len (length bytes)) 61 in
-    omega (
-      arith,
-      ap length b.spelling,
-      length-append symbols padding,
-      length-encode_symbols standard.encode_table bytes,
-      length-replicate {A = ℕ} (padding_len (length bytes)) 61,
-    )
+    grind (arith, is_read, length-append, length-encode_symbols, length-replicate)

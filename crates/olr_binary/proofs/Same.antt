@@ -19,16 +19,14 @@ same_degrees {a} {b} e f =
     (b.lon_in_range, b.lat_in_range) (λ i. (e i, f i))
 
 pub same_next : {a b : Next} → a.lowest ≡ b.lowest → a.interval ≡ b.interval → a ≡ b
-same_next {a} {b} e f =
-    made_same {A = ℕ × ℕ} (λ z. (z.0 < 8) × (z.1 < 256)) (λ z. hlevel props)
+same_next {a} {b} e f = made_same {A = ℕ × ℕ} (λ z. (z.0 < 8) × (z.1 < 256)) (λ z. hlevel props)
     (λ z h. record { lowest = z.0; interval = z.1; lowest_in_range = h.0; interval_in_range = h.1 })
     (a.lowest, a.interval) (b.lowest, b.interval) (a.lowest_in_range, a.interval_in_range)
     (b.lowest_in_range, b.interval_in_range) (λ i. (e i, f i))
 
 pub same_point : {a b : Point} → a.at ≡ b.at → a.class ≡ b.class → a.form ≡ b.form
     → a.sector ≡ b.sector → a.next ≡ b.next → a ≡ b
-same_point {a} {b} at class form sector next =
-    made_same {A = Degrees × ℕ × ℕ × ℕ × Option Next}
+same_point {a} {b} at class form sector next = made_same {A = Degrees × ℕ × ℕ × ℕ × Option Next}
     (λ f. (f.1 < 8) × (f.2 < 8) × (f.3 < 32)) (λ f. hlevel props)
     (λ f h. record {
       at = f.0;
@@ -36,12 +34,10 @@ same_point {a} {b} at class form sector next =
       form = f.2;
       sector = f.3;
       next = f.4;
-      class_in_range =
-          h.0;
+      class_in_range = h.0;
       form_in_range = h.1;
       sector_in_range = h.2;
-    })
-    (a.at, a.class, a.form, a.sector, a.next) (b.at, b.class, b.form, b.sector, b.next)
+    }) (a.at, a.class, a.form, a.sector, a.next) (b.at, b.class, b.form, b.sector, b.next)
     (a.class_in_range, a.form_in_range, a.sector_in_range)
     (b.class_in_range, b.form_in_range, b.sector_in_range)
     (λ i. (at i, class i, form i, sector i, next i))
@@ -53,7 +49,6 @@ same_points [] [] len same = refl
 same_points [] (y ∷ ys) len same = absurd (omega arith)
 same_points (x ∷ xs) [] len same = absurd (omega arith)
 same_points (x ∷ xs) (y ∷ ys) len same =
-    let rest : length xs ≡ length ys = omega arith in
     let first : x ≡ y = same 0 x y refl refl in
-    let others : xs ≡ ys = same_points _ _ rest (λ i. same (suc i)) in
+    let others : xs ≡ ys = same_points _ _ (omega arith) (λ i. same (suc i)) in
     cc

@@ -21,8 +21,7 @@ loop-index-preserved c =
     let here = c.place_at-place.ensures c.first-place.result c.loop-index.invariant.place in
     let again : c.loop-index.index + 1 - 1 ≡ c.loop-index.index = omega arith in
     let point : IsPoint c.args.bytes.now c.first-place.result c.args.count c.loop-index.index
-    c.point_at.result =
-    record {
+    c.point_at.result = record {
       lon = rw (c.point_at.ensures.at, ← here) c.in-Some.ensures.found.1;
       lat = rw (c.point_at.ensures.at, ← here) c.in-Some.ensures.found.2;
       attributes = c.point_at.ensures.attributes;
