@@ -4,9 +4,7 @@ use Rattle.olr_map.proofs.Common.{RoadLine, line_ids, NamesLines, IsAdjacent, ba
 
 pub rank_inside : (lines : List RoadLine) (id rank : ℕ) → slice_get (line_ids lines) rank ≡ Some id
     → rank < length lines
-rank_inside lines id rank at =
-    let inside = slice_get_within (line_ids lines) rank id at in
-    omega (arith, length-map lines (λ (line : RoadLine). line.id))
+rank_inside lines id rank at = grind (arith, slice_get_within, length-map)
 
 -- the line of a rank, by its head
 line_there : (o : Option RoadLine) (head : Line) → option_map head_of o ≡ Some head
@@ -24,16 +22,7 @@ module _ (lines : List RoadLine) (from to : ℕ) (one other : Line)
     (first : option_map head_of (slice_get lines from) ≡ Some one)
     (second : option_map head_of (slice_get lines to) ≡ Some other) where
   pub meets : one.to ≡ other.from → IsAdjacent lines (ban_of from to)
-  meets same =
-      let at = line_there _ _ first in
-      let then = line_there _ _ second in
-      record {
-        first = at.0;
-        second = then.0;
-        from = at.1;
-        to = then.1;
-        meet = cc (at.2, then.2, same);
-      }
+  meets same = grind (arith, line_there)
 
   pub never_meets : (one.to ≡ other.from → ⊥) → IsAdjacent lines (ban_of from to) → ⊥
   never_meets apart_there is =

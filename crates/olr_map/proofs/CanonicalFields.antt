@@ -1,6 +1,6 @@
 -- The fields of the rows of a map's canonical text: which bytes they lack, and that they decide the
 -- node, the line or the ban.
-use Rattle.olr_map.proofs.Common.{Coordinates, IsInRange, AllDiffer, rising_differ, Ban, Node, node_ids, RoadLine, line_ids, IsAdjacent, IsSoundNode, AreSoundNodes, IsSoundLine, JoinsNodes, AreSoundLines, place_text, shape_text, between_ends, node_fields, line_fields, ban_fields, ◌≡◌, ℕ, ◌-◌, ◌^◌, ◌<◌, ◌≤◌, List, [], ◌∷◌, ◌++◌, length, Some, refl, sym, ap, ◌∙◌, arith, rules, All, unwrap_or, slice_get, slice_index, decimal, signed_decimal, mag, length-append, length-map, take_at, All-drop, All-take, All-map, All-weaker, decimal_injective, signed_decimal_injective, slice_get_within}
+use Rattle.olr_map.proofs.Common.{Coordinates, IsInRange, AllDiffer, rising_differ, Ban, Node, node_ids, RoadLine, line_ids, IsAdjacent, IsSoundNode, AreSoundNodes, IsSoundLine, JoinsNodes, AreSoundLines, place_text, shape_text, between_ends, node_fields, line_fields, ban_fields, ◌≡◌, ℕ, ◌^◌, ◌<◌, ◌≤◌, List, [], ◌∷◌, ◌++◌, length, Some, refl, sym, ap, arith, rules, All, slice_get, slice_index, decimal, signed_decimal, mag, length-append, length-map, take_at, All-drop, All-take, All-map, All-weaker, decimal_injective, signed_decimal_injective, slice_get_within}
 use Rattle.olr_map.proofs.OneRow.{rank_once}
 use Rattle.olr_map.proofs.CanonicalTexts.{Lacks, AllLack, joined_once, map_once, joined_lacks, each_lacks, decimal_lacks, signed_lacks}
 
@@ -55,8 +55,7 @@ place_not_empty place rest none =
       arith,
       ap length none,
       length-append (place_text place) rest,
-      length-append lon
-          (32 ∷ (lat ++ [])),
+      length-append lon (32 ∷ (lat ++ [])),
     )
 
 pub shape_once : (ps qs : List Coordinates) → All IsInRange ps → All IsInRange qs
@@ -123,9 +122,7 @@ id_lacks {rank} cut are inside = decimal_lacks _ _ (λ low. omega arith) (are.sm
 
 rank_by_id : {ids : List ℕ} {i j : ℕ} → AreIds ids → i < length ids → j < length ids
     → decimal (slice_index ids i) ≡ decimal (slice_index ids j) → i ≡ j
-rank_by_id {i} {j} are inside_i inside_j same =
-    rank_once _ i j are.differ inside_i inside_j
-    (decimal_injective _ _ (are.small i 0 inside_i) (are.small j 0 inside_j) same)
+rank_by_id {i} {j} are inside_i inside_j same = grind (arith, rank_once, decimal_injective)
 
 -- ---- the fields of a line
 
@@ -143,12 +140,10 @@ between_in_range points all = All-take IsInRange _ _ (All-drop IsInRange 1 _ all
 
 between_is : (first : Coordinates) (shape : List Coordinates) (last : Coordinates)
     → between_ends (first ∷ shape ++ last ∷ []) ≡ shape
-between_is first shape last = take_at shape (last ∷ [])
-    (length (first ∷ shape ++ last ∷ []) - 1 - 1) (omega (arith, length-append shape (last ∷ [])))
+between_is first shape last = grind (arith, take_at, length-append)
 
 pub line_lacks : {byte : ℕ} {nodes : List Node} {line : RoadLine} → IsCut byte → AreSoundNodes nodes
-    → IsOn nodes line
-    → AllLack byte (line_fields nodes line)
+    → IsOn nodes line → AllLack byte (line_fields nodes line)
 line_lacks {byte} cut sound is =
     let ids = ids_of_nodes sound in
     let number : (n : ℕ) → n < 2 ^ 64 → Lacks byte (decimal n) =
@@ -176,18 +171,7 @@ line_lacks {byte} cut sound is =
 points_by_shape : (nodes : List Node) (a b : RoadLine) → JoinsNodes nodes a → JoinsNodes nodes b
     → a.from ≡ b.from → a.to ≡ b.to
     → between_ends a.points ≡ between_ends b.points → a.points ≡ b.points
-points_by_shape nodes a b is other from to same =
-    let first = ap (λ o. unwrap_or o is.first) (sym is.start
-    ∙ ap (λ (k : ℕ). slice_get nodes k) from ∙ other.start) in
-    let last = ap (λ o. unwrap_or o is.last) (sym is.end ∙ ap (λ (k : ℕ). slice_get nodes k) to
-    ∙ other.end) in
-    let shape = sym (between_is is.first.place _ _) ∙ ap between_ends (sym is.joined) ∙ same
-    ∙ ap between_ends other.joined
-    ∙ between_is other.first.place _ _ in
-    is.joined ∙ ap (λ (node : Node). node.place ∷ is.between ++ is.last.place ∷ []) first
-    ∙ ap (λ (l : List Coordinates). other.first.place ∷ l ++ is.last.place ∷ []) shape
-    ∙ ap (λ (node : Node). other.first.place ∷ other.between ++ node.place ∷ []) last
-    ∙ sym other.joined
+points_by_shape nodes a b is other from to same = grind (arith, between_is)
 
 pub line_by_fields : {nodes : List Node} → AreSoundNodes nodes → (a b : RoadLine) → IsOn nodes a
     → IsOn nodes b → line_fields nodes a ≡ line_fields nodes b → a ≡ b
@@ -217,12 +201,10 @@ line_by_fields sound a b is other same =
 
 line_inside : (lines : List RoadLine) (rank : ℕ) (line : RoadLine)
     → slice_get lines rank ≡ Some line → rank < length (line_ids lines)
-line_inside lines rank line there =
-    omega (arith, slice_get_within lines rank line there, length-map lines (λ (l : RoadLine). l.id))
+line_inside lines rank line there = grind (arith, slice_get_within, length-map)
 
 pub ban_lacks : {byte : ℕ} {nodes : List Node} {lines : List RoadLine} {ban : Ban} → IsCut byte
-    → AreSoundLines nodes lines → IsAdjacent lines ban
-    → AllLack byte (ban_fields lines ban)
+    → AreSoundLines nodes lines → IsAdjacent lines ban → AllLack byte (ban_fields lines ban)
 ban_lacks cut sound is =
     let ids = ids_of_lines sound in
     (id_lacks cut ids (line_inside _ _ _ is.from), (id_lacks cut ids (line_inside _ _ _ is.to), tt))

@@ -37,10 +37,7 @@ rows_lack rows all = each_lacks _ _ _ row_lacks _ all
 rows_ended : (rows : List (List (List ℕ)))
     → concat (map row_text rows) ≡ ended 10 (map (joined (codes ",")) rows)
 rows_ended [] = refl
-rows_ended (row ∷ rows) = cc (
-  append_assoc (joined (codes ",") row) (10 ∷ []) (concat (map row_text rows)),
-  rows_ended rows,
-)
+rows_ended (row ∷ rows) = grind (arith, append_assoc, rows, rows_ended rows)
 
 rows_by_text : {xs ys : List (List (List ℕ))} → All AreFields xs → All AreFields ys
     → concat (map row_text xs) ≡ concat (map row_text ys) → xs ≡ ys
@@ -70,18 +67,12 @@ split_at_length _ _ more others size same = absurd (omega arith)
 count_once : (name : List ℕ) (m n : ℕ) → m < 2 ^ 64 → n < 2 ^ 64 → heading name m ≡ heading name n
     → m ≡ n
 count_once name m n small other same =
-    let text : name ++ (32 ∷ decimal m ++ []) ≡ name ++ (32 ∷ decimal n ++ []) = cc in
-    let behind = append_cancel_left name (32 ∷ decimal m ++ []) (32 ∷ decimal n ++ []) text in
-    let number : decimal m ++ [] ≡ decimal n ++ [] = cc in
-    decimal_injective m n small other (cc (append-nil (decimal m), append-nil (decimal n)))
+    grind (arith, append_cancel_left, decimal_injective, append-nil)
 
 part_once : (name : List ℕ) (xs ys more others : List (List (List ℕ))) → length xs < 2 ^ 64
     → length ys < 2 ^ 64 → part name xs ++ more ≡ part name ys ++ others
     → SameParts xs ys more others
-part_once name xs ys more others small other same =
-    let first : heading name (length xs) ≡ heading name (length ys) = cc in
-    let behind : xs ++ more ≡ ys ++ others = cc in
-    split_at_length _ _ _ _ (count_once _ _ _ small other first) behind
+part_once name xs ys more others small other same = grind (arith, split_at_length, count_once)
 
 -- ---- the fields of a map
 
@@ -99,10 +90,7 @@ part_is name rows is small all = All-cons AreFields (heading name (length rows))
 
 lines_on : {nodes : List Node} {lines : List RoadLine} → AreSoundLines nodes lines
     → All (IsOn nodes) lines
-lines_on sound = λ k d inside. record {
-  sound = sound.each k d inside;
-  joins = sound.joined k d inside;
-}
+lines_on sound = grind arith
 
 nodes_are : {nodes : List Node} → AreSoundNodes nodes → All AreFields (map node_fields nodes)
 nodes_are sound = All-map AreFields _ _
@@ -122,26 +110,13 @@ bans_are {lines} bans sound each =
     (λ ban is byte cut. ban_lacks cut sound is) _ each)
 
 nodes_name : IsName (codes "nodes")
-nodes_name byte low = (
-  λ e. omega arith,
-  (
-    λ e. omega arith,
-    (λ e. omega arith, (λ e. omega arith, (λ e. omega arith, tt))),
-  ),
-)
+nodes_name byte low = grind arith
 
 lines_name : IsName (codes "lines")
-lines_name byte low = (
-  λ e. omega arith,
-  (
-    λ e. omega arith,
-    (λ e. omega arith, (λ e. omega arith, (λ e. omega arith, tt))),
-  ),
-)
+lines_name byte low = grind arith
 
 bans_name : IsName (codes "bans")
-bans_name byte low =
-    (λ e. omega arith, (λ e. omega arith, (λ e. omega arith, (λ e. omega arith, tt))))
+bans_name byte low = grind arith
 
 fields_are : (road : RoadMap) → IsSoundMap road → All AreFields (canonical_fields road)
 fields_are road sound =
@@ -159,21 +134,17 @@ fields_are road sound =
 -- ---- from the parts to the map
 
 lines_by_rows : {nodes others : List Node} {xs : List RoadLine} (ys : List RoadLine)
-    → AreSoundNodes nodes
-    → AreSoundLines nodes xs → AreSoundLines others ys → nodes ≡ others
+    → AreSoundNodes nodes → AreSoundLines nodes xs → AreSoundLines others ys → nodes ≡ others
     → map (line_fields nodes) xs ≡ map (line_fields others) ys → xs ≡ ys
 lines_by_rows ys sound_nodes sound other same rows =
     let moved = subst (λ (l : List Node). AreSoundLines l ys) (sym same) other in
-    map_once _ _ (line_by_fields sound_nodes) _ _ (lines_on sound) (lines_on moved)
-    (cc)
+    map_once _ _ (line_by_fields sound_nodes) _ _ (lines_on sound) (lines_on moved) (cc)
 
 bans_by_rows : {nodes : List Node} {lines others : List RoadLine} {xs ys : List Ban}
     → AreSoundLines nodes lines → All (IsAdjacent lines) xs → All (IsAdjacent others) ys
-    → lines ≡ others
-    → map (ban_fields lines) xs ≡ map (ban_fields others) ys → xs ≡ ys
+    → lines ≡ others → map (ban_fields lines) xs ≡ map (ban_fields others) ys → xs ≡ ys
 bans_by_rows sound each other same rows =
-    map_once _ _ (ban_by_fields sound) _ _ each (rw same other)
-    (cc)
+    map_once _ _ (ban_by_fields sound) _ _ each (rw same other) (cc)
 
 pub map_by_text : (a b : RoadMap) → IsSoundMap a → IsSoundMap b
     → canonical_text a ≡ canonical_text b → a ≡ b

@@ -55,12 +55,7 @@ ended_once byte (x ∷ xs) (y ∷ ys) lack other same =
 further_ended : (byte : ℕ) (xs : List (List ℕ))
     → flat_map (λ (x : List ℕ). (byte ∷ []) ++ x) xs ++ byte ∷ [] ≡ byte ∷ ended byte xs
 further_ended byte [] = refl
-further_ended byte (x ∷ xs) =
-    cc (
-      append_assoc x (flat_map (λ (y : List ℕ). (byte ∷ []) ++ y) xs) (byte ∷ []),
-      further_ended
-          byte xs,
-    )
+further_ended byte (x ∷ xs) = grind (arith, append_assoc, further_ended byte xs)
 
 joined_ended : (byte : ℕ) (x : List ℕ) (xs : List (List ℕ))
     → joined (byte ∷ []) (x ∷ xs) ++ byte ∷ [] ≡ ended byte (x ∷ xs)
@@ -98,8 +93,7 @@ further_lack : (byte separator : ℕ) (xs : List (List ℕ)) → (separator ≡ 
     → Lacks byte (flat_map (λ (x : List ℕ). (separator ∷ []) ++ x) xs)
 further_lack byte separator [] differ lack = tt
 further_lack byte separator (x ∷ xs) differ lack =
-    lacks_both byte (separator ∷ x) (flat_map (λ (y : List ℕ). (separator ∷ []) ++ y) xs)
-    (differ, lack.0) (further_lack byte separator xs differ lack.1)
+    grind (arith, lacks_both, further_lack byte separator xs differ lack.1)
 
 pub joined_lacks : (byte separator : ℕ) (xs : List (List ℕ)) → (separator ≡ byte → ⊥)
     → AllLack byte xs → Lacks byte (joined (separator ∷ []) xs)
@@ -117,8 +111,7 @@ digits_lack : (byte : ℕ) (text : List ℕ) → (48 ≤ byte → 57 < byte) →
     → Lacks byte text
 digits_lack byte [] other digits = tt
 digits_lack byte (c ∷ text) other digits =
-    let range = digit_from_value c digits.0 in
-    ((λ e. omega arith), digits_lack byte text other digits.1)
+    grind (arith, digit_from_value, digits_lack byte text other digits.1)
 
 -- a number has digits alone
 pub decimal_lacks : (byte n : ℕ) → (48 ≤ byte → 57 < byte) → n < 2 ^ 64 → Lacks byte (decimal n)

@@ -1,5 +1,5 @@
 -- The checks on a record of any table: which one the reader has found to fail, or that all pass.
-use Rattle.olr_map.proofs.Common.{AllPass, Refuses, File, AllDiffer, MapFault, Table, keys_of, fields_of, others_of, checks_of, IsFaultOfTable, StopsAfter, IsSettled, Reports, ◌≡◌, ℕ, suc, ◌+◌, ◌<◌, List, [], ◌∷◌, ◌++◌, length, Some, None, inl, inr, refl, ap, ◌∙◌, arith, Contains, length-append, length-map, get_or_append_left, get_or_at, get_or_default, EachFault, IsOfFile, fault_of, IsOfText}
+use Rattle.olr_map.proofs.Common.{AllPass, Refuses, File, AllDiffer, MapFault, Table, keys_of, fields_of, others_of, checks_of, IsFaultOfTable, StopsAfter, IsSettled, Reports, ◌≡◌, ℕ, suc, ◌+◌, ◌<◌, List, [], ◌∷◌, ◌++◌, length, Some, None, refl, arith, Contains, length-append, length-map, get_or_append_left, get_or_at, get_or_default, EachFault, IsOfFile, fault_of, IsOfText}
 use Rattle.olr_base.proofs.Checks.{each_of_both, refuses_behind, refuses_among, reported}
 use Rattle.olr_map.specs.declared.fault.MapFault.TheVariants as fault
 use Rattle.olr_map.specs.declared.rows.RowError.{RowError}
@@ -14,8 +14,7 @@ pub new_id : (before : List ℕ) (id : ℕ) (after : List ℕ) → AllDiffer (be
     → Contains before id → ⊥
 new_id before id after differ contains =
     let size = length-append before (id ∷ after) in
-    differ _ _ 0 contains.1 (omega arith)
-    (cc (
+    differ _ _ 0 contains.1 (omega arith) (cc (
       get_or_append_left before (id ∷ after) 0 contains.0 contains.1,
       get_or_default before contains.0 0 id contains.1,
       get_or_at before id after 0 (length before) refl,
@@ -28,32 +27,19 @@ module _ {Row : Type 0} (table : Table Row) (before : List ℕ) (fields : List (
   refuses_field : (why : MapFault) → length before < table.most
       → Refuses (fields_of table (length before + 1) fields) why
       → Refuses (checks_of table before fields) why
-  refuses_field why room refuses =
-      inr (
-        room,
-        refuses_among (fields_of table (length before + 1) fields)
-            (others_of table before fields) why refuses,
-      )
+  refuses_field why room refuses = grind (arith, refuses_among)
 
   -- one behind them
   refuses_other : (why : MapFault) → length before < table.most
       → AllPass (fields_of table (length before + 1) fields)
-      → Refuses (others_of table before fields) why
-      → Refuses (checks_of table before fields) why
-  refuses_other why room pass refuses =
-      inr (
-        room,
-        refuses_behind (fields_of table (length before + 1) fields)
-            (others_of table before fields) why pass refuses,
-      )
+      → Refuses (others_of table before fields) why → Refuses (checks_of table before fields) why
+  refuses_other why room pass refuses = grind (arith, refuses_behind)
 
   -- a record that spells a row is a duplicate, where an earlier row has its key
   pub refuses_repeat : IsSettled table → (row : Row) → table.IsRow fields row
       → length before < table.most → Contains before (table.key row)
       → Refuses (checks_of table before fields) (fault.Duplicate table.file (length before + 1))
-  refuses_repeat settled row is room among =
-      refuses_other _ room (settled.pass fields row is _)
-      (inl (settled.repeats before fields row is among, refl))
+  refuses_repeat settled row is room among = grind (arith, refuses_other)
 
 -- ---- the record at which the reader stopped
 
@@ -65,13 +51,7 @@ module _ {Row : Type 0} (table : Table Row) (rows : List Row) (fields : List (Li
         fault = fault_of error table.file (before + 1);
         key = None;
       })
-  stops_at_error error size room is = record {
-    repeats = λ among. absurd among;
-    new = λ _. rw
-        (← (ap (λ (n : ℕ). fault_of error table.file (n + 1)) (keys_length table rows ∙ size)))
-        (refuses_field table (keys_of table rows) fields _ (omega (arith, keys_length table rows))
-        (is _));
-  }
+  stops_at_error error size room is = grind (arith, keys_length, refuses_field)
 
   -- at one whose fields are as they have to be, and whose key was read
   pub stops_later : {before : ℕ} (key : ℕ) (why : MapFault) → length rows ≡ before
@@ -80,15 +60,7 @@ module _ {Row : Type 0} (table : Table Row) (rows : List Row) (fields : List (Li
       → (table.Repeats (keys_of table rows) fields → Contains (keys_of table rows) key)
       → Refuses (table.later (before + 1) fields) why
       → StopsAfter table rows fields (record { fault = why; key = Some key })
-  stops_later key why size room pass repeats among later =
-      let count = keys_length table rows ∙ size in
-      let its : length (keys_of table rows) < table.most = omega arith in
-      record {
-        repeats = λ is. refuses_other table (keys_of table rows) fields _ its (pass _)
-            (inl (repeats is, refl));
-        new = λ new. refuses_other table (keys_of table rows) fields _ its (pass _)
-            (inr (λ again. new (among again), rw count later));
-      }
+  stops_later key why size room pass repeats among later = grind (arith, keys_length, refuses_other)
 
   -- or wasn't
   pub stops_unread : {before : ℕ} (why : MapFault) → length rows ≡ before → before < table.most
@@ -96,13 +68,7 @@ module _ {Row : Type 0} (table : Table Row) (rows : List Row) (fields : List (Li
       → (table.Repeats (keys_of table rows) fields → ⊥)
       → Refuses (table.later (before + 1) fields) why
       → StopsAfter table rows fields (record { fault = why; key = None })
-  stops_unread why size room pass never later =
-      let count = keys_length table rows ∙ size in
-      record {
-        repeats = λ among. absurd among;
-        new = λ _. refuses_other table (keys_of table rows) fields _ (omega arith) (pass _)
-            (inr (never, rw count later));
-      }
+  stops_unread why size room pass never later = grind (arith, keys_length, refuses_other)
 
 -- ---- the file of a fault
 
@@ -116,21 +82,12 @@ refused_of_file : {Row : Type 0} (table : Table Row) → IsSettled table
     → (before : List ℕ) (fields : List (List ℕ)) (why : MapFault)
     → Refuses (checks_of table before fields) why → IsOfFile table.file why
 refused_of_file table settled before fields why refuses =
-    let n = length before + 1 in
-    reported (IsOfFile table.file) (checks_of table before fields) why (
-      (tt, refl),
-      each_of_both _ (fields_of table n fields) (others_of table before fields)
-          ((tt, refl), columns_of_file table.file n 1 (table.columns fields))
-          ((tt, refl), settled.within n fields),
-    ) refuses
+    grind (arith, reported, each_of_both, columns_of_file)
 
 -- a fault of a table's text lies in its file
 pub of_file : {Row : Type 0} {table : Table Row} → IsSettled table
     → (text : List ℕ) {why : MapFault} → IsFaultOfTable table text why → IsOfFile table.file why
-of_file settled text is = elim is [
-  | inl header ↦ rw header.0 (tt, refl)
-  | inr row ↦ refused_of_file _ settled _ _ _ row.2.refused
-]
+of_file settled text is = grind (arith, refused_of_file)
 
 -- what holds of a fault that lies in a text is reported
 pub reports : (Is : MapFault → Type 0) (why : MapFault) → IsOfText why → Is why → Reports Is why
@@ -141,5 +98,4 @@ reports Is other of_text is = is
 pub refused_of_text : {Row : Type 0} (table : Table Row) → IsSettled table
     → (before : List ℕ) (fields : List (List ℕ)) (why : MapFault)
     → Refuses (checks_of table before fields) why → IsOfText why
-refused_of_text table settled before fields why refuses =
-    (refused_of_file _ settled _ _ _ refuses).0
+refused_of_text table settled before fields why refuses = grind (arith, refused_of_file)

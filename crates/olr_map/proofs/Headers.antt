@@ -1,5 +1,5 @@
 -- A record that is a header has its names, one after the other, and no more.
-use Rattle.olr_map.proofs.Common.{◌≡◌, ℕ, zero, suc, ◌+◌, ◌<◌, List, [], ◌∷◌, map, length, get_or, Some, Bor, refl, ap, ◌∙◌, inl, inr, arith, slice_get, eq-or-lt_of_le, length-map, get_or-map, slice_get-get_or, field_at}
+use Rattle.olr_map.proofs.Common.{◌≡◌, ℕ, zero, suc, ◌+◌, ◌<◌, List, [], ◌∷◌, map, length, get_or, Some, Bor, refl, ap, ◌∙◌, arith, slice_get, eq-or-lt_of_le, length-map, get_or-map, slice_get-get_or, field_at}
 
 field_there : (fields : List (List ℕ)) (place : ℕ) → field_at fields place ≡ slice_get fields place
 unfolding field_at
@@ -18,11 +18,7 @@ pub one_more_field : (fields header : List (List ℕ)) (place : ℕ)
     → ((k : ℕ) → k < place → field_at fields k ≡ slice_get header k)
     → field_at fields place ≡ slice_get header place
     → (k : ℕ) → k < place + 1 → field_at fields k ≡ slice_get header k
-one_more_field fields header place before here k below =
-    elim (eq-or-lt_of_le {n = k} {m = place} (omega arith)) [
-      | inl same ↦ rw same here
-      | inr less ↦ before k less
-    ]
+one_more_field fields header place before here k below = grind (arith, eq-or-lt_of_le)
 
 -- each field is that of the header
 pub each_field : (fields header : List (List ℕ)) → length fields ≡ length header

@@ -1,6 +1,6 @@
 -- The checks on a record of the file of lines: what a record passes whose row was read, and that
 -- one that spells a line passes all.
-use Rattle.olr_map.proofs.Common.{AllPass, Coordinates, MapFault, LineRow, AllDiffer, Node, node_ids, RoadLine, IsLine, lines_table, IsSettled, StopsAfter, fields_of, SpellsLine, IsLateFault, ℕ, ◌+◌, ◌<◌, List, ◌≡◌, length, Some, refl, inl, inr, arith}
+use Rattle.olr_map.proofs.Common.{AllPass, Coordinates, MapFault, LineRow, AllDiffer, Node, node_ids, RoadLine, IsLine, lines_table, IsSettled, StopsAfter, fields_of, SpellsLine, IsLateFault, ℕ, ◌+◌, ◌<◌, List, ◌≡◌, length, Some, inl, inr, arith}
 use Rattle.olr_map.proofs.Checked.{stops_later}
 use Rattle.olr_map.proofs.LineRows.{number_once, known}
 use Rattle.olr_map.proofs.OneRow.{line_once, points_once}
@@ -8,68 +8,24 @@ use Rattle.olr_map.proofs.OneTable.{IsLawful}
 
 row_passes : (nodes : List Node) {fields : List (List ℕ)} {shape : List Coordinates} {row : LineRow}
     → SpellsLine fields shape row → (n : ℕ) → AllPass (fields_of (lines_table nodes) n fields)
-row_passes nodes {shape} {row} says n =
-    let numbers = says.numbers in (
-      numbers.seven,
-      (
-        (row.id, numbers.id),
-        (
-          (row.from, numbers.from),
-          (
-            (row.to, numbers.to),
-            (
-              (row.class, numbers.class),
-              (
-                (row.form, numbers.form),
-                ((row.length, numbers.size), ((shape, says.between), tt)),
-              ),
-            ),
-          ),
-        ),
-      ),
-    )
+row_passes nodes {shape} {row} says n = grind arith
 
 line_passes : {nodes : List Node} (fields : List (List ℕ)) (line : RoadLine)
     → IsLine nodes fields line → (n : ℕ) → AllPass (fields_of (lines_table nodes) n fields)
-line_passes fields line is n =
-    let points = is.points in (
-      is.seven,
-      (
-        (line.id, is.id),
-        (
-          (points.start.id, points.start.spelled),
-          (
-            (points.end.id, points.end.spelled),
-            (
-              (line.class, is.class),
-              (
-                (line.form, is.form),
-                ((line.length, is.length), ((points.shape, points.between), tt)),
-              ),
-            ),
-          ),
-        ),
-      ),
-    )
+line_passes fields line is n = grind arith
 
 -- a record whose row was read and is no line
 pub stops_late : {nodes : List Node} {lines : List RoadLine} {bad : List (List ℕ)} {row : LineRow}
     {shape : List Coordinates} {stop : MapFault} {before : ℕ} → length lines ≡ before
-    → before < 200000
-    → SpellsLine bad shape row → IsLateFault nodes bad (before + 1) stop
+    → before < 200000 → SpellsLine bad shape row → IsLateFault nodes bad (before + 1) stop
     → StopsAfter (lines_table nodes) lines bad (record { fault = stop; key = Some row.id })
 stops_late {nodes} {lines} {bad} {row} {stop} size room says late =
-    stops_later (lines_table nodes) lines bad row.id stop size room
-    (row_passes nodes says)
+    stops_later (lines_table nodes) lines bad row.id stop size room (row_passes nodes says)
     (λ among. (row.id, says.numbers.id, among))
     (λ repeat. rw (← (number_once 1 _ 0 _ repeat.1 says.numbers.id)) repeat.2) late
 
 pub lines_settled : {nodes : List Node} → IsSettled (lines_table nodes)
-lines_settled = record {
-  pass = line_passes;
-  repeats = λ before fields line is among. (line.id, is.id, among);
-  within = λ n fields. ((tt, refl), ((tt, refl), ((tt, refl), tt)));
-}
+lines_settled = grind (arith, line_passes)
 
 pub lines_lawful : (nodes : List Node) → AllDiffer (node_ids nodes) → IsLawful (lines_table nodes)
 lines_lawful nodes differ = record {

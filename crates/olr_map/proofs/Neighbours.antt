@@ -10,8 +10,7 @@ equal_at (x ∷ xs) (suc k) d inside same =
       front = x ∷ deeper.front;
       rest = deeper.rest;
       place = deeper.place;
-      equal =
-          ap (λ (l : List Coordinates). x ∷ l) deeper.equal;
+      equal = ap (λ (l : List Coordinates). x ∷ l) deeper.equal;
     }
 equal_at _ _ d inside same = absurd (omega arith)
 
@@ -20,8 +19,7 @@ place_of_twins : (front rest : List Coordinates) (place d : Coordinates)
     × (get_or (front ++ place ∷ place ∷ rest) (length front) d
     ≡ get_or (front ++ place ∷ place ∷ rest) (suc (length front)) d)
 place_of_twins [] rest place d = (omega arith, refl)
-place_of_twins (x ∷ front) rest place d = let deeper = place_of_twins front rest place d in
-    (omega arith, deeper.1)
+place_of_twins (x ∷ front) rest place d = grind (arith, place_of_twins front rest place d)
 
 -- no neighbours below a place are equal
 abbrev pub NoneEqualBelow : List Coordinates → ℕ → Type 0
@@ -33,8 +31,7 @@ pub none_equal : {xs : List Coordinates} {end : ℕ} → length xs ≤ end → N
 none_equal all none has =
     let size = ap length has.equal in
     let at = place_of_twins has.front has.rest has.place has.place in
-    none (length has.front) has.place (omega arith)
-    (cc)
+    none (length has.front) has.place (omega arith) (cc)
 
 -- of the points of a line
 pub equal_among : (points : List Degrees) (next : ℕ) (a b : Degrees) → 1 ≤ next
@@ -46,8 +43,7 @@ equal_among points next a b some inside at_a at_b same =
     ∙ ap coordinates_of (sym at_a) in
     let this = get_or-map _ _ _ b _ inside ∙ ap coordinates_of (sym at_b) in
     let up : suc (next - 1) ≡ next = omega arith in
-    equal_at _ _ _ (omega arith)
-    (before ∙ same ∙ sym this
+    equal_at _ _ _ (omega arith) (before ∙ same ∙ sym this
     ∙ ap (λ (k : ℕ). get_or (map coordinates_of points) k (coordinates_of a)) (sym up))
 
 pub one_more_differs : (points : List Degrees) (next : ℕ) (a b : Degrees) → 1 ≤ next

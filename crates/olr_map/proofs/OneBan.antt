@@ -1,5 +1,5 @@
 -- A record spells one ban at most: on lines whose ids differ, an id is that of one rank.
-use Rattle.olr_map.proofs.Common.{Ban, AllDiffer, RoadLine, line_ids, NamesLines, ◌≡◌, ℕ, List, sym, ◌∙◌, Contains-get_or, get_or_from_slice_get, slice_get_within, IsLineNamed, IsBan, IsUnknownLine}
+use Rattle.olr_map.proofs.Common.{arith, Ban, AllDiffer, RoadLine, line_ids, NamesLines, ◌≡◌, ℕ, List, ◌∙◌, Contains-get_or, get_or_from_slice_get, slice_get_within, IsLineNamed, IsBan, IsUnknownLine}
 use Rattle.olr_map.proofs.LineRows.{number_once}
 use Rattle.olr_map.proofs.OneRow.{rank_once}
 
@@ -17,11 +17,7 @@ rank_named_once : {lines : List RoadLine} → AllDiffer (line_ids lines)
     → {fields : List (List ℕ)} (index : ℕ) {i j : ℕ} → IsLineNamed lines fields index i
     → IsLineNamed lines fields index j → i ≡ j
 rank_named_once {lines} differ index {i} {j} is other =
-    let ids = line_ids lines in
-    let id = number_once 1 _ _ _ is.spelled other.spelled in
-    rank_once _ i j differ (slice_get_within ids i is.id is.line)
-    (slice_get_within ids j other.id other.line)
-    (get_or_from_slice_get _ i _ 0 is.line ∙ id ∙ sym (get_or_from_slice_get _ j _ 0 other.line))
+    grind (arith, number_once, rank_once, slice_get_within, get_or_from_slice_get)
 
 pub named_once : {lines : List RoadLine} → AllDiffer (line_ids lines)
     → {fields : List (List ℕ)} (a b : Ban) → NamesLines lines fields a → NamesLines lines fields b

@@ -26,8 +26,7 @@ module _ (nodes_text lines_text bans_text : List ℕ) where
   lawful_bans nodes lines are = bans_lawful _ (keys_differ _ _ _ are.is)
 
   line_set_once : (m n : List Node) (a b : List RoadLine) → AreLinesOf m a → AreLinesOf n b → a ≡ b
-  line_set_once m n a b are other =
-      table_once (lawful_lines n other.set) a b
+  line_set_once m n a b are other = table_once (lawful_lines n other.set) a b
       (rw (← (node_set_once m n are.set other.set)) are.is) other.is
 
   -- a fault of the texts, with all that it rests on
@@ -58,15 +57,12 @@ module _ (nodes_text lines_text bans_text : List ℕ) where
           → IsFaultIn file (known nodes_text lines_text bans_text) why → HasFault why
       by_file None same its = absurd (has_file _ is.0 same)
       by_file (Some Nodes) same its = of_nodes (known_within IsNodesFault _ _ is.0 its)
-      by_file (Some Lines) same its =
-          of_lines its.nodes its.accepted.text
+      by_file (Some Lines) same its = of_lines its.nodes its.accepted.text
           (known_within (IsLinesFault its.nodes) _ _ is.0 its.text)
-      by_file (Some Bans) same its =
-          of_bans its.nodes its.lines (record {
-            set = its.accepted.nodes_accepted.text;
-            is =
-                its.accepted.text;
-          }) (known_within (IsBansFault its.lines) _ _ is.0 its.text)
+      by_file (Some Bans) same its = of_bans its.nodes its.lines (record {
+        set = its.accepted.nodes_accepted.text;
+        is = its.accepted.text;
+      }) (known_within (IsBansFault its.lines) _ _ is.0 its.text)
 
   -- ---- what is accepted has no fault
 
@@ -76,16 +72,14 @@ module _ (nodes_text lines_text bans_text : List ℕ) where
 
   no_lines_fault : (m n : List Node) (lines : List RoadLine) (why : MapFault) → AreLinesOf m lines
       → IsNodeSet nodes_text n → IsLinesFault n lines_text why → ⊥
-  no_lines_fault m n lines why are set fault =
-      table_or_fault (lawful_lines m are.set) are.is
+  no_lines_fault m n lines why are set fault = table_or_fault (lawful_lines m are.set) are.is
       (subst (λ (l : List Node). IsLinesFault l lines_text why) (node_set_once n m set are.set)
       fault)
 
   no_bans_fault : (m n : List Node) (a b : List RoadLine) (bans : List Ban) (why : MapFault)
       → AreLinesOf m a → IsBanSet a bans_text bans → AreLinesOf n b → IsBansFault b bans_text why
       → ⊥
-  no_bans_fault m n a b bans why are set other fault =
-      table_or_fault (lawful_bans m a are) set
+  no_bans_fault m n a b bans why are set other fault = table_or_fault (lawful_bans m a are) set
       (subst (λ (l : List RoadLine). IsBansFault l bans_text why)
       (line_set_once n m b a other are) fault)
 

@@ -10,9 +10,7 @@ spells_once : {A : Type 0} {Spells : List ℕ → A → Type 0}
     → ((text : List ℕ) (a b : A) → Spells text a → Spells text b → a ≡ b)
     → {fields : List (List ℕ)} (at : ℕ) {a b : A} → SpellsAt Spells fields at a
     → SpellsAt Spells fields at b → a ≡ b
-spells_once once at {a} {b} one other =
-    let same = ap (λ (o : Option (List ℕ)). unwrap_or o one.text) (sym one.field ∙ other.field) in
-    once other.text a b (rw (← same) one.spells) other.spells
+spells_once once at {a} {b} one other = grind arith
 
 -- ---- a node
 
@@ -33,9 +31,7 @@ node_at id place = record { id = id; place = place }
 -- an id has one rank
 pub rank_once : (ids : List ℕ) (i j : ℕ) → AllDiffer ids → i < length ids → j < length ids
     → get_or ids i 0 ≡ get_or ids j 0 → i ≡ j
-rank_once ids i j differ inside_i inside_j same =
-    neither_less (λ less. differ i j 0 less inside_j same)
-    (λ more. differ j i 0 more inside_i (sym same))
+rank_once ids i j differ inside_i inside_j same = grind (arith, neither_less)
 
 -- the id at the rank of a node is its own
 id_there : (nodes : List Node) (id rank : ℕ) (place : Coordinates) → IsNodeAt nodes id rank place
@@ -47,9 +43,7 @@ id_there nodes id rank place at =
 
 rank_inside : (nodes : List Node) (id rank : ℕ) (place : Coordinates) → IsNodeAt nodes id rank place
     → rank < length (node_ids nodes)
-rank_inside nodes id rank place at =
-    let inside = slice_get_within nodes rank (node_at id place) at in
-    omega (arith, length-map nodes (λ (n : Node). n.id))
+rank_inside nodes id rank place at = grind (arith, slice_get_within, rank, place, length-map)
 
 -- two ends are one
 record SameEnd (from to : ℕ) (first last : Coordinates) : Type 0 where
@@ -85,11 +79,7 @@ points_once {a} {c} {b} {d} {points} differ is other =
     let start = end_once 1 a b differ is.start other.start in
     let last = end_once 2 c d differ is.end other.end in
     let between = spells_once shape_once 6 is.between other.between in
-    record {
-      from = start.rank;
-      to = last.rank;
-      points = cc;
-    }
+    record { from = start.rank; to = last.rank; points = cc }
 
 pub line_once : {nodes : List Node} → AllDiffer (node_ids nodes)
     → (fields : List (List ℕ)) (a b : RoadLine) → IsLine nodes fields a → IsLine nodes fields b
@@ -105,8 +95,7 @@ line_once differ fields a b is other =
       from = same.from i;
       to = same.to i;
       class = class i;
-      form =
-          form i;
+      form = form i;
       length = size i;
       points = same.points i;
     }

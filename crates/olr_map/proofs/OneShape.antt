@@ -1,5 +1,5 @@
 -- A text spells one shape at most.
-use Rattle.olr_map.proofs.Common.{Coordinates, IsItem, AreItems, IsShape, rules, ◌≡◌, ℕ, List, [], ◌∷◌, ◌++◌, Some, sym, ap, ◌∙◌, inl, inr, arith}
+use Rattle.olr_map.proofs.Common.{Coordinates, IsItem, AreItems, IsShape, rules, ◌≡◌, ℕ, List, [], ◌∷◌, ◌++◌, Some, sym, ap, ◌∙◌, arith}
 use Rattle.olr_records.specs.Front.{Begins}
 use Rattle.olr_records.proofs.Cuts.{not_avoided}
 use Rattle.olr_records.proofs.Items.{item_once, rest_of_item}
@@ -36,13 +36,4 @@ none_there (place ∷ []) none are = not_empty _ _ _ _ are.spaced none
 none_there (place ∷ next ∷ places) none are = not_empty _ _ _ _ are.2 none
 
 pub shape_once : (text : List ℕ) (a b : List Coordinates) → IsShape text a → IsShape text b → a ≡ b
-shape_once text a b is other = elim is [
-  | inl empty ↦ elim other [
-    | inl none ↦ empty.1 ∙ sym none.1
-    | inr items ↦ absurd (none_there b empty.0 items.0)
-  ]
-  | inr items ↦ elim other [
-    | inl none ↦ absurd (none_there a none.0 items.0)
-    | inr others ↦ items_once _ a b items.0 others.0
-  ]
-]
+shape_once text a b is other = grind (arith, none_there, items_once)

@@ -38,8 +38,7 @@ inside_sound {Row} table lawful good bad rest rows front are each =
     let size : length rows ≡ length front + suc (length found.after) =
     cc (length-append front (found.at ∷ found.after)) in
     let keys : keys_of table rows ≡ keys_of table front ++ table.key found.at
-    ∷ keys_of table found.after =
-    cc (map-append table.key front (found.at ∷ found.after)) in
+    ∷ keys_of table found.after = cc (map-append table.key front (found.at ∷ found.after)) in
     let before = keys_of table front in (
       omega (arith, keys_length table front),
       each_of_both _ (fields_of table (length before + 1) bad) (others_of table before bad)
@@ -81,11 +80,9 @@ fault_once {Row} table lawful records a b p q =
           (subst (λ (l : List (List (List ℕ))). AllZip table.IsRow l p.rows) good p.accepted.each)
           q.accepted.each in
           let refused =
-          subst (λ (l : List Row). Refuses (checks_of table (keys_of table l) q.bad) a)
-          rows
+          subst (λ (l : List Row). Refuses (checks_of table (keys_of table l) q.bad) a) rows
           (subst (λ (fields : List (List ℕ)). Refuses
-          (checks_of table (keys_of table p.rows) fields) a)
-          bad p.refused) in
+          (checks_of table (keys_of table p.rows) fields) a) bad p.refused) in
           first_once (checks_of table (keys_of table q.rows) q.bad) a b refused q.refused
       | before more e ↦ absurd (in_front _ lawful _ a b p q _ e)
       | behind _ e ↦ absurd (in_front _ lawful _ b a q p _ e)

@@ -28,8 +28,7 @@ outcome nodes_text lines_text bans_text no_map no_fault =
       nodes = set;
       lines = is;
       bans = its;
-    }))
-    (λ why its.
+    })) (λ why its.
     let lies = of_file (bans_settled) _ its in
     no_fault why (
       lies.0,
@@ -39,8 +38,7 @@ outcome nodes_text lines_text bans_text no_map no_fault =
         accepted = accepted;
         text = fault_within (IsFaultOfTable (bans_table lines)) texts.bans _ refl its;
       }),
-    )))
-    (λ why its.
+    ))) (λ why its.
     let lies = of_file (lines_settled) _ its in
     no_fault why (
       lies.0,
@@ -49,11 +47,9 @@ outcome nodes_text lines_text bans_text no_map no_fault =
         accepted = record { sound = nodes_are_sound set; text = set };
         text = fault_within (IsFaultOfTable (lines_table nodes)) texts.lines _ refl its;
       }),
-    )))
-    (λ why its.
+    ))) (λ why its.
     let lies = of_file nodes_settled _ its in
     no_fault why (
       lies.0,
-      rw lies.1
-          (fault_within (IsFaultOfTable nodes_table) texts.nodes _ refl its),
+      rw lies.1 (fault_within (IsFaultOfTable nodes_table) texts.nodes _ refl its),
     ))

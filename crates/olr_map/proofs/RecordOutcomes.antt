@@ -1,6 +1,6 @@
 -- A record of each of the three files spells a row that may be added, where no condition holds of
 -- it.
-use Rattle.olr_map.proofs.Common.{IsLength, Coordinates, Ban, SpellsAt, Node, node_ids, IsNodeAt, RoadLine, line_ids, ArePoints, NamesLines, nodes_table, lines_table, bans_table, ◌≡◌, ℕ, zero, suc, ◌<◌, ◌≤◌, List, [], ◌∷◌, ◌++◌, length, Some, refl, ap, ◌∙◌, inl, inr, arith, slice_get, slice_index_or, Contains, slice_get-get_or}
+use Rattle.olr_map.proofs.Common.{IsLength, Coordinates, Ban, SpellsAt, Node, node_ids, IsNodeAt, RoadLine, line_ids, ArePoints, NamesLines, nodes_table, lines_table, bans_table, ◌≡◌, ℕ, zero, suc, ◌<◌, ◌≤◌, List, [], ◌∷◌, ◌++◌, length, Some, refl, ap, inl, inr, arith, slice_get, slice_index_or, Contains, slice_get-get_or}
 use Rattle.olr_map.proofs.TableOutcome.{IsDecided}
 
 pub nodes_decided : IsDecided nodes_table
@@ -29,8 +29,7 @@ node_of_id (node ∷ nodes) id (suc k) inside same = let rest =
 -- an end of a line is a node that there is
 end_known : (nodes : List Node) (id : ℕ) → ((Contains (node_ids nodes) id → ⊥) → ⊥)
     → ((rank : ℕ) (place : Coordinates) → IsNodeAt nodes id rank place → ⊥) → ⊥
-end_known nodes id known none =
-    known (λ among. let node = node_of_id _ _ _ among.1 among.2 in none node.0 node.1 node.2)
+end_known nodes id known none = grind (arith, node_of_id)
 
 positive : (size : ℕ) (P : ℕ → Type 0) → P size → (P 0 → ⊥) → 1 ≤ size
 positive zero P is none = absurd (none is)
@@ -80,8 +79,7 @@ lines_decided nodes n fields pass later no_row =
 
 line_known : (lines : List RoadLine) (id : ℕ) → ((Contains (line_ids lines) id → ⊥) → ⊥)
     → ((rank : ℕ) → slice_get (line_ids lines) rank ≡ Some id → ⊥) → ⊥
-line_known lines id known none =
-    known (λ among. none among.0 (slice_get-get_or _ _ _ among.1 ∙ ap (λ (k : ℕ). Some k) among.2))
+line_known lines id known none = grind (arith, slice_get-get_or)
 
 pub bans_decided : (lines : List RoadLine) → IsDecided (bans_table lines)
 bans_decided lines n fields pass later no_row =
@@ -97,6 +95,5 @@ bans_decided lines n fields pass later no_row =
     later.1.0 (
       ban,
       named,
-      λ adjacent. no_row ban
-          (record { two = pass.0; named = named; adjacent = adjacent }),
+      λ adjacent. no_row ban (record { two = pass.0; named = named; adjacent = adjacent }),
     )))

@@ -1,7 +1,7 @@
 -- A fault that a reader found is the fault of its file, and a map that it made is that of the
 -- texts.
 use Rattle.olr_base.specs.Counting.{one_more}
-use Rattle.olr_map.proofs.Common.{MapFault, Node, RoadLine, Reports, Table, IsFaultOfTable, IsSettled, RoadMap, lines_table, bans_table, IsNodeSet, IsLinesFault, IsLineSet, IsBansFault, IsBanSet, AreSoundBans, rules, ◌≡◌, ℕ, List, Option, Some, None, refl, ap, inl, inr, ◌⊎◌, IfSome, Lines, Bans, IsReadFault, HasText, FaultOfFile, not_read, of_text, Texts, file_of, IsFaultWithin, AreAccepted, AreLinesAccepted, IsMapLeft, IsFaultLeft, texts_of}
+use Rattle.olr_map.proofs.Common.{arith, MapFault, Node, RoadLine, Reports, Table, IsFaultOfTable, IsSettled, RoadMap, lines_table, bans_table, IsNodeSet, IsLinesFault, IsLineSet, IsBansFault, IsBanSet, AreSoundBans, rules, ◌≡◌, ℕ, List, Option, Some, None, refl, inl, inr, ◌⊎◌, IfSome, Lines, Bans, IsReadFault, HasText, FaultOfFile, not_read, of_text, Texts, file_of, IsFaultWithin, AreAccepted, AreLinesAccepted, IsMapLeft, IsFaultLeft, texts_of}
 use Rattle.olr_map.specs.declared.fault.MapFault.TheVariants as fault
 use Rattle.olr_map.proofs.Checked.{of_file}
 use Rattle.olr_map.proofs.LineFaults.{lines_settled}
@@ -42,17 +42,13 @@ found : {Row S : Type 0} (table : Table Row) → IsSettled table → (left : S �
     → FaultOfFile left failed old new table.file (IsFaultOfTable table) why
     → (why ≡ fault.NoMemory) ⊎ ((file_of why ≡ Some table.file)
     × IsFaultWithin (IsFaultOfTable table) (left old) why)
-found table settled left failed old new why (not_read is) = elim (read_cases _ is) [
-  | inl none ↦ inl none.0
-  | inr fails ↦ inr (rw fails.0 (refl, tt))
-]
+found table settled left failed old new why (not_read is) = grind (arith, read_cases)
 found table settled left failed old new why (of_text whole has) =
     elim (reports_cases (IsFaultOfTable table has.0) _ has.2) [
       | inl none ↦ inl none
       | inr is ↦ inr (
         (of_file settled has.0 is).1,
-        fault_within (IsFaultOfTable table) _ _ has.1
-            is,
+        fault_within (IsFaultOfTable table) _ _ has.1 is,
       )
     ]
 
@@ -60,14 +56,10 @@ found table settled left failed old new why (of_text whole has) =
 
 accepted : {nodes_left : Option (List ℕ)} {nodes : List Node}
     → HasText nodes_left (λ text. IsNodeSet text nodes) → AreAccepted nodes_left nodes
-accepted set = record {
-  sound = nodes_are_sound set.2;
-  text = known_left _ _ set.1 set.2;
-}
+accepted set = record { sound = nodes_are_sound set.2; text = known_left _ _ set.1 set.2 }
 
 pub lines_accepted : {nodes_left lines_left : Option (List ℕ)} {nodes : List Node}
-    {lines : List RoadLine}
-    → HasText nodes_left (λ text. IsNodeSet text nodes)
+    {lines : List RoadLine} → HasText nodes_left (λ text. IsNodeSet text nodes)
     → HasText lines_left (λ text. IsLineSet nodes text lines)
     → AreLinesAccepted nodes_left lines_left nodes lines
 lines_accepted set is = record {
@@ -97,8 +89,7 @@ module _ {S : Type 0} (left : S → Option (List ℕ)) (failed : S → ℕ) (old
       ]
 
   pub bans_fault : (nodes_left lines_left : Option (List ℕ)) (nodes : List Node)
-      (lines : List RoadLine) (why : MapFault)
-      → AreLinesAccepted nodes_left lines_left nodes lines
+      (lines : List RoadLine) (why : MapFault) → AreLinesAccepted nodes_left lines_left nodes lines
       → FaultOfFile left failed old new Bans (IsBansFault lines) why
       → IsFaultLeft (texts_of nodes_left lines_left (left old)) why
   bans_fault nodes_left lines_left nodes lines why all its =
@@ -110,8 +101,4 @@ module _ {S : Type 0} (left : S → Option (List ℕ)) (failed : S → ℕ) (old
   -- a fault of the file of lines is not one of bans
   pub not_of_bans : (nodes : List Node) (why : MapFault)
       → FaultOfFile left failed old new Lines (IsLinesFault nodes) why → file_of why ≡ Some Bans → ⊥
-  not_of_bans nodes why its same =
-      elim (found (lines_table nodes) lines_settled left failed old new why its) [
-        | inl none ↦ cc (ap file_of none)
-        | inr is ↦ cc (is.0)
-      ]
+  not_of_bans nodes why its same = grind (arith, found, lines_settled)

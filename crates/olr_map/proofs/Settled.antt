@@ -8,8 +8,7 @@ use Rattle.olr_map.proofs.Checked.{keys_length, refuses_repeat, reports, refused
 -- the first record whose key an earlier one has, among those that spell rows
 repeated : {Row : Type 0} {table : Table Row} → IsSettled table
     → {records good : List (List (List ℕ))} (more : List (List (List ℕ))) {rows : List Row} {at : ℕ}
-    → records ≡ good ++ more
-    → SpellRows table good rows → IsFirstRepeat (keys_of table rows) at
+    → records ≡ good ++ more → SpellRows table good rows → IsFirstRepeat (keys_of table rows) at
     → RefusesRecord table records (fault.Duplicate table.file (at + 1))
 repeated {Row} {table} settled {good} more {rows} {at} file say first =
     let size = keys_length table rows in
@@ -20,11 +19,9 @@ repeated {Row} {table} settled {good} more {rows} {at} file say first =
     let front = length-take-le at rows (omega arith) in
     let keys : keys_of table (take at rows) ≡ take at (keys_of table rows) =
     sym (take-map table.key at rows) in
-    let count = keys_length table (take at rows)
-    ∙ front in
+    let count = keys_length table (take at rows) ∙ front in
     let refused = refuses_repeat table (keys_of table (take at rows)) found.left settled found.right
-    found.holds (omega arith)
-    (rw keys (rw (← key) first.repeats)) in
+    found.holds (omega arith) (rw keys (rw (← key) first.repeats)) in
     record {
       good = take at good;
       bad = found.left;
@@ -46,16 +43,7 @@ repeated {Row} {table} settled {good} more {rows} {at} file say first =
 -- a key among those before the last one
 earlier_repeat : (keys : List ℕ) (last at : ℕ) → at < length keys
     → IsFirstRepeat (keys ++ last ∷ []) at → IsFirstRepeat keys at
-earlier_repeat keys last at inside first =
-    let front =
-    take-append-le at keys (last ∷ []) (omega arith) in
-    let same =
-    get_or_append_left keys (last ∷ []) 0 at inside in
-    record {
-      inside = inside;
-      repeats = rw (← front) (rw (← same) first.repeats);
-      before = rw (← front) first.before;
-    }
+earlier_repeat keys last at inside first = grind (arith, take-append-le, get_or_append_left)
 
 -- the last key is one of those before it
 pub record LastRepeats (keys : List ℕ) (last at : ℕ) : Type 0 where
@@ -78,12 +66,7 @@ last_repeat keys last at behind first =
 
 differ_front : (keys more : List ℕ) → AllDiffer (keys ++ more) → AllDiffer keys
 differ_front keys more differ i j d less inside same =
-    differ i j d less (omega (arith, length-append keys more))
-    (cc (
-      get_or_append_left keys more d i (omega arith),
-      get_or_append_left keys
-          more d j inside,
-    ))
+    grind (arith, differ, length-append, get_or_append_left)
 
 -- the last of keys that differ isn't one of those before it
 last_new : (keys : List ℕ) (last : ℕ) → AllDiffer (keys ++ last ∷ []) → Contains keys last → ⊥
@@ -152,8 +135,7 @@ repeat_decides table settled records rows (Some stop) at found first =
 -- the fault of a table's records, by what the reader found and what its keys decide
 pub fault_settled : {Row : Type 0} (table : Table Row) → IsSettled table
     → (records : List (List (List ℕ))) (rows : List Row) (stop : Option Stop) (keys : List ℕ)
-    (why : MapFault)
-    → keys ≡ keys_of table rows → MatchOption stop (SpellRows table records rows)
+    (why : MapFault) → keys ≡ keys_of table rows → MatchOption stop (SpellRows table records rows)
     (StopsIn table records rows) → Settles keys stop table.file why
     → Reports (RefusesRecord table records) why
 fault_settled table settled records rows stop keys why same found (no_memory e) = rw e tt
@@ -161,9 +143,7 @@ fault_settled table settled records rows stop keys why same found (repeat at fir
     let here = subst (λ (l : List ℕ). IsFirstRepeat (keys_read l stop) at) same first in
     rw e (repeat_decides _ settled _ _ _ _ found here)
 fault_settled table settled records rows stop keys why same found (stopped its is differ e) =
-    let stops = rw is at found in
-    let apart = subst (λ (l : List ℕ). AllDiffer (with_last l its.key)) same differ in
-    rw e (stop_decides _ settled _ _ _ stops apart)
+    grind (arith, differ, stop_decides)
 
 -- ---- of a text
 
@@ -192,11 +172,7 @@ text_rows {records} {rows} is say sorts = (
   record {
     records = records;
     file = is;
-    accepted = record {
-      each = say.each;
-      at_most = say.at_most;
-      differ = sorts_differ _ _ _ sorts;
-    };
+    accepted = record { each = say.each; at_most = say.at_most; differ = sorts_differ _ _ _ sorts };
   },
   sorts,
 )

@@ -6,7 +6,7 @@ each_second : {A B : Type 0} (R : A → B → Type 0) (P : B → Type 0) → ((x
     → (xs : List A) (ys : List B) → AllZip R xs ys → All P ys
 each_second R P gives [] [] all = All-nil P
 each_second R P gives (x ∷ xs) (y ∷ ys) all =
-    All-cons P y _ (gives x y all.0) (each_second R P gives xs ys all.1)
+    grind (arith, All-cons, each_second R P gives xs ys all.1)
 each_second R P gives _ _ all = absurd all
 
 -- ---- nodes
@@ -33,8 +33,7 @@ items_in_range : (text : List ℕ) (places : List Coordinates) → AreItems text
 items_in_range text [] is = absurd is
 items_in_range text (place ∷ []) is = All-cons IsInRange place [] (item_in_range is) (All-nil _)
 items_in_range text (place ∷ next ∷ places) is =
-    All-cons IsInRange place (next ∷ places) (item_in_range is.3)
-    (items_in_range is.1 (next ∷ places) is.4)
+    grind (arith, All-cons, item_in_range, items_in_range is.1 (next ∷ places) is.4)
 
 shape_in_range : {fields : List (List ℕ)} {shape : List Coordinates}
     → SpellsAt IsShape fields 6 shape → All IsInRange shape
@@ -45,10 +44,7 @@ shape_in_range spelled = elim spelled.spells [
 
 few_between : {fields : List (List ℕ)} {shape : List Coordinates} → SpellsAt IsShape fields 6 shape
     → length shape ≤ 64
-few_between spelled = elim spelled.spells [
-  | inl none ↦ omega (arith, ap length none.1)
-  | inr items ↦ items.1
-]
+few_between spelled = grind arith
 
 end_in_range : {nodes : List Node} → All IsSoundNode nodes
     → {fields : List (List ℕ)} (index : ℕ) {rank : ℕ} {place : Coordinates}
@@ -115,12 +111,7 @@ bans_are_sound {lines} {bans} is = record {
 }
 
 pub no_bans_are_sound : {lines : List RoadLine} → AreSoundBans lines []
-no_bans_are_sound = record {
-  rise = λ k e. absurd (omega arith);
-  at_most = omega arith;
-  each =
-      All-nil _;
-}
+no_bans_are_sound = grind (arith, All-nil)
 
 -- ---- the map
 
@@ -129,8 +120,4 @@ pub map_is_sound : (nodes_text lines_text bans_text : List ℕ) (road : RoadMap)
     → IsBanSet road.lines bans_text road.bans → IsSoundMap road
 map_is_sound nodes_text lines_text bans_text road nodes lines bans =
     let sound = nodes_are_sound nodes in
-    record {
-      nodes = sound;
-      lines = lines_are_sound sound lines;
-      bans = bans_are_sound bans;
-    }
+    record { nodes = sound; lines = lines_are_sound sound lines; bans = bans_are_sound bans }

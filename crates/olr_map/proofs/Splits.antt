@@ -1,5 +1,5 @@
 -- A list split at an element, and what two splits of one list have to do with one another.
-use Rattle.olr_map.proofs.Common.{◌≡◌, List, [], ◌∷◌, ◌++◌, refl, AllZip}
+use Rattle.olr_map.proofs.Common.{arith, ◌≡◌, List, [], ◌∷◌, ◌++◌, refl, AllZip}
 
 -- The elements at which a list is split twice: either it is one split, or one part in front goes on
 -- with the other's element.
@@ -32,9 +32,7 @@ zip_once R once [] [] [] is other = refl
 zip_once R once [] (y ∷ ys) zs is other = absurd is
 zip_once R once (x ∷ xs) [] zs is other = absurd is
 zip_once R once (x ∷ xs) (y ∷ ys) (z ∷ zs) is other =
-    let first = once x y z is.0 other.0 in
-    let rest = zip_once R once xs ys zs is.1 other.1 in
-    cc
+    grind (arith, zip_once R once xs ys zs is.1 other.1)
 zip_once R once _ _ _ is other = absurd other
 
 -- the second list, split where the first one is

@@ -8,18 +8,16 @@ use Rattle.olr_map.proofs.Sorting.{sorted_rows}
 -- A record that passes the checks on its fields and those of its file spells a row.
 abbrev pub IsDecided : {Row : Type 0} → Table Row → Type 0
 IsDecided {Row} table = (n : ℕ) (fields : List (List ℕ)) → AllPass (fields_of table n fields)
-    → AllPass (table.later n fields)
-    → ((row : Row) → table.IsRow fields row → ⊥) → ⊥
+    → AllPass (table.later n fields) → ((row : Row) → table.IsRow fields row → ⊥) → ⊥
 
 -- one key more, which is new
 differ_more : (keys : List ℕ) (last : ℕ) → AllDiffer keys → (Contains keys last → ⊥)
     → AllDiffer (keys ++ last ∷ [])
 differ_more keys last differ new i j d less inside same = elim (cases_lt j (length keys)) [
-  | inl low ↦
-      differ i j d less low (cc (
-        get_or_append_left keys (last ∷ []) d i (omega arith),
-        get_or_append_left keys (last ∷ []) d j low,
-      ))
+  | inl low ↦ differ i j d less low (cc (
+    get_or_append_left keys (last ∷ []) d i (omega arith),
+    get_or_append_left keys (last ∷ []) d j low,
+  ))
   | inr high ↦
       let here : length keys ≡ j = omega (arith, length-append keys (last ∷ [])) in
       let first : i < length keys = omega arith in
@@ -52,8 +50,7 @@ module _ {Row : Type 0} (table : Table Row) (settled : IsSettled table) (decided
         let before = keys_of table rows in
         let front = fields_of table (length before + 1) bad in
         let others = others_of table before bad in
-        passes_or_fails (checks_of table before bad)
-        (λ why refuses. no_fault why (record {
+        passes_or_fails (checks_of table before bad) (λ why refuses. no_fault why (record {
           good = good;
           bad = bad;
           rest = rest;
@@ -61,8 +58,7 @@ module _ {Row : Type 0} (table : Table Row) (settled : IsSettled table) (decided
           split = refl;
           accepted = are;
           refused = refuses;
-        }))
-        (λ pass. let behind = each_behind Passes front others pass.1 in
+        })) (λ pass. let behind = each_behind Passes front others pass.1 in
         decided _ bad (each_in_front Passes front others pass.1) behind.1
         (λ row is. records_outcome (good ++ bad ∷ []) rest (rows ++ row ∷ [])
         (one_more _ _ _ _ are is pass.0
@@ -74,17 +70,14 @@ module _ {Row : Type 0} (table : Table Row) (settled : IsSettled table) (decided
         → ((why : MapFault) → IsFaultOfTable table text why → ⊥) → ⊥
     table_outcome text no_rows no_fault = no_fault (Header table.file) (inl (
       refl,
-      λ records is.
-          records_outcome [] _ [] (record {
-            each = tt;
-            at_most = omega arith;
-            differ = λ i j d less inside. absurd (omega arith);
-          })
-          (λ rows are. let sorted = sorted_rows _ _ are.differ in
+      λ records is. records_outcome [] _ [] (record {
+        each = tt;
+        at_most = omega arith;
+        differ = λ i j d less inside. absurd (omega arith);
+      }) (λ rows are. let sorted = sorted_rows _ _ are.differ in
           no_rows sorted.0 (
             rows,
             record { records = records; file = is; accepted = are },
             sorted.1,
-          ))
-          (λ why refuses. no_fault why (inr (records, is, refuses))),
+          )) (λ why refuses. no_fault why (inr (records, is, refuses))),
     ))

@@ -22,6 +22,7 @@ use std::alloc::Global;
 const BANS: u32 = 200_000;
 
 /// The ban of a record, or why the record is none; `number` is the record's, from 1.
+#[tactic(auto, using(crate::proofs::BanRows::rank_inside, crate::proofs::BanRows::names, crate::proofs::BanRows::meets))]
 fn ban_of(row: &Record, lines: &LineSet, number: u32) -> Result<Ban, Stop>
     requires { IsStrictlyIncreasing (line_ids lines.now) }
     ensures ban { IfOk result (IsBan lines.now row.now) }

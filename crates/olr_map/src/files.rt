@@ -97,6 +97,7 @@ pub fn read_map<S1: Source, S2: Source>(
 /// `bans` that is faulty: of one record the first of [`MapFault::TooMany`], [`MapFault::Shape`],
 /// [`MapFault::Field`], [`MapFault::Duplicate`], [`MapFault::UnknownLine`] and
 /// [`MapFault::NotAdjacent`].
+#[tactic(auto, using(std::proofs::lemmas::Result::err_from_is_err_and, crate::proofs::Reported::bans_fault))]
 pub fn read_map_with_bans<S1: Source, S2: Source, S3: Source>(
     alloc: Global,
     nodes: &mut S1,

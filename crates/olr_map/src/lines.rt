@@ -41,6 +41,7 @@ fn is_same(one: Degrees, other: Degrees) -> bool
 }
 
 /// Whether two neighbouring points are equal.
+#[tactic(auto, using(crate::proofs::Neighbours::equal_among, crate::proofs::Neighbours::one_more_differs))]
 fn has_equal_neighbours(points: &[Degrees]) -> bool
     ensures { MatchBool result
         (HasEqualNeighbours (map coordinates_of points.now))

@@ -16,10 +16,6 @@ use std::alloc::Global;
 pub(crate) type NodeIndex = KeyIndex<Node>;
 
 /// The index of nodes whose ids rise.
-///
-/// # Errors
-///
-/// [`NoMemory`] where the allocator refused memory.
 #[tactic(auto, using(olr_road::proofs::Sets::ids_of_rows))]
 pub(crate) fn index_nodes(alloc: Global, rows: Vec<Node>) -> Result<NodeIndex, NoMemory>
     requires rise { IsStrictlyIncreasing (node_ids (nodes_of rows.items)) }

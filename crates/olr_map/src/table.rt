@@ -63,10 +63,6 @@ pub(crate) trait TableFile {
             (row.now ≡ (table_of (before self.now)).header → ⊥) };
 
     /// Appends the row of a record, or answers why the record has none.
-    ///
-    /// # Errors
-    ///
-    /// [`NoMemory`] where the allocator refused memory.
     fn add(&mut self, row: &Record) -> Result<Option<Stop>, NoMemory>
         requires room { length (rows self.old) < (table_of (before self.old)).most }
         requires sound { IsSound self.old }
@@ -77,20 +73,12 @@ pub(crate) trait TableFile {
         ensures same { OnOk result (before self.new ≡ before self.old) };
 
     /// The keys of the rows.
-    ///
-    /// # Errors
-    ///
-    /// [`NoMemory`] where the allocator refused memory.
     fn keys(&self, alloc: Global) -> Result<Vec<u64>, NoMemory>
         ensures { IfOk result (λ keys. keys.items
             ≡ keys_of (table_of (before self.now)) (rows self.now)) };
 
     /// Sorts the rows by rising key. Where a key occurs twice the answer is the place of the first
     /// row whose key an earlier one has.
-    ///
-    /// # Errors
-    ///
-    /// [`NoMemory`] where the allocator refused memory.
     fn sort(&mut self, alloc: Global) -> Result<Option<usize>, NoMemory>
         requires sound { IsSound self.old }
         ensures { IfOk result (λ repeat. MatchOption repeat
@@ -100,6 +88,7 @@ pub(crate) trait TableFile {
 }
 
 /// Whether a record has just these names, one a field.
+#[tactic(auto, using(crate::proofs::Headers::other_field, crate::proofs::Headers::one_more_field, crate::proofs::Headers::name_at))]
 pub(crate) fn has_names(row: &Record, names: &[&str]) -> bool
     ensures { MatchBool result
         (row.now ≡ map (λ name. name.now) names.now)
@@ -200,10 +189,6 @@ fn first_fault<T: TableFile>(alloc: Global, table: &T, stop: Stop) -> Result<Map
 
 /// Sorts the rows of all records of a file by rising key. Where the reading stopped at a record, or
 /// a key occurs twice, the answer is the fault that decides; the rows may be in another order then.
-///
-/// # Errors
-///
-/// The fault that decides, or [`MapFault::NoMemory`].
 fn settle<T: TableFile>(alloc: Global, table: &mut T, stop: Option<Stop>) -> Result<(), MapFault>
     requires at_most { length (T.rows table.old) ≤ 200000 }
     requires sound { stop ≡ None → T.IsSound table.old }

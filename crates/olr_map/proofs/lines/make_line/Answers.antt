@@ -21,8 +21,7 @@ returns-then-has_equal_neighbours-clause-line c = λ nodes fields says has.
     inr (
       known_ends says ends,
       inr (
-        λ zero. c.if-row-eq0.false
-            (number_once 0 _ 5 0 says.numbers.size zero),
+        λ zero. c.if-row-eq0.false (number_once 0 _ 5 0 says.numbers.size zero),
         inl (
           (
             c.in-Some.ends.from,
@@ -49,11 +48,7 @@ returns-then-has_equal_neighbours-clause-line c = λ nodes fields says has.
     )
 
 pub returns-then-row-eq0-clause-line : goal.returns-then-row-eq0-clause-line
-returns-then-row-eq0-clause-line c = λ nodes fields says has.
-    inr (
-      known_ends says (rw c.in-Some.is at has),
-      inl (
-        subst (λ (n : ℕ). SpellsAt IsLength fields 5 n) c.if-row-eq0.true says.numbers.size,
-        refl,
-      ),
-    )
+returns-then-row-eq0-clause-line c = λ nodes fields says has. inr (
+  known_ends says (rw c.in-Some.is at has),
+  inl (subst (λ (n : ℕ). SpellsAt IsLength fields 5 n) c.if-row-eq0.true says.numbers.size, refl),
+)

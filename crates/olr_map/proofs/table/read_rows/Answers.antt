@@ -15,8 +15,7 @@ loop-table-preserved g c =
       size = omega (
         arith,
         ap (λ (l : List g.T.TableFile.Row). length l) adds.rows,
-        length-append
-            old (adds.row ∷ []),
+        length-append old (adds.row ∷ []),
       );
       at_most = omega arith;
       same = c.in_ok-stop.ensures.same ∙ inv.same;

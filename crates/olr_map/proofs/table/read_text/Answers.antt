@@ -10,8 +10,7 @@ returns-in_err-settle-clause-fault g c =
     let rows = g.T.TableFile.rows c.read_rows.new.table in
     let why = c.in_err-settle.field-0.0 in
     let header = rw c.if-not-branch.false at c.in_ok-pass_header.ensures in
-    let settles =
-    subst (λ (earlier : g.T.TableFile.Earlier). Settles
+    let settles = subst (λ (earlier : g.T.TableFile.Earlier). Settles
     (keys_of (g.T.TableFile.table_of earlier) rows) c.in_ok-stop.stop
     (g.T.TableFile.table_of earlier).file why)
     c.in_ok-stop.ensures.same c.in_err-settle.ensures.fault in
@@ -25,5 +24,4 @@ returns-clause-rows g c =
     let sorted = g.T.TableFile.rows c.settle.new.table in
     let header = rw c.if-not-branch.false at c.in_ok-pass_header.ensures in
     let say = rw c.in_ok-settle.ensures.sorted.0 at c.in_ok-stop.ensures.rows in
-    text_rows (cc) say
-    (rw (← c.in_ok-stop.ensures.same) c.in_ok-settle.ensures.sorted.1)
+    text_rows (cc) say (rw (← c.in_ok-stop.ensures.same) c.in_ok-settle.ensures.sorted.1)

@@ -9,6 +9,4 @@ returns-in-Some-clause-fault g c =
 pub returns-in-Some-2-clause-fault : goal.returns-in-Some-2-clause-fault
 returns-in-Some-2-clause-fault g c =
     let table = g.T.TableFile.table_of (g.T.TableFile.before c.args.table.now) in
-    rw c.in_default.is (repeat c.in-Some-2.place
-    (rw c.in-Some-2.is at c.in_ok-place.ensures)
-    (cc))
+    rw c.in_default.is (repeat c.in-Some-2.place (rw c.in-Some-2.is at c.in_ok-place.ensures) (cc))

@@ -26,7 +26,4 @@ returns-in-Err-2-clause-added c =
     (c.in_ok-line-2.ensures.line (nodes_of c.args.self.now.nodes.now) c.args.row.now
     (rw shape read.0) read.1) in
     let size = c.count-number.ensures.count in
-    record {
-      rows = refl;
-      stops = stops_late refl c.requires.room read.0 (rw (← size) fault);
-    }
+    record { rows = refl; stops = stops_late refl c.requires.room read.0 (rw (← size) fault) }
