@@ -1,6 +1,6 @@
 -- What pieces miss of others, and the test of closeness.
 use Rattle.olr_route.specs.Walk.{piece_length}
-use Rattle.olr_places.proofs.Common.{Piece, stretch, Step, steps_in, steps_of, covers, has_step, longest_run, missing_of, ◌≡◌, ℕ, zero, suc, ◌+◌, ◌<◌, ◌≤◌, true, false, List, [], ◌∷◌, length, refl, sym, ap, subst, inl, inr, arith, ◌&&◌, ◌==◌, nat_le, Contains, Decides, cases_Bool, cases_eq, or_cases, or_left, or_right, le-leb, leb-true, both_ways, false≢true, Decides-and, Decides-like, Decides-eqb, All-contains, All-weaker, All-head, Contains-append_left, Contains-append_right, Contains-append_cases, Ground, IsClose, IsNear, is_near, line, point}
+use Rattle.olr_places.proofs.Common.{Piece, stretch, Step, steps_in, steps_of, covers, has_step, longest_run, missing_of, ◌≡◌, ℕ, zero, suc, ◌+◌, ◌<◌, ◌≤◌, true, false, List, [], ◌∷◌, length, refl, sym, ap, subst, inl, inr, arith, nat_le, Contains, Decides, cases_Bool, cases_eq, or_cases, or_left, or_right, le-leb, leb-true, both_ways, false≢true, Decides-and, Decides-like, Decides-eqb, All-contains, All-weaker, All-head, Contains-append_left, Contains-append_right, Contains-append_cases, Ground, IsClose, IsNear, is_near, line, point}
 use Rattle.olr_road.specs.declared.place.Place.{Place}
 use Rattle.olr_places.specs.Laws.{MissingIsComputed, TestsCloseness}
 use Rattle.olr_places.specs.Missing.{IsMissingRun, MissesAtMost}
@@ -28,8 +28,7 @@ Lies on at count step = (step.line ≡ on) × (at ≤ step.at) × (step.at < at 
 
 of_stretch : (on at count : ℕ) (step : Step) → Contains (stretch on at count) step
     → Lies on at count step
-of_stretch on at count step has =
-    All-contains (Lies on at count) (stretch on at count) step
+of_stretch on at count step has = All-contains (Lies on at count) (stretch on at count) step
     (all_stretch (Lies on at count) on at count (λ k low high. (refl, low, high))) has
 
 step_of_piece : (piece : Piece) (step : Step) → has_step step piece ≡ true
@@ -50,13 +49,12 @@ piece_of_step piece step has =
 pub covered_is : (pieces : List Piece) (step : Step) → covers pieces step ≡ true
     → Contains (steps_of pieces) step
 covered_is [] step is = absurd (cc)
-covered_is (piece ∷ pieces) step is =
-    elim (or_cases (has_step step _) (covers pieces step) is) [
-      | inl here ↦ Contains-append_left (steps_in piece) (steps_of pieces) step
-          (step_of_piece piece step here)
-      | inr later ↦ Contains-append_right (steps_in piece) (steps_of pieces) step
-          (covered_is pieces step later)
-    ]
+covered_is (piece ∷ pieces) step is = elim (or_cases (has_step step _) (covers pieces step) is) [
+  | inl here ↦ Contains-append_left (steps_in piece) (steps_of pieces) step
+      (step_of_piece piece step here)
+  | inr later ↦ Contains-append_right (steps_in piece) (steps_of pieces) step
+      (covered_is pieces step later)
+]
 
 pub is_covered : (pieces : List Piece) (step : Step) → Contains (steps_of pieces) step
     → covers pieces step ≡ true
@@ -69,15 +67,11 @@ is_covered (piece ∷ pieces) step has =
 
 pub missing_is : (pieces : List Piece) (step : Step) → covers pieces step ≡ false
     → ¬ (Contains (steps_of pieces) step)
-missing_is pieces step not_covered has =
-    both_ways (covers pieces step) not_covered (is_covered pieces step has)
+missing_is pieces step not_covered has = grind (arith, both_ways, is_covered)
 
 is_missing : (pieces : List Piece) (step : Step) → ¬ (Contains (steps_of pieces) step)
     → covers pieces step ≡ false
-is_missing pieces step none = elim (cases_Bool (covers pieces step)) [
-  | inl covered ↦ absurd (none (covered_is pieces _ covered))
-  | inr missing ↦ missing
-]
+is_missing pieces step none = grind (arith, cases_Bool, covered_is)
 
 -- ---- what is missing
 
@@ -123,25 +117,14 @@ decides_misses part other most =
 decides_near : (apart : ℕ) (one other : Place)
     → Decides (is_near apart one other) (IsNear apart one other)
 decides_near apart one other =
-    Decides-like (is_near apart one other)
-    (λ is. record { on_line = is.0; behind = is.1.0; before = is.1.1 })
-    (λ near. (near.on_line, (near.behind, near.before)))
-    (Decides-and (one.line == other.line)
-    (nat_le one.at (other.at + apart) && nat_le other.at (one.at + apart))
-    (Decides-eqb one.line other.line)
-    (Decides-and (nat_le one.at (other.at + apart)) (nat_le other.at (one.at + apart))
-    (decides_le _ _) (decides_le _ _)))
+    grind (arith, Decides-like, Decides-and, nat_le, Decides-eqb, decides_le)
 
 pub tests : TestsCloseness
-tests apart (line one) (line other) =
-    Decides-and (nat_le (missing_of one other) apart) (nat_le (missing_of other one) apart)
-    (decides_misses one other apart) (decides_misses other one apart)
+tests apart (line one) (line other) = grind (arith, Decides-and, nat_le, decides_misses)
 tests apart (line one) (point earliest latest) = (false≢true, λ never. absurd never)
 tests apart (point earliest latest) (line one) = (false≢true, λ never. absurd never)
 tests apart (point earliest latest) (point other_earliest other_latest) =
-    Decides-and (is_near apart earliest other_earliest) (is_near apart latest other_latest)
-    (decides_near apart earliest other_earliest)
-    (decides_near apart latest other_latest)
+    grind (arith, Decides-and, decides_near)
 
 -- ---- a matching is close to itself
 
@@ -151,8 +134,8 @@ in_run : {part other run : List Step} {step : Step} → IsMissingRun part other 
 in_run is = rw is.neighbours (Contains-append_right is.before _ _ (zero, omega arith, refl))
 
 -- where each step of another part is a step of this one, nothing is missing
-pub none_missing : (part other : List Step) → ((step : Step) → Contains other step → Contains part step)
-    → MissesAtMost part other 0
+pub none_missing : (part other : List Step)
+    → ((step : Step) → Contains other step → Contains part step) → MissesAtMost part other 0
 none_missing part other all [] is = omega arith
 none_missing part other all (step ∷ run) is =
     absurd (All-head (λ (one : Step). ¬ (Contains part one)) step run is.missing

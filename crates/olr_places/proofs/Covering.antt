@@ -27,25 +27,19 @@ has_from step piece on from to = has _ _ _ on from to
 
 pub has_parts : (step : Step) (piece : Piece) → has_step step piece ≡ true
     → (piece.line ≡ step.line) × (piece.from ≤ step.at) × (step.at < piece.to)
-has_parts step piece is =
-    let parts = and_parts (piece.line == step.line)
-    (nat_le piece.from step.at && nat_lt step.at piece.to) is in
-    let inside = and_parts (nat_le piece.from step.at) (nat_lt step.at piece.to) parts.1 in (
-      eqb-true piece.line step.line parts.0,
-      leb-true piece.from step.at inside.0,
-      ltb-true step.at
-          piece.to inside.1,
-    )
+has_parts step piece is = grind (arith, and_parts, nat_le, nat_lt, eqb-true, leb-true, ltb-true)
 
 -- ---- steps on one line
 
 pub all_stretch : (P : Step → Type 0) (line at count : ℕ)
     → ((k : ℕ) → at ≤ k → k < at + count → P (step_at line k)) → All P (stretch line at count)
 all_stretch P line at zero each = All-nil P
-all_stretch P line at (suc count) each =
-    All-cons P (step_at line at) (stretch line (at + 1) count) (each _ (omega arith) (omega arith))
-    (all_stretch P line (at + 1) count
-    (λ k low high. each k (omega arith) (omega arith)))
+all_stretch P line at (suc count) each = grind (
+  arith,
+  All-cons,
+  stretch,
+  all_stretch P line (at + 1) count (λ k low high. each k (omega arith) (omega arith)),
+)
 
 -- ---- pieces among others
 
@@ -57,13 +51,7 @@ same_piece line from to on start end same_line same_from same_to = cc
 eq_piece : (piece other : Piece)
     → true ≡ ((piece.line == other.line) && ((piece.from == other.from) && (piece.to == other.to)))
     → piece ≡ other
-eq_piece piece other is =
-    let parts = and_parts (piece.line == other.line)
-    ((piece.from == other.from) && (piece.to == other.to)) (sym is) in
-    let ends = and_parts (piece.from == other.from) (piece.to == other.to) parts.1 in
-    same_piece _ _ _ _ _ _
-    (eqb-true piece.line other.line parts.0) (eqb-true piece.from other.from ends.0)
-    (eqb-true piece.to other.to ends.1)
+eq_piece piece other is = grind (arith, and_parts, same_piece, eqb-true)
 
 behind_first : (first : Piece) (behind : List Piece) (other : Piece) → Contains behind other
     → Contains (first ∷ behind) other
@@ -81,19 +69,16 @@ first_among pieces first behind piece is same = rw is (
 
 -- and so are those of a list that lacks one more at the front
 pub behind_among : (pieces : List Piece) (first : Piece) (behind : List Piece)
-    → pieces ≡ first ∷ behind
-    → (other : Piece) → Contains behind other → Contains pieces other
+    → pieces ≡ first ∷ behind → (other : Piece) → Contains behind other → Contains pieces other
 behind_among pieces first behind is = rw is (behind_first _ _)
 
 -- ---- pieces of which each step is covered
 
 pub piece_covered : (pieces some : List Piece) (piece : Piece) → AreCovered pieces some
-    → Contains some piece → piece.from ≤ piece.to
-    → All (λ (step : Step). covers pieces step ≡ true)
+    → Contains some piece → piece.from ≤ piece.to → All (λ (step : Step). covers pieces step ≡ true)
     (stretch piece.line piece.from (piece.to - piece.from))
 piece_covered pieces some piece are there forwards =
-    all_stretch (λ (step : Step). covers pieces step ≡ true) _ _
-    _
+    all_stretch (λ (step : Step). covers pieces step ≡ true) _ _ _
     (λ k low high. are piece there (step_at piece.line k)
     (has piece.line k piece refl low (omega arith)))
 
@@ -114,8 +99,7 @@ module _ (pieces : List Piece) (line first behind : ℕ) (inside : behind ≤ le
         (omega (
           arith,
           to_first.0 behind nothing (omega arith) less,
-          to_behind.1 behind nothing
-              (omega arith) (omega arith),
+          to_behind.1 behind nothing (omega arith) (omega arith),
         ))
     | inr not_less ↦ omega arith
   ]
@@ -124,21 +108,13 @@ module _ (pieces : List Piece) (line first behind : ℕ) (inside : behind ≤ le
   part = take (behind - first) (drop first pieces)
 
   size : length part ≡ behind - first
-  size = length-take-le (behind - first) (drop first pieces)
-      (omega (arith, length-drop first pieces, forward))
+  size = grind (arith, length-take-le, length-drop, forward)
 
   item : (k : ℕ) (d : Piece) → k < behind - first → get_or part k d ≡ get_or pieces (first + k) d
-  item k d lt = get_or-take (behind - first) (drop first pieces) k d lt
-      ∙ get_or-drop first pieces k d
+  item k d lt = grind (arith, get_or-take, get_or-drop)
 
   on_line : (k : ℕ) (d : Piece) → k < behind - first → (get_or pieces (first + k) d).line ≡ line
-  on_line k d lt =
-      omega (
-        arith,
-        to_first.1 (first + k) d (omega arith) (omega arith),
-        to_behind.0
-            (first + k) d (omega arith) (omega arith),
-      )
+  on_line k d lt = grind arith
 
   -- ---- a stretch of steps
 
@@ -151,11 +127,8 @@ module _ (pieces : List Piece) (line first behind : ℕ) (inside : behind ≤ le
         sym (item found.0 found.1 near) ∙ found.3 in
         let on : found.1.line ≡ line = ap (λ (piece : Piece). piece.line) (sym same)
         ∙ on_line found.0 found.1 near in
-        list_any_at (has_step (step_at line k)) pieces (first + found.0) found.1
-        (omega arith)
-        (ap (has_step (step_at line k)) same
-        ∙ has line k found.1 on (omega arith)
-        (omega arith))
+        list_any_at (has_step (step_at line k)) pieces (first + found.0) found.1 (omega arith)
+        (ap (has_step (step_at line k)) same ∙ has line k found.1 on (omega arith) (omega arith))
 
     one_missing : All (λ (piece : Piece). (end ≤ piece.from) ⊎ (piece.to ≤ at)) part → (k : ℕ)
         → at ≤ k → k < end → (i : ℕ) → i < length pieces

@@ -1,5 +1,5 @@
 -- The first of a list's elements that passes a test.
-use Rattle.olr_places.proofs.Common.{◌≡◌, ℕ, zero, suc, ◌+◌, ◌<◌, ◌≤◌, Bool, true, false, List, [], ◌∷◌, length, map, take, get_or, All, refl, ap, sym, subst, ◌∙◌, arith, list_any, position_or_len, take_all, All-head, All-tail}
+use Rattle.olr_places.proofs.Common.{◌≡◌, ℕ, zero, suc, ◌<◌, ◌≤◌, Bool, true, false, List, [], ◌∷◌, length, map, take, get_or, All, refl, arith, list_any, position_or_len, take_all, All-head, All-tail}
 
 module _ {X Y : Type 0} (f : X → Y) (p : Y → Bool) where
   abbrev Fails : X → Type 0
@@ -9,23 +9,19 @@ module _ {X Y : Type 0} (f : X → Y) (p : Y → Bool) where
       → All Fails (take i xs)
       → p (f x) ≡ true → (list_any p (map f xs) ≡ true) × (position_or_len p (map f xs) ≡ i)
   first_at [] i x lt is none passes = absurd (omega arith)
-  first_at (y ∷ xs) zero x lt is none passes =
-      let here : p (f y) ≡ true = ap (λ (z : X). p (f z)) (sym is) ∙ passes in
-      (rw here refl, rw here refl)
-  first_at (y ∷ xs) (suc i) x lt is none passes =
-      let not_here : p (f y) ≡ false = All-head Fails y (take i xs) none in
-      let rest = first_at xs i x (omega arith) is (All-tail Fails y (take i xs) none)
-      passes in
-      (rw (not_here, rest.0) refl, rw (not_here, rest.1) (let e : 1 + i ≡ suc i = omega arith in e))
+  first_at (y ∷ xs) zero x lt is none passes = grind arith
+  first_at (y ∷ xs) (suc i) x lt is none passes = grind (
+    arith,
+    All-head,
+    All-tail,
+    first_at xs i x (omega arith) is (All-tail Fails y (take i xs) none) passes,
+  )
 
   none_passes : (xs : List X) → All Fails xs → list_any p (map f xs) ≡ false
   none_passes [] none = refl
   none_passes (x ∷ xs) none =
-      let not_here : p (f x) ≡ false = All-head Fails x xs none in
-      let rest = none_passes xs (All-tail Fails x xs none) in
-      rw (not_here, rest) refl
+      grind (arith, All-head, All-tail, none_passes xs (All-tail Fails x xs none))
 
   pub none_at : (xs : List X) (i : ℕ) → length xs ≤ i → All Fails (take i xs)
       → list_any p (map f xs) ≡ false
-  none_at xs i past none = none_passes xs
-      (subst (λ (l : List X). All Fails l) (take_all i xs past) none)
+  none_at xs i past none = grind (arith, none_passes, take_all)

@@ -1,5 +1,5 @@
 -- Gaps, with one matching more behind.
-use Rattle.olr_places.proofs.Common.{KeyValue, gap_of, Entry, ◌≡◌, ◌-◌, ◌≤◌, List, [], ◌∷◌, ◌++◌, length, refl, arith}
+use Rattle.olr_places.proofs.Common.{KeyValue, gap_of, Entry, ◌≡◌, ◌≤◌, List, [], ◌∷◌, ◌++◌, length, refl, arith}
 
 -- the gap of a matching is the same with one more behind the others
 pub gap_stays : (before : List Entry) (one : Entry) (key : KeyValue) → 1 ≤ length before
@@ -10,5 +10,5 @@ gap_stays (first ∷ others) one key some = refl
 -- the gap of the next matching is the same with it
 pub gap_of_next : (before : List Entry) (one : Entry)
     → gap_of (before ++ one ∷ []) one.key ≡ gap_of before one.key
-gap_of_next [] one = let none : one.key.total - one.key.total ≡ 0 = omega arith in none
+gap_of_next [] one = omega arith
 gap_of_next (first ∷ others) one = refl

@@ -1,5 +1,5 @@
 -- One step of looking at matchings, whatever was looked at before.
-use Rattle.olr_places.proofs.Common.{KeyValue, last_of, Looked, belongs, gap_of, is_within, listed_of, looking, looking_on, openers_of, place_of, AreCounted, ArePlacesOf, entry_of, Entry, keys_of, margin_of, Ending, Beyond, Cut, PlaceLimits, Looking, Opener, ◌≡◌, ◌≢◌, ℕ, zero, suc, ◌+◌, ◌-◌, ◌<◌, ◌≤◌, Bool, true, false, List, [], ◌∷◌, ◌++◌, length, length-append, map, get_or, All, Option, Some, None, filter, refl, ap, sym, ◌∙◌, inl, inr, arith, append_assoc, ◌==◌, nat_le, nat_lt, cases_Bool, lt-leb, append-nil, length-map, map-append, All-cons, All-head, All-push, All-tail, filter-append, IsCounted, HasEnded, Stands, gap_behind, gap_in, margin_in, one_more_at, places_in}
+use Rattle.olr_places.proofs.Common.{KeyValue, last_of, Looked, belongs, gap_of, is_within, listed_of, looking, looking_on, openers_of, place_of, AreCounted, ArePlacesOf, entry_of, Entry, keys_of, margin_of, Ending, Beyond, Cut, PlaceLimits, Looking, Opener, ◌≡◌, ◌≢◌, ℕ, zero, suc, ◌+◌, ◌-◌, ◌<◌, ◌≤◌, Bool, true, false, List, [], ◌∷◌, ◌++◌, length, length-append, map, get_or, All, Option, Some, None, filter, refl, ap, sym, ◌∙◌, arith, append_assoc, ◌==◌, nat_le, nat_lt, cases_Bool, lt-leb, append-nil, length-map, map-append, All-cons, All-head, All-push, All-tail, filter-append, IsCounted, HasEnded, Stands, gap_behind, gap_in, margin_in, one_more_at, places_in}
 use Rattle.olr_places.specs.Looking.{members_of}
 use Rattle.olr_places.proofs.Gaps.{gap_of_next, gap_stays}
 use Rattle.olr_places.proofs.Members.{agree, at_most, count_of, none_here, none_past, one_here, with_one}
@@ -17,8 +17,7 @@ same_entries : (index : ℕ) (items : List Opener)
     → map entry_of (one_more_at index items) ≡ map entry_of items
 same_entries index [] = refl
 same_entries zero (opener ∷ items) = refl
-same_entries (suc index) (opener ∷ items) =
-    ap (λ (l : List Entry). entry_of opener ∷ l) (same_entries index items)
+same_entries (suc index) (opener ∷ items) = grind (arith, same_entries index items)
 
 -- nor what holds of each opener
 pub more_kept : (P : Opener → Type 0)
@@ -27,17 +26,19 @@ pub more_kept : (P : Opener → Type 0)
 more_kept P keep index [] all = all
 more_kept P keep zero (opener ∷ items) all =
     All-cons P _ items (keep opener _ (All-head P opener items all)) (All-tail P opener items all)
-more_kept P keep (suc index) (opener ∷ items) all =
-    All-cons P opener _ (All-head P opener items all)
-    (more_kept P keep index items (All-tail P opener items all))
+more_kept P keep (suc index) (opener ∷ items) all = grind (
+  arith,
+  All-cons,
+  All-head,
+  All-tail,
+  more_kept P keep index items (All-tail P opener items all),
+)
 
 -- those that pass are all where each does
 all_pass : {X : Type 0} (p : X → Bool) (xs : List X) → All (λ x. p x ≡ true) xs → filter p xs ≡ xs
 all_pass p [] all = refl
 all_pass p (x ∷ xs) all =
-    let here = All-head (λ x. p x ≡ true) x xs all in
-    let rest = all_pass p xs (All-tail (λ x. p x ≡ true) x xs all) in
-    rw (here, rest) refl
+    grind (arith, All-head, All-tail, all_pass p xs (All-tail (λ x. p x ≡ true) x xs all))
 
 module _ (limits : PlaceLimits) where
   some_openers : (before : List Entry) → 1 ≤ length (openers_of limits before) → 1 ≤ length before
@@ -46,26 +47,21 @@ module _ (limits : PlaceLimits) where
 
   -- the gap of the next matching, by the first opener that is kept
   pub gap_at_first : (before : List Entry) (items : List Opener) (key : KeyValue)
-      → map entry_of items ≡ openers_of limits before
-      → gap_behind items key ≡ gap_of before key
+      → map entry_of items ≡ openers_of limits before → gap_behind items key ≡ gap_of before key
   gap_at_first [] [] key same = refl
   gap_at_first [] (one ∷ items) key same = absurd (cc)
   gap_at_first (first ∷ others) [] key same = let opens = first_opens limits first others in
       absurd (cc)
   gap_at_first (first ∷ others) (one ∷ items) key same =
-      let opens = first_opens limits first others in
-      let heads : entry_of one ≡ first =
-      ap (λ (l : List Entry). get_or l 0 first) (same ∙ opens.1) in
-      ap (λ (one : Entry). key.total - one.key.total) heads
+      ap (λ (one : Entry). key.total - one.key.total)
+      (ap (λ (l : List Entry). get_or l 0 first) (same ∙ (first_opens limits first others).1))
 
   -- the gap of the second opener that is kept is that of the second place
   margin_is : (matchings : List Entry) (first second : Opener) (others : List Opener)
-      (behind : List Entry)
-      → AreCounted limits matchings 0 (first ∷ second ∷ others)
+      (behind : List Entry) → AreCounted limits matchings 0 (first ∷ second ∷ others)
       → openers_of limits matchings ≡ map entry_of (first ∷ second ∷ others) ++ behind
       → Some second.gap ≡ margin_of limits matchings
-  margin_is matchings first second others behind counted are =
-      rw are (ap (λ (n : ℕ). Some n) counted.1.0.gap)
+  margin_is matchings first second others behind counted are = grind arith
 
 -- where looking ends before the next matching, or where none is left
 module _ {limits : PlaceLimits} {before : List Entry} {kept : Looking}
@@ -76,8 +72,7 @@ module _ {limits : PlaceLimits} {before : List Entry} {kept : Looking}
       → margin_in items ending ≡ margin_of limits before
   margin_here [] counted are = rw (← are) none
   margin_here (first ∷ []) counted are = rw (← are) none
-  margin_here (first ∷ second ∷ others) counted are =
-      margin_is limits before first second others [] counted (sym are ∙ sym (append-nil _))
+  margin_here (first ∷ second ∷ others) counted are = grind (arith, margin_is, append-nil)
 
   pub ends_here : ArePlacesOf limits (record { matchings = before; ending = ending })
       (places_in kept ending)
@@ -110,58 +105,36 @@ module _ {limits : PlaceLimits} {before : List Entry} {old : Looking}
   own = place_of limits (openers_of limits with) one
 
   same_length : length items ≡ length openers
-  same_length = sym (length-map items entry_of)
-      ∙ ap (λ (l : List Entry). length l) stands.openers
+  same_length = grind (arith, length-map)
 
   gap_still : (key : KeyValue) → 1 ≤ length openers → gap_of with key ≡ gap_of before key
   gap_still key some = gap_stays before one key (some_openers limits before some)
 
   within_still : All (λ (opener : Entry). is_within limits with opener ≡ true) openers
-  within_still = λ k d inside.
-      ap (λ (n : ℕ). nat_le n limits.within)
-      (gap_still (get_or openers k d).key (omega arith)) ∙ stands.within k d inside
+  within_still = grind (arith, nat_le, gap_still)
 
   -- what it leaves, by what looking gives at it and others behind it
   looks_on : (looked : Looked) (left : List Entry) → looking_on limits before (one ∷ left) ≡ looked
       → looking limits (with ++ left) ≡ looked
-  looks_on looked left is = ap (looking limits) (append_assoc before (one ∷ []) left)
-      ∙ stands.goes_on (one ∷ left) ∙ is
+  looks_on looked left is = grind (arith, append_assoc)
 
   -- ---- members
 
   -- those before it keep their places
   places_stay : All (λ (other : Entry). place_of limits (openers_of limits with) other
       ≡ place_of limits openers other) before
-  places_stay = elim (cases_Bool (belongs limits openers one)) [
-    | inl here ↦ λ k d inside. ap (λ (l : List Entry). place_of limits l (get_or before k d))
-        (openers_same limits before one here)
-    | inr new ↦ λ k d inside.
-        ap (λ (l : List Entry). place_of limits l (get_or before k d))
-        (openers_more limits before one new)
-        ∙ first_stays _ openers one (all_placed limits before k d inside)
-  ]
+  places_stay = grind (arith, cases_Bool, openers_same, openers_more, first_stays, all_placed)
 
-  members_with : (index : ℕ) → members_of limits with index
-      ≡ members_of limits before index
+  members_with : (index : ℕ) → members_of limits with index ≡ members_of limits before index
       + count_of (place_of limits (openers_of limits with)) (one ∷ []) index
-  members_with index =
-      with_one (place_of limits (openers_of limits with)) before one index
+  members_with index = with_one (place_of limits (openers_of limits with)) before one index
       ∙ ap (λ (n : ℕ). n + count_of (place_of limits (openers_of limits with)) (one ∷ []) index)
       (agree (place_of limits (openers_of limits with)) (place_of limits openers) before index
       places_stay)
 
   still_counted : (index : ℕ) (opener : Opener) → 1 ≤ length openers → own ≢ index
-      → IsCounted limits before index opener
-      → IsCounted limits with index opener
-  still_counted index opener some other was = record {
-    gap = was.gap ∙ sym (gap_still opener.key some);
-    members = omega (
-      arith,
-      members_with index,
-      none_here
-          (place_of limits (openers_of limits with)) one index other,
-    );
-  }
+      → IsCounted limits before index opener → IsCounted limits with index opener
+  still_counted index opener some other was = grind (arith, gap_still, members_with, none_here)
 
   all_counted : (start : ℕ) (l : List Opener)
       → ((index : ℕ) → start ≤ index → index < start + length l → own ≢ index)
@@ -169,8 +142,7 @@ module _ {limits : PlaceLimits} {before : List Entry} {old : Looking}
       → AreCounted limits with start l
   all_counted start [] elsewhere inside was = tt
   all_counted start (opener ∷ l) elsewhere inside was = (
-    still_counted start opener (omega arith) (elsewhere start (omega arith) (omega arith))
-        was.0,
+    still_counted start opener (omega arith) (elsewhere start (omega arith) (omega arith)) was.0,
     all_counted (start + 1) l (λ index from to. elsewhere index (omega arith)
         (omega arith)) (omega arith) was.1,
   )
@@ -194,15 +166,9 @@ module _ {limits : PlaceLimits} {before : List Entry} {old : Looking}
         members =
             let one_more = one_here (place_of limits (openers_of limits with)) one start
             (omega arith) in
-            omega (
-              arith,
-              members_with start,
-              at_most
-                  (place_of limits openers) before start,
-            );
+            omega (arith, members_with start, at_most (place_of limits openers) before start);
       },
-      all_counted (start + 1) l (λ index from to is. omega arith)
-          (omega arith) was.1,
+      all_counted (start + 1) l (λ index from to is. omega arith) (omega arith) was.1,
     )
     counted_more start (suc index) (opener ∷ l) at inside was = (
       still_counted start opener (omega arith) (λ is. omega arith) was.0,
@@ -215,8 +181,7 @@ module _ {limits : PlaceLimits} {before : List Entry} {old : Looking}
     stands_with_member new index at has more last =
         let same = openers_same limits before one here in
         let at_own : 0 + index ≡ own = rw same (omega arith) in record {
-          openers = ap (map entry_of) has ∙ same_entries index items ∙ stands.openers
-              ∙ sym same;
+          openers = ap (map entry_of) has ∙ same_entries index items ∙ stands.openers ∙ sym same;
           within = rw same within_still;
           counted = rw has (counted_more 0 index items at_own (omega (arith, same_length))
               stands.counted);
@@ -236,8 +201,7 @@ module _ {limits : PlaceLimits} {before : List Entry} {old : Looking}
         ∙ first_behind _ openers one new_one (close_itself limits one)
 
     counted : AreCounted limits with 0 items
-    counted =
-        all_counted 0 items (λ index from to is. omega (arith, own_is, same_length))
+    counted = all_counted 0 items (λ index from to is. omega (arith, own_is, same_length))
         (omega (arith, same_length)) stands.counted
 
     module _ (opener : Opener) (shown : entry_of opener ≡ one)
@@ -255,8 +219,7 @@ module _ {limits : PlaceLimits} {before : List Entry} {old : Looking}
       }
 
       counted_with : (start : ℕ) (l : List Opener) → start + length l ≡ length items
-          → AreCounted limits with start l
-          → AreCounted limits with start (l ++ opener ∷ [])
+          → AreCounted limits with start l → AreCounted limits with start (l ++ opener ∷ [])
       counted_with start [] all was = let at : start ≡ length items = omega arith in
           (rw at counted_itself, tt)
       counted_with start (first ∷ l) all was =
@@ -266,17 +229,14 @@ module _ {limits : PlaceLimits} {before : List Entry} {old : Looking}
           → nat_lt limits.within (gap_of before one.key) ≡ false
           → nat_le (gap_of before one.key) limits.within ≡ true
           → (length openers == limits.most) ≡ false → new.openers.items ≡ items ++ opener ∷ []
-          → new.looked ≡ old.looked + 1 → new.last ≡ Some one.key
-          → Stands limits with new
+          → new.looked ≡ old.looked + 1 → new.last ≡ Some one.key → Stands limits with new
       stands_with_opener new near close room pushed more last = record {
-        openers =
-            ap (map entry_of) pushed ∙ map-append entry_of items (opener ∷ [])
+        openers = ap (map entry_of) pushed ∙ map-append entry_of items (opener ∷ [])
             ∙ ap (λ (l : List Entry). l ++ entry_of opener ∷ []) stands.openers
             ∙ ap (λ (s : Entry). openers ++ s ∷ []) shown ∙ sym opens;
         within =
             rw opens (All-push (λ (opener : Entry). is_within limits with opener ≡ true) openers one
-            within_still (ap (λ (n : ℕ). nat_le n limits.within) (gap_of_next before one)
-            ∙ close));
+            within_still (ap (λ (n : ℕ). nat_le n limits.within) (gap_of_next before one) ∙ close));
         counted = rw pushed (counted_with 0 items (omega arith) counted);
         count = count_with new.looked more;
         last = last_is new.last last;
@@ -286,8 +246,7 @@ module _ {limits : PlaceLimits} {before : List Entry} {old : Looking}
     -- ---- or it would open a place too many
 
     pub full_ends : nat_lt limits.within (gap_of before one.key) ≡ false
-        → (length openers == limits.most) ≡ true
-        → HasEnded limits with old Cut
+        → (length openers == limits.most) ≡ true → HasEnded limits with old Cut
     full_ends near full = record {
       looked = record { matchings = before; ending = Cut };
       places = ends_here stands Cut refl;
@@ -309,8 +268,7 @@ module _ {limits : PlaceLimits} {before : List Entry} {old : Looking}
           ∙ ap (λ (l : List Entry). filter (is_within limits with) openers ++ l) none ∙ append-nil _
           ∙ all_pass (is_within limits with) openers within_still
 
-      margin_beyond : (l : List Opener) → AreCounted limits with 0 l
-          → map entry_of l ≡ openers
+      margin_beyond : (l : List Opener) → AreCounted limits with 0 l → map entry_of l ≡ openers
           → margin_in l (Beyond (gap_of before one.key)) ≡ margin_of limits with
       margin_beyond [] counted are =
           let none = gap_at_first limits before [] one.key are in

@@ -1,6 +1,6 @@
 -- How many matchings belong to a place, with one matching more.
 use Rattle.std.proofs.lemmas.List.Sums.{count_by-le-length, length-filter}
-use Rattle.olr_places.proofs.Common.{Entry, ◌≡◌, ◌≢◌, ℕ, ◌+◌, ◌<◌, ◌≤◌, List, [], ◌∷◌, ◌++◌, length, length-append, All, filter, refl, ap, ◌∙◌, inl, inr, arith, ◌==◌, cases_eq, eq-eqb, ne_eqb, All-head, All-tail, filter-append}
+use Rattle.olr_places.proofs.Common.{Entry, ◌≡◌, ◌≢◌, ℕ, ◌+◌, ◌<◌, ◌≤◌, List, [], ◌∷◌, ◌++◌, length, length-append, All, filter, refl, arith, ◌==◌, cases_eq, eq-eqb, ne_eqb, All-head, All-tail, filter-append}
 
 -- how many of these have a number
 abbrev pub count_of : (Entry → ℕ) → List Entry → ℕ → ℕ
@@ -8,49 +8,43 @@ count_of place entries index = length (filter (λ (one : Entry). place one == in
 
 module _ (place : Entry → ℕ) where
   pub one_here : (one : Entry) (index : ℕ) → place one ≡ index → count_of place (one ∷ []) index ≡ 1
-  one_here one index is = let here = eq-eqb (place one) index is in rw here refl
+  one_here one index is = rw (eq-eqb (place one) index is) refl
 
   pub none_here : (one : Entry) (index : ℕ) → place one ≢ index
       → count_of place (one ∷ []) index ≡ 0
-  none_here one index other = let elsewhere = ne_eqb (place one) index other in rw elsewhere refl
+  none_here one index other = rw (ne_eqb (place one) index other) refl
 
   pub with_one : (entries : List Entry) (one : Entry) (index : ℕ)
       → count_of place (entries ++ one ∷ []) index ≡ count_of place entries index
       + count_of place (one ∷ []) index
-  with_one entries one index =
-      ap (λ (l : List Entry). length l)
-      (filter-append (λ (each : Entry). place each == index) entries (one ∷ []))
-      ∙ length-append (filter (λ (each : Entry). place each == index) entries) _
+  with_one entries one index = grind (arith, filter-append, length-append)
 
   pub at_most : (entries : List Entry) (index : ℕ) → count_of place entries index ≤ length entries
-  at_most entries index =
-      rw (length-filter (λ (each : Entry). place each == index) entries)
-      (count_by-le-length (λ (each : Entry). place each == index) entries)
+  at_most entries index = grind (arith, length-filter, count_by-le-length)
 
   pub none_past : (entries : List Entry) (index : ℕ)
       → All (λ (one : Entry). place one < index) entries → count_of place entries index ≡ 0
   none_past [] index all = refl
-  none_past (one ∷ entries) index all =
-      let elsewhere = ne_eqb (place one) index
-      (λ is. omega (
-        arith,
-        All-head (λ (one : Entry). place one < index) one entries
-            all,
-      )) in
-      rw elsewhere (none_past entries index
-      (All-tail (λ (one : Entry). place one < index) one entries all))
+  none_past (one ∷ entries) index all = grind (
+    arith,
+    ne_eqb,
+    All-head,
+    All-tail,
+    none_past entries index (All-tail (λ (one : Entry). place one < index) one entries all),
+  )
 
 -- two ways to number them that agree on each
 pub agree : (place other : Entry → ℕ) (entries : List Entry) (index : ℕ)
     → All (λ (one : Entry). place one ≡ other one) entries
     → count_of place entries index ≡ count_of other entries index
 agree place other [] index all = refl
-agree place other (one ∷ entries) index all =
-    let rest = agree place other entries index
-    (All-tail (λ (one : Entry). place one ≡ other one) one entries all) in
-    let same = All-head (λ (one : Entry). place one ≡ other one) one entries all in
-    elim (cases_eq (other one) index) [
-      | inl is ↦ let here = eq-eqb (other one) index is in rw (same, here, rest) refl
-      | inr not_is ↦ let elsewhere = ne_eqb (other one) index not_is in
-          rw (same, elsewhere, rest) refl
-    ]
+agree place other (one ∷ entries) index all = grind (
+  arith,
+  All-tail,
+  All-head,
+  cases_eq,
+  eq-eqb,
+  ne_eqb,
+  agree place other entries index
+      (All-tail (λ (one : Entry). place one ≡ other one) one entries all),
+)

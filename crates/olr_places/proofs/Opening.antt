@@ -17,17 +17,14 @@ module _ {X : Type 0} (p : X → Bool) where
 
   pub first_stays : (xs : List X) (y : X) → position_or_len p xs < length xs
       → position_or_len p (xs ++ y ∷ []) ≡ position_or_len p xs
-  first_stays xs y within =
-      let before = ne_eqb (position_or_len p xs) (length xs) (λ e. omega arith) in
-      position_or_len_push p xs y ∙ (rw before refl)
+  first_stays xs y within = grind (arith, ne_eqb, position_or_len_push)
 
   pub first_behind : (xs : List X) (y : X) → list_any p xs ≡ false → p y ≡ true
       → position_or_len p (xs ++ y ∷ []) ≡ length xs
   first_behind [] y none passes = rw passes refl
   first_behind (x ∷ xs) y none passes = elim (cases_Bool (p x)) [
     | inl here ↦ absurd (false≢true (sym (rw here at none)))
-    | inr fails ↦
-        let behind = first_behind xs y (rw fails at none) passes in rw (fails, behind) (omega arith)
+    | inr fails ↦ rw (fails, first_behind xs y (rw fails at none) passes) (omega arith)
   ]
 
 module _ (limits : PlaceLimits) where
@@ -44,14 +41,13 @@ module _ (limits : PlaceLimits) where
   opened_on : (openers entries : List Entry) (entry : Entry)
       → openers_on limits openers (entries ++ entry ∷ [])
       ≡ opened (openers_on limits openers entries) entry
-  opened_on openers [] entry = elim (cases_Bool (belongs limits openers entry)) [
-    | inl old ↦ rw old refl
-    | inr new ↦ rw new refl
-  ]
-  opened_on openers (first ∷ entries) entry = elim (cases_Bool (belongs limits openers first)) [
-    | inl old ↦ let rest = opened_on openers entries entry in rw (old, rest) refl
-    | inr new ↦ let rest = opened_on (openers ++ first ∷ []) entries entry in rw (new, rest) refl
-  ]
+  opened_on openers [] entry = grind (arith, cases_Bool)
+  opened_on openers (first ∷ entries) entry = grind (
+    arith,
+    cases_Bool,
+    opened_on openers entries entry,
+    opened_on (openers ++ first ∷ []) entries entry,
+  )
 
   pub openers_same : (before : List Entry) (entry : Entry)
       → belongs limits (openers_of limits before) entry ≡ true
@@ -87,9 +83,7 @@ module _ (limits : PlaceLimits) where
   -- a matching that belongs to a place still does with more openers
   belongs_still : (openers more : List Entry) (entry : Entry) → belongs limits openers entry ≡ true
       → belongs limits (openers ++ more) entry ≡ true
-  belongs_still openers more entry old =
-      let parts = list_any-append (is_close_to limits entry) openers more in
-      parts ∙ (rw old refl)
+  belongs_still openers more entry old = grind (arith, list_any-append)
 
   -- each matching belongs to a place
   pub all_belong_on : (openers entries : List Entry)
@@ -126,9 +120,4 @@ module _ (limits : PlaceLimits) where
   pub all_placed : (entries : List Entry)
       → All (λ (entry : Entry). place_of limits (openers_of limits entries) entry
       < length (openers_of limits entries)) entries
-  all_placed entries =
-      All-weaker (λ (entry : Entry). belongs limits (openers_of limits entries) entry ≡ true)
-      (λ (entry : Entry). place_of limits (openers_of limits entries) entry
-      < length (openers_of limits entries))
-      (λ entry is. first_within (is_close_to limits entry) (openers_of limits entries) is) entries
-      (all_belong entries)
+  all_placed entries = grind (arith, All-weaker, first_within, all_belong)

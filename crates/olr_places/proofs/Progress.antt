@@ -22,19 +22,12 @@ module _ (limits : PlaceLimits) (road : RoadMap) (layers : LayersValue) (answers
 pub at_start : {limits : PlaceLimits} {road : RoadMap} {layers : LayersValue}
     (answers : List KeyValue) {kept : Looking} → Stands limits [] kept
     → Progress limits road layers answers kept
-at_start answers stands = record {
-  seen = [];
-  left = answers;
-  keys_are = refl;
-  each = All-nil _;
-  stands = stands;
-}
+at_start answers stands = grind (arith, All-nil)
 
 module _ {limits : PlaceLimits} {road : RoadMap} {layers : LayersValue} {answers : List KeyValue}
     {old : Looking} (progress : Progress limits road layers answers old) where
   rest : IsRestAfter answers old.last progress.left
-  rest = rw progress.stands.last
-      (after_keys answers None (keys_of progress.seen) progress.left (sym progress.keys_are))
+  rest = grind (arith, after_keys)
 
   pub position : IsPosition answers old.last
   position = position_within answers old.last progress.left rest
@@ -69,8 +62,7 @@ module _ {limits : PlaceLimits} {road : RoadMap} {layers : LayersValue} {answers
         (sym none ∙ first_left) same)
       where
         no_others : (left : List KeyValue) (others : List Entry) → None ≡ slice_get left 0
-            → keys_of others ≡ left
-            → looking_on limits progress.seen others
+            → keys_of others ≡ left → looking_on limits progress.seen others
             ≡ record { matchings = progress.seen; ending = NoMore }
         no_others left [] empty same = refl
         no_others [] (one ∷ others) empty same = absurd cc
@@ -97,8 +89,7 @@ module _ {limits : PlaceLimits} {road : RoadMap} {layers : LayersValue} {answers
         with = progress.seen ++ entry_of opener ∷ []
 
         keys_with : answers ≡ keys_of with ++ drop 1 progress.left
-        keys_with =
-            rw map-append (rw append_assoc (rw at (rw (← left_is) progress.keys_are)))
+        keys_with = rw map-append (rw append_assoc (rw at (rw (← left_is) progress.keys_are)))
 
         each_with : All (IsEntryAt road layers) with
         each_with = All-push (IsEntryAt road layers) progress.seen (entry_of opener)

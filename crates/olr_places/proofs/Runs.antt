@@ -1,6 +1,6 @@
 -- The longest run of neighbouring steps that aren't covered: as a number that is computed, and as a
 -- run that is the longest one.
-use Rattle.olr_places.proofs.Common.{stretch, Step, longest_run, ◌≡◌, ℕ, zero, suc, ◌+◌, ◌-◌, ◌<◌, ◌≤◌, Bool, true, false, List, [], ◌∷◌, ◌++◌, length, max, All, refl, sym, ap, subst, ◌∙◌, inl, inr, arith, if◌then◌else◌, nat_le, append_assoc, cases_Bool, cases_lt, le-leb, lt-leb, length_push, All-nil, All-head, All-push, All-tail}
+use Rattle.olr_places.proofs.Common.{stretch, Step, longest_run, ◌≡◌, ℕ, zero, suc, ◌+◌, ◌-◌, ◌<◌, ◌≤◌, Bool, true, false, List, [], ◌∷◌, ◌++◌, length, max, All, refl, sym, ap, ◌∙◌, inl, inr, arith, if◌then◌else◌, nat_le, append_assoc, cases_Bool, cases_lt, le-leb, lt-leb, length_push, All-nil, All-head, All-push, All-tail}
 use Rattle.olr_report.proofs.StepLists.{length-stretch, stretch-add}
 
 module _ (covered : Step → Bool) where
@@ -24,47 +24,44 @@ module _ (covered : Step → Bool) where
 
   pub all_missing : (run : ℕ) (same rest : List Step) → All Missing same
       → longest_run covered run (same ++ rest) ≡ longest_run covered (run + length same) rest
-  all_missing run [] rest are = ap (λ (n : ℕ). longest_run covered n rest) {x = run} {y = run + 0}
-      (omega arith)
-  all_missing run (step ∷ same) rest are =
-      at_missing run step (same ++ rest) (All-head Missing step same are)
-      ∙ all_missing (run + 1) same rest (All-tail Missing step same are)
-      ∙ ap (λ (n : ℕ). longest_run covered n rest) {x = run + 1 + length same} {y =
-      run + suc (length same)} (omega arith)
+  all_missing run [] rest are = grind arith
+  all_missing run (step ∷ same) rest are = grind (
+    arith,
+    at_missing,
+    All-head,
+    All-tail,
+    all_missing (run + 1) same rest (All-tail Missing step same are),
+  )
 
   pub all_covered : (run : ℕ) (first : Step) (same rest : List Step) → All Covered (first ∷ same)
       → longest_run covered run (first ∷ (same ++ rest)) ≡ max run (longest_run covered 0 rest)
   all_covered run first [] rest are = at_covered run first rest (All-head Covered first [] are)
-  all_covered run first (step ∷ same) rest are =
-      let here = at_covered run first (step ∷ (same ++ rest))
-      (All-head Covered first (step ∷ same) are) in
-      let behind = all_covered 0 step same rest (All-tail Covered first (step ∷ same) are) in
-      here ∙ ap (max run) behind ∙ ap (max run) {x = max 0 (longest_run covered 0 rest)} {y =
-      longest_run covered 0 rest} (omega arith)
+  all_covered run first (step ∷ same) rest are = grind (
+    arith,
+    at_covered,
+    All-head,
+    All-tail,
+    all_covered 0 step same rest (All-tail Covered first (step ∷ same) are),
+  )
 
   pub at_least : (run : ℕ) (steps : List Step) → run ≤ longest_run covered run steps
   at_least run [] = omega arith
-  at_least run (step ∷ steps) = elim (cases_Bool (covered step)) [
-    | inl is ↦ subst (λ (n : ℕ). run ≤ n) (sym (at_covered run step steps is)) (omega arith)
-    | inr is ↦ subst (λ (n : ℕ). run ≤ n) (sym (at_missing run step steps is))
-        (omega (arith, at_least (run + 1) steps))
-  ]
+  at_least run (step ∷ steps) =
+      grind (arith, cases_Bool, at_covered, at_missing, at_least (run + 1) steps)
 
   -- ---- no run is longer
 
   none_longer : (run : ℕ) (before same behind : List Step) → All Missing same
       → length same ≤ longest_run covered run (before ++ (same ++ behind))
-  none_longer run [] same behind are =
-      subst (λ (n : ℕ). length same ≤ n) (sym (all_missing run same behind are))
-      (omega (arith, at_least (run + length same) behind))
-  none_longer run (step ∷ before) same behind are = elim (cases_Bool (covered step)) [
-    | inl is ↦ subst (λ (n : ℕ). length same ≤ n)
-        (sym (at_covered run step (before ++ (same ++ behind)) is))
-        (omega (arith, none_longer 0 before same behind are))
-    | inr is ↦ subst (λ (n : ℕ). length same ≤ n)
-        (sym (at_missing run step (before ++ (same ++ behind)) is))
-        (none_longer (run + 1) before same behind are)
-  ]
+  none_longer run [] same behind are = grind (arith, all_missing, at_least)
+  none_longer run (step ∷ before) same behind are = grind (
+    arith,
+    cases_Bool,
+    at_covered,
+    at_missing,
+    none_longer 0 before same behind are,
+    none_longer (run + 1) before same behind are,
+  )
 
   -- ---- one run is as long
 
@@ -95,8 +92,7 @@ module _ (covered : Step → Bool) where
             before = lead ++ step ∷ found.before;
             longest = found.longest;
             behind = found.behind;
-            split =
-                ap (λ (l : List Step). lead ++ step ∷ l) found.split
+            split = ap (λ (l : List Step). lead ++ step ∷ l) found.split
                 ∙ sym (append_assoc lead (step ∷ found.before) (found.longest ++ found.behind));
             missing = found.missing;
             length_is = rw is (omega arith);
@@ -110,8 +106,7 @@ module _ (covered : Step → Bool) where
             length_is = rw is (omega arith);
           }
         ]
-    | inr is ↦
-        rw (is, ← length_push lead step, ← append_assoc lead (step ∷ []) steps)
+    | inr is ↦ rw (is, ← length_push lead step, ← append_assoc lead (step ∷ []) steps)
         (has_run (lead ++ step ∷ []) steps (All-push Missing lead step are is))
   ]
 
@@ -140,8 +135,7 @@ module _ (covered : Step → Bool) where
 
     -- a stretch of steps that are alike, and those behind it
     pub next_alike : (run line at count : ℕ) (behind : List Step) (is_covered : Bool) → run ≤ most
-        → 0 < count
-        → All (λ (step : Step). covered step ≡ is_covered) (stretch line at count)
+        → 0 < count → All (λ (step : Step). covered step ≡ is_covered) (stretch line at count)
         → Within run (stretch line at count ++ behind)
         ≡ Within (if is_covered then 0 else run + count) behind
     next_alike run line at zero behind true small some are = absurd (omega arith)
@@ -157,8 +151,7 @@ module _ (covered : Step → Bool) where
         → at < end → end ≤ to
         → All (λ (step : Step). covered step ≡ is_covered) (stretch line at (end - at))
         → Within run (stretch line at (to - at) ++ rest)
-        ≡ Within (if is_covered then 0 else run + (end - at))
-        (stretch line end (to - end) ++ rest)
+        ≡ Within (if is_covered then 0 else run + (end - at)) (stretch line end (to - end) ++ rest)
     next_stretch run line at end to rest is_covered small before inside are =
         let whole : to - at ≡ (end - at) + (to - end) = omega (arith, before) in
         let next : at + (end - at) ≡ end = omega (arith, before) in
@@ -166,19 +159,9 @@ module _ (covered : Step → Bool) where
         ++ stretch line end (to - end) =
         ap (λ (n : ℕ). stretch line at n) whole ∙ stretch-add line at (end - at) (to - end)
         ∙ ap (λ (n : ℕ). stretch line at (end - at) ++ stretch line n (to - end)) next in
-        ap (λ (l : List Step). Within run (l ++ rest)) split
-        ∙ ap (λ (l : List Step). Within run l)
+        ap (λ (l : List Step). Within run (l ++ rest)) split ∙ ap (λ (l : List Step). Within run l)
         (append_assoc (stretch line at (end - at)) (stretch line end (to - end)) rest)
         ∙ next_alike run line at (end - at) (stretch line end (to - end) ++ rest) is_covered small
         (omega (arith, before)) are
 
 -- ---- two ways to say what is covered
-
-same_runs : (covered other : Step → Bool) → ((step : Step) → covered step ≡ other step)
-    → (run : ℕ) (steps : List Step)
-    → longest_run covered run steps ≡ longest_run other run steps
-same_runs covered other same run [] = refl
-same_runs covered other same run (step ∷ steps) =
-    let now = same_runs covered other same 0 steps in
-    let later = same_runs covered other same (run + 1) steps in
-    rw (same step, now, later) refl

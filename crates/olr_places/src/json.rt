@@ -62,6 +62,7 @@ impl ToJson<OnMap<'_>> for Places {
 /// # Errors
 ///
 /// [`NoMemory`] where the allocator refused memory.
+#[tactic(auto, using(crate::proofs::Outputs::object_is, olr_report::proofs::JsonShape::entry_nests, olr_text::proofs::Nesting::items_nest, olr_text::proofs::Nesting::option_nests))]
 pub fn places_json(alloc: Global, map: &Map, places: Places) -> Result<String, NoMemory>
     ensures { IfOk result (λ text. (limits : PlaceLimits) (looked : Looked)
         → ArePlacesOf limits looked places

@@ -90,10 +90,6 @@ impl Looking {
     }
 
     /// Looks at the next matching. Why looking ended, if it did.
-    ///
-    /// # Errors
-    ///
-    /// [`NoMemory`] where the allocator refused memory.
     pub(crate) fn look_at(
         &mut self,
         limits: &PlaceLimits,

@@ -25,6 +25,7 @@ fn run_after(before: u64, stretch: Stretch, at: u32) -> u64
 
 /// How many steps at the end of a piece are missing, with those before it where all of its own
 /// are. `None` once a run exceeds `most`.
+#[tactic(auto, using(olr_report::proofs::StepLists::stretch, crate::proofs::Runs::Within, crate::proofs::Runs::next_stretch))]
 fn run_behind(cover: &Cover, piece: &Piece, before: u64, most: u32) -> Option<u64>
     requires rises { IsNonDecreasingBy (λ (piece : Piece). piece.line) cover.now.pieces.items }
     requires at_most { before ≤ most }

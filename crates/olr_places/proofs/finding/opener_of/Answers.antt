@@ -7,8 +7,7 @@ use Rattle.olr_places.proofs.finding.opener_of.Goals as goal
 of_one : {A B : Type 0} (R : A → B → Type 0) (key : A) (all rest : List B) (one : B)
     → AllZip R (key ∷ []) all → all ≡ rest ++ one ∷ [] → R key one
 of_one R key [] rest one each is = absurd each
-of_one R key (other ∷ []) [] one each is =
-    subst (R key) (ap (λ l. get_or l 0 other) is) each.0
+of_one R key (other ∷ []) [] one each is = subst (R key) (ap (λ l. get_or l 0 other) is) each.0
 of_one R key (other ∷ []) (first ∷ rest) one each is =
     absurd (omega (arith, ap length is, length-append rest (one ∷ [])))
 of_one R key (other ∷ second ∷ more) rest one each is = absurd each.1
@@ -21,8 +20,7 @@ returns-clause-entry c =
     let parts = of_one (IsMatchedBy road layers) c.args.key _ _ _
     (rw c.from_ref.ensures.value at c.in_ok-all.ensures.matched)
     (rw c.in-Some.is at c.pop.ensures.items) in
-    let shown =
-    c.sound_parts_can_be_shown.ensures road layers.reference c.in-Some.matched
+    let shown = c.sound_parts_can_be_shown.ensures road layers.reference c.in-Some.matched
     (c.matchings_are_sound.ensures road layers c.args.key c.in-Some.matched
     (rw c.map.ensures at c.sound.ensures) on c.requires parts) in
     let is = c.in_ok-route.ensures.on_map road shown.on_map in

@@ -7,8 +7,7 @@ abbrev pub invariant-loop-looking : goal.invariant-loop-looking
 invariant-loop-looking l = AreAnswers l.layers.penalties (answers_of l.finder.penalties)
     × Progress l.limits l.map l.layers (answers_of l.finder.penalties) l.looking
     × (l.routes ≡ record { road = l.map; layers = l.layers })
-    × All (IsOpenerAt l.map l.layers) l.looking.openers.items
-    × (l.looking.looked ≤ l.limits.look)
+    × All (IsOpenerAt l.map l.layers) l.looking.openers.items × (l.looking.looked ≤ l.limits.look)
 
 abbrev pub decreases-loop-looking : goal.decreases-loop-looking
 decreases-loop-looking l = l.limits.look - l.looking.looked

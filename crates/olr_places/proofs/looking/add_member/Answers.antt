@@ -7,13 +7,10 @@ set_is : (index : ℕ) (items : List Opener) (one other : Opener) → index < le
     ≡ one_more_at index items
 set_is index [] one other inside is is' = absurd (omega arith)
 set_is zero (opener ∷ items) one other inside is is' = rw (is, is') refl
-set_is (suc index) (opener ∷ items) one other inside is is' =
-    ap (λ (l : List Opener). opener ∷ l)
+set_is (suc index) (opener ∷ items) one other inside is is' = ap (λ (l : List Opener). opener ∷ l)
     (set_is index items one other (omega arith) is is')
 
 pub returns : goal.returns
-returns c =
-    ap (λ (members : ℕ). set c.args.openers.now.items c.args.index
+returns c = ap (λ (members : ℕ). set c.args.openers.now.items c.args.index
     (record c.index_mut.result.now { members = members })) c.saturating_add.ensures
-    ∙ set_is _ _ _ _ c.requires c.index_mut.ensures.value
-    c.index.ensures
+    ∙ set_is _ _ _ _ c.requires c.index_mut.ensures.value c.index.ensures

@@ -5,14 +5,11 @@ use Rattle.olr_places.proofs.missing.run_past.Goals as goal
 
 pub returns-in-Some : goal.returns-in-Some
 returns-in-Some c =
-    let piece = c.args.piece.now in
-    let there = c.in-Some.ensures.0 in (
+    let piece = c.args.piece.now in (
       omega arith,
       λ other inside. c.requires.covered other (c.in-Some.ensures.1 other inside),
-      λ rest.
-          next_alike (covers c.args.cover.now.pieces.items) c.args.most c.args.before piece.line
-          piece.from (piece.to - piece.from) rest true
-          c.requires.at_most (omega arith)
+      λ rest. next_alike (covers c.args.cover.now.pieces.items) c.args.most c.args.before piece.line
+          piece.from (piece.to - piece.from) rest true c.requires.at_most (omega arith)
           (piece_covered c.args.cover.now.pieces.items c.args.ahead.now piece c.requires.covered
-          there (omega arith)),
+          c.in-Some.ensures.0 (omega arith)),
     )

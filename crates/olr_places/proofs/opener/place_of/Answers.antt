@@ -19,7 +19,5 @@ loop-index-preserved c =
     ∙ sym c.is_close.ensures.value ∙ c.if-is_close.false)
 
 pub returns-clause-place : goal.returns-clause-place
-returns-clause-place c =
-    none_at _ _
-    c.args.openers.now c.loop-index.index
+returns-clause-place c = none_at _ _ c.args.openers.now c.loop-index.index
     (omega arith) c.loop-index.invariant

@@ -2,8 +2,7 @@ use Rattle.olr_places.proofs.Common.{Piece, covers, has_step, List, sym, ap, ◌
 use Rattle.olr_places.proofs.cover.Cover.new.Goals as goal
 
 pub returns-clause-rises : goal.returns-clause-rises
-returns-clause-rises c =
-    IsNonDecreasingBy-from_sort_by_key (λ (piece : Piece). piece.line) _
+returns-clause-rises c = IsNonDecreasingBy-from_sort_by_key (λ (piece : Piece). piece.line) _
     c.sort_unstable_by_key.ensures.sorted (λ a r q k. search rules)
 
 pub returns-clause-same : goal.returns-clause-same

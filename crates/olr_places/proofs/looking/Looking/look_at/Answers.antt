@@ -33,11 +33,10 @@ returns-then-gap-limits-clause-looks c = λ before stands.
     let gap = c.gap_behind-gap.ensures
     ∙ ap (λ (l : List Opener). gap_behind l c.args.opener.key) c.deref-2.ensures.value
     ∙ gap_is c.requires.count stands c.args.opener in
-    let new = rw (c.deref.ensures.value, stands.openers) at c.in_default.ensures.place in
-    let far : c.args.limits.now.within < gap_of before c.args.opener.key =
-    omega arith in
+    let far : c.args.limits.now.within < gap_of before c.args.opener.key = omega arith in
     rw gap
-    (beyond_ends stands (entry_of c.args.opener) (more_left c.requires.count stands) new far
+    (beyond_ends stands (entry_of c.args.opener) (more_left c.requires.count stands)
+    (rw (c.deref.ensures.value, stands.openers) at c.in_default.ensures.place) far
     c.count-then-gap-limits.new.self
     (lt-ltb c.args.limits.now.within (gap_of before c.args.opener.key) far)
     c.count-then-gap-limits.ensures.openers c.count-then-gap-limits.ensures.count
@@ -48,15 +47,13 @@ returns-then-len-limits-clause-looks c = λ before stands.
     let gap = c.gap_behind-gap.ensures
     ∙ ap (λ (l : List Opener). gap_behind l c.args.opener.key) c.deref-2.ensures.value
     ∙ gap_is c.requires.count stands c.args.opener in
-    let new = rw (c.deref.ensures.value, stands.openers) at c.in_default.ensures.place in
-    full_ends stands (entry_of c.args.opener) (more_left c.requires.count stands) new
-    (le-ltb c.args.limits.now.within (gap_of before c.args.opener.key)
-    (omega arith))
+    full_ends stands (entry_of c.args.opener) (more_left c.requires.count stands)
+    (rw (c.deref.ensures.value, stands.openers) at c.in_default.ensures.place)
+    (le-ltb c.args.limits.now.within (gap_of before c.args.opener.key) (omega arith))
     (eq-eqb _ c.args.limits.now.most
     (omega (
       arith,
-      length-map c.args.self.now.openers.items
-          entry_of,
+      length-map c.args.self.now.openers.items entry_of,
       ap (λ (l : List Entry). length l) stands.openers,
     )))
 
@@ -65,27 +62,22 @@ returns-clause-looks c = λ before stands.
     let gap = c.gap_behind-gap.ensures
     ∙ ap (λ (l : List Opener). gap_behind l c.args.opener.key) c.deref-2.ensures.value
     ∙ gap_is c.requires.count stands c.args.opener in
-    let new = rw (c.deref.ensures.value, stands.openers) at c.in_default.ensures.place in
-    let near : gap_of before c.args.opener.key ≤ c.args.limits.now.within =
-    omega arith in
-    stands_with_opener stands (entry_of c.args.opener) (more_left c.requires.count stands) new
-    c.with_gap.result
+    let near : gap_of before c.args.opener.key ≤ c.args.limits.now.within = omega arith in
+    stands_with_opener stands (entry_of c.args.opener) (more_left c.requires.count stands)
+    (rw (c.deref.ensures.value, stands.openers) at c.in_default.ensures.place) c.with_gap.result
     (ap entry_of c.with_gap.ensures) (ap (λ (o : Opener). o.gap) c.with_gap.ensures ∙ gap)
     (ap (λ (o : Opener). o.members) c.with_gap.ensures ∙ c.requires.itself)
     (record {
       openers = c.push.new.self;
       looked = c.count-2.new.self.looked;
-      last =
-          c.count-2.new.self.last;
-    })
-    (le-ltb c.args.limits.now.within (gap_of before c.args.opener.key) near)
+      last = c.count-2.new.self.last;
+    }) (le-ltb c.args.limits.now.within (gap_of before c.args.opener.key) near)
     (le-leb (gap_of before c.args.opener.key) c.args.limits.now.within near)
     (ne_eqb _ c.args.limits.now.most
     (λ full. c.if-len-limits.false (omega (
       arith,
       length-map c.args.self.now.openers.items entry_of,
-      ap
-          (λ (l : List Entry). length l) stands.openers,
+      ap (λ (l : List Entry). length l) stands.openers,
     ))))
     (c.in_ok-push.ensures.items ∙ ap (λ v. v.items ++ c.with_gap.result ∷ [])
     c.count-2.ensures.openers) c.count-2.ensures.count
