@@ -1,5 +1,5 @@
 -- The answer to a text on a map is what a run prints for it.
-use Rattle.olr_app_laws.proofs.Common.{ℕ, List, None, Ok, Err, Bor, refl, Tolerances, RoadMap, IsSameOutput, ReadsMap, at_bytes}
+use Rattle.olr_app_laws.proofs.Common.{ℕ, List, None, Err, Bor, refl, Tolerances, RoadMap, IsSameOutput, ReadsMap, at_bytes}
 use Rattle.olr_request.specs.Question.{asked_alone}
 use Rattle.olr_app.proofs.Alone.{anywhere}
 use Rattle.olr_app_laws.specs.RecordLaws.{AnswersAreOfRuns, FaultsAreOfRuns, IsSameAnswer, LawsBelow, OneAnswer}
@@ -29,13 +29,11 @@ module _ (laws : LawsBelow) where
 
   pub answers_are_of_runs : AnswersAreOfRuns
   answers_are_of_runs nodes lines bans road asked text output answer is_map is its =
-      same_answer asked.what asked.tolerances text road output answer
-      (laws.output nodes lines bans road _ output answer is_map
-      (reads_map asked.what asked.tolerances text) is
-      (rw (anywhere asked.what asked.tolerances road text (Ok answer)) its))
+      same_answer _ _ _ _ _ _
+      (laws.output nodes lines bans road _ output answer is_map (reads_map _ _ _) is
+      (rw (anywhere _ _ _ _ _) its))
 
   pub faults_are_of_runs : FaultsAreOfRuns
   faults_are_of_runs nodes lines bans road asked text fault is_map =
       rw (← (anywhere asked.what asked.tolerances road text (Err fault)))
-      (laws.fault nodes lines bans road _ fault is_map
-      (reads_map asked.what asked.tolerances text))
+      (laws.fault nodes lines bans road _ fault is_map (reads_map asked.what asked.tolerances text))

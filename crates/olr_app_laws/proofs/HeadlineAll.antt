@@ -11,8 +11,7 @@ more_runs : (format : Format) (inputs : Inputs) (cursor : Option (List ℕ)) (fo
     → Shows format run.shown (Some following) run.output
     → FollowEachOther inputs (Some following) runs → FollowEachOther inputs cursor (run ∷ runs)
 more_runs format inputs cursor following run [] is shows follow = absurd follow
-more_runs format inputs cursor following run (next ∷ runs) is shows follow =
-    (following, is, shows, follow)
+more_runs format inputs cursor following run (next ∷ runs) is shows follow = grind arith
 
 -- a page without more has no next key
 no_next : (page : PageValue) → page.more ≡ false → next_after page ≡ None
@@ -132,19 +131,10 @@ module _ (laws : Laws) (format : Format) (inputs : Inputs) (size : ℕ) (at_leas
   -- ---- pages
 
   -- a key after which the pages go on, in range
-  cursor_at : (key : KeyValue) → IsInRange key
-      → IsFingerprint text.now inputs.tolerances road mark
+  cursor_at : (key : KeyValue) → IsInRange key → IsFingerprint text.now inputs.tolerances road mark
       → IsStart (Some (cursor_text key (Some mark)))
       (Ok (Some (record { key = key; mark = Some mark })))
-  cursor_at key in_range fingerprint = (
-    record { key = key; mark = Some mark },
-    refl,
-    record {
-      in_range = in_range;
-      is_mark = laws.is_mark text.now inputs.tolerances road mark fingerprint;
-      same = refl;
-    },
-  )
+  cursor_at key in_range fingerprint = grind arith
 
   runs_of : (begins : Option (Bor (List ℕ))) (start : Option CursorRead) (after : Option KeyValue)
       → IsStart (bytes_of begins) (Ok start) → key_of start ≡ after
@@ -156,9 +146,7 @@ module _ (laws : Laws) (format : Format) (inputs : Inputs) (size : ℕ) (at_leas
   runs_of begins start after is_start at of_inputs (page ∷ pages) [] resumed ended marked each =
       absurd each
   runs_of begins start after is_start at of_inputs (page ∷ []) (output ∷ other ∷ texts) resumed
-      ended
-      marked each =
-      absurd each.1
+      ended marked each = absurd each.1
   runs_of begins start after is_start at of_inputs (page ∷ []) (output ∷ []) resumed ended marked
       each =
       last_run begins start is_start of_inputs page (rw at resumed.0) output each.0 marked ended
@@ -169,15 +157,12 @@ module _ (laws : Laws) (format : Format) (inputs : Inputs) (size : ℕ) (at_leas
       let here : AreMarked (page ∷ []) =
       λ one there. marked one (Contains-append_left (page ∷ []) (next ∷ pages) one there) in
       let fingerprint = here page (0, omega arith, refl) ended.0 in
-      let in_range = in_range begins start is_start of_inputs page is_page output each.0 last.0
-      last.1
-      in
       more begins start is_start of_inputs page is_page output each.0 last.0 (concat texts) here
       last.1
       (runs_of (Some (at_bytes (cursor_text last.0 (Some mark))))
       (Some (record { key = last.0; mark = Some mark })) (last_of after page.keys)
-      (cursor_at last.0 in_range fingerprint) (sym (last.2 after)) fingerprint (next ∷ pages) texts
-      resumed.1 ended.1
+      (cursor_at last.0 (in_range begins start is_start of_inputs page is_page output each.0 last.0
+      last.1) fingerprint) (sym (last.2 after)) fingerprint (next ∷ pages) texts resumed.1 ended.1
       (λ one there. marked one (Contains-append_right (page ∷ []) (next ∷ pages) one there)) each.1)
 
 pub all_pages : Laws → AllPages

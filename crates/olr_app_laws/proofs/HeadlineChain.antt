@@ -1,6 +1,6 @@
 -- Runs that follow each other show exactly the matchings after the cursor at which the first one
 -- begins; those have one text, and such runs come to an end.
-use Rattle.olr_app_laws.proofs.Common.{AreEntriesAt, RoadMap, IsSoundMap, OneCursor, IsInRange, KeyValue, IsRestAfter, IsFingerprint, LayersValue, next_after, Format, Text, ◌≡◌, ℕ, List, [], ◌∷◌, ◌++◌, Option, None, Some, sym, ap, ◌∙◌, subst, ◌<◌, ◌≤◌, length, drop, refl, length-append, arith, append-nil, map-append, length-drop, All-append, Laws, IsCursorOf, one_rest, Entry, IsEntryAt, AreShown, FollowEachOther, Headline, Inputs, Matchings, Names, Run, joined, SizesAgree, GoOn, RunsEnd, Part, Shows, parts_of}
+use Rattle.olr_app_laws.proofs.Common.{AreEntriesAt, RoadMap, IsSoundMap, OneCursor, IsInRange, KeyValue, IsRestAfter, IsFingerprint, LayersValue, next_after, Format, Text, ◌≡◌, ℕ, List, [], ◌∷◌, ◌++◌, Option, None, Some, sym, ap, ◌∙◌, subst, ◌≤◌, length, drop, refl, length-append, arith, append-nil, map-append, length-drop, All-append, Laws, IsCursorOf, one_rest, Entry, IsEntryAt, AreShown, FollowEachOther, Headline, Inputs, Matchings, Names, Run, joined, SizesAgree, GoOn, RunsEnd, Part, Shows, parts_of}
 use Rattle.olr_app_laws.proofs.HeadlineOutputs.{key_next, next_cursor, none_next, one_shown}
 use Rattle.olr_app_laws.proofs.HeadlineOutputs.{page_shows, parts_append}
 use Rattle.olr_app_laws.proofs.HeadlineRests.{next_in_range, next_more, page_and_rest, page_is_rest}
@@ -38,8 +38,7 @@ shown_append format road layers keys keys' parts parts' is is' = record {
 one_name : OneCursor → (cursor : Option (List ℕ)) (a b : Option KeyValue) → Names cursor a
     → Names cursor b → a ≡ b
 one_name law None a b is is' = is ∙ sym is'
-one_name law (Some cursor) a b is is' =
-    let same = law _ _ _ _ _ is.2 is'.2 in is.1 ∙ ap Some same.0 ∙ sym is'.1
+one_name law (Some cursor) a b is is' = is.1 ∙ ap Some (law _ _ _ _ _ is.2 is'.2).0 ∙ sym is'.1
 
 -- ---- runs
 
@@ -146,7 +145,7 @@ matchings_of_runs format inputs cursor (run ∷ next ∷ runs) follow = matching
 
 pub runs_join : Laws → Headline
 runs_join laws format inputs cursor runs follow =
-    let all = matchings_of_runs format inputs cursor runs follow in
+    let all = matchings_of_runs _ _ _ _ follow in
     let is = chain laws all cursor runs follow in
     record {
       all = all;
@@ -163,8 +162,7 @@ module _ (laws : Laws) where
   text_once : (road : RoadMap) (sound : IsSoundMap road) (layers : LayersValue)
       (keys : List KeyValue) (a b : List ℕ) → AreShown Text road layers keys a
       → AreShown Text road layers keys b → a ≡ b
-  text_once road sound layers keys a b is is' =
-      is.parts_are ∙ ap (parts_of Text road)
+  text_once road sound layers keys a b is is' = is.parts_are ∙ ap (parts_of Text road)
       (laws.entries road layers sound keys is.entries is'.entries is.are is'.are)
       ∙ sym is'.parts_are
 
@@ -172,21 +170,20 @@ module _ (laws : Laws) where
 
   pub sizes_agree : SizesAgree
   sizes_agree inputs cursor runs others follow follow' =
-      let all = matchings_of_runs Text inputs cursor runs follow in
+      let all = matchings_of_runs _ _ _ _ follow in
       let is = chain laws all cursor runs follow in
       let is' = chain laws all cursor others follow' in
-      let named = one_name laws.cursor cursor is'.named is.named is'.names is.names in
-      let rest = subst (λ o. IsRestAfter all.keys o is'.rest) named
-      is'.is_rest in
-      let rests : is'.rest ≡ is.rest = one_rest _ _ all.are_keys.rise rest is.is_rest in
-      text_once all.road all.is_map.sound all.layers is.rest _ _ is.shown (rw (sym rests) is'.shown)
+      text_once all.road all.is_map.sound all.layers is.rest _ _ is.shown
+      (rw (sym (one_rest _ _ all.are_keys.rise
+      (subst (λ o. IsRestAfter all.keys o is'.rest)
+      (one_name laws.cursor cursor is'.named is.named is'.names is.names) is'.is_rest) is.is_rest))
+      is'.shown)
 
 -- what comes after a position is no longer than the list
 rest_at_most : (keys : List KeyValue) (after : Option KeyValue) (rest : List KeyValue)
     → IsRestAfter keys after rest → length rest ≤ length keys
 rest_at_most keys None rest is = omega (arith, ap length is)
-rest_at_most keys (Some after) rest is =
-    omega (arith, ap length is.1, length-append is.0 (after ∷ rest))
+rest_at_most keys (Some after) rest is = grind (arith, length-append)
 
 module _ (laws : Laws) {format : Format} {inputs : Inputs} (all : Matchings inputs) where
   -- each run takes at least one key
@@ -198,22 +195,19 @@ module _ (laws : Laws) {format : Format} {inputs : Inputs} (all : Matchings inpu
       let prints = run_prints laws all go.1 in
       let next = next_of_run laws all run prints go.0 go.2 in
       let left : List KeyValue = drop prints.size prints.is_page.rest in
-      let later : length runs ≤ length left =
-      fewer (Some go.0) (Some next.0) left runs
+      let later : length runs ≤ length left = fewer (Some go.0) (Some next.0) left runs
       (record { key = next.0; mark = Some prints.mark }, refl, next.3)
       (left_after _ _ _ _ prints.is_page next.0 next.1) go.3 in
-      let here = subst (λ o. IsRestAfter all.keys o prints.is_page.rest)
-      (one_name laws.cursor cursor prints.named named prints.names names) prints.is_page.is_rest in
-      let same : rest ≡ prints.is_page.rest = one_rest _ _ all.are_keys.rise is here in
-      let longer : prints.size < length prints.is_page.rest =
-      prints.is_page.is_page.more.0 (next_more _ prints.page.keys next.0 next.1) in
       omega (
         arith,
         later,
-        longer,
+        prints.is_page.is_page.more.0 (next_more _ prints.page.keys next.0 next.1),
         prints.at_least,
         length-drop prints.size prints.is_page.rest,
-        ap length same,
+        ap length (one_rest _ _ all.are_keys.rise is
+            (subst (λ o. IsRestAfter all.keys o prints.is_page.rest)
+            (one_name laws.cursor cursor prints.named named prints.names names)
+            prints.is_page.is_rest)),
       )
 
   ends : (cursor : Option (List ℕ)) (runs : List (Run format)) → GoOn inputs cursor runs
@@ -221,9 +215,12 @@ module _ (laws : Laws) {format : Format} {inputs : Inputs} (all : Matchings inpu
   ends cursor [] go = omega arith
   ends cursor (run ∷ runs) go =
       let prints = run_prints laws all go.1 in
-      let at_most = fewer cursor prints.named prints.is_page.rest (run ∷ runs) prints.names
-      prints.is_page.is_rest go in
-      omega (arith, at_most, rest_at_most _ _ _ prints.is_page.is_rest)
+      omega (
+        arith,
+        fewer cursor prints.named prints.is_page.rest (run ∷ runs) prints.names
+            prints.is_page.is_rest go,
+        rest_at_most _ _ _ prints.is_page.is_rest,
+      )
 
 pub runs_end : Laws → RunsEnd
 runs_end laws format inputs all = ends laws all

@@ -1,5 +1,5 @@
 -- The cursors of the matchings of the inputs: no run that begins at one is refused.
-use Rattle.olr_app_laws.proofs.Common.{IsOutcome, IsFingerprint, IsKey, CursorRead, Mark, RoadMap, Accepts, IsStart, IsAnswer, IsAnswerOf, IsAnswerOn, IsMapOfFiles, AreLayers, AreMatchings, ArePages, IsOfInputs, IsPrinted, IsStartHere, OnLayers, OnStart, bytes_of, AndThen, Accepted, Fault, Format, MatchRequest, One, Match, inl, inr, ◌≡◌, ℕ, true, List, Option, None, Some, Ok, Err, Bor, refl, sym, ◌∙◌, subst, Contains, IfSome, Result, All-contains, Laws, IsMark, EachHasCursor, GoesOnHere, Inputs, IsCursorHere, Matchings, NoneRefused, files_of, request_of, no_ok_and_err}
+use Rattle.olr_app_laws.proofs.Common.{arith, IsOutcome, IsFingerprint, IsKey, CursorRead, Mark, RoadMap, Accepts, IsStart, IsAnswer, IsAnswerOf, IsAnswerOn, IsMapOfFiles, AreLayers, AreMatchings, ArePages, IsOfInputs, IsPrinted, IsStartHere, OnLayers, OnStart, bytes_of, AndThen, Accepted, Fault, Format, MatchRequest, One, Match, inl, inr, ◌≡◌, ℕ, true, List, Option, None, Some, Ok, Err, Bor, refl, sym, ◌∙◌, subst, Contains, IfSome, Result, All-contains, Laws, IsMark, EachHasCursor, GoesOnHere, Inputs, IsCursorHere, Matchings, NoneRefused, files_of, request_of, no_ok_and_err}
 use Rattle.olr_candidates.specs.Points.{IsFirstTooMany}
 use Rattle.olr_app_laws.proofs.HeadlineChain.{next_of_run}
 use Rattle.olr_app_laws.proofs.HeadlineRests.{next_within}
@@ -10,8 +10,7 @@ use Rattle.olr_app_laws.proofs.HeadlineRuns.{run_prints, same_reference}
 mark_of_inputs : Laws → (inputs : Inputs) (road : RoadMap) (mark : Option Mark)
     → IfSome mark (IsFingerprint inputs.text inputs.tolerances road) → IfSome mark IsMark
 mark_of_inputs laws inputs road None marked = tt
-mark_of_inputs laws inputs road (Some mark) marked =
-    laws.is_mark inputs.text inputs.tolerances road mark marked
+mark_of_inputs laws inputs road (Some mark) marked = grind arith
 
 pub each_has_cursor : Laws → EachHasCursor
 each_has_cursor laws inputs all key mark there marked =
@@ -44,10 +43,7 @@ no_fault : {A B : Type 0} (First : Result A Fault → Type 0) (Next : A → Resu
     (fault : Fault) → (First (Err fault) → ⊥)
     → ((found : A) → First (Ok found) → Next found (Err fault) → ⊥) → AndThen First Next (Err fault)
     → ⊥
-no_fault First Next fault first next is = elim is [
-  | inl here ↦ first here
-  | inr later ↦ next later.0 later.1 later.2
-]
+no_fault First Next fault first next is = grind arith
 
 module _ (laws : Laws) (inputs : Inputs) (all : Matchings inputs) (fault : Fault) where
   -- what is read of a cursor of the inputs
@@ -88,8 +84,7 @@ module _ (laws : Laws) (inputs : Inputs) (all : Matchings inputs) (fault : Fault
     unfolding asked
     no_start_here_fault start here is =
         let read : IsReadHere (Some is.1) = moved is.2 here in
-        is.3 (subst (λ t. IsOfInputs t inputs.tolerances all.road is.1) (sym text_is)
-        read.1)
+        is.3 (subst (λ t. IsOfInputs t inputs.tolerances all.road is.1) (sym text_is) read.1)
 
     no_layers_fault : AreLayers inputs.tolerances all.layers.reference all.road (Err fault) → ⊥
     no_layers_fault is =
@@ -107,8 +102,7 @@ module _ (laws : Laws) (inputs : Inputs) (all : Matchings inputs) (fault : Fault
     no_matchings_fault : (accepted : Accepted) → accepted.reference ≡ all.layers.reference
         → IsReadHere accepted.start → AreMatchings true asked accepted all.road (Err fault) → ⊥
     unfolding asked
-    no_matchings_fault accepted same read =
-        no_fault (IsStartHere asked all.road accepted.start)
+    no_matchings_fault accepted same read = no_fault (IsStartHere asked all.road accepted.start)
         (OnStart true asked accepted.reference all.road) fault
         (no_start_here_fault accepted.start read)
         (λ here is_here. no_fault (AreLayers inputs.tolerances accepted.reference all.road)
@@ -120,8 +114,7 @@ module _ (laws : Laws) (inputs : Inputs) (all : Matchings inputs) (fault : Fault
         (λ is. no_pages_fault here (moved (sym is_here.0) read)
         (subst (λ l. ArePages asked l here (Err fault))
         (laws.layers all.road layers all.layers are_layers.0 all.are_layers (are_layers.1 ∙ same)
-        (are_layers.2 ∙ sym all.are_tolerances)) is))
-        (λ list are_pages printed. printed)))
+        (are_layers.2 ∙ sym all.are_tolerances)) is)) (λ list are_pages printed. printed)))
 
     -- ---- all stages
 
@@ -137,11 +130,9 @@ module _ (laws : Laws) (inputs : Inputs) (all : Matchings inputs) (fault : Fault
           | inr its ↦ no_start_fault (bytes_of begins) here its.2
         ])
         (λ accepted is. no_fault (IsMapOfFiles (files_of inputs))
-        (IsAnswerOn true (Match asked) accepted)
-        fault
+        (IsAnswerOn true (Match asked) accepted) fault
         (λ why. laws.no_map_and_fault _ _ _ all.road why.0 all.is_map (why.1, why.2))
-        (λ road is_map ends. no_matchings_fault accepted
-        (same_reference laws.outcome is.0 outcome)
+        (λ road is_map ends. no_matchings_fault accepted (same_reference laws.outcome is.0 outcome)
         (read_here (bytes_of begins) accepted.start here is.1)
         (subst (λ r. AreMatchings true asked accepted r (Err fault))
         (laws.map _ _ _ _ _ is_map all.is_map) ends)))

@@ -1,7 +1,5 @@
 -- What an output shows, in either format: a page shows its entries, and an output shows one thing.
-use Rattle.serde_json.specs.Find.{get}
-use Rattle.serde_json.specs.Read.{read}
-use Rattle.olr_app_laws.proofs.Common.{items_of, cursor_text, KeyValue, Mark, RoadMap, entries_rows, IsPageIn, Format, Json, Text, ◌≡◌, ℕ, List, [], ◌∷◌, ◌++◌, Option, None, Some, get_or, refl, sym, ap, ◌∙◌, append_assoc, arith, codes, option_map, append_cancel_left, append_cancel_right, map-append, same_Some, Data, Items, array, Entry, entry_object, next_value, end_row, entry_rows, AreRows, IsLastRow, IsObject, Part, Shows, last_row_of, next_of, parts_of}
+use Rattle.olr_app_laws.proofs.Common.{items_of, cursor_text, KeyValue, Mark, RoadMap, entries_rows, IsPageIn, Format, Json, Text, ◌≡◌, ℕ, List, [], ◌∷◌, ◌++◌, Option, None, Some, refl, append_assoc, arith, option_map, append_cancel_left, append_cancel_right, map-append, same_Some, Data, Items, array, Entry, entry_object, next_value, end_row, AreRows, IsLastRow, IsObject, Part, Shows, last_row_of, next_of, parts_of}
 use Rattle.olr_report.specs.JsonLaws.{JsonReadsAsPage}
 use Rattle.olr_app_laws.proofs.HeadlineTexts.{one_last_row}
 use Rattle.olr_app_laws.proofs.HeadlineTexts.{IsInRangeIfAny, end_is_row, entries_are_rows}
@@ -20,8 +18,7 @@ pub key_next : (next : Option KeyValue) (mark : Mark) (cursor : List ℕ)
     → next_cursor next mark ≡ Some cursor
     → (key : KeyValue) × (next ≡ Some key) × (cursor ≡ cursor_text key (Some mark))
 key_next None mark cursor same = absurd cc
-key_next (Some key) mark cursor same =
-    (key, refl, sym (same_Some (cursor_text key (Some mark)) cursor same))
+key_next (Some key) mark cursor same = grind (arith, same_Some)
 
 -- ---- a page shows its entries
 
@@ -31,7 +28,7 @@ text_shows : (rows output : List ℕ) (next : Option KeyValue) (mark : Mark) →
 text_shows rows output None mark are in_range whole =
     record { whole = whole; are_rows = are; is_row = end_is_row None mark in_range }
 text_shows rows output (Some key) mark are in_range whole =
-    record { whole = whole; are_rows = are; is_row = end_is_row (Some key) mark in_range }
+    record { whole = whole; are_rows = are; is_row = end_is_row _ _ in_range }
 
 json_next : (next : Option KeyValue) (mark : Mark)
     → next_value next (Some mark) ≡ next_of (next_cursor next mark)
@@ -44,31 +41,16 @@ pub page_shows : JsonReadsAsPage → (format : Format) (road : RoadMap) (entries
     → IsPageIn format road entries next (Some mark) output
     → Shows format (parts_of format road entries) (next_cursor next mark) output
 page_shows reads Text road entries next mark output in_range is =
-    text_shows (entries_rows road entries) output next mark (entries_are_rows road entries) in_range
-    is
-page_shows reads Json road entries next mark output in_range is =
-    let page_read = reads road entries next (Some mark) output is in
-    record {
-      json = page_read.json;
-      output_is = page_read.text_is;
-      value = page_read.value;
-      reads_as = page_read.reads_as;
-      matchings = page_read.matchings;
-      next_is = page_read.next_is ∙ ap (λ d. Some d) (json_next next mark);
-    }
+    grind (arith, text_shows, entries_are_rows)
+page_shows reads Json road entries next mark output in_range is = grind (arith, json_next)
 
 -- ---- an output shows one thing
 
 one_row : (a b : Option (List ℕ)) → last_row_of a ≡ last_row_of b → a ≡ b
 one_row None None same = refl
-one_row None (Some b) same =
-    let first : 101 ≡ 109 = ap (λ l. get_or l 0 0) same in absurd (omega (arith, first))
-one_row (Some a) None same =
-    let first : 109 ≡ 101 = ap (λ l. get_or l 0 0) same in absurd (omega (arith, first))
-one_row (Some a) (Some b) same =
-    let words : codes "more " ++ a ≡ codes "more " ++ b =
-    append_cancel_right (codes "more " ++ a) (codes "more " ++ b) (10 ∷ []) same in
-    ap (λ l. Some l) (append_cancel_left (codes "more ") a b words)
+one_row None (Some b) same = grind arith
+one_row (Some a) None same = grind arith
+one_row (Some a) (Some b) same = grind (arith, append_cancel_right, append_cancel_left)
 
 one_next : (a b : Option (List ℕ)) → next_of a ≡ next_of b → a ≡ b
 one_next None None same = refl
@@ -81,8 +63,7 @@ one_array [] [] same = refl
 one_array [] (other ∷ b) same = absurd cc
 one_array (one ∷ a) [] same = absurd cc
 one_array (one ∷ a) (other ∷ b) same =
-    let items : items_of a ≡ items_of b = cc in
-    let rest : a ≡ b = one_array a b items in cc
+    let rest : a ≡ b = one_array a b cc in cc
 
 one_items : (a b : Items) → array a ≡ array b → a ≡ b
 one_items a b same = cc
@@ -90,33 +71,22 @@ one_items a b same = cc
 one_object : (a b : List Data) (next next' : Option (List ℕ)) (output : List ℕ)
     → IsObject a next output → IsObject b next' output → (a ≡ b) × (next ≡ next')
 one_object a b next next' output is is' =
-    let json : is.json ≡ is'.json =
-    append_cancel_right is.json is'.json (codes "\n") (sym is.output_is ∙ is'.output_is) in
-    let value : is.value ≡ is'.value = same_Some is.value is'.value
-    (sym is.reads_as ∙ ap (λ l. read l) json ∙ is'.reads_as) in
-    let arrays : array (items_of a) ≡ array (items_of b) =
-    same_Some (array (items_of a)) (array (items_of b))
-    (sym is.matchings ∙ ap (λ d. get (codes "matchings") d) value ∙ is'.matchings) in
-    let ends : next_of next ≡ next_of next' = same_Some (next_of next) (next_of next')
-    (sym is.next_is ∙ ap (λ d. get (codes "next") d) value ∙ is'.next_is) in
-    (one_array a b (one_items (items_of a) (items_of b) arrays), one_next next next' ends)
+    grind (arith, append_cancel_right, same_Some, one_array, one_items, one_next)
 
 pub one_shown : (format : Format) (a b : List (Part format)) (next next' : Option (List ℕ))
     (output : List ℕ) → Shows format a next output → Shows format b next' output
     → (a ≡ b) × (next ≡ next')
 one_shown Text a b next next' output is is' =
-    let rows = one_last_row a (last_row_of next) b (last_row_of next') output is is' in
-    (rows.0, one_row next next' rows.1)
-one_shown Json a b next next' output is is' = one_object a b next next' output is is'
+    let rows = one_last_row a _ b _ _ is is' in
+    (rows.0, one_row _ _ rows.1)
+one_shown Json a b next next' output is is' = one_object a b _ _ _ is is'
 
 -- ---- entries in two parts
 
 rows_append : (road : RoadMap) (a b : List Entry)
     → entries_rows road (a ++ b) ≡ entries_rows road a ++ entries_rows road b
 rows_append road [] b = refl
-rows_append road (entry ∷ a) b =
-    ap (λ l. entry_rows road entry ++ l) (rows_append road a b)
-    ∙ sym (append_assoc (entry_rows road entry) (entries_rows road a) (entries_rows road b))
+rows_append road (entry ∷ a) b = grind (arith, append_assoc, rows_append road a b)
 
 pub parts_append : (format : Format) (road : RoadMap) (a b : List Entry)
     → parts_of format road (a ++ b) ≡ parts_of format road a ++ parts_of format road b

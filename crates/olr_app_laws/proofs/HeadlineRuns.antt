@@ -5,8 +5,7 @@ use Rattle.olr_app_laws.proofs.Common.{IsOutcome, Reference, IsFingerprint, AreA
 
 pub same_reference : {text : List ℕ} {one other : Reference} → OneOutcome
     → IsOutcome text (Ok one) → IsOutcome text (Ok other) → one ≡ other
-same_reference {text} {one} {other} law is again =
-    same_ok (law text (Ok one) (Ok other) is again)
+same_reference {text} {one} {other} law is again = same_ok (law text (Ok one) (Ok other) is again)
 
 pub one_matchings : Laws → (inputs : Inputs) (a b : Matchings inputs) → AreSame a b
 one_matchings laws inputs a b =
@@ -67,8 +66,7 @@ prints format inputs cursor run is =
     let asks = is.asks in
     let asked : MatchRequest = request_of inputs asks.text asks.size (One asks.begins) format in
     let output : IsOutput (files_of inputs) (Match asked) run.output =
-    subst (λ request. IsOutput (files_of inputs) request run.output) asks.request_is
-    is.writes in
+    subst (λ request. IsOutput (files_of inputs) request run.output) asks.request_is is.writes in
     let accepted : Accepted = output.0 in
     let on = on_map true asked asks.begins accepted output.2.0 run.output refl output.2.2 in
     record {
@@ -105,13 +103,13 @@ prints format inputs cursor run is =
 -- the matchings of a run's inputs
 pub matchings_of_run : {format : Format} {inputs : Inputs} {cursor : Option (List ℕ)}
     {run : Run format} → IsRunAt inputs cursor run → Matchings inputs
-matchings_of_run {format} {inputs} {cursor} {run} is = (prints format inputs cursor run is).all
+matchings_of_run {format} {inputs} {cursor} {run} is = (prints _ _ _ _ is).all
 
 -- a run prints a page of the matchings of its inputs
 pub run_prints : Laws → {format : Format} {inputs : Inputs} (all : Matchings inputs)
     {cursor : Option (List ℕ)} {run : Run format} → IsRunAt inputs cursor run
     → PrintsPage format inputs (facts_of all) cursor run.output
 run_prints laws {format} {inputs} all {cursor} {run} is =
-    let printed = prints format inputs cursor run is in
+    let printed = prints _ _ _ _ is in
     subst (λ facts. PrintsPage format inputs facts cursor run.output)
     (one_facts laws inputs printed.all all) printed.page

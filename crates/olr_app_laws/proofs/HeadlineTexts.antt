@@ -6,9 +6,9 @@ use Rattle.std.proofs.lemmas.Bool.Decides.{nat_tests}
 use Rattle.std.proofs.lemmas.Float.{T_from_true}
 use Rattle.std.proofs.lemmas.List.Sums.{AllPass-from_list_all}
 use Rattle.std.specs.Fmt.{digit_glyph}
-use Rattle.olr_app_laws.proofs.Common.{RoadMap, cursor_text, IsInRange, KeyValue, Mark, entries_rows, ◌≡◌, ℕ, ◌<◌, ◌^◌, ◌/◌, ◌%◌, List, [], ◌∷◌, ◌++◌, append_assoc, inl, inr, Option, None, Some, append-nil, append_cancel_right, All-append, All-cons, All-head, All-nil, All-tail, All-weaker, list_all, ◌≢◌, All, codes, decimal, eqb, not, true, hexadecimal, key_text, ranks_text, IsRank, Entry, end_row, entry_rows, leg_rows, location_rows, part_row, pieces_row, place_row, point_rows, AreRows, IsLastRow, IsRow}
+use Rattle.olr_app_laws.proofs.Common.{RoadMap, cursor_text, IsInRange, KeyValue, Mark, entries_rows, ◌≡◌, ℕ, ◌<◌, ◌^◌, List, [], ◌∷◌, ◌++◌, append_assoc, inl, inr, Option, None, Some, append-nil, append_cancel_right, All-append, All-cons, All-head, All-nil, All-tail, All-weaker, list_all, ◌≢◌, All, codes, decimal, eqb, not, true, hexadecimal, key_text, ranks_text, IsRank, Entry, end_row, entry_rows, leg_rows, location_rows, part_row, pieces_row, place_row, point_rows, AreRows, IsLastRow, IsRow}
 use Rattle.olr_road.specs.declared.place.Place.{Place}
-use Rattle.olr_keys.proofs.Lacking.{Lacks, lacks_decimal, not_cut}
+use Rattle.olr_keys.proofs.Lacking.{lacks_decimal, not_cut}
 use Rattle.olr_report.specs.Location.{LocatedLine, LocatedPoint, LocatedValue}
 
 -- another byte than a line feed
@@ -26,24 +26,19 @@ pub last_cut : (front later front' later' : List ℕ) → LacksFeed later → La
     → front ++ 10 ∷ later ≡ front' ++ 10 ∷ later' → (front ≡ front') × (later ≡ later')
 last_cut [] later [] later' lacks lacks' same = (refl, cc)
 last_cut [] later (first ∷ front') later' lacks lacks' same =
-    let rest : later ≡ front' ++ 10 ∷ later' = cc in
-    absurd (not_cut 10 later front' later' (record { each = lacks }) rest)
+    absurd (not_cut 10 later front' later' (record { each = lacks }) cc)
 last_cut (first ∷ front) later [] later' lacks lacks' same =
-    let rest : later' ≡ front ++ 10 ∷ later = cc in
-    absurd (not_cut 10 later' front later (record { each = lacks' }) rest)
+    absurd (not_cut 10 later' front later (record { each = lacks' }) cc)
 last_cut (first ∷ front) later (first' ∷ front') later' lacks lacks' same =
     let one : first ≡ first' = cc in
-    let others : front ++ 10 ∷ later ≡ front' ++ 10 ∷ later' = cc in
-    let rest : (front ≡ front') × (later ≡ later') =
-    last_cut front later front' later' lacks lacks' others in
+    let rest : (front ≡ front') × (later ≡ later') = last_cut _ _ _ _ lacks lacks' cc in
     let fronts : front ≡ front' = rest.0 in (cc, rest.1)
 
 -- ---- the texts of keys
 
 -- where a test finds of each byte that it is another
 by_test : (text : List ℕ) → list_all (λ byte. not (eqb byte 10)) text ≡ true → LacksFeed text
-by_test text is = All-weaker (λ byte. not (eqb byte 10) ≡ true) IsOther
-    (λ byte found. eqb_no (T_from_true _ found)) text (AllPass-from_list_all _ text is)
+by_test text is = grind (arith, All-weaker, eqb_no, T_from_true, AllPass-from_list_all)
 
 -- a dot and a rank, for each rank
 abbrev behind_first : List ℕ → List ℕ
@@ -53,22 +48,17 @@ behind_first (rank ∷ ranks) = 46 ∷ decimal rank ++ behind_first ranks
 ranks_text-cons : (rank : ℕ) (ranks : List ℕ)
     → ranks_text (rank ∷ ranks) ≡ decimal rank ++ behind_first ranks
 ranks_text-cons rank [] = sym (append-nil (decimal rank))
-ranks_text-cons rank (next ∷ ranks) =
-    ap (λ l. decimal rank ++ (46 ∷ l)) (ranks_text-cons next ranks)
+ranks_text-cons rank (next ∷ ranks) = grind (arith, ranks_text-cons next ranks)
 
 in_decimal : (n : ℕ) → n < 2 ^ 64 → LacksFeed (decimal n)
-in_decimal n small =
-    let lacks : Lacks 10 (decimal n) = lacks_decimal (λ at_least. absurd (omega (arith, at_least)))
-    small in
-    lacks.each
+in_decimal n small = (lacks_decimal (λ at_least. absurd (omega (arith, at_least))) small).each
 
 in_rank : (rank : ℕ) → IsRank rank → LacksFeed (decimal rank)
 in_rank rank is = in_decimal _ (omega arith)
 
 in_behind : (ranks : List ℕ) → All IsRank ranks → LacksFeed (behind_first ranks)
 in_behind [] each = All-nil IsOther
-in_behind (rank ∷ ranks) each =
-    All-append IsOther (46 ∷ decimal rank) (behind_first ranks)
+in_behind (rank ∷ ranks) each = All-append IsOther (46 ∷ decimal rank) (behind_first ranks)
     (All-append IsOther (46 ∷ []) (decimal rank) (by_test (46 ∷ []) refl)
     (in_rank _ (All-head IsRank rank ranks each)))
     (in_behind ranks (All-tail IsRank rank ranks each))
@@ -77,12 +67,10 @@ in_ranks : (ranks : List ℕ) → All IsRank ranks → LacksFeed (ranks_text ran
 in_ranks [] each = All-nil IsOther
 in_ranks (rank ∷ ranks) each = rw (ranks_text-cons _ _)
     (All-append IsOther (decimal rank) (behind_first ranks)
-    (in_rank _ (All-head IsRank rank ranks each))
-    (in_behind _ (All-tail IsRank rank ranks each)))
+    (in_rank _ (All-head IsRank rank ranks each)) (in_behind _ (All-tail IsRank rank ranks each)))
 
 pub in_key : (key : KeyValue) → IsInRange key → LacksFeed (key_text key)
-in_key key in_range =
-    All-append IsOther (decimal key.total ++ codes ":") (ranks_text key.ranks)
+in_key key in_range = All-append IsOther (decimal key.total ++ codes ":") (ranks_text key.ranks)
     (All-append IsOther (decimal key.total) (codes ":") (in_decimal _ (omega arith))
     (by_test (codes ":") refl)) (in_ranks _ in_range.each)
 
@@ -93,11 +81,7 @@ other_digit value same = grind (arith, nat_tests)
 
 pub in_hexadecimal : (bytes : List ℕ) → LacksFeed (hexadecimal bytes)
 in_hexadecimal [] = All-nil IsOther
-in_hexadecimal (byte ∷ bytes) =
-    All-cons IsOther (digit_glyph false (byte / 16))
-    (digit_glyph false (byte % 16) ∷ hexadecimal bytes) (other_digit _)
-    (All-cons IsOther (digit_glyph false (byte % 16)) (hexadecimal bytes) (other_digit (byte % 16))
-    (in_hexadecimal bytes))
+in_hexadecimal (byte ∷ bytes) = grind (arith, All-cons, other_digit, in_hexadecimal bytes)
 
 -- ---- a text has one last row
 
@@ -114,21 +98,18 @@ one_cut_of_rows : (rows bytes rows' bytes' : List ℕ) → AreRows rows → AreR
 one_cut_of_rows rows bytes rows' bytes' are are' lacks lacks' same =
     let front = closed _ are in
     let front' = closed _ are' in
-    let cut =
-    sym (append_assoc front.0 (10 ∷ []) bytes) ∙ sym (ap (λ l. l ++ bytes) front.1)
+    let cut = sym (append_assoc front.0 (10 ∷ []) bytes) ∙ sym (ap (λ l. l ++ bytes) front.1)
     ∙ ap (λ l. 10 ∷ l) same ∙ ap (λ l. l ++ bytes') front'.1
     ∙ append_assoc front'.0 (10 ∷ []) bytes' in
     let parts = last_cut _ _ _ _ lacks lacks' cut in
-    let whole =
-    front.1 ∙ ap (λ l. l ++ 10 ∷ []) parts.0 ∙ sym front'.1 in (cc, parts.1)
+    let whole = front.1 ∙ ap (λ l. l ++ 10 ∷ []) parts.0 ∙ sym front'.1 in (cc, parts.1)
 
 pub one_last_row : (rows row rows' row' output : List ℕ) → IsLastRow rows row output
     → IsLastRow rows' row' output → (rows ≡ rows') × (row ≡ row')
 one_last_row rows row rows' row' output is is' =
     let bytes = is.is_row.bytes in
     let bytes' = is'.is_row.bytes in
-    let whole =
-    append_assoc rows bytes (10 ∷ []) ∙ sym (ap (λ l. rows ++ l) is.is_row.row_is)
+    let whole = append_assoc rows bytes (10 ∷ []) ∙ sym (ap (λ l. rows ++ l) is.is_row.row_is)
     ∙ sym is.whole ∙ is'.whole ∙ ap (λ l. rows' ++ l) is'.is_row.row_is
     ∙ sym (append_assoc rows' bytes' (10 ∷ [])) in
     let parts = one_cut_of_rows _ _ _ _ is.are_rows is'.are_rows is.is_row.others
@@ -146,15 +127,11 @@ EndsRow text = (front : List ℕ) × (text ≡ front ++ 10 ∷ [])
 pub ends_after : (front text : List ℕ) → EndsRow text → EndsRow (front ++ text)
 ends_after front text ends = (
   front ++ ends.0,
-  ap (λ l. front ++ l) ends.1
-      ∙ sym (append_assoc front ends.0 (10 ∷ [])),
+  ap (λ l. front ++ l) ends.1 ∙ sym (append_assoc front ends.0 (10 ∷ [])),
 )
 
 pub rows_after : (front text : List ℕ) → AreRows front → AreRows text → AreRows (front ++ text)
-rows_after front text are are' = elim are' [
-  | inl none ↦ rw (none, append-nil front) are
-  | inr ends ↦ inr (ends_after _ _ ends)
-]
+rows_after front text are are' = grind (arith, append-nil, ends_after)
 
 -- ---- the rows of matchings
 
@@ -164,8 +141,7 @@ feed_ends front = (front, refl)
 part_ends : (road : RoadMap) (name : List ℕ) (part : Option (List _))
     → EndsRow (part_row road name part)
 part_ends road name None = (
-  name
-      ++ codes " none",
+  name ++ codes " none",
   sym (append_assoc name (codes " none") (10 ∷ [])),
 )
 part_ends road name (Some part) = feed_ends _
@@ -174,9 +150,7 @@ place_ends : (road : RoadMap) (name : List ℕ) (place : Place) → EndsRow (pla
 place_ends road name place = feed_ends _
 
 location_ends : (road : RoadMap) (located : LocatedValue) → EndsRow (location_rows road located)
-location_ends road (LocatedLine outer inner) =
-    ends_after (part_row road (codes "outer") outer) (part_row road (codes "inner") inner)
-    (part_ends road (codes "inner") inner)
+location_ends road (LocatedLine outer inner) = grind (arith, ends_after, part_ends)
 location_ends road (LocatedPoint earliest latest) =
     ends_after (place_row road (codes "earliest") earliest) (place_row road (codes "latest") latest)
     (place_ends road (codes "latest") latest)
@@ -196,10 +170,8 @@ entries_are_rows road (entry ∷ entries) =
 
 -- ---- no line feed in the text of a cursor
 
-in_cursor : (key : KeyValue) (mark : Mark) → IsInRange key
-    → LacksFeed (cursor_text key (Some mark))
-in_cursor key mark in_range =
-    All-append IsOther (key_text key ++ codes "@") (hexadecimal mark.0)
+in_cursor : (key : KeyValue) (mark : Mark) → IsInRange key → LacksFeed (cursor_text key (Some mark))
+in_cursor key mark in_range = All-append IsOther (key_text key ++ codes "@") (hexadecimal mark.0)
     (All-append IsOther (key_text key) (codes "@") (in_key _ in_range)
     (by_test (codes "@") refl)) (in_hexadecimal _)
 

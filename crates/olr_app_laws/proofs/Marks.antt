@@ -1,5 +1,5 @@
 -- The answer of one of many requests is that of a run, but for its marks.
-use Rattle.olr_app_laws.proofs.Common.{RoadMap, IsSoundMap, Accepted, Fault, Accepts, IsAnswerOf, IsAnswerOn, IsMapOfFiles, IsPageIn, IsTextOfPage, AreAnswers, IsPageAfter, next_after, key_of, AreMatchings, AndThen, MatchRequest, Json, One, Request, Candidates, Match, Places, Show, ◌≡◌, ℕ, true, false, List, Option, None, Some, Ok, Err, Bor, refl, sym, subst, ◌∙◌, inl, inr, Result, Laws, IsMapOf, Texts, known, FaultIsOfRun, IsSameOutput, OneAnswerOfMany, OutputIsOfRun, ShowsSame, ReadsMap, Why, accepted_once, on_map, first_then, same_ok}
+use Rattle.olr_app_laws.proofs.Common.{arith, RoadMap, IsSoundMap, Accepted, Fault, Accepts, IsAnswerOf, IsAnswerOn, IsMapOfFiles, IsPageIn, IsTextOfPage, AreAnswers, IsPageAfter, next_after, key_of, AreMatchings, AndThen, MatchRequest, Json, One, Request, Candidates, Match, Places, Show, ◌≡◌, ℕ, true, false, List, Option, None, Some, Ok, Err, Bor, refl, sym, subst, ◌∙◌, inl, inr, Result, Laws, IsMapOf, Texts, known, FaultIsOfRun, IsSameOutput, OneAnswerOfMany, OutputIsOfRun, ShowsSame, ReadsMap, Why, accepted_once, on_map, first_then, same_ok}
 use Rattle.olr_app.proofs.AnswerOf.{answer_of_files}
 use Rattle.olr_app_laws.proofs.OneAnswer.{on_map_once}
 
@@ -29,15 +29,12 @@ module _ (laws : Laws) (road : RoadMap) (sound : IsSoundMap road) where
   same_page asked accepted begins output answer one json is its =
       let on = on_map true asked begins accepted road output one is in
       let other = on_map false asked begins accepted road answer one its in
-      let layers : other.layers ≡ on.layers =
-      laws.layers _ _ _ other.are_layers on.are_layers
+      let layers : other.layers ≡ on.layers = laws.layers _ _ _ other.are_layers on.are_layers
       (other.reference_is ∙ sym on.reference_is) (other.are_tolerances ∙ sym on.are_tolerances) in
-      let keys : other.keys ≡ on.keys =
-      laws.list _ _ _ (subst (λ l. AreAnswers l.penalties other.keys) layers other.are_keys)
-      on.are_keys in
-      let page : other.page ≡ on.page =
-      laws.page _ _ _ _ _ _ on.are_keys (subst (λ k.
-      IsPageAfter k (key_of accepted.start) asked.size other.page) keys other.is_page) on.is_page in
+      let page : other.page ≡ on.page = laws.page _ _ _ _ _ _ on.are_keys (subst (λ k.
+      IsPageAfter k (key_of accepted.start) asked.size other.page)
+      (laws.list _ _ _ (subst (λ l. AreAnswers l.penalties other.keys) layers other.are_keys)
+      on.are_keys) other.is_page) on.is_page in
       let shown : IsTextOfPage Json road on.layers (Some on.is_mark.0) on.page output =
       subst (λ m. IsTextOfPage Json road on.layers m on.page output) on.is_mark.1
       (subst (λ f. IsTextOfPage f road on.layers on.mark on.page output) json on.is_text) in
@@ -62,12 +59,11 @@ module _ (laws : Laws) (road : RoadMap) (sound : IsSoundMap road) where
 
   same_output : (request : Request) (accepted : Accepted) (output answer : List ℕ)
       → Accepts request (Ok accepted) → IsAnswerOn true request accepted road (Ok output)
-      → IsAnswerOn false request accepted road (Ok answer)
-      → IsSameOutput request road output answer
+      → IsAnswerOn false request accepted road (Ok answer) → IsSameOutput request road output answer
   same_output (Match asked) accepted output answer accepts is its =
       λ begins one json. same_page asked accepted begins output answer one json is its
-  same_output (Show text format) accepted output answer accepts is its = same_ok
-      (on_map_once laws true (Show text format) accepted road accepts sound _ _ its is)
+  same_output (Show text format) accepted output answer accepts is its =
+      grind (arith, same_ok, on_map_once)
   same_output (Candidates text tolerances format) accepted output answer accepts is its = same_ok
       (on_map_once laws true (Candidates text tolerances format) accepted road accepts sound _ _ its
       is)
@@ -78,13 +74,13 @@ module _ (laws : Laws) (road : RoadMap) (sound : IsSoundMap road) where
 
 pub output_is_of_run : Laws → OutputIsOfRun
 output_is_of_run laws nodes lines bans road request output answer is_map reads is its =
-    let on = on_files (known nodes lines bans) request is.0 (Ok output) reads is.2 in
-    let accepted : its.0 ≡ is.0 = same_ok
-    (accepted_once laws.outcome laws.cursor request (Ok its.0) (Ok is.0) its.1 is.1) in
+    let on = on_files _ _ _ _ reads is.2 in
     same_output laws road is_map.sound request is.0 output answer is.1
     (subst (λ r. IsAnswerOn true request is.0 r (Ok output))
     (laws.map nodes lines bans on.0 road on.1 is_map) on.2)
-    (subst (λ a. IsAnswerOn false request a road (Ok answer)) accepted its.2)
+    (subst (λ a. IsAnswerOn false request a road (Ok answer))
+    (same_ok (accepted_once laws.outcome laws.cursor request (Ok its.0) (Ok is.0) its.1 is.1))
+    its.2)
 
 module _ (laws : Laws) (nodes lines bans : List ℕ) (road : RoadMap)
     (is_map : IsMapOf nodes lines bans road) (request : Request) (fault : Fault)
@@ -94,19 +90,16 @@ module _ (laws : Laws) (nodes lines bans : List ℕ) (road : RoadMap)
 
   from_run : (accepted : Accepted) → OfRun accepted
       → IsAnswerOn false request accepted road (Err fault)
-  from_run accepted is =
-      elim (on_files (known nodes lines bans) request accepted (Err fault) reads is) [
-        | inl files ↦
-            absurd (laws.no_map_and_fault _ _ _ road files.0 is_map (files.1, files.2))
-        | inr on ↦ rw (← (same_fault request accepted road fault))
-            (subst (λ r. IsAnswerOn true request accepted r (Err fault))
-            (laws.map nodes lines bans on.0 road on.1 is_map) on.2)
-      ]
+  from_run accepted is = elim (on_files _ _ _ _ reads is) [
+    | inl files ↦ absurd (laws.no_map_and_fault _ _ _ road files.0 is_map (files.1, files.2))
+    | inr on ↦ rw (← (same_fault _ _ _ _))
+        (subst (λ r. IsAnswerOn true request accepted r (Err fault))
+        (laws.map nodes lines bans on.0 road on.1 is_map) on.2)
+  ]
 
   to_run : (accepted : Accepted) → IsAnswerOn false request accepted road (Err fault)
       → OfRun accepted
-  to_run accepted is = answer_of_files _ _ _ _ reads
-      (inr (road, is_map, rw (same_fault request accepted road fault) is))
+  to_run accepted is = grind (arith, answer_of_files, same_fault)
 
 pub fault_is_of_run : Laws → FaultIsOfRun
 fault_is_of_run laws nodes lines bans road request fault is_map reads = (
@@ -115,8 +108,7 @@ fault_is_of_run laws nodes lines bans road request fault is_map reads = (
     | inr on ↦ inr (
       on.0,
       on.1,
-      from_run laws nodes lines bans road is_map request fault reads
-          on.0 on.2,
+      from_run laws nodes lines bans road is_map request fault reads on.0 on.2,
     )
   ],
   λ is. elim is [
@@ -124,8 +116,7 @@ fault_is_of_run laws nodes lines bans road request fault is_map reads = (
     | inr on ↦ inr (
       on.0,
       on.1,
-      to_run laws nodes lines bans road is_map request fault reads on.0
-          on.2,
+      to_run laws nodes lines bans road is_map request fault reads on.0 on.2,
     )
   ],
 )

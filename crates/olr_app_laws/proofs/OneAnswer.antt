@@ -1,10 +1,8 @@
 -- A request has one answer by known texts, from the laws of the crates below.
-use Rattle.serde_json.specs.Written.{compact_text}
 use Rattle.olr_text.specs.JsonValues.{IsJsonLine}
-use Rattle.olr_app_laws.proofs.Common.{Reference, IsSoundMap, RoadMap, AreLists, Entry, Candidate, Tolerances, AreAnswers, KeyValue, IsKey, IsPageAfter, PageValue, last_of, Penalties, CursorRead, Mark, LayersValue, next_after, IsStart, Accepts, IsAnswer, IsAnswerOf, IsAnswerOn, IsMapOfFiles, fault_of_map, fault_of, OneOutcome, AreLayers, AreMatchings, ArePages, ArePagesAsked, IsOfInputs, IsPageIn, IsPrinted, IsStartHere, IsTextOfPage, OnLayers, OnStart, key_of, text_of, Accepted, TooManyCandidates, Format, Json, Text, MatchRequest, Pages, One, Request, Candidates, Match, Places, Show, ◌≡◌, ℕ, ◌+◌, zero, suc, Bool, true, false, List, [], ◌∷◌, None, Option, Some, Ok, Err, refl, ap, sym, subst, ◌∙◌, arith, ◌++◌, codes, inl, inr, All-contains, none-some, AllZip, concat, Contains, IfSome, if◌then◌else◌, Data, Laws, known, page_object, RefusedByName, cursor_in, Why, accepted_once, IsSingle, first_then, no_fault_once, no_ok_and_err, same_err}
+use Rattle.olr_app_laws.proofs.Common.{Reference, IsSoundMap, RoadMap, AreLists, Entry, Candidate, Tolerances, AreAnswers, KeyValue, IsKey, IsPageAfter, PageValue, Penalties, CursorRead, Mark, LayersValue, next_after, IsStart, Accepts, IsAnswer, IsAnswerOf, IsAnswerOn, IsMapOfFiles, fault_of_map, fault_of, OneOutcome, AreLayers, AreMatchings, ArePages, ArePagesAsked, IsOfInputs, IsPageIn, IsPrinted, IsStartHere, IsTextOfPage, OnLayers, OnStart, key_of, text_of, Accepted, TooManyCandidates, Format, Json, Text, MatchRequest, Pages, One, Request, Candidates, Match, Places, Show, ◌≡◌, ℕ, ◌+◌, suc, Bool, true, false, List, [], ◌∷◌, None, Option, Some, Ok, Err, refl, ap, sym, subst, ◌∙◌, arith, inl, inr, All-contains, none-some, AllZip, concat, Contains, IfSome, if◌then◌else◌, Data, Laws, known, RefusedByName, cursor_in, Why, accepted_once, IsSingle, first_then, no_fault_once, no_ok_and_err, same_err}
 use Rattle.olr_places.specs.Looking.{IsLooked, Looked}
 use Rattle.olr_places.specs.declared.limits.PlaceLimits.{PlaceLimits}
-use Rattle.olr_report.specs.Text.{page_text}
 use Rattle.olr_why.specs.Reasons.{WhyValue}
 use Rattle.olr_app.specs.Answer.{IsReferenceIn}
 use Rattle.olr_app.specs.Listing.{IsListed, IsListingIn}
@@ -23,18 +21,18 @@ zip_once R S [] [] (z ∷ zs) same is its = absurd its
 zip_once R S [] (y ∷ ys) zs same is its = absurd is
 zip_once R S (x ∷ xs) [] zs same is its = absurd is
 zip_once R S (x ∷ xs) (y ∷ ys) [] same is its = absurd its
-zip_once R S (x ∷ xs) (y ∷ ys) (z ∷ zs) same is its =
-    let here = same x y z (zero, omega arith, refl) is.0 its.0 in
-    let rest = zip_once R S xs ys zs
-    (λ a b c has. same a b c (suc has.0, omega (arith, has.1), has.2)) is.1 its.1 in cc
+zip_once R S (x ∷ xs) (y ∷ ys) (z ∷ zs) same is its = grind (
+  arith,
+  zip_once R S xs ys zs
+      (λ a b c has. same a b c (suc has.0, omega (arith, has.1), has.2)) is.1 its.1,
+)
 
 -- ---- an output in either format
 
 -- the line of a value is one
 same_line : {value other : Data} {text again : List ℕ} → value ≡ other → IsJsonLine value text
     → IsJsonLine other again → text ≡ again
-same_line same is its =
-    is.line_is ∙ ap (λ value. compact_text value ++ codes "\n") same ∙ sym its.line_is
+same_line same is its = grind arith
 
 reference_in : (format : Format) (reference : Reference) (text other : List ℕ)
     → IsReferenceIn format reference text → IsReferenceIn format reference other → text ≡ other
@@ -79,8 +77,7 @@ module _ (laws : Laws) where
       → (lists : List (List Candidate)) × AreLists tolerances reference road.lines lists)
       → ((one other : A) → Is one → Is other → one ≡ other)
       → IsSingle (OrTooMany tolerances reference road Is)
-  lists_or_fault tolerances reference road Is lists once (Ok one) (Ok other) is again =
-      ap Ok (once one other is again)
+  lists_or_fault tolerances reference road Is lists once (Ok one) (Ok other) is again = grind arith
   lists_or_fault tolerances reference road Is lists once (Ok one) (Err other) is again =
       let has = lists one is in
       absurd (laws.no_lists_and_too_many _ _ _ has.0 again.0 has.1 again.1.too_many)
@@ -88,8 +85,8 @@ module _ (laws : Laws) where
       let has = lists other again in
       absurd (laws.no_lists_and_too_many _ _ _ has.0 is.0 has.1 is.1.too_many)
   lists_or_fault tolerances reference road Is lists once (Err one) (Err other) is again =
-      let index = laws.first_too_many _ _ _ is.0 again.0 is.1 again.1 in
-      ap Err (is.2 ∙ ap (λ i. TooManyCandidates (i + 1)) index ∙ sym again.2)
+      ap Err (is.2 ∙ ap (λ i. TooManyCandidates (i + 1))
+      (laws.first_too_many _ _ _ is.0 again.0 is.1 again.1) ∙ sym again.2)
 
   pub layers_once : (tolerances : Tolerances) (reference : Reference) (road : RoadMap)
       → IsSingle (AreLayers tolerances reference road)
@@ -102,7 +99,7 @@ module _ (laws : Laws) where
       (road : RoadMap) → IsSingle (IsListed format tolerances reference road)
   listed_once format tolerances reference road = lists_or_fault tolerances reference road _
       (λ text is. (is.lists, is.candidates))
-      (λ one other is again. listing_in format road is.lists one other is.text_is
+      (λ one other is again. listing_in _ _ _ _ _ is.text_is
       (rw (laws.lists _ _ _ _ _ is.candidates again.candidates) again.text_is))
 
   -- ---- pages
@@ -113,8 +110,7 @@ module _ (laws : Laws) where
       → one ≡ other
   asked_once size All after one other are is again = laws.chain _ _ _ _ _ _ are is again
   asked_once size (One cursor) after one other are is again =
-      is.1 ∙ ap (λ page. page ∷ []) (laws.page _ _ _ _ _ _ are is.2 again.2)
-      ∙ sym again.1
+      is.1 ∙ ap (λ page. page ∷ []) (laws.page _ _ _ _ _ _ are is.2 again.2) ∙ sym again.1
 
   -- no pages come after a key that isn't a matching's; a request for all pages has no cursor
   no_both : {penalties : Penalties} {answers : List KeyValue} (size : ℕ) (pages : Pages)
@@ -123,21 +119,18 @@ module _ (laws : Laws) where
       → AreAnswers penalties answers → ArePagesAsked answers size pages (key_of start) list → ⊥
   no_both size All start list read begins has other are asked = none-some read (sym begins ∙ has)
   no_both {penalties} {answers} size (One cursor) start list read begins has other are asked =
-      let after = subst (λ s. IsPageAfter answers (key_of s) size asked.0)
-      has asked.2 in
-      other (All-contains (IsKey penalties) _ _ are.only (laws.no_page_after_others _ _ _ _ after))
+      other (All-contains (IsKey penalties) _ _ are.only
+      (laws.no_page_after_others _ _ _ _
+      (subst (λ s. IsPageAfter answers (key_of s) size asked.0) has asked.2)))
 
   pages_once : (asked : MatchRequest) (layers : LayersValue) (start : Option CursorRead)
       → IsStart (cursor_in asked.pages) (Ok start) → IsSingle (ArePages asked layers start)
   pages_once asked layers start begins (Ok one) (Ok other) is again =
-      let its = subst (λ answers.
-      ArePagesAsked answers asked.size asked.pages (key_of start) other)
-      (laws.list _ _ _ again.1 is.1) again.2 in
-      ap Ok (asked_once asked.size asked.pages (key_of start) one other is.1 is.2 its)
-  pages_once asked layers start begins (Ok one) (Err other) is again =
-      absurd (no_both asked.size asked.pages start one again.1 begins again.2 again.3 is.1 is.2)
-  pages_once asked layers start begins (Err one) (Ok other) is again =
-      absurd (no_both asked.size asked.pages start other is.1 begins is.2 is.3 again.1 again.2)
+      ap Ok (asked_once asked.size asked.pages (key_of start) one other is.1 is.2
+      (subst (λ answers. ArePagesAsked answers asked.size asked.pages (key_of start) other)
+      (laws.list _ _ _ again.1 is.1) again.2))
+  pages_once asked layers start begins (Ok one) (Err other) is again = grind (arith, no_both)
+  pages_once asked layers start begins (Err one) (Ok other) is again = grind (arith, no_both)
   pages_once asked layers start begins (Err one) (Err other) is again = ap Err (is.0 ∙ sym again.0)
 
   -- ---- a page in either format
@@ -156,12 +149,9 @@ module _ (laws : Laws) where
       (mark other : Option Mark) (text again : List ℕ) → (page.more ≡ true → mark ≡ other)
       → IsPageIn format road entries (next_after page) mark text
       → IsPageIn format road entries (next_after page) other again → text ≡ again
-  one_in Text road entries page mark other text again same is its =
-      is ∙ ends_alike (page_text road entries) (last_of None page.keys) page.more mark other
-      (λ one another. refl) same ∙ sym its
+  one_in Text road entries page mark other text again same is its = grind (arith, ends_alike)
   one_in Json road entries page mark other text again same is its =
-      same_line (ends_alike (page_object road entries) (last_of None page.keys) page.more mark other
-      (λ one another. refl) same) is its
+      grind (arith, same_line, ends_alike)
 
   module _ (road : RoadMap) (layers : LayersValue) (sound : IsSoundMap road) where
     pub page_once : (format : Format) (mark other : Option Mark) (page : PageValue)
@@ -202,8 +192,7 @@ module _ (laws : Laws) where
     -- a cursor isn't of these inputs and of others
     not_both : (start : Option CursorRead) (read : CursorRead) → IfSome start IsItsOwn
         → start ≡ Some read → ¬ (IsItsOwn read) → ⊥
-    not_both start read here is other =
-        other (subst (λ s. IfSome s IsItsOwn) is here)
+    not_both start read here is other = other (subst (λ s. IfSome s IsItsOwn) is here)
 
     here_once : (start : Option CursorRead) → IsSingle (IsStartHere asked road start)
     here_once start (Ok one) (Ok other) is again = ap Ok (is.0 ∙ sym again.0)
@@ -232,22 +221,20 @@ module _ (laws : Laws) where
   places_once format tolerances limits reference road sound =
       first_then _ (ArePlacesOn format limits road) (layers_once tolerances reference road)
       (λ layers are. no_fault_once _ (λ one other is again.
-      let its : IsLooked limits road layers is.answers again.looked =
-      subst (λ keys. IsLooked limits road layers keys again.looked)
-      (laws.list _ _ _ again.all is.all) again.is_looked in
-      let looked = laws.looking limits road layers is.answers again.looked is.looked sound its
-      is.is_looked in
-      places_in format road limits is.looked one other is.output_is
+      let looked = laws.looking limits road layers is.answers again.looked is.looked sound
+      (subst (λ keys. IsLooked limits road layers keys again.looked)
+      (laws.list _ _ _ again.all is.all) again.is_looked) is.is_looked in
+      places_in _ _ _ _ _ _ is.output_is
       (subst (λ (l : Looked). IsPlacesIn format road limits l other) looked again.output_is)))
 
   reasons_once : (format : Format) (tolerances : Tolerances) (nearest : ℕ)
       (reference : Reference) (road : RoadMap)
       → IsSingle (AreReasons format tolerances nearest reference road)
   reasons_once format tolerances nearest reference road = no_fault_once _ (λ one other is again.
-      let why = laws.why road tolerances reference nearest again.why is.why again.is_why is.is_why
-      in
-      reasons_in format road is.why one other is.output_is
-      (subst (λ w. IsWhyIn format road w other) why again.output_is))
+      reasons_in _ _ _ _ _ is.output_is
+      (subst (λ w. IsWhyIn format road w other)
+      (laws.why road tolerances reference nearest again.why is.why again.is_why is.is_why)
+      again.output_is))
 
   -- ---- the answer
 
@@ -255,15 +242,14 @@ module _ (laws : Laws) where
       → Accepts request (Ok accepted) → IsSoundMap road
       → IsSingle (IsAnswerOn marks request accepted road)
   on_map_once marks (Show text format) accepted road is sound =
-      no_fault_once _ (reference_in format accepted.reference)
+      grind (arith, no_fault_once, reference_in)
   on_map_once marks (Candidates text tolerances format) accepted road is sound =
-      listed_once format tolerances accepted.reference road
+      grind (arith, listed_once)
   on_map_once marks (Match asked) accepted road is sound =
       matchings_once marks asked road sound accepted is.1
   on_map_once marks (Places asked) accepted road is sound =
       places_once asked.format asked.tolerances asked.limits accepted.reference road sound
-  on_map_once marks (Why asked) accepted road is sound =
-      reasons_once asked.format asked.tolerances asked.nearest accepted.reference road
+  on_map_once marks (Why asked) accepted road is sound = grind (arith, reasons_once)
 
   module _ (nodes lines bans : List ℕ) where
     map_once : IsSingle (IsMapOfFiles (known nodes lines bans))

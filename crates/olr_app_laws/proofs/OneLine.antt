@@ -17,10 +17,7 @@ has_none byte [] = true
 has_none byte (c ∷ text) = cond (nat_eq c byte) false (has_none byte text)
 
 differs : (byte c : ℕ) (rest : Bool) → cond (nat_eq c byte) false rest ≡ true → c ≡ byte → ⊥
-differs byte c rest test same =
-    let hit = eq-eqb c byte same in
-    let broken = rw hit at test in
-    absurd cc
+differs byte c rest test same = grind (arith, eq-eqb)
 
 behind : (hit rest : Bool) → cond hit false rest ≡ true → rest ≡ true
 behind true rest test = absurd cc
@@ -61,8 +58,7 @@ unfolding encode_symbols
 symbols_lack byte t [] differ = tt
 symbols_lack byte t (a ∷ []) differ = (differ _, (differ _, tt))
 symbols_lack byte t (a ∷ b ∷ []) differ = (differ _, (differ _, (differ _, tt)))
-symbols_lack byte t (a ∷ b ∷ c ∷ rest) differ =
-    (differ _, (differ _, (differ _, (differ _, symbols_lack byte t rest differ))))
+symbols_lack byte t (a ∷ b ∷ c ∷ rest) differ = grind (arith, symbols_lack byte t rest differ)
 
 standard_lacks : Lacks 10 standard.encode_table
 standard_lacks = lacks_from_test 10 standard.encode_table refl
@@ -70,11 +66,9 @@ standard_lacks = lacks_from_test 10 standard.encode_table refl
 base64_lacks : (text bytes : List ℕ) → IsBase64 text bytes → Lacks 10 text
 base64_lacks text bytes is =
     let table = standard.encode_table in
-    let symbols = symbols_lack _ _ bytes
-    (λ k. differs_at 10 table k (λ e. omega (arith, e)) standard_lacks) in
-    let padding = lacks_replicate _ _ (padding_len (length bytes)) (λ e. omega (arith, e)) in
     let all = lacks_both 10 (encode_symbols table bytes) (replicate (padding_len (length bytes)) 61)
-    symbols padding in
+    (symbols_lack _ _ bytes (λ k. differs_at 10 table k (λ e. omega (arith, e)) standard_lacks))
+    (lacks_replicate _ _ (padding_len (length bytes)) (λ e. omega (arith, e))) in
     subst (λ (l : List ℕ). Lacks 10 l) (sym is.spelling) all
 
 pub text_is_one_line : (text : List ℕ) (reference : Reference) → IsTextOf text reference

@@ -28,10 +28,8 @@ pub inputs_by_text : (text other : List ℕ) (a b : Tolerances) (road another : 
     → SameInputs text other a b road another
 inputs_by_text text other a b road another one_map is is_other same =
     let pieces = sym (pieces_of _ a _) ∙ same ∙ pieces_of _ b _ in
-    let rest : trimmed text ++ 10 ∷ (tolerances_text a ++ 10 ∷ canonical_text road)
-    ≡ trimmed other ++ 10 ∷ (tolerances_text b ++ 10 ∷ canonical_text another) = cc in
     let lines = cut_once _ _ _ _ _
-    (lacks_from_not _ _ is.one_line) (lacks_from_not _ _ is_other.one_line) rest in
+    (lacks_from_not _ _ is.one_line) (lacks_from_not _ _ is_other.one_line) cc in
     let cut = cut_once _ _ _ _ _ (text_is_one_line a) (text_is_one_line b) lines.rest in
     record {
       reference = lines.front;

@@ -17,6 +17,7 @@ use crate::laws::laws_below;
 /// or exactly those after that matching: each once, by the total and then by the ranks. Of texts
 /// the rows are joined, without the last row of each; of JSON the members of the arrays. The inputs
 /// have one list of matchings. A text that is no reference is refused by its name.
+#[tactic(auto, using(crate::proofs::HeadlineChain::runs_join))]
 pub fn outputs_join()
     ensures shown { Headline }
     ensures one { OneMatchings }
@@ -38,6 +39,7 @@ pub fn outputs_agree()
 /// that begins at such a cursor is never refused: only for want of memory, or where a device fails,
 /// does it end without its output. Runs that go on so come to an end: there are no more of them
 /// than matchings.
+#[tactic(auto, using(crate::proofs::HeadlineCursors::each_has_cursor, crate::proofs::HeadlineChain::runs_end))]
 pub fn cursors_go_on()
     ensures each { EachHasCursor }
     ensures next { GoesOnHere }

@@ -1,10 +1,6 @@
-use Rattle.olr_app_laws.proofs.HeadlineChain.{runs_join}
 use Rattle.olr_app_laws.proofs.OneAnswer.{refused_by_name}
 use Rattle.olr_app_laws.proofs.HeadlineRuns.{one_matchings}
 use Rattle.olr_app_laws.proofs.headline.outputs_join.Goals as goal
-
-pub returns-clause-shown : goal.returns-clause-shown
-returns-clause-shown c = runs_join c.laws_below.ensures
 
 pub returns-clause-one : goal.returns-clause-one
 returns-clause-one c = one_matchings c.laws_below.ensures
