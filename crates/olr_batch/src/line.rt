@@ -68,10 +68,6 @@ fn push_members(alloc: Global, text: &mut Vec<u8>, line: &Line<'_>) -> Result<()
 
 /// Makes the line of a record, in place of what the text holds. A text with room for the line asks
 /// for no memory.
-///
-/// # Errors
-///
-/// [`NoMemory`] where the allocator refused memory.
 #[tactic(auto, using(crate::proofs::Tokens::line_is))]
 pub(crate) fn write_line(alloc: Global, text: &mut Vec<u8>, line: &Line<'_>) -> Result<(), NoMemory>
     ensures { OnOk result ((answer : Data) → line.now.answer.now ≡ compact_text answer
