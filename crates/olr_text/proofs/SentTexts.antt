@@ -1,5 +1,5 @@
 -- What a value sends is written as its compact text, and this text reads as the value.
-use Rattle.std.proofs.Common.{◌≡◌, ℕ, pos, negsuc, ◌+◌, ◌-◌, ◌<◌, ◌≤◌, List, [], ◌∷◌, ◌++◌, length, get_or, drop, map, Some, option_map, option_and_then, codes, false, suc, refl, sym, ap, ◌∙◌, arith, append-nil}
+use Rattle.std.proofs.Common.{◌≡◌, ℕ, pos, negsuc, ◌+◌, ◌<◌, ◌≤◌, List, [], ◌∷◌, ◌++◌, length, get_or, drop, map, Some, option_map, option_and_then, codes, false, suc, refl, sym, ap, ◌∙◌, arith, append-nil}
 use Rattle.std.proofs.lemmas.List.{drop_more}
 use Rattle.json.specs.Json as json
 use Rattle.json.specs.Tree as tree
@@ -8,7 +8,7 @@ use Rattle.json.proofs.Printed.Decimals.{IsNumber-decimal, IsNumber-signed_decim
 use Rattle.json.proofs.Printed.Tokens.{tokens-print}
 use Rattle.json.proofs.Printed.Trees.{value-json_tokens, ArePrintable-json_tokens}
 use Rattle.serde.specs.Event.{Log}
-use Rattle.serde_json.specs.Data.{unsigned, negative, float, Data, null, boolean, number, string, array, object, Items, no_items, item, Members, no_members, member, put, depth, items_depth, members_depth}
+use Rattle.serde_json.specs.Data.{unsigned, negative, float, Data, null, boolean, number, string, array, object, Items, no_items, item, Members, no_members, member, put}
 use Rattle.serde_json.specs.Events.{items_len, SendsValue, SendsItems as SendsValues, SendsMembers as SendsNamed}
 use Rattle.serde_json.specs.Read.{of_json, of_items, of_members, max_depth, read}
 use Rattle.serde_json.specs.Sent.{IsTextOf}

@@ -1,2 +1,3 @@
 pub mod JsonValues
 pub mod Sent
+pub mod Texts

@@ -42,7 +42,7 @@ pub use Rattle.olr_why.specs.Legs.{AreLegReasons, ArePairs, IsBetter, IsLegReaso
 pub use Rattle.olr_why.specs.Reasons.{AreLegs, AreLegsFor, ArePointReasons, IsCountOf}
 pub use Rattle.olr_why.specs.Remedies.{AreRemedies, AreWider, IsChanged, IsEnough, IsGreatestUncrowded, IsLeastEnough, IsNarrower, IsRemedyWithoutBans, IsUnbanned, IsUncrowdedWith, IsWider, by_trust, narrowed, value_of, without_bans}
 unfoldable pub use Rattle.olr_why.specs.Remedies.{AreOfNames}
-pub use Rattle.olr_why.specs.Text.{legs_rows, long_of, near_rows, pair_rows, points_rows, remedy_rows, short_of}
+pub use Rattle.olr_why.specs.Text.{long_of, short_of}
 pub use Rattle.olr_why.specs.Verdict.{AdmitsNone, HasNoCandidate, HasNoTuple, HaveCandidates, HavePairs, IsFirst, IsVerdict}
 pub use Rattle.olr_why.specs.declared.leg.LegReason.{LegReason}
 pub use Rattle.olr_why.specs.declared.pair.Better.{Better}

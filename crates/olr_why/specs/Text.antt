@@ -1,13 +1,14 @@
 -- The text of why a reference has no matching, or that it has one: the rows of each point and the
 -- lines near it, those of each leg and its pairs, the verdict, and what would help. Each row ends
 -- with a line feed. Distances are in centimetres, positions and lengths in decimetres.
-use Rattle.std.specs.Prelude.{ℕ, ◌+◌, ◌-◌, Bool, List, [], ◌∷◌, ◌++◌, Option, None, Some, option_map, unwrap_or, slice_get, codes, decimal, if◌then◌else◌, nat_lt}
+use Rattle.std.specs.Prelude.{ℕ, ◌-◌, Bool, List, [], ◌++◌, Option, None, Some, option_map, unwrap_or, slice_get, codes, decimal, if◌then◌else◌, nat_lt}
 use Rattle.olr_candidates.specs.declared.near.FailedConditions.{FailedConditions}
 use Rattle.olr_why.specs.Common.{KeyValue, NearLine, RoadMap}
 use Rattle.olr_candidates.specs.Tolerances.{tolerance_name}
 use Rattle.olr_keys.specs.Cursor.{key_text}
 use Rattle.olr_road.specs.RoadMap.{RoadLine}
 use Rattle.olr_route.specs.Route.{id_at}
+use Rattle.olr_text.specs.Texts.{text_or, texts_from, texts_of}
 use Rattle.olr_why.specs.Reasons.{WhyValue}
 use Rattle.olr_why.specs.declared.leg.LegReason.{LegReason}
 use Rattle.olr_why.specs.declared.pair.Better.{Better}
@@ -30,11 +31,6 @@ abbrev pub form_at : RoadMap → ℕ → ℕ
 form_at road rank =
     unwrap_or (option_map (λ (line : RoadLine). line.form) (slice_get road.lines rank)) 0
 
--- a number, or a word where there is none
-abbrev pub number_or : List ℕ → Option ℕ → List ℕ
-number_or word None = word
-number_or word (Some number) = decimal number
-
 -- a word and a space before it, where it applies
 abbrev pub word_if : Bool → List ℕ → List ℕ
 word_if applies word = if applies then codes " " ++ word else []
@@ -55,34 +51,17 @@ rating_text failed None = codes " not" ++ failed_words failed
 abbrev pub near_row : RoadMap → NearLine → List ℕ
 near_row road near = codes "near line " ++ decimal (id_at road near.line) ++ codes " distance "
     ++ decimal near.distance ++ codes " at " ++ decimal near.at
-    ++ codes " sector " ++ number_or (codes "none") near.sector ++ codes " class "
+    ++ codes " sector " ++ text_or decimal (codes "none") near.sector ++ codes " class "
     ++ decimal (class_at road near.line)
     ++ codes " form " ++ decimal (form_at road near.line) ++ rating_text near.failed near.penalty
     ++ codes "\n"
 
-abbrev pub near_rows : RoadMap → List NearLine → List ℕ
-near_rows road [] = []
-near_rows road (near ∷ rest) = near_row road near ++ near_rows road rest
-
--- the first row of the point of this number begins with the number
-abbrev pub point_text : ℕ → List ℕ
-point_text number = codes "point " ++ decimal number
-
--- and ends with how many candidates it has, or that they are more than 64
-abbrev pub count_text : Option ℕ → List ℕ
-count_text None = codes " candidates many\n"
-count_text (Some count) = codes " candidates " ++ decimal count ++ codes "\n"
-
--- the rows of the point of this number: the first one, and those of the lines nearest to it
+-- the rows of the point of this number: how many candidates it has, or that they are more than 64,
+-- and the lines nearest to it
 abbrev pub point_rows : RoadMap → ℕ → PointReason → List ℕ
-point_rows road number point = point_text number ++ count_text point.candidates
-    ++ near_rows road point.nearest
-
--- the rows of points, the first of which has this number
-abbrev pub points_rows : RoadMap → ℕ → List PointReason → List ℕ
-points_rows road number [] = []
-points_rows road number (point ∷ points) =
-    point_rows road number point ++ points_rows road (number + 1) points
+point_rows road number point = codes "point " ++ decimal number ++ codes " candidates "
+    ++ text_or decimal (codes "many") point.candidates ++ codes "\n"
+    ++ texts_of (near_row road) point.nearest
 
 -- ---- legs
 
@@ -102,49 +81,27 @@ miss_text (Some short) long = codes " short " ++ decimal short
 miss_text None (Some long) = codes " long " ++ decimal long
 miss_text None None = []
 
--- the length of a pair, and by how much it misses the interval; none where it is too far
-abbrev pub length_text : ℕ → ℕ → Option ℕ → List ℕ
-length_text least greatest None = codes "none"
-length_text least greatest (Some length) =
-    decimal length ++ miss_text (short_of least (Some length)) (long_of greatest (Some length))
-
 -- what another class limit gives
 abbrev pub better_text : Option Better → List ℕ
 better_text None = []
 better_text (Some better) = codes " class " ++ decimal better.class ++ codes " length "
     ++ decimal better.length
 
--- the row of a pair of a leg that admits these lengths
+-- the row of a pair of a leg that admits these lengths: its length, none where it is too far, by
+-- how much it misses the interval, and what another class limit gives
 abbrev pub pair_row : ℕ → ℕ → PairLength → List ℕ
 pair_row least greatest pair = codes "pair " ++ decimal pair.first ++ codes " "
-    ++ decimal pair.second ++ codes " length "
-    ++ length_text least greatest pair.length ++ better_text pair.better ++ codes "\n"
+    ++ decimal pair.second ++ codes " length " ++ text_or decimal (codes "none") pair.length
+    ++ miss_text (short_of least pair.length) (long_of greatest pair.length)
+    ++ better_text pair.better ++ codes "\n"
 
-abbrev pub pair_rows : ℕ → ℕ → List PairLength → List ℕ
-pair_rows least greatest [] = []
-pair_rows least greatest (pair ∷ pairs) =
-    pair_row least greatest pair ++ pair_rows least greatest pairs
-
--- the first row of the leg of this number begins with its class limit and the lengths that it
--- admits
-abbrev pub leg_text : ℕ → LegReason → List ℕ
-leg_text number leg = codes "leg " ++ decimal number ++ codes " class " ++ decimal leg.class
-    ++ codes " from " ++ decimal leg.from
-    ++ codes " to " ++ decimal leg.to
-
--- and ends with how many pairs of candidates it admits, of how many
-abbrev pub counts_text : LegReason → List ℕ
-counts_text leg = codes " admits " ++ decimal leg.admits ++ codes " of " ++ decimal leg.of
-    ++ codes "\n"
-
--- the rows of the leg of this number: the first one, and those of its pairs
+-- the rows of the leg of this number: its class limit, the lengths that it admits, how many pairs
+-- of candidates it admits, of how many, and its pairs
 abbrev pub leg_rows : ℕ → LegReason → List ℕ
-leg_rows number leg = leg_text number leg ++ counts_text leg ++ pair_rows leg.from leg.to leg.pairs
-
--- the rows of legs, the first of which has this number
-abbrev pub legs_rows : ℕ → List LegReason → List ℕ
-legs_rows number [] = []
-legs_rows number (leg ∷ legs) = leg_rows number leg ++ legs_rows (number + 1) legs
+leg_rows number leg = codes "leg " ++ decimal number ++ codes " class " ++ decimal leg.class
+    ++ codes " from " ++ decimal leg.from ++ codes " to " ++ decimal leg.to ++ codes " admits "
+    ++ decimal leg.admits ++ codes " of " ++ decimal leg.of ++ codes "\n"
+    ++ texts_of (pair_row leg.from leg.to) leg.pairs
 
 -- ---- the verdict, and what would help
 
@@ -189,12 +146,7 @@ abbrev pub remedy_row : Remedy → List ℕ
 remedy_row remedy = codes "try " ++ change_text remedy.change ++ matching_text remedy.matching
     ++ codes "\n"
 
-abbrev pub remedy_rows : List Remedy → List ℕ
-remedy_rows [] = []
-remedy_rows (remedy ∷ remedies) = remedy_row remedy ++ remedy_rows remedies
-
 -- the whole text
 abbrev pub why_text : RoadMap → WhyValue → List ℕ
-why_text road why = points_rows road 1 why.points ++ legs_rows 1 why.legs
-    ++ verdict_row why.verdict ++ remedy_rows why.remedies
-    ++ codes "end\n"
+why_text road why = texts_from (point_rows road) 1 why.points ++ texts_from leg_rows 1 why.legs
+    ++ verdict_row why.verdict ++ texts_of remedy_row why.remedies ++ codes "end\n"
