@@ -1,2 +1,3 @@
 mod SentTexts
 pub mod Nesting
+pub mod ListTexts

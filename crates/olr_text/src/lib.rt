@@ -11,4 +11,4 @@ mod to_text;
 
 pub use decimal::Decimal;
 pub use to_json::{Member, ToJson, ToMembers, send_counted, to_json_line};
-pub use to_text::{NumberOr, ToText, push_texts};
+pub use to_text::{NumberOr, ToText, push_texts, text_if};

@@ -1,6 +1,6 @@
 //! What is written as text.
 
-ghost use Rattle.std.specs.Prelude.{◌≡◌, ◌++◌, ℕ, List, OnOk, Some, string_bytes};
+ghost use Rattle.std.specs.Prelude.{◌≡◌, ◌++◌, [], ℕ, if◌then◌else◌, List, OnOk, Some, string_bytes};
 ghost use Rattle.olr_text.specs.Texts.{text_or, texts_from};
 
 use crate::decimal::Decimal;
@@ -37,6 +37,13 @@ pub fn push_texts<On, T: ToText<On>>(list: &[T], on: &On, out: &mut String) -> R
         item.push(on, index + 1, out)?;
     }
     Ok(())
+}
+
+/// A text where it applies, and nothing where not.
+pub fn text_if(applies: bool, text: &'static str) -> &'static str
+    ensures { result.now ≡ (if applies then text.now else []) }
+{
+    if applies { text } else { "" }
 }
 
 /// A number, or a word where there is none.

@@ -1,6 +1,6 @@
 //! The text of why a reference has no matching.
 
-ghost use Rattle.std.specs.Prelude.{◌≡◌, [], IfOk, Some, if◌then◌else◌, string_bytes};
+ghost use Rattle.std.specs.Prelude.{◌≡◌, IfOk, Some, string_bytes};
 ghost use Rattle.olr_route.specs.Route.{id_at};
 ghost use Rattle.olr_text.specs.Texts.{unnumbered};
 ghost use Rattle.olr_why.specs.Reasons.{why_value};
@@ -17,7 +17,7 @@ use olr_base::NoMemory;
 use olr_candidates::NearLine;
 use olr_keys::Cursor;
 use olr_road::Map;
-use olr_text::{Decimal, NumberOr, ToText, push_texts};
+use olr_text::{Decimal, NumberOr, ToText, push_texts, text_if};
 use std::alloc::Global;
 use std::fmt::{self, Display, Formatter, Write};
 
@@ -39,13 +39,6 @@ fn shown_line(map: &Map, line: u32) -> (u8, u8, u64)
     }
 }
 
-/// A word where it applies, and nothing where not.
-fn word_if(applies: bool, word: &'static str) -> &'static str
-    ensures { result.now ≡ (if applies then word.now else []) }
-{
-    if applies { word } else { "" }
-}
-
 /// The row of a line near a point.
 impl ToText<OnMap<'_>> for NearLine {
     ghost text = { λ on. unnumbered (near_row on.map.now) };
@@ -63,10 +56,10 @@ impl ToText<OnMap<'_>> for NearLine {
         match self.penalty {
             Some(penalty) => write!(out, " penalty {}\n", Decimal(penalty))?,
             None => {
-                let radius = word_if(self.failed.radius, " radius");
-                let bearing = word_if(self.failed.bearing, " bearing");
-                let class = word_if(self.failed.class, " class");
-                let end = word_if(self.failed.end, " end");
+                let radius = text_if(self.failed.radius, " radius");
+                let bearing = text_if(self.failed.bearing, " bearing");
+                let class = text_if(self.failed.class, " class");
+                let end = text_if(self.failed.end, " end");
                 write!(out, " not{radius}{bearing}{class}{end}\n")?;
             }
         }
