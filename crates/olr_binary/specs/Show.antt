@@ -1,7 +1,8 @@
 -- The text that `show` prints of a reference: a line for its kind, one for each point, and one for
 -- each further field.
-use Rattle.std.specs.Prelude.{ℕ, ◌+◌, List, [], ◌∷◌, ◌++◌, length, Option, Some, None, codes, decimal}
+use Rattle.std.specs.Prelude.{ℕ, List, [], ◌++◌, length, Option, Some, None, codes, decimal}
 use Rattle.std.specs.Fmt.{signed_decimal}
+use Rattle.olr_text.specs.Texts.{text_or, texts_from}
 use Rattle.olr_binary.specs.declared.point.Point.{Point}
 use Rattle.olr_binary.specs.declared.point.Next.{Next}
 use Rattle.olr_binary.specs.declared.reference.Reference.{Reference}
@@ -21,20 +22,14 @@ point_text number point = decimal number ++ codes " " ++ signed_decimal point.at
     ++ codes " sector " ++ decimal point.sector
     ++ next_text point.next ++ codes "\n"
 
--- the lines of points, the first with this number
-abbrev pub points_text : ℕ → List Point → List ℕ
-points_text number [] = []
-points_text number (point ∷ points) = point_text number point ++ points_text (number + 1) points
-
 -- an offset in shares of 1/256
 abbrev pub offset_text : Option ℕ → List ℕ
-offset_text None = codes "none"
-offset_text (Some offset) = decimal offset
+offset_text = text_or decimal (codes "none")
 
 -- the text of a line; points are numbered from 1
 abbrev pub line_text : List Point → Option ℕ → Option ℕ → List ℕ
 line_text points positive negative =
-    codes "line " ++ decimal (length points) ++ codes " points\n" ++ points_text 1 points
+    codes "line " ++ decimal (length points) ++ codes " points\n" ++ texts_from point_text 1 points
     ++ codes "positive " ++ offset_text positive ++ codes "\n" ++ codes "negative "
     ++ offset_text negative ++ codes "\n"
 
@@ -42,7 +37,7 @@ line_text points positive negative =
 abbrev pub point_along_text : List Point → ℕ → ℕ → Option ℕ → List ℕ
 point_along_text points orientation side positive =
     codes "point-along-line " ++ decimal (length points) ++ codes " points\n"
-    ++ points_text 1 points ++ codes "orientation " ++ decimal orientation ++ codes "\n"
+    ++ texts_from point_text 1 points ++ codes "orientation " ++ decimal orientation ++ codes "\n"
     ++ codes "side " ++ decimal side ++ codes "\n"
     ++ codes "positive " ++ offset_text positive ++ codes "\n"
 

@@ -1,12 +1,12 @@
 //! The text of a reference.
 
-ghost use Rattle.std.specs.Prelude.{◌≡◌, ◌++◌, ◌+◌, ◌<◌, string_bytes, codes, IfOk, OnOk};
-ghost use Rattle.olr_binary.specs.Show.{next_text, point_text, points_text, offset_text, line_text, point_along_text, reference_text};
+ghost use Rattle.std.specs.Prelude.{◌≡◌, ◌++◌, string_bytes, IfOk, OnOk};
+ghost use Rattle.olr_binary.specs.Show.{next_text, point_text, line_text, point_along_text, reference_text};
 
 use crate::point::{Next, Point};
 use crate::reference::Reference;
 use olr_base::{Degrees, NoMemory};
-use olr_text::Decimal;
+use olr_text::{Decimal, NumberOr, ToText, push_texts};
 use std::alloc::Global;
 use std::fmt::Write;
 
@@ -21,50 +21,26 @@ fn push_next(text: &mut String, next: Option<Next>) -> Result<(), NoMemory>
     Ok(())
 }
 
-/// Adds the line of a point, with its number.
-fn push_point(text: &mut String, number: usize, point: &Point) -> Result<(), NoMemory>
-    ensures { OnOk result
-        (string_bytes text.new ≡ string_bytes text.old ++ point_text number point.now) }
-{
-    let Point {
-        at: Degrees { lon, lat },
-        class,
-        form,
-        sector,
-        next,
-    } = *point;
-    let (number, lon, lat) = (Decimal(number), Decimal(lon), Decimal(lat));
-    let (class, form, sector) = (Decimal(class), Decimal(form), Decimal(sector));
-    write!(
-        text,
-        "{number} {lon} {lat} class {class} form {form} sector {sector}"
-    )?;
-    push_next(text, next)?;
-    text.push_str("\n")?;
-    Ok(())
-}
+/// The line of a point, with its number.
+impl<On> ToText<On> for Point {
+    ghost text = { λ _. point_text };
 
-/// Adds the lines of all points, numbered from 1.
-fn push_points(text: &mut String, points: &[Point]) -> Result<(), NoMemory>
-    ensures { OnOk result
-        (string_bytes text.new ≡ string_bytes text.old ++ points_text 1 points.now) }
-{
-    for (index, point) in points.iter().enumerate() {
-        push_point(text, index + 1, point)?;
+    fn push(&self, _: &On, number: usize, out: &mut String) -> Result<(), NoMemory> {
+        let Degrees { lon, lat } = self.at;
+        let (number, lon, lat) = (Decimal(number), Decimal(lon), Decimal(lat));
+        let (class, form, sector) = (
+            Decimal(self.class),
+            Decimal(self.form),
+            Decimal(self.sector),
+        );
+        write!(
+            out,
+            "{number} {lon} {lat} class {class} form {form} sector {sector}"
+        )?;
+        push_next(out, self.next)?;
+        out.push_str("\n")?;
+        Ok(())
     }
-    Ok(())
-}
-
-/// Adds a line with a name and an offset in shares of 1/256, or `none`.
-fn push_offset(text: &mut String, name: &str, offset: Option<u8>) -> Result<(), NoMemory>
-    ensures { OnOk result (string_bytes text.new ≡ string_bytes text.old
-        ++ name.now ++ codes " " ++ offset_text offset ++ codes "\n") }
-{
-    match offset {
-        Some(share) => write!(text, "{name} {}\n", Decimal(share))?,
-        None => write!(text, "{name} none\n")?,
-    }
-    Ok(())
 }
 
 /// Adds the text of a line.
@@ -78,9 +54,9 @@ fn push_line(
         ≡ string_bytes text.old ++ line_text points.now positive negative) }
 {
     write!(text, "line {} points\n", Decimal(points.len()))?;
-    push_points(text, points)?;
-    push_offset(text, "positive", positive)?;
-    push_offset(text, "negative", negative)?;
+    push_texts(points, &(), text)?;
+    let (positive, negative) = (NumberOr(positive, "none"), NumberOr(negative, "none"));
+    write!(text, "positive {positive}\nnegative {negative}\n")?;
     Ok(())
 }
 
@@ -96,10 +72,10 @@ fn push_point_along(
         ≡ string_bytes text.old ++ point_along_text points.now orientation side positive) }
 {
     write!(text, "point-along-line {} points\n", Decimal(points.len()))?;
-    push_points(text, points)?;
+    push_texts(points, &(), text)?;
     let (orientation, side) = (Decimal(orientation), Decimal(side));
     write!(text, "orientation {orientation}\nside {side}\n")?;
-    push_offset(text, "positive", positive)?;
+    write!(text, "positive {}\n", NumberOr(positive, "none"))?;
     Ok(())
 }
 

@@ -3,8 +3,7 @@ use Rattle.olr_binary.proofs.showing.push_line.Goals as goal
 
 pub returns : goal.returns
 returns c = rw (
-  c.in_ok-push_offset-2.ensures,
-  c.in_ok-push_offset.ensures,
-  c.in_ok-push_points.ensures,
+  c.in_ok-write-2.ensures.bytes,
+  c.in_ok-push_texts.ensures,
   c.in_ok-write.ensures.bytes,
 ) (simp append_assoc)
