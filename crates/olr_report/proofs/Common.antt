@@ -18,7 +18,7 @@ pub use Rattle.olr_report.specs.Json.{candidate_object, entry_object, leg_object
 pub use Rattle.olr_report.specs.Location.{AreLegsOf, IsLocation, IsMeasured, IsPartBetween, LocatedLine, LocatedPoint, LocatedValue, earliest_offset, first_length, last_length, latest_offset, located_value, pieces_if_any}
 pub use Rattle.olr_report.specs.Steps.{Step, end_of, place_at, start_of, steps_in, steps_of, steps_of_legs}
 pub use Rattle.olr_report.specs.Text.{entries_rows}
-pub use Rattle.olr_report.specs.TextRows.{end_row, leg_rows, piece_text, pieces_text, point_rows}
+pub use Rattle.olr_report.specs.TextRows.{end_row, entry_rows}
 pub use Rattle.olr_report.specs.declared.locating.Located.{Located}
 pub use Rattle.olr_road.specs.RoadMap.{RoadMap}
 pub use Rattle.olr_road.specs.declared.place.Place.{Place}

@@ -10,7 +10,6 @@ mod SoundParts
 mod Lines
 mod Shown
 mod PageEntries
-mod PiecesText
 mod OneEntry
 pub mod JsonShape
 pub mod ShownPage

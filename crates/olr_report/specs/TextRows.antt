@@ -1,10 +1,10 @@
 -- The rows of a matching in the text of a page. Each row ends with a line feed; positions and
 -- lengths are in decimetres.
-use Rattle.std.specs.Prelude.{ℕ, ◌+◌, List, [], ◌∷◌, ◌++◌, map, Option, None, Some, codes, decimal}
-use Rattle.std.specs.List.{join_with_byte}
+use Rattle.std.specs.Prelude.{ℕ, List, [], ◌++◌, Option, None, Some, codes, decimal, if◌then◌else◌, nat_lt}
 use Rattle.olr_report.specs.Common.{Candidate, KeyValue, Leg, Mark, Piece, Place, RoadMap}
 use Rattle.olr_keys.specs.Cursor.{key_text, cursor_text}
 use Rattle.olr_route.specs.Route.{id_at}
+use Rattle.olr_text.specs.Texts.{texts_from}
 use Rattle.olr_report.specs.Entries.{Entry}
 use Rattle.olr_report.specs.Location.{LocatedLine, LocatedPoint, LocatedValue}
 
@@ -20,9 +20,7 @@ point_row road number candidate =
 
 -- the rows of candidates, the first of the point of this number
 abbrev pub point_rows : RoadMap → ℕ → List Candidate → List ℕ
-point_rows road number [] = []
-point_rows road number (candidate ∷ candidates) =
-    point_row road number candidate ++ point_rows road (number + 1) candidates
+point_rows road = texts_from (point_row road)
 
 -- the row of the leg of this number
 abbrev pub leg_row : ℕ → Leg → List ℕ
@@ -32,23 +30,21 @@ leg_row number leg =
 
 -- the rows of legs, the first of which has this number
 abbrev pub leg_rows : ℕ → List Leg → List ℕ
-leg_rows number [] = []
-leg_rows number (leg ∷ legs) = leg_row number leg ++ leg_rows (number + 1) legs
+leg_rows = texts_from leg_row
 
 -- ---- the route and the location
 
--- a piece: the id of its line, and the positions where it begins and ends
-abbrev pub piece_text : RoadMap → Piece → List ℕ
-piece_text road piece = decimal (id_at road piece.line) ++ codes "@" ++ decimal piece.from
-    ++ codes "-" ++ decimal piece.to
-
--- pieces, joined by one space
-abbrev pub pieces_text : RoadMap → List Piece → List ℕ
-pieces_text road pieces = join_with_byte 32 (map (piece_text road) pieces)
+-- the piece of this number, with a space before it where it isn't the first: the id of its line,
+-- and the positions where it begins and ends
+abbrev pub piece_text : RoadMap → ℕ → Piece → List ℕ
+piece_text road number piece = (if nat_lt 1 number then codes " " else [])
+    ++ decimal (id_at road piece.line) ++ codes "@" ++ decimal piece.from ++ codes "-"
+    ++ decimal piece.to
 
 -- the row of pieces under a name
 abbrev pub pieces_row : RoadMap → List ℕ → List Piece → List ℕ
-pieces_row road name pieces = name ++ codes " " ++ pieces_text road pieces ++ codes "\n"
+pieces_row road name pieces = name ++ codes " " ++ texts_from (piece_text road) 1 pieces
+    ++ codes "\n"
 
 -- the row of a part of the route under a name, which may be none
 abbrev pub part_row : RoadMap → List ℕ → Option (List Piece) → List ℕ

@@ -1,15 +1,14 @@
 //! The JSON of a matching: of its candidates, its legs, its route and its location.
 
-ghost use Rattle.std.specs.Prelude.{◌≡◌, OnOk};
+ghost use Rattle.std.specs.Prelude.{OnOk};
 ghost use Rattle.serde_json.specs.Data.{Data};
-ghost use Rattle.olr_route.specs.Route.{id_at};
 ghost use Rattle.olr_report.specs.Entries.{entry_of, shown_entry};
 ghost use Rattle.olr_report.specs.Json.{candidate_object, entry_object, leg_object, piece_array, place_array};
 ghost use Rattle.olr_text.specs.Sent.{Sends};
 
 use crate::locating::Located;
 use crate::page_entries::Entry;
-use crate::text_rows::id_of_line;
+use crate::text_rows::shown_id;
 use olr_candidates::Candidate;
 use olr_keys::{Cursor, Key};
 use olr_matching::{Leg, Matched};
@@ -22,17 +21,6 @@ use serde::Serializer;
 #[derive(Clone, Copy)]
 pub struct OnMap<'a> {
     pub map: &'a Map,
-}
-
-/// The id of the line of a rank; 0 where the map has no such line.
-fn shown_id(map: &Map, line: u32) -> u64
-    ensures { result ≡ id_at map.now line }
-{
-    if line < map.count() {
-        id_of_line(map, line)
-    } else {
-        0
-    }
 }
 
 /// The object of a candidate: its `at`, the position on its line in decimetres, `line`, the id of

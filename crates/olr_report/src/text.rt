@@ -6,13 +6,15 @@ ghost use Rattle.olr_keys.specs.Page.{page_of};
 ghost use Rattle.olr_report.specs.Entries.{CanBeShown};
 ghost use Rattle.olr_report.specs.Text.{IsPageText, next_after};
 
+use crate::matching_json::OnMap;
 use crate::page_entries::entries;
-use crate::text_rows::{push_end, push_entries};
+use crate::text_rows::push_end;
 use olr_base::NoMemory;
 use olr_binary::Reference;
 use olr_keys::{Key, Mark, Page};
 use olr_matching::Matched;
 use olr_road::Map;
+use olr_text::push_texts;
 use std::alloc::Global;
 
 /// The key after which the next page begins: the last one of the page, where more remain.
@@ -54,7 +56,7 @@ pub fn text_page(
 {
     let list = entries(alloc, reference, page, matched)?;
     let mut text = String::new(alloc);
-    push_entries(&mut text, map, &list)?;
+    push_texts(&list, &OnMap { map }, &mut text)?;
     push_end(&mut text, next_after(page), mark)?;
     Ok(text)
 }
