@@ -1,11 +1,12 @@
 -- What is shown of places, by what is kept of the matchings that were looked at.
-use Rattle.olr_places.proofs.Common.{RoadMap, Looked, listed_of, AreCounted, ArePlacesOf, object_of, opener_object, openers_rows, entry_of, Entry, verdict_of, PlaceLimits, Opener, Places, ◌≡◌, ℕ, ◌+◌, List, [], ◌∷◌, ◌++◌, length, map, None, refl, sym, ap, ◌∙◌, length-map, verdict_in, all_place_rows, next_after, next_of, places_text, summary_rows}
+use Rattle.olr_places.proofs.Common.{RoadMap, Looked, listed_of, AreCounted, ArePlacesOf, object_of, opener_object, opener_rows, entry_of, Entry, verdict_of, PlaceLimits, Opener, Places, ◌≡◌, ℕ, ◌+◌, List, [], ◌∷◌, ◌++◌, length, map, None, refl, sym, ap, ◌∙◌, length-map, verdict_in, all_place_rows, next_after, next_of, places_text, summary_rows}
 use Rattle.olr_report.specs.TextRows.{end_row}
+use Rattle.olr_text.specs.Texts.{texts_from}
 use Rattle.olr_places.specs.Json.{place_objects, places_object}
 
 module _ (road : RoadMap) (limits : PlaceLimits) (matchings : List Entry) where
   rows_same : (start : ℕ) (openers : List Opener) → AreCounted limits matchings start openers
-      → openers_rows road start openers
+      → texts_from (opener_rows road) (start + 1) openers
       ≡ all_place_rows road limits matchings start (map entry_of openers)
   rows_same start [] counted = refl
   rows_same start (opener ∷ openers) counted =
@@ -33,7 +34,7 @@ module _ {limits : PlaceLimits} {looked : Looked} {places : Places}
   next_is = rw (are.ending, are.last) refl
 
   module _ (road : RoadMap) where
-    rows_are : openers_rows road 0 places.openers.items
+    rows_are : texts_from (opener_rows road) 1 places.openers.items
         ≡ all_place_rows road limits looked.matchings 0 (listed_of limits looked.matchings)
     rows_are = rows_same road limits looked.matchings 0 places.openers.items are.counted
         ∙ ap (all_place_rows road limits looked.matchings 0) are.openers
@@ -43,7 +44,7 @@ module _ {limits : PlaceLimits} {looked : Looked} {places : Places}
     objects_are = objects_same road limits looked.matchings 0 places.openers.items are.counted
         ∙ ap (place_objects road limits looked.matchings 0) are.openers
 
-    pub text_is : openers_rows road 0 places.openers.items
+    pub text_is : texts_from (opener_rows road) 1 places.openers.items
         ++ summary_rows places.looked places.margin (verdict_in places)
         ++ end_row (next_after places.ending places.last) None ≡ places_text road limits looked
     text_is = rw (verdict_is, next_is, rows_are, are.count, are.margin) refl

@@ -1,5 +1,5 @@
 -- What is kept of the matchings that were looked at.
-use Rattle.std.specs.Prelude.{◌≡◌, ℕ, ◌+◌, List, [], ◌∷◌, ◌++◌, length, map, All, None, codes}
+use Rattle.std.specs.Prelude.{◌≡◌, ℕ, ◌+◌, List, [], ◌∷◌, length, map, All, None, codes}
 use Rattle.serde_json.specs.Data.{Data, string, object, no_members, member}
 use Rattle.olr_text.specs.JsonValues.{array_of, whole, whole_or_null}
 use Rattle.olr_keys.specs.Page.{last_of}
@@ -66,12 +66,10 @@ verdict_in places = verdict_by places.looked (length places.openers.items) place
 
 -- ---- as they are shown
 
--- the rows of openers, the first of which has this index
-abbrev pub openers_rows : RoadMap → ℕ → List Opener → List ℕ
-openers_rows road index [] = []
-openers_rows road index (opener ∷ openers) =
-    place_rows road (index + 1) opener.gap opener.members (entry_of opener)
-    ++ openers_rows road (index + 1) openers
+-- the rows of the place of this number, by its opener
+abbrev pub opener_rows : RoadMap → ℕ → Opener → List ℕ
+opener_rows road number opener =
+    place_rows road number opener.gap opener.members (entry_of opener)
 
 -- the object of an opener
 abbrev pub opener_object : RoadMap → Opener → Data

@@ -1,11 +1,12 @@
 -- The text of places: the rows of each one that is listed, how many matchings were looked at, the
 -- margin, the verdict, and a last row that says whether looking was cut off. Gaps are in penalty
 -- points, positions in decimetres.
-use Rattle.std.specs.Prelude.{ℕ, ◌+◌, List, [], ◌∷◌, ◌++◌, length, Option, None, Some, codes, decimal}
+use Rattle.std.specs.Prelude.{ℕ, ◌+◌, List, [], ◌∷◌, ◌++◌, length, Option, None, codes, decimal}
 use Rattle.olr_keys.specs.Cursor.{key_text}
 use Rattle.olr_keys.specs.Key.{KeyValue}
 use Rattle.olr_keys.specs.Page.{last_of}
 use Rattle.olr_road.specs.RoadMap.{RoadMap}
+use Rattle.olr_text.specs.Texts.{text_or}
 use Rattle.olr_report.specs.Entries.{Entry, keys_of}
 use Rattle.olr_report.specs.Location.{LocatedLine, LocatedPoint, LocatedValue}
 use Rattle.olr_report.specs.TextRows.{end_row, part_row, place_row}
@@ -49,11 +50,6 @@ all_place_rows road limits matchings index (opener ∷ openers) =
 
 -- ---- the end
 
--- the margin
-abbrev pub margin_text : Option ℕ → List ℕ
-margin_text None = codes "none"
-margin_text (Some gap) = decimal gap
-
 -- the word of a verdict
 abbrev pub verdict_word : Verdict → List ℕ
 verdict_word verdict.None = codes "none"
@@ -64,7 +60,7 @@ verdict_word verdict.Open = codes "open"
 -- how many matchings were looked at, the margin and the verdict, a row each
 abbrev pub summary_rows : ℕ → Option ℕ → Verdict → List ℕ
 summary_rows count margin word =
-    codes "looked " ++ decimal count ++ codes "\nmargin " ++ margin_text margin
+    codes "looked " ++ decimal count ++ codes "\nmargin " ++ text_or decimal (codes "none") margin
     ++ codes "\nverdict " ++ verdict_word word ++ codes "\n"
 
 -- the key after which looking would go on: the last one that was looked at, where it was cut off
