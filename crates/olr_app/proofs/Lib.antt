@@ -4,7 +4,6 @@ pub mod Single
 pub mod Accepts
 pub mod AnswerOf
 pub mod PagesOf
-pub mod PointsOnMap
 pub mod JsonListing
 pub mod Alone
 pub mod OnePage

@@ -1,57 +1,35 @@
 -- The candidates of a reference's points. As text: for each point a row with their number, and then
 -- a row for each of them. As JSON: an object with an array of the candidates of each point.
-use Rattle.std.specs.Prelude.{◌≡◌, ℕ, ◌+◌, List, [], ◌∷◌, ◌++◌, length, get_or, codes, decimal}
-use Rattle.std.specs.Prelude.{All, Result}
-use Rattle.arrayvec.specs.ArrayVec.{ArrayVec}
+use Rattle.std.specs.Prelude.{◌≡◌, ℕ, List, ◌++◌, length, codes, decimal}
+use Rattle.std.specs.Prelude.{Result}
 use Rattle.serde_json.specs.Data.{Data, member, no_members, object}
 use Rattle.olr_app.specs.Common.{IsJsonLine, Reference, Tolerances, RoadMap}
 use Rattle.olr_text.specs.JsonValues.{array_of}
+use Rattle.olr_text.specs.Texts.{texts_from}
 use Rattle.olr_candidates.specs.Points.{AreLists}
 use Rattle.olr_candidates.specs.declared.candidate.Candidate.{Candidate}
-use Rattle.olr_road.specs.RoadMap.{RoadLine, line_ids}
-use Rattle.olr_report.specs.Entries.{HasLine}
+use Rattle.olr_report.specs.Common.{id_at}
 use Rattle.olr_report.specs.Json.{candidate_object}
 use Rattle.olr_app.specs.Stages.{OrTooMany}
 use Rattle.olr_request.specs.declared.fault.Fault.{Fault}
 use Rattle.olr_request.specs.declared.request.Format.{Format}
 use Rattle.olr_request.specs.declared.request.Format.TheVariants.{Json, Text}
 
--- the candidates of all points lie on lines of the map
-abbrev pub AreOnMap : RoadMap → List (ArrayVec Candidate) → Type 0
-AreOnMap road lists = All (λ (list : ArrayVec Candidate).
-    All (λ (candidate : Candidate). HasLine road candidate.place.line) list.items) lists
-
 -- ---- text
-
--- the id of the line of a rank; the line of a candidate is on the map
-abbrev pub id_of : List RoadLine → ℕ → ℕ
-id_of lines rank = get_or (line_ids lines) rank 0
 
 -- the row of a candidate of this rank: the id of its line, its place in decimetres from the line's
 -- start, and its penalty
-abbrev pub candidate_row : List RoadLine → ℕ → Candidate → List ℕ
-candidate_row lines number candidate =
-    decimal number ++ codes " line " ++ decimal (id_of lines candidate.place.line) ++ codes " at "
+abbrev pub candidate_row : RoadMap → ℕ → Candidate → List ℕ
+candidate_row road number candidate =
+    decimal number ++ codes " line " ++ decimal (id_at road candidate.place.line) ++ codes " at "
     ++ decimal candidate.place.at ++ codes " penalty " ++ decimal candidate.penalty ++ codes "\n"
-
--- the rows of candidates, of which the first has this rank
-abbrev pub candidate_rows : List RoadLine → ℕ → List Candidate → List ℕ
-candidate_rows lines number [] = []
-candidate_rows lines number (candidate ∷ candidates) =
-    candidate_row lines number candidate ++ candidate_rows lines (number + 1) candidates
 
 -- the text of the point of this number: how many candidates it has, and their rows; ranks are
 -- counted from 1
-abbrev pub point_listing : List RoadLine → ℕ → List Candidate → List ℕ
-point_listing lines number candidates =
+abbrev pub point_listing : RoadMap → ℕ → List Candidate → List ℕ
+point_listing road number candidates =
     codes "point " ++ decimal number ++ codes " candidates " ++ decimal (length candidates)
-    ++ codes "\n" ++ candidate_rows lines 1 candidates
-
--- the texts of points, of which the first has this number
-abbrev pub point_listings : List RoadLine → ℕ → List (List Candidate) → List ℕ
-point_listings lines number [] = []
-point_listings lines number (candidates ∷ points) =
-    point_listing lines number candidates ++ point_listings lines (number + 1) points
+    ++ codes "\n" ++ texts_from (candidate_row road) 1 candidates
 
 -- ---- JSON
 
@@ -68,7 +46,7 @@ listing_object road lists =
 
 -- the text of the candidates of all points, which are counted from 1, in a format
 abbrev pub IsListingIn : Format → RoadMap → List (List Candidate) → List ℕ → Type 0
-IsListingIn Text road lists text = text ≡ point_listings road.lines 1 lists
+IsListingIn Text road lists text = text ≡ texts_from (point_listing road) 1 lists
 IsListingIn Json road lists text = IsJsonLine (listing_object road lists) text
 
 -- the text of the candidates of a reference's points in a format

@@ -1,11 +1,9 @@
 //! The text of the candidates of a reference's points, in either format.
 
-ghost use Rattle.std.specs.Prelude.{◌≡◌, ◌++◌, ◌+◌, ◌<◌, All, IfErr, IfOk, Ok, OnOk, length};
-ghost use Rattle.std.specs.Prelude.{string_bytes};
+ghost use Rattle.std.specs.Prelude.{◌≡◌, IfErr, IfOk, Ok, string_bytes};
 ghost use Rattle.olr_candidates.specs.Points.{lists_of};
-ghost use Rattle.olr_app.specs.Listing.{AreOnMap, IsListed, IsListingIn};
-ghost use Rattle.olr_app.specs.Listing.{candidate_row, candidate_rows};
-ghost use Rattle.olr_app.specs.Listing.{point_listing, point_listings};
+ghost use Rattle.olr_text.specs.Texts.{texts_from};
+ghost use Rattle.olr_app.specs.Listing.{IsListed, IsListingIn, candidate_row, point_listing};
 ghost use Rattle.olr_app.specs.Stages.{IsStageFault};
 
 use crate::listing_json::json_of_lists;
@@ -13,61 +11,42 @@ use arrayvec::ArrayVec;
 use olr_base::NoMemory;
 use olr_binary::Reference;
 use olr_candidates::{Candidate, MAX_CANDIDATES, Tolerances, candidates_of_points};
+use olr_report::shown_id;
 use olr_request::{Fault, Format};
 use olr_road::{Map, Place};
-use olr_text::Decimal;
+use olr_text::{Decimal, ToText, push_texts};
 use std::alloc::Global;
 use std::fmt::Write;
 
-/// Adds the row of a candidate of a rank, which is counted from 1.
-fn push_candidate(
-    text: &mut String,
-    map: &Map,
-    rank: usize,
-    candidate: &Candidate,
-) -> Result<(), NoMemory>
-    requires { candidate.now.place.line < length map.now.lines }
-    ensures { OnOk result (string_bytes text.new
-        ≡ string_bytes text.old ++ candidate_row map.now.lines rank candidate.now) }
-{
-    let Candidate {
-        place: Place { line, at },
-        penalty,
-    } = *candidate;
-    let id = map.line_id(line);
-    let (rank, id) = (Decimal(rank), Decimal(id));
-    let (at, penalty) = (Decimal(at), Decimal(penalty));
-    write!(text, "{rank} line {id} at {at} penalty {penalty}\n")?;
-    Ok(())
+/// The points that are listed have their candidates on a map.
+#[derive(Clone, Copy)]
+struct ListedOn<'a> {
+    map: &'a Map,
 }
 
-/// Adds a row for each candidate, by rank.
-fn push_candidates(text: &mut String, map: &Map, list: &[Candidate]) -> Result<(), NoMemory>
-    requires { All (λ candidate. candidate.place.line < length map.now.lines) list.now }
-    ensures { OnOk result (string_bytes text.new
-        ≡ string_bytes text.old ++ candidate_rows map.now.lines 1 list.now) }
-{
-    for (index, candidate) in list.iter().enumerate() {
-        push_candidate(text, map, index + 1, candidate)?;
+/// The row of a candidate, by its rank from 1.
+impl ToText<ListedOn<'_>> for Candidate {
+    ghost text = { λ on. candidate_row on.map.now };
+
+    fn push(&self, on: &ListedOn<'_>, rank: usize, out: &mut String) -> Result<(), NoMemory> {
+        let Place { line, at } = self.place;
+        let (rank, id) = (Decimal(rank), Decimal(shown_id(on.map, line)));
+        let (at, penalty) = (Decimal(at), Decimal(self.penalty));
+        write!(out, "{rank} line {id} at {at} penalty {penalty}\n")?;
+        Ok(())
     }
-    Ok(())
 }
 
-/// Adds the rows of a point, which is counted from 1.
-fn push_point(
-    text: &mut String,
-    map: &Map,
-    number: usize,
-    list: &[Candidate],
-) -> Result<(), NoMemory>
-    requires { All (λ candidate. candidate.place.line < length map.now.lines) list.now }
-    ensures { OnOk result (string_bytes text.new
-        ≡ string_bytes text.old ++ point_listing map.now.lines number list.now) }
-{
-    let (number, count) = (Decimal(number), Decimal(list.len()));
-    write!(text, "point {number} candidates {count}\n")?;
-    push_candidates(text, map, list)?;
-    Ok(())
+/// The rows of a point: how many candidates it has, and each of them.
+impl ToText<ListedOn<'_>> for ArrayVec<Candidate, MAX_CANDIDATES> {
+    ghost text = { λ on number list. point_listing on.map.now number list.items };
+
+    fn push(&self, on: &ListedOn<'_>, number: usize, out: &mut String) -> Result<(), NoMemory> {
+        let (number, count) = (Decimal(number), Decimal(self.len()));
+        write!(out, "point {number} candidates {count}\n")?;
+        push_texts(self, on, out)?;
+        Ok(())
+    }
 }
 
 /// The text of the candidates of each point.
@@ -76,14 +55,11 @@ fn text_of_lists(
     map: &Map,
     lists: &[ArrayVec<Candidate, MAX_CANDIDATES>],
 ) -> Result<String, NoMemory>
-    requires { AreOnMap map.now lists.now }
-    ensures { IfOk result (λ text.
-        string_bytes text ≡ point_listings map.now.lines 1 (lists_of lists.now)) }
+    ensures { IfOk result (λ text. string_bytes text
+        ≡ texts_from (point_listing map.now) 1 (lists_of lists.now)) }
 {
     let mut text = String::new(alloc);
-    for (index, list) in lists.iter().enumerate() {
-        push_point(&mut text, map, index + 1, list)?;
-    }
+    push_texts(lists, &ListedOn { map }, &mut text)?;
     Ok(text)
 }
 
@@ -94,7 +70,6 @@ fn printed_lists(
     lists: &[ArrayVec<Candidate, MAX_CANDIDATES>],
     format: Format,
 ) -> Result<String, NoMemory>
-    requires { AreOnMap map.now lists.now }
     ensures { IfOk result (λ text.
         IsListingIn format map.now (lists_of lists.now) (string_bytes text)) }
 {

@@ -9,3 +9,4 @@ pub use Rattle.olr_road.specs.declared.place.Place.{Place}
 pub use Rattle.olr_matching.specs.declared.matched.Leg.{Leg}
 pub use Rattle.olr_matching.specs.declared.matched.Matched.{Matched}
 pub use Rattle.olr_route.specs.declared.piece.Piece.{Piece}
+pub use Rattle.olr_route.specs.Route.{id_at}

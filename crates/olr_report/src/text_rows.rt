@@ -21,7 +21,7 @@ use olr_text::{Decimal, ToText, push_texts, text_if};
 use std::fmt::Write;
 
 /// The id of the line of a rank; 0 where the map has no such line.
-pub(crate) fn shown_id(map: &Map, line: u32) -> u64
+pub fn shown_id(map: &Map, line: u32) -> u64
     ensures { result ≡ id_at map.now line }
 {
     if line < map.count() {

@@ -1,11 +1,5 @@
 use Rattle.olr_app.proofs.Common.{lists_of, string_bytes, subst, IsListingIn}
-use Rattle.olr_app.proofs.PointsOnMap.{lists_on_map}
 use Rattle.olr_app.proofs.listing.listing_of.Goals as goal
-
-pub printed_lists-requires : goal.printed_lists-requires
-printed_lists-requires c =
-    rw c.deref.ensures.value (lists_on_map c.args.tolerances.now c.args.reference.now c.args.map.now
-    c.in_ok-lists.lists.items c.in_ok-lists.ensures.lists)
 
 pub returns-clause-text : goal.returns-clause-text
 returns-clause-text c = record {
