@@ -17,21 +17,30 @@ use olr_messages::Content;
 use std::alloc::Global;
 use std::fmt::Write;
 
+/// What a record is known by.
+#[derive(Clone, Copy)]
+struct RecordName<'a> {
+    /// Its number, from 1.
+    number: u64,
+    /// Its key.
+    key: Option<&'a str>,
+}
+
 /// Makes the line of a record that has a fault of this name in place of an answer.
 fn write_fault(
     alloc: Global,
-    number: u64,
-    key: Option<&str>,
+    name: RecordName<'_>,
     fault: &str,
     line: &mut Vec<u8>,
 ) -> Result<(), NoMemory>
-    ensures { OnOk result (line.new.items ≡ fault_line fault.now (bytes_of key.entry) number) }
+    ensures { OnOk result (line.new.items
+        ≡ fault_line fault.now (bytes_of name.entry.key) name.entry.number) }
 {
     let shown = Line {
         answer: b"null",
         fault: Some(fault),
-        key,
-        record: number,
+        key: name.key,
+        record: name.number,
     };
     write_line(alloc, line, &shown)?;
     Ok(())
@@ -50,19 +59,19 @@ fn without_line_feed(line: &[u8]) -> &[u8]
 /// Makes the line of a record that has this answer, with the line feed behind it.
 fn write_found<'a>(
     alloc: Global,
-    number: u64,
-    key: Option<&'a str>,
+    name: RecordName<'a>,
     answer: &'a str,
     line: &mut Vec<u8>,
 ) -> Result<(), NoMemory>
     ensures { OnOk result ((value : Data) → answer.now ≡ compact_text value ++ codes "\n"
-        → line.new.items ≡ line_text value None (bytes_of key.entry) number) }
+        → line.new.items
+        ≡ line_text value None (bytes_of name.entry.key) name.entry.number) }
 {
     let shown = Line {
         answer: without_line_feed(answer.as_bytes()),
         fault: None,
-        key,
-        record: number,
+        key: name.key,
+        record: name.number,
     };
     write_line(alloc, line, &shown)?;
     Ok(())
@@ -77,18 +86,17 @@ fn write_found<'a>(
 fn write_answer(
     alloc: Global,
     on: &QuestionOnMap<'_>,
-    number: u64,
-    key: Option<&str>,
+    name: RecordName<'_>,
     text: &str,
     line: &mut Vec<u8>,
 ) -> Result<(), Fault>
     ensures line { OnOk result
-        (IsLineOfText on.now.question.now on.now.map.now number (bytes_of key.entry) text.now
-        line.new.items) }
+        (IsLineOfText on.now.question.now on.now.map.now name.entry.number
+        (bytes_of name.entry.key) text.now line.new.items) }
     ensures fault { IfErr result (IsFaultFor on.now.question.now on.now.map.now text.now) }
 {
     let answer = answer_text(alloc, on, text)?;
-    write_found(alloc, number, key, &answer, line)?;
+    write_found(alloc, name, &answer, line)?;
     Ok(())
 }
 
@@ -111,20 +119,19 @@ fn text_of(fault: &Fault) -> Result<ArrayString<64>, NoMemory>
 fn write_text(
     alloc: Global,
     on: &QuestionOnMap<'_>,
-    number: u64,
-    key: Option<&str>,
+    name: RecordName<'_>,
     text: &str,
     line: &mut Vec<u8>,
 ) -> Result<(), NoMemory>
     ensures { OnOk result
-        (IsLineOfText on.now.question.now on.now.map.now number (bytes_of key.entry) text.now
-        line.new.items) }
+        (IsLineOfText on.now.question.now on.now.map.now name.entry.number
+        (bytes_of name.entry.key) text.now line.new.items) }
 {
-    let Err(fault) = write_answer(alloc, on, number, key, text, line) else {
+    let Err(fault) = write_answer(alloc, on, name, text, line) else {
         return Ok(());
     };
     let fault = text_of(&fault)?;
-    write_fault(alloc, number, key, &fault, line)?;
+    write_fault(alloc, name, &fault, line)?;
     Ok(())
 }
 
@@ -146,11 +153,15 @@ pub(crate) fn write_record(
         (IsWrittenFor on.now.question.now on.now.map.now number (message_of content.entry)
         line.new.items) }
 {
+    let unnamed = RecordName { number, key: None };
     match content {
         Content::Empty => line.clear(),
-        Content::Long => write_fault(alloc, number, None, "LongRecord", line)?,
-        Content::NotText => write_fault(alloc, number, None, "NotText", line)?,
-        Content::Text { key, text } => write_text(alloc, on, number, key, text, line)?,
+        Content::Long => write_fault(alloc, unnamed, "LongRecord", line)?,
+        Content::NotText => write_fault(alloc, unnamed, "NotText", line)?,
+        Content::Text { key, text } => {
+            let name = RecordName { number, key };
+            write_text(alloc, on, name, text, line)?;
+        }
     }
     Ok(())
 }

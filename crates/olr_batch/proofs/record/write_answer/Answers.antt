@@ -4,6 +4,7 @@ use Rattle.olr_batch.proofs.record.write_answer.Goals as goal
 
 pub returns-clause-line : goal.returns-clause-line
 returns-clause-line c =
-    found_line c.args.on.now.question.now c.args.on.now.map.now c.args.number (bytes_of c.args.key)
+    found_line c.args.on.now.question.now c.args.on.now.map.now c.args.name.number
+    (bytes_of c.args.name.key)
     c.args.text.now (string_bytes c.in_ok-answer.answer) _ c.in_ok-answer.ensures.answer
     (λ value is. c.in_ok-write_found.ensures value (c.deref.ensures ∙ is))
