@@ -3,7 +3,7 @@
 ghost use Rattle.std.specs.Prelude.{IfErr, IfOk, Ok, string_bytes};
 ghost use Rattle.olr_binary.specs.Reference.{IsReference};
 ghost use Rattle.olr_places.specs.Looking.{Looked};
-ghost use Rattle.olr_places.specs.Places.{AreOnMap, ArePlacesOf};
+ghost use Rattle.olr_places.specs.Places.{ArePlacesOf};
 ghost use Rattle.olr_places.specs.declared.limits.PlaceLimits.{PlaceLimits as Limits};
 ghost use Rattle.olr_app.specs.Places.{ArePlaces, IsPlacesIn};
 ghost use Rattle.olr_app.specs.Stages.{IsStageFault};
@@ -27,7 +27,6 @@ fn printed_places(
     places: Places,
     format: Format,
 ) -> Result<String, NoMemory>
-    requires { AreOnMap map.now places }
     ensures { IfOk result (λ text. (limits : Limits) (looked : Looked)
         → ArePlacesOf limits looked places
         → IsPlacesIn format map.now limits looked (string_bytes text)) }

@@ -2,7 +2,7 @@
 
 ghost use Rattle.std.specs.Prelude.{◌≡◌, [], IfErr, IfOk, MatchOption, Ok, string_bytes};
 ghost use Rattle.olr_binary.specs.Reference.{IsReference};
-ghost use Rattle.olr_why.specs.Reasons.{AreOnMap, why_value};
+ghost use Rattle.olr_why.specs.Reasons.{why_value};
 ghost use Rattle.olr_why.specs.Remedies.{IsUnbanned};
 ghost use Rattle.olr_app.specs.Why.{AreReasons, IsWhyIn};
 ghost use Rattle.olr_app.specs.Stages.{IsStageFault};
@@ -21,7 +21,6 @@ use std::alloc::Global;
 ///
 /// [`NoMemory`] where the allocator refused memory.
 fn printed_why(alloc: Global, map: &Map, why: &Why, format: Format) -> Result<String, NoMemory>
-    requires { AreOnMap map.now why.now.points.items }
     ensures { IfOk result (λ text.
         IsWhyIn format map.now (why_value why.now) (string_bytes text)) }
 {

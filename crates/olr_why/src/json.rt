@@ -3,15 +3,14 @@
 ghost use Rattle.std.specs.Prelude.{◌≡◌, ◌++◌, ◌+◌, ◌<◌, ◌≤◌, IfOk, OnOk, length, map, string_bytes};
 ghost use Rattle.serde_json.specs.Data.{Data, string};
 ghost use Rattle.olr_keys.specs.Cursor.{key_text};
-ghost use Rattle.olr_route.specs.Route.{id_at};
 ghost use Rattle.olr_text.specs.JsonValues.{IsJsonLine, array_of};
 ghost use Rattle.olr_text.specs.Sent.{Sends};
 ghost use Rattle.olr_why.specs.Reasons.{why_value};
 ghost use Rattle.olr_why.specs.Json.{better_object, failed_conditions, leg_object, near_object, option_of, pair_object};
 ghost use Rattle.olr_why.specs.Json.{point_object, remedy_object, value_in, verdict_object, why_object, words_if};
-ghost use Rattle.olr_why.specs.Text.{class_at, form_at};
 
 use crate::leg::LegReason;
+use crate::on_map::{OnMap, shown_line};
 use crate::pair::{Better, PairLength};
 use crate::point::PointReason;
 use crate::remedy::{Change, Remedy};
@@ -25,12 +24,6 @@ use olr_road::Map;
 use olr_text::{ToJson, send_object, to_json_line};
 use serde::Serializer;
 use std::alloc::Global;
-
-/// What is shown lies on a map.
-#[derive(Clone, Copy)]
-struct OnMap<'a> {
-    map: &'a Map,
-}
 
 /// Adds a word, where it applies.
 fn push_word_if(words: &mut ArrayVec<&'static str, 4>, applies: bool, word: &'static str)
@@ -62,18 +55,6 @@ impl ToJson<OnMap<'_>> for FailedConditions {
 
     fn send<S: Serializer>(&self, on: &OnMap<'_>, out: &mut S) -> Result<(), S::Error> {
         failed_words(self).send(on, out)
-    }
-}
-
-/// The class, the form and the id of the line of a rank; each 0 where the map has no such line.
-fn shown_line(map: &Map, line: u32) -> (u8, u8, u64)
-    ensures { result ≡ (class_at map.now line, form_at map.now line, id_at map.now line) }
-{
-    if line < map.count() {
-        let line = map.line(line);
-        (line.class, line.form, line.id)
-    } else {
-        (0, 0, 0)
     }
 }
 

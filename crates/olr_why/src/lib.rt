@@ -17,7 +17,8 @@
 //!   point are shown.
 //! - [`point`]: a point of the reference, with the lines nearest to it; [`why`]: all of it;
 //!   [`explaining`]: finds it.
-//! - [`text`], [`json`]: its text and its JSON.
+//! - [`on_map`]: what is shown of a line of a map; [`text`], [`json`]: the text and the JSON of all
+//!   of it.
 //!
 //! Beside them, [`wider`] states what a wider tolerance keeps, and [`laws`] what holds of all
 //! verdicts and of all reasons.
@@ -33,6 +34,7 @@ mod leg;
 mod legs;
 mod narrowing;
 mod nearest_count;
+mod on_map;
 mod pair;
 mod pairs;
 mod point;

@@ -1,13 +1,13 @@
 //! The text of why a reference has no matching.
 
 ghost use Rattle.std.specs.Prelude.{◌≡◌, IfOk, Some, string_bytes};
-ghost use Rattle.olr_route.specs.Route.{id_at};
 ghost use Rattle.olr_text.specs.Texts.{unnumbered};
 ghost use Rattle.olr_why.specs.Reasons.{why_value};
-ghost use Rattle.olr_why.specs.Text.{better_text, change_text, class_at, form_at, leg_rows, miss_text, near_row};
+ghost use Rattle.olr_why.specs.Text.{better_text, change_text, leg_rows, miss_text, near_row};
 ghost use Rattle.olr_why.specs.Text.{pair_row, point_rows, remedy_row, verdict_row, why_text};
 
 use crate::leg::LegReason;
+use crate::on_map::{OnMap, shown_line};
 use crate::pair::{Better, PairLength};
 use crate::point::PointReason;
 use crate::remedy::{Change, Remedy};
@@ -20,24 +20,6 @@ use olr_road::Map;
 use olr_text::{Decimal, NumberOr, ToText, push_texts, text_if};
 use std::alloc::Global;
 use std::fmt::{self, Display, Formatter, Write};
-
-/// What is written lies on a map.
-#[derive(Clone, Copy)]
-struct OnMap<'a> {
-    map: &'a Map,
-}
-
-/// The class, the form and the id of the line of a rank; each 0 where the map has no such line.
-fn shown_line(map: &Map, line: u32) -> (u8, u8, u64)
-    ensures { result ≡ (class_at map.now line, form_at map.now line, id_at map.now line) }
-{
-    if line < map.count() {
-        let line = map.line(line);
-        (line.class, line.form, line.id)
-    } else {
-        (0, 0, 0)
-    }
-}
 
 /// The row of a line near a point.
 impl ToText<OnMap<'_>> for NearLine {
