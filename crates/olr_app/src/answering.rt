@@ -23,10 +23,6 @@ use olr_road::Map;
 use std::alloc::Global;
 
 /// The text of a reference in a format.
-///
-/// # Errors
-///
-/// [`NoMemory`] where the allocator refused memory.
 fn printed_reference(
     alloc: Global,
     reference: &Reference,

@@ -35,10 +35,6 @@ impl ToJson<OnMap<'_>> for Listing<'_> {
 
 /// The JSON of the candidates of each point: one compact object and a line feed. It has `points`,
 /// an array with the candidates of each point, by rank.
-///
-/// # Errors
-///
-/// [`NoMemory`] where the allocator refused memory.
 pub(crate) fn json_of_lists(
     alloc: Global,
     map: &Map,

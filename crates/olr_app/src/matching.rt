@@ -136,10 +136,6 @@ fn have_no_more(pages: &[Page]) -> bool
 
 /// The mark for the cursors at the ends of these pages: the fingerprint of the inputs, if some page
 /// has more. Where it is known already, it isn't computed again.
-///
-/// # Errors
-///
-/// [`NoMemory`] where the allocator refused memory.
 fn fingerprint_for(
     alloc: Global,
     map: &Map,
@@ -162,10 +158,6 @@ fn fingerprint_for(
 }
 
 /// The mark for the cursors at the ends of these pages, where they have marks.
-///
-/// # Errors
-///
-/// [`NoMemory`] where the allocator refused memory.
 fn mark_of(
     alloc: Global,
     map: &Map,
@@ -186,10 +178,6 @@ fn mark_of(
 }
 
 /// The parts of the matchings of a page.
-///
-/// # Errors
-///
-/// [`NoMemory`] where the allocator refused memory.
 fn matched_on_page(
     alloc: Global,
     routes: &mut Routes<'_>,
@@ -215,10 +203,6 @@ fn matched_on_page(
 }
 
 /// The text of a page in a format, with a mark in the cursor at its end or without one.
-///
-/// # Errors
-///
-/// [`NoMemory`] where the allocator refused memory.
 fn text_of_page(
     alloc: Global,
     routes: &mut Routes<'_>,
@@ -248,10 +232,6 @@ fn text_of_page(
 }
 
 /// The texts of pages, one after the other.
-///
-/// # Errors
-///
-/// [`NoMemory`] where the allocator refused memory.
 fn text_of_pages(
     alloc: Global,
     routes: &mut Routes<'_>,

@@ -17,10 +17,6 @@ use olr_road::Map;
 use std::alloc::Global;
 
 /// Places in a format.
-///
-/// # Errors
-///
-/// [`NoMemory`] where the allocator refused memory.
 fn printed_places(
     alloc: Global,
     map: &Map,

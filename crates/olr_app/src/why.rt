@@ -16,10 +16,6 @@ use olr_why::{Why, unbanned_of, why_json, why_of, why_text};
 use std::alloc::Global;
 
 /// Reasons in a format.
-///
-/// # Errors
-///
-/// [`NoMemory`] where the allocator refused memory.
 fn printed_why(alloc: Global, map: &Map, why: &Why, format: Format) -> Result<String, NoMemory>
     ensures { IfOk result (λ text.
         IsWhyIn format map.now (why_value why.now) (string_bytes text)) }

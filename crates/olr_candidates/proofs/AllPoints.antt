@@ -1,8 +1,6 @@
 -- The lists of the points of a reference, from those of each.
-use Rattle.olr_base.proofs.Contained.{first_or_last}
 use Rattle.olr_candidates.proofs.LineCandidates.{line_at}
-use Rattle.std.proofs.lemmas.List.{length-append, map_push, same_lists}
-use Rattle.olr_candidates.proofs.Common.{ArrayVec, Reference, points_of, RoadLine, Candidate, Tolerances, ◌≡◌, ℕ, ◌+◌, ◌<◌, ◌≤◌, List, [], ◌∷◌, ◌++◌, length, get_or, inl, inr, ap, ◌∙◌, arith, slice_get-get_or, slice_get_within, OneListOfPoint, NoListOfPointAndTooMany, AreCandidatesOf, AreFirstLists, AreLists, HasTooMany, IsListOf, IsFirstTooMany, lists_of}
+use Rattle.olr_candidates.proofs.Common.{ArrayVec, Reference, points_of, RoadLine, Candidate, Tolerances, ◌≡◌, ℕ, ◌+◌, ◌<◌, ◌≤◌, List, [], ◌∷◌, ◌++◌, length, get_or, inl, inr, ap, ◌∙◌, arith, slice_get-get_or, slice_get_within, OneListOfPoint, NoListOfPointAndTooMany, AreCandidatesOf, AreFirstLists, AreLists, HasTooMany, IsListOf, IsFirstTooMany, lists_of, first_or_last, length-append, map_push, same_lists}
 
 -- ---- point by point
 
@@ -34,8 +32,7 @@ module _ (tolerances : Tolerances) (reference : Reference) (lines : List RoadLin
       → IsFirstTooMany tolerances reference lines count
   first_too_many count lists so_far too_many =
       let before : (earlier : ℕ) → earlier < count → (list : List Candidate)
-      × IsListOf _ _ _ earlier list =
-      λ earlier lt.
+      × IsListOf _ _ _ earlier list = λ earlier lt.
       let at = line_at (lists_of lists) earlier (rw so_far.counted lt) in
       (at.0, so_far.each earlier at.0 at.1) in
       record { too_many = too_many; before = before }
@@ -57,16 +54,13 @@ module _ (tolerances : Tolerances) (reference : Reference) (lines : List RoadLin
 
   pub no_lists_and_too_many : NoListOfPointAndTooMany → (lists : List (List Candidate)) (index : ℕ)
       → AreLists tolerances reference lines lists → HasTooMany tolerances reference lines index → ⊥
-  no_lists_and_too_many law lists index are many =
-      let within : index < length lists =
-      rw are.all (slice_get_within (points_of reference) index many.point many.point_is) in
-      law _ _ _ _ _ (list_of_point _ are _ [] within) many
+  no_lists_and_too_many law lists index are many = law _ _ _ _ _ (list_of_point _ are _ []
+      (rw are.all (slice_get_within (points_of reference) index many.point many.point_is))) many
 
   pub one_first : NoListOfPointAndTooMany → (a b : ℕ) → IsFirstTooMany tolerances reference lines a
       → IsFirstTooMany tolerances reference lines b → a ≡ b
   one_first law a b is other =
       let least : a < b → ⊥ = λ less. let list = other.before a less in
       law _ _ _ _ _ list.1 is.too_many in
-      let most : b < a → ⊥ = λ more. let list = is.before b more in
-      law _ _ _ _ _ list.1 other.too_many in
+      let most : b < a → ⊥ = λ more. law _ _ _ _ _ (is.before b more).1 other.too_many in
       omega arith

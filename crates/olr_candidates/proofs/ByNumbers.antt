@@ -1,5 +1,5 @@
 -- The order by one number and then, where it is the same, by another.
-use Rattle.olr_candidates.proofs.Common.{◌≡◌, ℕ, ◌<◌, inl, inr, sym, arith, ◌⊎◌, cases_order}
+use Rattle.olr_candidates.proofs.Common.{◌≡◌, ℕ, ◌<◌, inl, inr, arith, ◌⊎◌, cases_order}
 
 module _ {X : Type 0} (number other : X → ℕ) where
   abbrev pub ComesBefore : X → X → Type 0
@@ -21,12 +21,4 @@ module _ {X : Type 0} (number other : X → ℕ) where
 
   -- of two elements that differ in the other number one comes before the other
   pub not_before : (a b : X) → (other a ≡ other b → ⊥) → (ComesBefore a b → ⊥) → ComesBefore b a
-  not_before a b differ not = elim (cases_order (number a) (number b)) [
-    | inl same ↦ elim (cases_order (other a) (other b)) [
-      | inl is ↦ absurd (differ is)
-      | inr (inl less) ↦ absurd (not (inr (same, less)))
-      | inr (inr more) ↦ inr (sym same, more)
-    ]
-    | inr (inl less) ↦ absurd (not (inl less))
-    | inr (inr more) ↦ inl more
-  ]
+  not_before a b differ not = grind (arith, cases_order)

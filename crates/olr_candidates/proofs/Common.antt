@@ -6,14 +6,14 @@ pub use Rattle.std.proofs.lemmas.Int.{by_lt_z, ints, to_z-of_z}
 pub use Rattle.std.proofs.lemmas.List.Edits.{get_or-insert_above, get_or-insert_at, get_or-insert_below, length-insert}
 pub use Rattle.std.proofs.lemmas.List.Elements.{All-append, All-cons, All-contains, All-drop, All-nil, All-take, All-weaker, Contains-append_left, Contains-append_right, Contains-push, Contains-push_cases}
 pub use Rattle.std.proofs.lemmas.List.Sorted.{All-permutation, Contains-permutation, IsPermutation-insert}
-pub use Rattle.std.proofs.lemmas.List.{get_or-take, get_or_default, length-map, length-take, take-append-le}
+pub use Rattle.std.proofs.lemmas.List.{get_or-take, get_or_default, length-map, length-take, map_push, same_lists, take-append-le}
 pub use Rattle.std.proofs.lemmas.Nat.{div_below, mul-le}
 pub use Rattle.std.proofs.lemmas.Option.{get_or_from_slice_get, none-some, same_Some, slice_get-get_or, slice_get_read, slice_get_within}
 pub use Rattle.std.specs.List.Sorted.{IsPermutation, IsStrictlyIncreasing}
 pub use Rattle.std.specs.List.{insert, join_with_byte, range_with_len}
 pub use Rattle.std.specs.Prelude.{◌==◌, AllPairs, Contains, Decides, MatchOption, MatchResult, filter, min, nat_abs, option_map, slice_get, ◌||◌, ◌⊎◌, ⊤}
 pub use Rattle.arrayvec.specs.ArrayVec.{ArrayVec}
-pub use Rattle.olr_base.proofs.Contained.{further, here, no_longer}
+pub use Rattle.olr_base.proofs.Contained.{first_or_last, further, here, no_longer}
 pub use Rattle.olr_base.proofs.Rising.{AreFirst, place_counts, same_beginning, same_list}
 pub use Rattle.olr_base.specs.Coordinates.{Coordinates, IsInRange, coordinates_of}
 pub use Rattle.olr_binary.specs.Reference.{points_of}
@@ -25,7 +25,7 @@ pub use Rattle.olr_candidates.specs.Laws.{AreDepartures, AreInOrderOfIds, ArePla
 pub use Rattle.olr_candidates.specs.Near.{AreFailed, AreLinesWithin, AreNearest, AreNearestOf, Describes, FailsExactly, HasPenalty, IsNearLine, IsNearLineAt, IsNearLineOf, IsNearer, IsOneNear, none_failed}
 pub use Rattle.olr_candidates.specs.Nearest.{AnswersNearest, AreNearestAmong, AreNearestWithin, CoverRadius, FindsNear, IsAmong, IsBehindLast, Keeps}
 pub use Rattle.olr_candidates.specs.Points.{AreCandidatesOf, AreFirstLists, AreLists, HasTooMany, HoldsAt, IsCandidateOf, IsFirstTooMany, IsListOf, IsRejectionOf, lists_of}
-pub use Rattle.olr_candidates.specs.Projection.{IsProjection, polyline_of}
+pub use Rattle.olr_candidates.specs.Projection.{HasBearing, IsProjection, bearing_arc, polyline_of}
 pub use Rattle.olr_candidates.specs.Query.{Answers, AreFound, CoversRadius, Finds, FindsTooMany, IsNear, IsQueryOf, Rejects, x_of}
 pub use Rattle.olr_candidates.specs.declared.candidate.Candidate.{Candidate}
 pub use Rattle.olr_candidates.specs.declared.near.NearLine.{NearLine}
@@ -33,9 +33,9 @@ pub use Rattle.olr_candidates.specs.declared.projection.Projection.{Projection}
 pub use Rattle.olr_candidates.specs.declared.query.Query.{Query}
 pub use Rattle.olr_candidates.specs.declared.rejection.Rejection.{Rejection}
 pub use Rattle.olr_candidates.specs.declared.tolerances.Tolerances.{Tolerances}
-pub use Rattle.olr_metric.specs.Plane.{spot_of}
+pub use Rattle.olr_metric.specs.Plane.{scale_of, spot_of}
 pub use Rattle.olr_metric.specs.Polyline.{IsAlong, IsNearest, IsPolyline, arc}
-pub use Rattle.olr_metric.specs.Spot.{IsInPlane}
+pub use Rattle.olr_metric.specs.Spot.{IsInPlane, distance}
 pub use Rattle.olr_metric.specs.declared.polyline.Near.{Near}
 pub use Rattle.olr_metric.specs.declared.spot.Spot.{Spot}
 pub use Rattle.olr_road.specs.RoadMap.{HasEqualNeighbours, IsSoundLine, head_of, line_ids}

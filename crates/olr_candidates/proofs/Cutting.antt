@@ -16,8 +16,8 @@ pub record SameCut (u v s t : List ℕ) : Type 0 where
 pub cut_once : (byte : ℕ) (u v s t : List ℕ) → Lacks byte u → Lacks byte v
     → u ++ byte ∷ s ≡ v ++ byte ∷ t → SameCut u v s t
 cut_once byte [] [] s t lacks other same = record { front = refl; rest = cc }
-cut_once byte [] (d ∷ v) s t lacks other same = let first : d ≡ byte = cc in absurd (other.0 first)
-cut_once byte (c ∷ u) [] s t lacks other same = let first : c ≡ byte = cc in absurd (lacks.0 first)
+cut_once byte [] (d ∷ v) s t lacks other same = absurd (other.0 cc)
+cut_once byte (c ∷ u) [] s t lacks other same = absurd (lacks.0 cc)
 cut_once byte (c ∷ u) (d ∷ v) s t lacks other same =
     let rest : u ++ byte ∷ s ≡ v ++ byte ∷ t = cc in
     let deeper = cut_once _ u v s t lacks.1 other.1 rest in
@@ -27,16 +27,15 @@ cut_once byte (c ∷ u) (d ∷ v) s t lacks other same =
 -- what doesn't contain a byte lacks it
 pub lacks_from_not : (byte : ℕ) (text : List ℕ) → ¬ (Contains text byte) → Lacks byte text
 lacks_from_not byte [] none = tt
-lacks_from_not byte (c ∷ text) none = (
-  (λ same. none (0, omega arith, same)),
+lacks_from_not byte (c ∷ text) none = grind (
+  arith,
   lacks_from_not byte text (λ found. none (suc found.0, omega (arith, found.1), found.2)),
 )
 
 digits_lack : (byte : ℕ) (text : List ℕ) → byte < 48 → AllDigits 10 text → Lacks byte text
 digits_lack byte [] low digits = tt
 digits_lack byte (c ∷ text) low digits =
-    let range = digit_from_value c digits.0 in
-    ((λ e. omega (arith, e, range.0, low)), digits_lack byte text low digits.1)
+    grind (arith, digit_from_value, digits_lack byte text low digits.1)
 
 -- a number has digits alone
 pub decimal_lacks : (byte n : ℕ) → byte < 48 → n < 2 ^ 64 → Lacks byte (decimal n)

@@ -28,8 +28,7 @@ pub same_numbers : (ms ns : List ℕ) → AreSmall ms → AreSmall ns → joined
 same_numbers [] [] small also same = refl
 same_numbers [] (n ∷ ns) small also same = absurd (not_empty n ns also.0 (sym same))
 same_numbers (m ∷ ms) [] small also same = absurd (not_empty m ms small.0 same)
-same_numbers (m ∷ []) (n ∷ []) small also same =
-    ap (λ (k : ℕ). k ∷ []) (decimal_injective m n small.0 also.0 same)
+same_numbers (m ∷ []) (n ∷ []) small also same = grind (arith, decimal_injective)
 same_numbers (m ∷ []) (n ∷ o ∷ ns) small also same =
     absurd (uncut 32 _ _ _ (decimal_lacks 32 m (omega arith) small.0) same)
 same_numbers (m ∷ o ∷ ms) (n ∷ []) small also same =

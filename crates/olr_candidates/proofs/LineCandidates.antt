@@ -1,5 +1,5 @@
 -- What is found for a line of the map.
-use Rattle.olr_candidates.proofs.Common.{Spot, Coordinates, coordinates_of, spot_of, Point, RoadLine, head_of, IsSoundLine, Line, Candidate, Projection, Rejection, Tolerances, IsCandidateAt, Query, Finds, Rejects, polyline_of, IsProjection, ◌≡◌, ℕ, zero, suc, ◌<◌, Bool, List, [], ◌∷◌, length, All, Some, Result, Ok, Err, subst, sym, refl, arith, MatchResult, slice_get, option_map, get_or_from_slice_get, slice_get_within, MeetsConditions, IsCandidate, IsOnLine, Rates, IsRejectionAt}
+use Rattle.olr_candidates.proofs.Common.{Spot, Coordinates, coordinates_of, spot_of, Point, RoadLine, head_of, IsSoundLine, Line, Candidate, Projection, Rejection, Tolerances, IsCandidateAt, Query, Finds, Rejects, polyline_of, IsProjection, ◌≡◌, ℕ, zero, suc, ◌<◌, Bool, List, [], ◌∷◌, length, All, Some, Result, Ok, Err, subst, sym, refl, arith, MatchResult, slice_get, option_map, get_or_from_slice_get, slice_get_within, MeetsConditions, IsCandidate, Rates, IsRejectionAt}
 use Rattle.olr_candidates.specs.declared.rejection.Rejection.TheVariants.{Radius, Bearing, Class, Position}
 use Rattle.olr_candidates.specs.Rejection.{IsFirstFailed}
 
@@ -14,13 +14,10 @@ pub rated : (query : Query) (lines : List RoadLine) (rank : ℕ) (line : RoadLin
     → IsProjection (polyline_of (coordinates_of query.plane) line) line.length query.is_last
     (spot_of (coordinates_of query.plane) (coordinates_of query.point.at)) projection
     → MatchResult result (Rates query.tolerances query.point query.is_last (head_of line) rank
-    projection)
-    (IsFirstFailed query.tolerances query.point query.is_last (head_of line) projection)
+    projection) (IsFirstFailed query.tolerances query.point query.is_last (head_of line) projection)
     → MatchResult result (Finds query lines rank) (Rejects query lines rank)
-rated query lines rank line projection (Ok candidate) at is rates =
-    (line, at, record { projection = projection; is_projection = is; rates = rates })
-rated query lines rank line projection (Err rejection) at is failed =
-    (line, at, record { projection = projection; is_projection = is; failed = failed })
+rated query lines rank line projection (Ok candidate) at is rates = grind arith
+rated query lines rank line projection (Err rejection) at is failed = grind arith
 
 -- a line that fails a condition doesn't meet all of them
 pub not_met : {tolerances : Tolerances} {point : Point} {is_last : Bool} {line : Line}
@@ -30,8 +27,7 @@ pub not_met : {tolerances : Tolerances} {point : Point} {is_last : Bool} {line :
 not_met (Radius distance) failed meets = omega arith
 not_met (Bearing sectors) failed meets = omega arith
 not_met (Class classes) failed meets = omega arith
-not_met {is_last = is_last} {line = line} (Position at) failed meets =
-    failed.1 (subst (λ k. IsOnLine is_last line.length k) (cc) meets.on_line)
+not_met {is_last = is_last} {line = line} (Position at) failed meets = grind arith
 
 -- ---- the line of a rank
 
@@ -61,8 +57,7 @@ points_at lines rank line at is = sym (cc)
 
 same_candidate : (a b : Candidate) → a.place.line ≡ b.place.line → a.place.at ≡ b.place.at
     → a.penalty ≡ b.penalty → a ≡ b
-same_candidate a b line at penalty =
-    λ i. record { place = record { line = line i; at = at i }; penalty = penalty i }
+same_candidate a b line at penalty = grind arith
 
 pub one_candidate : OneProjection
     → (tolerances : Tolerances) (origin : Coordinates) (point : Point) (is_last : Bool)

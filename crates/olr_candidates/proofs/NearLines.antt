@@ -1,6 +1,6 @@
 -- A line near a point is one such line at most. It fails no condition exactly where it is a
 -- candidate.
-use Rattle.olr_candidates.proofs.Common.{Coordinates, coordinates_of, Point, points_of, RoadLine, head_of, Line, Candidate, NearLine, Projection, Tolerances, IsCandidateAt, ◌≡◌, ℕ, Bool, true, false, List, length, Option, Some, None, refl, ◌+◌, ◌==◌, MatchBool-at_false, IsWithinRadius, IsAlikeInBearing, IsAlikeInClass, IsOnLine, IsCandidate, MeetsConditions, Rates, penalty_of, CandidatesFailNone, IsAsCandidate, NearAreCandidates, AreFailed, Describes, FailsExactly, HasPenalty, IsNearLine, IsNearLineAt, none_failed}
+use Rattle.olr_candidates.proofs.Common.{arith, Coordinates, coordinates_of, Point, points_of, RoadLine, head_of, Line, Candidate, NearLine, Projection, Tolerances, IsCandidateAt, ◌≡◌, ℕ, Bool, true, false, List, length, Option, Some, None, refl, ◌+◌, ◌==◌, MatchBool-at_false, IsCandidate, MeetsConditions, Rates, penalty_of, CandidatesFailNone, IsAsCandidate, NearAreCandidates, AreFailed, Describes, FailsExactly, HasPenalty, IsNearLine, IsNearLineAt, none_failed}
 use Rattle.olr_candidates.specs.declared.near.FailedConditions.{FailedConditions}
 use Rattle.olr_candidates.proofs.LineCandidates.{OneProjection}
 
@@ -22,31 +22,17 @@ not_raised false Condition exactly is = refl
 
 same_conditions : (a b : FailedConditions) → a.radius ≡ b.radius → a.bearing ≡ b.bearing
     → a.class ≡ b.class → a.end ≡ b.end → a ≡ b
-same_conditions a b radius bearing class end =
-    λ i. record { radius = radius i; bearing = bearing i; class = class i; end = end i }
+same_conditions a b radius bearing class end = grind arith
 
 same_near : (a b : NearLine) → a.line ≡ b.line → a.distance ≡ b.distance → a.at ≡ b.at
-    → a.sector ≡ b.sector
-    → a.failed ≡ b.failed → a.penalty ≡ b.penalty → a ≡ b
-same_near a b line distance at sector failed penalty =
-    λ i. record {
-      line = line i;
-      distance = distance i;
-      at = at i;
-      sector = sector i;
-      failed = failed i;
-      penalty = penalty i;
-    }
+    → a.sector ≡ b.sector → a.failed ≡ b.failed → a.penalty ≡ b.penalty → a ≡ b
+same_near a b line distance at sector failed penalty = grind arith
 
 module _ (tolerances : Tolerances) (point : Point) (is_last : Bool) (line : Line)
     (projection : Projection) where
   same_failed : (a b : FailedConditions) → AreFailed tolerances point is_last line projection a
       → AreFailed tolerances point is_last line projection b → a ≡ b
-  same_failed a b one other = same_conditions a b
-      (same_flag _ _ (IsWithinRadius tolerances projection) one.radius other.radius)
-      (same_flag _ _ (IsAlikeInBearing tolerances point projection) one.bearing other.bearing)
-      (same_flag _ _ (IsAlikeInClass tolerances point line) one.class other.class)
-      (same_flag _ _ (IsOnLine is_last line.length projection.at) one.end other.end)
+  same_failed a b one other = grind (arith, same_conditions, same_flag)
 
   same_penalty : (a b : Option ℕ) → HasPenalty tolerances point is_last line projection a
       → HasPenalty tolerances point is_last line projection b → a ≡ b
@@ -58,29 +44,17 @@ module _ (tolerances : Tolerances) (point : Point) (is_last : Bool) (line : Line
   described_once : (rank : ℕ) (a b : NearLine)
       → Describes tolerances point is_last line rank projection a
       → Describes tolerances point is_last line rank projection b → a ≡ b
-  described_once rank a b one other = same_near a b
-      (cc) (cc) (cc) (cc)
-      (same_failed _ _ one.failed other.failed) (same_penalty _ _ one.penalty other.penalty)
+  described_once rank a b one other = grind (arith, same_near, same_failed, same_penalty)
 
   -- a line that fails none of the conditions meets them all, and the other way round
   met : (failed : FailedConditions) → AreFailed tolerances point is_last line projection failed
-      → failed ≡ none_failed
-      → MeetsConditions tolerances point is_last line projection
-  met failed are none = record {
-    near = holds (IsWithinRadius tolerances projection) are.radius (cc);
-    alike = holds (IsAlikeInBearing tolerances point projection) are.bearing (cc);
-    classed = holds (IsAlikeInClass tolerances point line) are.class (cc);
-    on_line = holds (IsOnLine is_last line.length projection.at) are.end (cc);
-  }
+      → failed ≡ none_failed → MeetsConditions tolerances point is_last line projection
+  met failed are none = grind (arith, holds)
 
   fails_none : (failed : FailedConditions)
       → AreFailed tolerances point is_last line projection failed
       → MeetsConditions tolerances point is_last line projection → failed ≡ none_failed
-  fails_none failed are meets = same_conditions _ _
-      (not_raised _ (IsWithinRadius tolerances projection) are.radius meets.near)
-      (not_raised _ (IsAlikeInBearing tolerances point projection) are.bearing meets.alike)
-      (not_raised _ (IsAlikeInClass tolerances point line) are.class meets.classed)
-      (not_raised _ (IsOnLine is_last line.length projection.at) are.end meets.on_line)
+  fails_none failed are meets = grind (arith, same_conditions, not_raised)
 
   -- then it has the candidate's penalty
   penalty_met : (penalty : Option ℕ) → HasPenalty tolerances point is_last line projection penalty
@@ -92,11 +66,7 @@ module _ (tolerances : Tolerances) (point : Point) (is_last : Bool) (line : Line
   as_candidate : (rank : ℕ) (near : NearLine) (candidate : Candidate)
       → Describes tolerances point is_last line rank projection near
       → Rates tolerances point is_last line rank projection candidate → IsAsCandidate near candidate
-  as_candidate rank near candidate describes rates = record {
-    line_is = cc;
-    at_is = cc;
-    penalty_is = cc (penalty_met _ describes.penalty rates.conditions);
-  }
+  as_candidate rank near candidate describes rates = grind (arith, penalty_met)
 
   rates_near : (rank : ℕ) (near : NearLine)
       → Describes tolerances point is_last line rank projection near → near.failed ≡ none_failed
@@ -104,15 +74,13 @@ module _ (tolerances : Tolerances) (point : Point) (is_last : Bool) (line : Line
   rates_near rank near describes none = (
     record {
       place = record { line = rank; at = projection.at };
-      penalty =
-          penalty_of tolerances point line projection;
+      penalty = penalty_of tolerances point line projection;
     },
     record {
       conditions = met _ describes.failed none;
       line_is = refl;
       at_is = refl;
-      penalty_is =
-          refl;
+      penalty_is = refl;
     },
   )
 
@@ -135,8 +103,7 @@ module _ (one : OneProjection) (tolerances : Tolerances) (origin : Coordinates) 
   pub one_near : (a b : NearLine) → IsNearLineAt tolerances origin point is_last lines rank a
       → IsNearLineAt tolerances origin point is_last lines rank b → a ≡ b
   one_near a b is other = described_once _ _ _ (head_of is.0) is.2.projection rank a b
-      is.2.describes
-      (other_described a b is other)
+      is.2.describes (other_described a b is other)
 
   -- a candidate and a line near a point, of one rank: by the same projection
   candidate_rated : (near : NearLine) (candidate : Candidate)
@@ -176,8 +143,7 @@ near_candidate is_last lines rank near is none =
         is.1,
         record {
           projection = is.2.projection;
-          is_projection =
-              is.2.is_projection;
+          is_projection = is.2.is_projection;
           rates = rated.1;
         },
       ),
@@ -194,8 +160,7 @@ near_are_candidates tolerances reference lines index rank near is none =
         first = is.first;
         point = is.point;
         first_is = is.first_is;
-        point_is =
-            is.point_is;
+        point_is = is.point_is;
         just = found.1;
       },
       found.2,

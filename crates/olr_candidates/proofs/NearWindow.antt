@@ -17,11 +17,10 @@ covers_radius between_x between_y shorter_x shorter_y query lines ranks sound ne
       known = λ k d inside. let meets = near.meeting.only k d inside in
           slice_get_within lines (get_or ranks k d) meets.0 meets.1;
       each = λ rank item found within.
-          let projection = found.2.is_projection in
           near.meeting.each rank (
             found.0,
             found.1,
             meets_window between_x between_y shorter_x shorter_y _ _ _ _ near.covers here
-                (sound_at _ _ sound found.1).inside projection.nearest (omega arith),
+                (sound_at _ _ sound found.1).inside found.2.is_projection.nearest (omega arith),
           );
     }

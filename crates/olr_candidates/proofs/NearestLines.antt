@@ -28,10 +28,7 @@ cut {X} R xs count x rise (k, inside, is) = elim (cases_lt k count) [
 
 taken_rise : {X : Type 0} (R : X → X → Type 0) (xs : List X) (count : ℕ) → AllPairs R xs
     → AllPairs R (take count xs)
-taken_rise {X} R xs count rise i j d lt inside =
-    let few = length-take count xs in
-    rw (get_or-take count xs i d (omega arith))
-    (rw (get_or-take count xs j d (omega arith)) (rise i j d lt (omega arith)))
+taken_rise {X} R xs count rise i j d lt inside = grind (arith, length-take, get_or-take)
 
 all_inserted : {X : Type 0} (P : X → Type 0) (xs : List X) (i : ℕ) (y : X) → P y → All P xs
     → All P (insert xs i y)
@@ -52,17 +49,18 @@ near_one_way = one_way _ _
 
 no_more : (n : ℕ) (ranks : List ℕ) → AllPairs (λ a b. a ≢ b) ranks → All (λ rank. rank < n) ranks
     → length ranks ≤ n
-no_more n ranks once known =
+no_more n ranks once known = omega (
+  arith,
+  length-range_with_len 0 n,
+  no_longer _ (range_with_len 0 n) once (λ k d inside. (
+    get_or ranks k d,
+    omega (arith, length-range_with_len 0 n),
     omega (
       arith,
-      length-range_with_len 0 n,
-      no_longer _ (range_with_len 0 n) once (λ k d inside.
-          let below = known k d inside in
-          let place : get_or (range_with_len 0 n) (get_or ranks k d) (get_or ranks k d)
-          ≡ get_or ranks k d =
-          omega (arith, get_or-range_with_len 0 n (get_or ranks k d) (get_or ranks k d) below) in
-          (get_or ranks k d, omega (arith, length-range_with_len 0 n), place)),
-    )
+      get_or-range_with_len 0 n (get_or ranks k d) (get_or ranks k d) (known k d inside),
+    ),
+  )),
+)
 
 -- just the ranks below n, each once
 pub record AreFirstRanks (n : ℕ) (ranks : List ℕ) : Type 0 where
@@ -89,17 +87,11 @@ next_rank n ranks are = record {
 module _ (query : Query) (lines : List RoadLine) where
   -- none
   pub none_nearest : (count : ℕ) → AreNearestAmong query lines [] count []
-  none_nearest count = record {
-    only = All-nil _;
-    rise = λ i j d lt inside. absurd (omega arith);
-    counted = omega arith;
-    others = λ near is. absurd (omega arith);
-  }
+  none_nearest count = grind (arith, All-nil)
 
   -- one more that is farther away than the last of so many
   pub nearest_still : (seen : List ℕ) (rank count : ℕ) (old : List NearLine)
-      → AreNearestAmong query lines seen count old
-      → IsBehindLast query lines rank count old
+      → AreNearestAmong query lines seen count old → IsBehindLast query lines rank count old
       → AreNearestAmong query lines (seen ++ rank ∷ []) count old
   nearest_still seen rank count old so_far is = record {
     only = All-weaker (IsAmong query _ seen) (IsAmong query _ (seen ++ rank ∷ []))
@@ -149,8 +141,7 @@ module _ (query : Query) (lines : List RoadLine) where
 
     is_next : (other : NearLine) → FindsNear query lines other.line other → other.line ≡ rank
         → other ≡ next
-    is_next other found same =
-        one_near one _ _ _ _ _ _ _ _
+    is_next other found same = one_near one _ _ _ _ _ _ _ _
         (subst (λ (r : ℕ). FindsNear query lines r other) same found) is
 
     before_or_next : (other : NearLine) → IsAmong query lines (seen ++ rank ∷ []) other
@@ -222,14 +213,12 @@ module _ (query : Query) (lines : List RoadLine) where
               omega (
                 arith,
                 length-take count (insert old index next),
-                length-insert old index next
-                    within,
+                length-insert old index next within,
               ),
               still_after near after.0 after.1,
             )
           ]
-          | inr same ↦ cut IsNearer _ _ _ rises
-              (rw same (contains_inserted _ _ _ _ (here _ _)))
+          | inr same ↦ cut IsNearer _ _ _ rises (rw same (contains_inserted _ _ _ _ (here _ _)))
         ];
       }
 

@@ -1,6 +1,6 @@
 -- What a query for a point of a reference finds.
 use Rattle.std.specs.Option.{ok_or}
-use Rattle.olr_candidates.proofs.Common.{ArrayVec, Coordinates, coordinates_of, Point, Reference, points_of, RoadLine, Candidate, Query, Rejection, Tolerances, Answers, Finds, FindsTooMany, Rejects, ◌≡◌, ℕ, ◌+◌, Bool, List, Option, Some, None, Result, Ok, Err, MatchOption, MatchResult, HoldsAt, AreCandidates, AreTooMany, IsCandidateAt, IsRejectionAt, AreCandidatesOf, HasTooMany, IsCandidateOf, IsRejectionOf, IsQueryOf}
+use Rattle.olr_candidates.proofs.Common.{ArrayVec, Coordinates, coordinates_of, Point, Reference, RoadLine, Candidate, Query, Rejection, Tolerances, Answers, Finds, FindsTooMany, Rejects, ◌≡◌, ℕ, ◌+◌, Bool, List, Option, Some, None, Result, Ok, Err, MatchOption, MatchResult, HoldsAt, AreCandidates, AreTooMany, IsCandidateAt, IsRejectionAt, AreCandidatesOf, HasTooMany, IsCandidateOf, IsRejectionOf, IsQueryOf}
 use Rattle.olr_candidates.specs.declared.point.TooManyCandidates.{TooManyCandidates}
 
 module _ (tolerances : Tolerances) (reference : Reference) (index : ℕ) (query : Query)
@@ -18,8 +18,7 @@ module _ (tolerances : Tolerances) (reference : Reference) (index : ℕ) (query 
   }
 
   pub answered : (lines : List RoadLine) (refusal : TooManyCandidates)
-      (found : Option (ArrayVec Candidate))
-      → refusal.0 ≡ index + 1
+      (found : Option (ArrayVec Candidate)) → refusal.0 ≡ index + 1
       → MatchOption found (FindsTooMany query lines) (λ list. Answers query lines list.items)
       → MatchResult (ok_or found refusal)
       (λ list. AreCandidatesOf tolerances reference lines index list.items)
@@ -34,5 +33,7 @@ module _ (tolerances : Tolerances) (reference : Reference) (index : ℕ) (query 
       → MatchResult result (Finds query lines rank) (Rejects query lines rank)
       → MatchResult result (IsCandidateOf tolerances reference lines index rank)
       (IsRejectionOf tolerances reference lines index rank)
-  rated lines rank (Ok candidate) at = of_point (λ t o p l. IsCandidateAt t o p l lines rank candidate) at
-  rated lines rank (Err rejection) at = of_point (λ t o p l. IsRejectionAt t o p l lines rank rejection) at
+  rated lines rank (Ok candidate) at = of_point
+      (λ t o p l. IsCandidateAt t o p l lines rank candidate) at
+  rated lines rank (Err rejection) at = of_point
+      (λ t o p l. IsRejectionAt t o p l lines rank rejection) at

@@ -8,9 +8,7 @@ one_way : (a b : Candidate) → IsBefore a b → IsBefore b a → ⊥
 one_way = numbers.one_way _ _
 
 pub before_decides : (a b : Candidate) → Decides (is_before a b) (IsBefore a b)
-before_decides a b =
-    Decides-or _ _ (Decides-ltb _ _)
-    (Decides-and _ _ (Decides-eqb a.penalty b.penalty) (Decides-ltb _ _))
+before_decides a b = grind (arith, Decides-or, Decides-ltb, Decides-and, Decides-eqb)
 
 module _ (tolerances : Tolerances) (origin : Coordinates) (point : Point) (is_last : Bool)
     (lines : List RoadLine) where
@@ -29,12 +27,11 @@ module _ (tolerances : Tolerances) (origin : Coordinates) (point : Point) (is_la
   pub not_too_many : (candidates : List Candidate)
       → AreCandidates tolerances origin point is_last lines candidates → length candidates ≤ 64
       → AreTooMany tolerances origin point is_last lines → ⊥
-  not_too_many candidates are at_most many =
-      omega (
-        arith,
-        no_longer _ _ many.differ
-            (λ k d inside. are.each (get_or many.found k d) (many.only k d inside)),
-      )
+  not_too_many candidates are at_most many = omega (
+    arith,
+    no_longer _ _ many.differ
+        (λ k d inside. are.each (get_or many.found k d) (many.only k d inside)),
+  )
 
   pub ranks_count : (candidates : List Candidate) (index : ℕ) (candidate : Candidate)
       → AreCandidates tolerances origin point is_last lines candidates

@@ -16,8 +16,7 @@ pub not_both : NoListAndTooMany → NoListOfPointAndTooMany
 not_both law tolerances reference lines index list are many =
     let first : many.first ≡ are.0.first = cc in
     let point : many.point ≡ are.0.point = cc in
-    law _ _ _ _ _ list are.0.just are.1
-    (rw (← first, ← point) many.just)
+    law _ _ _ _ _ list are.0.just are.1 (rw (← first, ← point) many.just)
 
 pub are_places : HoldsOfEach IsOfLines → HoldsOfEach LiesUpToEnd → ArePlaces
 are_places of_lines up_to_end tolerances reference road index candidates are k d within =
@@ -66,15 +65,14 @@ id_at (first ∷ rest) (suc rank) line at = id_at rest rank line at
 -- the line of a lesser rank has a lesser id
 pub lesser_id : (lines : List RoadLine) → IsStrictlyIncreasing (line_ids lines)
     → (i j : ℕ) (first second : RoadLine) → i < j → slice_get lines i ≡ Some first
-    → slice_get lines j ≡ Some second
-    → first.id < second.id
+    → slice_get lines j ≡ Some second → first.id < second.id
 lesser_id lines rise i j first second less at_first at_second =
-    let inside : j < length (line_ids lines) = omega (
+    let below = AllPairs-from_increasing _ rise i j 0 less
+    (omega (
       arith,
       slice_get_within lines j second at_second,
       length-map lines (λ line. line.id),
-    ) in
-    let below = AllPairs-from_increasing _ rise i j 0 less inside in
+    )) in
     omega (arith, id_at _ i _ at_first, id_at _ j _ at_second)
 
 pub in_order : AreInOrderOfIds

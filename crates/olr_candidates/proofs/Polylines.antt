@@ -20,8 +20,7 @@ equal_behind x rest is = record {
   front = x ∷ is.front;
   rest = is.rest;
   place = is.place;
-  equal =
-      cc;
+  equal = cc;
 }
 
 equal_at : (points : List Coordinates) (i : ℕ) (p : Coordinates) → slice_get points i ≡ Some p

@@ -1,7 +1,6 @@
 -- A spot has one projection onto a polyline at most.
-use Rattle.olr_candidates.proofs.Common.{Spot, Near, arc, IsNearest, Projection, IsProjection, ◌≡◌, ℕ, Bool, List, Option, Some, None, refl, MatchOption, IsAlong}
+use Rattle.olr_candidates.proofs.Common.{arith, Spot, Near, arc, IsNearest, Projection, IsProjection, ◌≡◌, ℕ, Bool, List, Option, Some, None, refl, MatchOption, IsAlong, bearing_arc, HasBearing}
 use Rattle.olr_metric.specs.Sector.{Direction, zero_direction, IsSector}
-use Rattle.olr_candidates.specs.Projection.{bearing_arc, HasBearing}
 
 -- the plane's laws
 abbrev pub OneNearest : Type 0
@@ -29,16 +28,13 @@ same_bearing : OneAlong → OneSector → NoSector
     → (polyline : List Spot) (is_last : Bool) (near : Near) (a b : Option ℕ)
     → HasBearing polyline is_last near a → HasBearing polyline is_last near b → a ≡ b
 same_bearing alongs one none polyline is_last near a b has other =
-    let same : other.ahead ≡ has.ahead =
-    alongs polyline (bearing_arc is_last near.arc (arc polyline)) other.ahead has.ahead
-    other.along has.along in
     same_sector one none a b _ has.sector_of
-    (rw (← same) other.sector_of)
+    (rw (← (alongs polyline (bearing_arc is_last near.arc (arc polyline)) other.ahead has.ahead
+    other.along has.along)) other.sector_of)
 
 same_projection : (a b : Projection) → a.distance ≡ b.distance → a.at ≡ b.at → a.sector ≡ b.sector
     → a ≡ b
-same_projection a b distance at sector =
-    λ i. record { distance = distance i; at = at i; sector = sector i }
+same_projection a b distance at sector = grind arith
 
 pub one_projection : OneNearest → OneAlong → OneSector → NoSector
     → (polyline : List Spot) (length : ℕ) (is_last : Bool) (p : Spot) (a b : Projection)
@@ -46,8 +42,5 @@ pub one_projection : OneNearest → OneAlong → OneSector → NoSector
 one_projection nearests alongs one none polyline length is_last p a b is_projection other =
     let same : other.near ≡ is_projection.near =
     nearests _ _ _ _ other.nearest is_projection.nearest in
-    same_projection a b
-    (cc)
-    (cc)
-    (same_bearing alongs one none _ _ _ _ _ is_projection.bearing
-    (rw (← same) other.bearing))
+    same_projection a b (cc) (cc)
+    (same_bearing alongs one none _ _ _ _ _ is_projection.bearing (rw (← same) other.bearing))

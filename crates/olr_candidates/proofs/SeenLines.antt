@@ -18,8 +18,7 @@ now_seen seen rank = Contains-push _ _
 
 -- no rank comes twice
 pub not_seen : (seen : List ℕ) (rank : ℕ) (rest : List ℕ)
-    → AllPairs (λ a b. a ≢ b) (seen ++ rank ∷ rest)
-    → Contains seen rank → ⊥
+    → AllPairs (λ a b. a ≢ b) (seen ++ rank ∷ rest) → Contains seen rank → ⊥
 not_seen [] rank rest once is = omega arith
 not_seen (x ∷ seen) rank rest once (zero, inside, same) =
     once 0 (suc (length seen)) rank (omega arith) (omega (arith, length-append seen (rank ∷ rest)))

@@ -1,6 +1,6 @@
 -- The values of tolerances by their names: each is in its range, and they decide the tolerances.
 use mathlib.Core.Path.{fun_ext}
-use Rattle.olr_candidates.proofs.Common.{◌≡◌, ℕ, zero, suc, ◌<◌, get_or, inl, inr, length, refl, sym, ◌∙◌, ap, arith, subst, cases_eq, Tolerances}
+use Rattle.olr_candidates.proofs.Common.{◌≡◌, ℕ, zero, suc, ◌<◌, get_or, length, refl, ap, arith, subst, cases_eq, Tolerances}
 use Rattle.std.proofs.Props.{props}
 use Rattle.olr_candidates.proofs.Cutting.{Lacks}
 use Rattle.olr_candidates.proofs.Joined.{AreSmall, joined_lacks, same_numbers}
@@ -32,8 +32,7 @@ name_at Slack = refl
 
 -- so two names of one place are the same
 pub same_name : (name other : Tolerance) → order_of other ≡ order_of name → other ≡ name
-same_name name other same = sym (name_at other) ∙ ap (λ (k : ℕ). get_or names k Radius) same
-    ∙ name_at name
+same_name name other same = grind (arith, name_at)
 
 -- ---- the same values
 
@@ -75,13 +74,10 @@ same_tolerances a b same = ap made
 -- ---- one tolerance changed
 
 -- one value of tolerances has a given value of one of them, all others being as given
-pub one_changed : {name : Tolerance} {value : ℕ} {given a b : Tolerances} → IsChanged name value given a
-    → IsChanged name value given b → a ≡ b
+pub one_changed : {name : Tolerance} {value : ℕ} {given a b : Tolerances} → IsChanged name value
+    given a → IsChanged name value given b → a ≡ b
 one_changed {name} {value} {given} {a} {b} one other =
-    same_tolerances a b (λ known. elim (cases_eq (order_of known) (order_of name)) [
-      | inl same ↦ rw (same_name name known same) (one.changed_is ∙ sym other.changed_is)
-      | inr differ ↦ one.others known differ ∙ sym (other.others known differ)
-    ])
+    grind (arith, same_tolerances, cases_eq, same_name)
 
 -- ---- the text of the numbers
 
@@ -96,24 +92,12 @@ same_values a b same Percent = cc
 same_values a b same Slack = cc
 
 small : (t : Tolerances) → AreSmall (numbers t)
-small t = (
-  omega (arith, t.radius_in_range),
-  (
-    omega (arith, t.bearing_in_range),
-    (
-      omega (arith, t.class_in_range),
-      (
-        omega (arith, t.lowest_in_range),
-        (omega (arith, t.percent_in_range), (omega (arith, t.slack_in_range), tt)),
-      ),
-    ),
-  ),
-)
+small t = grind arith
 
 -- equal texts are of the same tolerances
 pub same_text : (a b : Tolerances) → tolerances_text a ≡ tolerances_text b → a ≡ b
-same_text a b same =
-    same_tolerances a b (same_values a b (same_numbers (numbers a) (numbers b) (small a) (small b) same))
+same_text a b same = same_tolerances a b (same_values a b
+    (same_numbers (numbers a) (numbers b) (small a) (small b) same))
 
 -- and have no line feed
 pub text_is_one_line : (t : Tolerances) → Lacks 10 (tolerances_text t)

@@ -1,9 +1,7 @@
 -- A line that is near enough to a point meets each window that holds all places so near.
-use Rattle.olr_candidates.proofs.Common.{Spot, Near, Coordinates, coordinates_of, IsInRange, spot_of, IsNearest, BoundingBox, RoadLine, Query, polyline_of, x_of, ◌≡◌, ℕ, suc, ◌+◌, ◌*◌, ◌≤◌, List, Some, subst, arith, ℤ, pos, negsuc, ◌+ℤ◌, ◌-ℤ◌, ◌*ℤ◌, ◌≤ℤ◌, ◌<ℤ◌, nat_abs, slice_get, Contains, All, ints, by_lt_z, mul-le, All-contains, slice_get_within, get_or_from_slice_get, MeetsWindow, CoversRadius}
+use Rattle.olr_candidates.proofs.Common.{Spot, Near, Coordinates, coordinates_of, IsInRange, spot_of, IsNearest, BoundingBox, RoadLine, Query, polyline_of, x_of, ◌≡◌, ℕ, suc, ◌+◌, ◌*◌, ◌≤◌, List, Some, subst, arith, ℤ, pos, negsuc, ◌+ℤ◌, ◌-ℤ◌, ◌*ℤ◌, ◌≤ℤ◌, ◌<ℤ◌, nat_abs, slice_get, Contains, All, ints, by_lt_z, mul-le, All-contains, slice_get_within, get_or_from_slice_get, MeetsWindow, CoversRadius, distance}
 use Rattle.olr_metric.specs.Floor.{floor}
-use Rattle.olr_metric.specs.Plane.{scale_of}
 use Rattle.olr_metric.specs.Segment.{foot, IsBetween}
-use Rattle.olr_metric.specs.Spot.{distance}
 use Rattle.olr_candidates.proofs.Polylines.{place_at}
 
 -- the plane's laws, of one coordinate of spots
@@ -40,12 +38,10 @@ not_south lat p o r near = omega
 -- ---- longitudes and the plane
 
 times_rises : (a b : ℤ) (k : ℕ) → a ≤ℤ b → (a *ℤ pos k) ≤ℤ (b *ℤ pos k)
-times_rises (pos a) (pos b) k le =
-    omega (arith, ints, mul-le a k b k (omega (arith, ints, le)) (omega arith))
+times_rises (pos a) (pos b) k le = grind (arith, ints, mul-le)
 times_rises (pos a) (negsuc b) k le = absurd (omega arith)
 times_rises (negsuc a) (pos b) k le = omega (arith, ints)
-times_rises (negsuc a) (negsuc b) k le =
-    omega (arith, ints, mul-le (suc b) k (suc a) k (omega (arith, ints, le)) (omega arith))
+times_rises (negsuc a) (negsuc b) k le = grind (arith, ints, mul-le)
 
 floor_rises : (z w : ℤ) → z ≤ℤ w → floor z 10000000 ≤ℤ floor w 10000000
 floor_rises (pos a) (pos b) le = omega (arith, ints, le)
@@ -55,28 +51,31 @@ floor_rises (negsuc a) (negsuc b) le = omega (arith, ints, le)
 
 -- the x in the plane doesn't fall where the longitude rises
 pub x_rises : (origin : Coordinates) (a b : ℤ) → a ≤ℤ b → x_of origin a ≤ℤ x_of origin b
-x_rises origin a b le =
-    floor_rises _ _
-    (times_rises (a -ℤ origin.lon) (b -ℤ origin.lon) (11132 * scale_of origin.lat)
-    (omega (arith, ints, le)))
+x_rises origin a b le = grind (arith, floor_rises, times_rises, ints)
 
 -- what is west of an edge is no further east than a longitude whose next one is east of that edge,
 -- and the other way round
 pub not_east : (origin : Coordinates) (lon bound edge : ℤ) → edge <ℤ x_of origin (bound +ℤ pos 1)
     → x_of origin lon ≤ℤ edge → lon ≤ℤ bound
-not_east origin lon bound edge beyond within =
-    by_lt_z _ _
-    (λ lt. let more = x_rises origin (bound +ℤ pos 1) lon (omega (arith, ints, lt)) in
-    absurd (omega (arith, ints, more, beyond, within)))
-    (λ ge. ge)
+not_east origin lon bound edge beyond within = by_lt_z _ _
+    (λ lt. absurd (omega (
+      arith,
+      ints,
+      x_rises origin (bound +ℤ pos 1) lon (omega (arith, ints, lt)),
+      beyond,
+      within,
+    ))) (λ ge. ge)
 
 pub not_west : (origin : Coordinates) (lon bound edge : ℤ) → x_of origin (bound -ℤ pos 1) <ℤ edge
     → edge ≤ℤ x_of origin lon → bound ≤ℤ lon
-not_west origin lon bound edge beyond within =
-    by_lt_z _ _
-    (λ lt. let less = x_rises origin lon (bound -ℤ pos 1) (omega (arith, ints, lt)) in
-    absurd (omega (arith, ints, less, beyond, within)))
-    (λ ge. ge)
+not_west origin lon bound edge beyond within = by_lt_z _ _
+    (λ lt. absurd (omega (
+      arith,
+      ints,
+      x_rises origin lon (bound -ℤ pos 1) (omega (arith, ints, lt)),
+      beyond,
+      within,
+    ))) (λ ge. ge)
 
 -- ---- lines
 
@@ -144,8 +143,7 @@ pub meets_window : FootBetween (λ s. s.x) → FootBetween (λ s. s.y) → NoSho
     → NoShorter (λ s. s.y)
     → (query : Query) (radius : ℕ) (line : RoadLine) (near : Near) {window : BoundingBox}
     → CoversRadius query radius window → IsInRange (coordinates_of query.point.at)
-    → All IsInRange line.points
-    → IsNearest (polyline_of (coordinates_of query.plane) line)
+    → All IsInRange line.points → IsNearest (polyline_of (coordinates_of query.plane) line)
     (spot_of (coordinates_of query.plane) (coordinates_of query.point.at)) near
     → near.distance ≤ 100 * radius → MeetsWindow window line
 meets_window between_x between_y shorter_x shorter_y query radius line near covers here

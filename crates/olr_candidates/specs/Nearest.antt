@@ -1,5 +1,5 @@
 -- What the search for the lines nearest to a query's point finds on its way.
-use Rattle.std.specs.Prelude.{◌≡◌, ◌≢◌, ℕ, ◌-◌, ◌*◌, ◌<◌, ◌≤◌, ◌⊎◌, min, List, length, slice_get, slice_index_or, Some, take, insert, All, AllPairs, Contains}
+use Rattle.std.specs.Prelude.{◌≡◌, ℕ, ◌-◌, ◌<◌, ◌≤◌, ◌⊎◌, min, List, length, slice_get, slice_index_or, Some, take, insert, All, AllPairs, Contains}
 use Rattle.olr_candidates.specs.Common.{coordinates_of, RoadLine}
 use Rattle.olr_candidates.specs.declared.near.NearLine.{NearLine}
 use Rattle.olr_candidates.specs.declared.query.Query.{Query}

@@ -16,6 +16,7 @@ use olr_road::Map;
 /// # Errors
 ///
 /// The first condition that the line fails.
+#[tactic(auto, using(crate::proofs::LineCandidates::rated, crate::proofs::LineCandidates::head_at))]
 pub(crate) fn candidate_at(map: &Map, query: &Query, rank: u32) -> Result<Candidate, Rejection>
     requires { rank < length map.now.lines }
     ensures { MatchResult result (Finds query.now map.now.lines rank)

@@ -90,6 +90,7 @@ fn near_by(query: &Query, line: &Line, rank: u32, projection: &Projection) -> Ne
 }
 
 /// The line of a rank near the query's point, where it lies at most so many centimetres away.
+#[tactic(auto, using(crate::proofs::LineCandidates::head_at))]
 pub(crate) fn near_within(map: &Map, query: &Query, rank: u32, most: u64) -> Option<NearLine>
     requires { rank < length map.now.lines }
     ensures near { MatchOption result
@@ -103,6 +104,7 @@ pub(crate) fn near_within(map: &Map, query: &Query, rank: u32, most: u64) -> Opt
 }
 
 /// The line of a rank near the query's point.
+#[tactic(auto, using(crate::proofs::LineCandidates::head_at))]
 pub(crate) fn near_at(map: &Map, query: &Query, rank: u32) -> NearLine
     requires { rank < length map.now.lines }
     ensures { FindsNear query.now map.now.lines rank result }

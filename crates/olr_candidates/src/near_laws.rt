@@ -7,6 +7,7 @@ use crate::projection::one_projection;
 
 /// A line near a point fails no condition exactly where it is a candidate of the point, and then it
 /// has the candidate's place and penalty.
+#[tactic(auto, using(crate::proofs::NearLines::near_are_candidates))]
 pub fn near_candidates()
     ensures candidate { NearAreCandidates }
     ensures fails_none { CandidatesFailNone }

@@ -19,6 +19,7 @@ use std::alloc::Global;
 ///
 /// [`LayersFault::TooManyCandidates`] with the first point that has more than 64;
 /// [`LayersFault::NoMemory`] where the allocator refused memory: no clause states when it comes.
+#[tactic(auto, using(crate::proofs::AllPoints::first_too_many))]
 pub fn candidates_of_points(
     alloc: Global,
     map: &Map,

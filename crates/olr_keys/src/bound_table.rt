@@ -36,10 +36,6 @@ impl<'a> Model for Bounds<'a> {
 
 impl<'a> Bounds<'a> {
     /// The least remaining totals of a table, from the last layer backwards.
-    ///
-    /// # Errors
-    ///
-    /// [`NoMemory`] where the allocator refused memory.
     pub(crate) fn build(alloc: Global, table: &'a Table) -> Result<Bounds<'a>, NoMemory>
         ensures { IfOk result (λ bounds. bounds ≡ table.now) }
     {
@@ -106,10 +102,6 @@ fn last(least: &[Vec<Option<u16>>]) -> &[Option<u16>]
 
 /// The bounds of the candidates of a layer, by rank. `next` holds those of the next layer, none at
 /// the last.
-///
-/// # Errors
-///
-/// [`NoMemory`] where the allocator refused memory.
 #[tactic(auto, using(crate::proofs::Bounding::push_bound))]
 fn layer_bounds(
     alloc: Global,

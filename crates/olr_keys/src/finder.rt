@@ -20,10 +20,6 @@ pub trait Finder {
     /// The least key after `after`, or the least of all where that is `None`; `None` where no key
     /// comes after it. `after` has to be the key of a matching. The keys stay as they are, whatever
     /// the result.
-    ///
-    /// # Errors
-    ///
-    /// [`NoMemory`] where the allocator refused memory.
     fn next(&mut self, alloc: Global, after: Option<&Key>) -> Result<Option<Key>, NoMemory>
         requires { IsPosition (answers self.old) (option_map (λ key. key.now) after) }
         ensures next { IfOk result

@@ -14,10 +14,6 @@ use std::alloc::Global;
 
 /// The page of so many keys after a key of the list, or the first page. The list stays, whatever
 /// the result.
-///
-/// # Errors
-///
-/// [`NoMemory`] where the allocator refused memory.
 #[tactic(auto, using(crate::proofs::PageLists::first_none))]
 pub(crate) fn page_after<F: Finder>(
     alloc: Global,

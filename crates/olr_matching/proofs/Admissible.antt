@@ -37,11 +37,9 @@ module _ (road : RoadMap) (layers : LayersValue) (are : AreLayersOn road layers)
       → HasCandidate road layers.tolerances layers.reference index rank c
       → IsOfRank layers.candidates index rank c
   of_rank index rank c has =
-      let inside : index < length layers.candidates =
-      omega (
+      let inside : index < length layers.candidates = omega (
         arith,
-        slice_get_within (points_of layers.reference) index has.all.point
-            has.all.point_is,
+        slice_get_within (points_of layers.reference) index has.all.point has.all.point_is,
         are.lists.all,
       ) in
       let here = get_or layers.candidates index [] in
@@ -67,8 +65,7 @@ module _ (road : RoadMap) (layers : LayersValue) (are : AreLayersOn road layers)
     admits : (leg : ℕ) → leg_at layers.penalties (index + 1) first second ≡ Some leg
         → Admits road layers.tolerances layers.reference index from to leg
     admits leg is =
-        let inside : index + 1 < length (points_of layers.reference) =
-        omega (
+        let inside : index + 1 < length (points_of layers.reference) = omega (
           arith,
           list_inside layers.candidates (index + 1) (second - 1) to to_is.1,
           are.lists.all,
@@ -80,8 +77,7 @@ module _ (road : RoadMap) (layers : LayersValue) (are : AreLayersOn road layers)
           next = leads.0;
           leads_on = leads.1;
           length = found.0;
-          admitted =
-              found.1;
+          admitted = found.1;
           penalty_is = found.2;
         }
 
@@ -165,14 +161,12 @@ module _ (road : RoadMap) (layers : LayersValue) (are : AreLayersOn road layers)
         rest,
         refl,
         penalty_of 0 rank first first_is,
-        completion 0 rank first ranks
-            rest first_is behind,
+        completion 0 rank first ranks rest first_is behind,
         omega (arith, sum),
       )
 
 pub keys_are : OneListOfPoint → KeysAreOfMatchings
 keys_are one_list road layers it are = (
   matching road layers are one_list it.ranks it.total,
-  key road layers are one_list it.ranks
-      it.total,
+  key road layers are one_list it.ranks it.total,
 )

@@ -9,8 +9,7 @@ use Rattle.olr_matching.proofs.Points.{leads_on}
 
 -- the ranks lead through all layers
 pub ranks_count : (p : Penalties) (layer : ℕ) (before : Option ℕ) (ranks : List ℕ) (total : ℕ)
-    → IsCompletion p layer before ranks total
-    → layer + length ranks ≡ length p.candidates
+    → IsCompletion p layer before ranks total → layer + length ranks ≡ length p.candidates
 ranks_count p layer before [] total way = omega arith
 ranks_count p layer before (rank ∷ ranks) total (leg, penalty, rest, joined, there, behind, sum) =
     omega (arith, ranks_count p (layer + 1) (Some rank) ranks rest behind)
@@ -25,14 +24,12 @@ penalty_of_rank p layer before (here ∷ ranks) total (leg, penalty, rest, joine
     zero rank is =
     let same = same_Some here _ is in (
       penalty,
-      subst (λ n. penalty_at p n rank ≡ Some penalty) {x = layer} (omega arith)
-          (rw same at there),
+      subst (λ n. penalty_at p n rank ≡ Some penalty) {x = layer} (omega arith) (rw same at there),
     )
 penalty_of_rank p layer before (here ∷ ranks) total (leg, penalty, rest, joined, there, behind, sum)
     (suc k) rank is =
     subst (λ n. (penalty : ℕ) × (penalty_at p n rank ≡ Some penalty)) {x = layer + 1 + k}
-    (omega arith)
-    (penalty_of_rank p (layer + 1) (Some here) ranks rest behind k rank is)
+    (omega arith) (penalty_of_rank p (layer + 1) (Some here) ranks rest behind k rank is)
 
 -- and each two neighbours have the penalty of a leg
 pub penalty_of_leg : (p : Penalties) (layer : ℕ) (before : Option ℕ) (ranks : List ℕ) (total : ℕ)
@@ -66,8 +63,7 @@ penalty_of_leg p layer before (here ∷ next ∷ ranks) total
 -- ---- the layers
 
 mapped_some : {X Y : Type 0} (f : X → Y) (o : Option X) (y : Y) → option_map f o ≡ Some y → (x : X)
-    × (o ≡ Some x) ×
-    (f x ≡ y)
+    × (o ≡ Some x) × (f x ≡ y)
 mapped_some f None y is = absurd cc
 mapped_some f (Some x) y is = (x, refl, same_Some (f x) y is)
 
@@ -80,8 +76,7 @@ pub candidate_of_penalty : (layers : LayersValue) (layer rank penalty : ℕ)
 candidate_of_penalty layers layer zero penalty same is = absurd cc
 candidate_of_penalty layers layer (suc index) penalty same is =
     let here = slice_index_or layers.candidates layer [] in
-    let there =
-    ap (λ l. slice_get l index) (sym (layer_is layers.penalties _ _ same)) ∙ is in
+    let there = ap (λ l. slice_get l index) (sym (layer_is layers.penalties _ _ same)) ∙ is in
     let found = mapped_some _ _ _
     (sym (slice_get-map (λ c. c.penalty) here _) ∙ there) in (
       found.0,
@@ -119,22 +114,19 @@ are_ranks road layers ranks total sound way = record {
       (list_inside layers.candidates (layer + 1) (second - 1) to.0 to.1.1) in
       let next = leads_on layers.reference layer sound.reference inside in
       let leg = leg_is layers.penalties layers.candidates layer first second
-      (slice_index_or layers.lengths layer [])
-      next.0 sound.penalties
+      (slice_index_or layers.lengths layer []) next.0 sound.penalties
       (sound.legs layer next.0 next.1) in
       let long = mapped_some (leg_penalty next.0) (length_at layers layer (first - 1) (second - 1))
       found.0
       (sym leg ∙ subst (λ (n : ℕ). leg_at layers.penalties n first second ≡ Some found.0) {x =
-      0 + layer + 1}
-      (omega arith) found.1) in (
+      0 + layer + 1} (omega arith) found.1) in (
         long.0,
         record {
           next = next.0;
           from = from.0;
           to = to.0;
           leads_on = next.1;
-          from_is =
-              from.1;
+          from_is = from.1;
           to_is = to.1;
           length_is = long.1;
         },

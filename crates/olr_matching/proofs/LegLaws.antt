@@ -16,8 +16,7 @@ layer_is penalties lists layer is = ap (λ candidates. get_or candidates layer [
 pub count_is : (penalties : Penalties) (lists : List (List Candidate)) (layer : ℕ)
     → penalties.candidates ≡ map penalties_of lists
     → count_of penalties layer ≡ length (get_or lists layer [])
-count_is penalties lists layer is =
-    ap length (layer_is penalties _ _ is)
+count_is penalties lists layer is = ap length (layer_is penalties _ _ is)
     ∙ length-map (get_or lists layer []) (λ candidate. candidate.penalty)
 
 -- the table has the layers
@@ -32,27 +31,23 @@ penalties_are road layers layer index are =
 
 -- the penalty of a length that a leg admits
 penalty_from : (road : RoadMap) (tolerances : Tolerances) (next : Next) (from to : Place)
-    (length : Option ℕ)
-    → IsAdmittedLength road tolerances next from to length
+    (length : Option ℕ) → IsAdmittedLength road tolerances next from to length
     → IsAdmittedPenalty road tolerances next from to (option_map (leg_penalty next) length)
 penalty_from road tolerances next from to None none = none
 penalty_from road tolerances next from to (Some length) admitted = (length, admitted, refl)
 
 -- the penalty of a leg in the table is that of its length
 pub leg_is : (penalties : Penalties) (lists : List (List Candidate)) (layer first second : ℕ)
-    (lengths : List (Option ℕ)) (next : Next)
-    → penalties.candidates ≡ map penalties_of lists
+    (lengths : List (Option ℕ)) (next : Next) → penalties.candidates ≡ map penalties_of lists
     → slice_index_or penalties.legs layer [] ≡ leg_penalties next lengths
-    → leg_at penalties (layer + 1) first second
-    ≡ option_map (leg_penalty next)
+    → leg_at penalties (layer + 1) first second ≡ option_map (leg_penalty next)
     (slice_index_or lengths ((first - 1) * length (get_or lists (layer + 1) [])
     + (second - 1)) None)
 leg_is penalties lists layer first second lengths next candidates legs =
     let back : layer + 1 - 1 ≡ layer = omega arith in
     rw (back, count_is penalties lists (layer + 1) candidates, legs)
     (map_at (option_map (leg_penalty next)) lengths
-    ((first - 1) * length (get_or lists (layer + 1) [])
-    + (second - 1)) None)
+    ((first - 1) * length (get_or lists (layer + 1) []) + (second - 1)) None)
 
 -- what the table has for two candidates, by their ranks
 pub leg_of_ranks : (road : RoadMap) (layers : LayersValue) (layer first second : ℕ) (next : Next)
@@ -63,8 +58,7 @@ pub leg_of_ranks : (road : RoadMap) (layers : LayersValue) (layer first second :
     (leg_at layers.penalties (layer + 1) first second)
 leg_of_ranks road layers layer first second next from to are leads first_is second_is =
     rw (sym (leg_is layers.penalties layers.candidates layer first second
-    (get_or layers.lengths layer []) next
-    are.penalties (are.legs layer next leads))) at
+    (get_or layers.lengths layer []) next are.penalties (are.legs layer next leads))) at
     (penalty_from road layers.tolerances next from.place to.place _
     (are.lengths layer next (first - 1) (second - 1) from to leads first_is second_is))
 
@@ -78,21 +72,17 @@ legs_are road layers layer next first second from to are leads first_is second_i
 
 -- each walk from a departure has a positive length
 positive : (road : RoadMap) (class : ℕ) (from to : Place) (behind : List ℕ) → IsDeparture road from
-    → IsWalk road class from to behind
-    → 1 ≤ walk_length road from to behind
-positive road class from to [] departure walk =
-    omega (
-      arith,
-      walk.forwards refl,
-      sum_by-cons piece_length
-          (record { line = from.line; from = from.at; to = to.at }) [],
-    )
+    → IsWalk road class from to behind → 1 ≤ walk_length road from to behind
+positive road class from to [] departure walk = omega (
+  arith,
+  walk.forwards refl,
+  sum_by-cons piece_length (record { line = from.line; from = from.at; to = to.at }) [],
+)
 positive road class from to (next ∷ behind) departure walk =
     let whole = ap (λ o. unwrap_or (option_map (λ line. line.length) o) 0) departure.at_rank in
     let first : Piece = record {
       line = from.line;
       from = from.at;
-      to =
-          length_at road from.line;
+      to = length_at road from.line;
     } in
     omega (arith, sum_by-cons piece_length first (pieces_from road next 0 behind to.at))

@@ -7,32 +7,26 @@ use Rattle.olr_matching.proofs.Lists.{push_each, same_some}
 abbrev pub AreFirstLegs : RoadMap → LayersValue → List ℕ → List Leg → Type 0
 AreFirstLegs road layers ranks legs = (layer : ℕ) (leg : Leg) → slice_get legs layer ≡ Some leg
     → (first second : ℕ) → slice_get ranks layer ≡ Some first
-    → slice_get ranks (layer + 1) ≡ Some second
-    → IsLegOfPair road layers layer first second leg
+    → slice_get ranks (layer + 1) ≡ Some second → IsLegOfPair road layers layer first second leg
 
 -- one leg more
 pub push_leg : (road : RoadMap) (layers : LayersValue) (ranks : List ℕ) (legs pushed : List Leg)
-    (leg : Leg) (layer : ℕ) → length legs ≡ layer
-    → pushed ≡ legs ++ leg ∷ []
+    (leg : Leg) (layer : ℕ) → length legs ≡ layer → pushed ≡ legs ++ leg ∷ []
     → AreFirstLegs road layers ranks legs
     → IsLegOfPair road layers layer (slice_index_or ranks layer 0)
-    (slice_index_or ranks (layer + 1) 0) leg
-    → AreFirstLegs road layers ranks pushed
+    (slice_index_or ranks (layer + 1) 0) leg → AreFirstLegs road layers ranks pushed
 push_leg road layers ranks legs pushed leg layer count is they here =
     let P : ℕ → Leg → Type 0 = λ layer leg. (first second : ℕ) → slice_get ranks layer ≡ Some first
-    → slice_get ranks (layer + 1) ≡ Some second
-    → IsLegOfPair road layers layer first second leg in
+    → slice_get ranks (layer + 1) ≡ Some second → IsLegOfPair road layers layer first second leg in
     let last : P layer leg = λ first second is_first is_second.
     rw (get_or_from_slice_get ranks (layer + 1) second 0 is_second) at (
     subst (λ (n : ℕ). IsLegOfPair road layers layer n (slice_index_or ranks (layer + 1) 0) leg)
-    (get_or_from_slice_get ranks layer first 0 is_first)
-    here) in
+    (get_or_from_slice_get ranks layer first 0 is_first) here) in
     rw (sym is) at (push_each P legs leg they (subst (λ (n : ℕ). P n leg) (sym count) last))
 
 -- the candidate of a rank is that of the pair
 leg_at : (road : RoadMap) (layers : LayersValue) (ranks : List ℕ) (chosen : List Candidate)
-    (legs : List Leg)
-    → length legs + 1 ≡ length ranks
+    (legs : List Leg) → length legs + 1 ≡ length ranks
     → AreCandidatesAt layers.candidates ranks chosen → AreFirstLegs road layers ranks legs
     → (layer : ℕ) (leg : Leg) → slice_get legs layer ≡ Some leg
     → IsLegAt road layers chosen layer leg

@@ -31,8 +31,7 @@ module _ (road : RoadMap) (tolerances : Tolerances) (next : Next) (seconds : Lis
           arith,
           length-append lengths row,
           add-mul (length firsts) 1 width,
-          one-mul
-              width,
+          one-mul width,
         );
         each = λ index second from to from_is to_is.
             let Has : Candidate → Option ℕ → Type 0 =
@@ -43,10 +42,8 @@ module _ (road : RoadMap) (tolerances : Tolerances) (next : Next) (seconds : Lis
             (sym (get_or_append_left lengths row None (k * width + second)
             (omega (
               arith,
-              row_below k second width (length firsts)
-                  (slice_get_within firsts k at is) column,
-            ))))
-            (so_far.each k second at to is to_is))
+              row_below k second width (length firsts) (slice_get_within firsts k at is) column,
+            )))) (so_far.each k second at to is to_is))
             (rw (sym (ap (λ (n : ℕ). get_or (lengths ++ row) (n + second) None) (sym so_far.pairs)
             ∙ get_or-append-add lengths row second None)) at (more.each second to to_is))
             _ _ from_is;
@@ -77,15 +74,13 @@ pub lengths_of_leg : (road : RoadMap) (tolerances : Tolerances) (reference : Ref
     (lengths : List (Option ℕ)) → IsLegFrom road tolerances reference candidates layer leg
     → AreLengthsBetween leg.map.now leg.tolerances leg.next leg.firsts.now leg.seconds.now lengths
     → AreLengthsOfLeg road tolerances reference candidates layer lengths
-lengths_of_leg road tolerances reference candidates layer leg lengths is they next leads =
-    rw (
-      is.map_is,
-      is.tolerances_are,
-      is.firsts_are,
-      is.seconds_are,
-      one_next _ _ _ _
-          is.leads_on leads,
-    ) at they
+lengths_of_leg road tolerances reference candidates layer leg lengths is they next leads = rw (
+  is.map_is,
+  is.tolerances_are,
+  is.firsts_are,
+  is.seconds_are,
+  one_next _ _ _ _ is.leads_on leads,
+) at they
 
 -- ---- the places of candidates
 

@@ -10,8 +10,7 @@ same_some o x y one other = same_Some x y (sym one ∙ other)
 
 -- a list that isn't empty is one of the lists
 pub list_inside : {X : Type 0} (lists : List (List X)) (index k : ℕ) (x : X)
-    → slice_get (slice_index_or lists index []) k ≡ Some x
-    → index < length lists
+    → slice_get (slice_index_or lists index []) k ≡ Some x → index < length lists
 list_inside {X} lists index k x is = elim (cases_lt index (length lists)) [
   | inl inside ↦ inside
   | inr outside ↦
@@ -57,8 +56,7 @@ push_each P xs x each here k y is =
 -- ---- two lists, element by element
 
 pub zip_more : {X Y : Type 0} (R : X → Y → Type 0) (xs : List X) (ys : List Y) (index : ℕ) (x : X)
-    (y : Y) → index < length xs
-    → x ≡ slice_index_or xs index x
+    (y : Y) → index < length xs → x ≡ slice_index_or xs index x
     → AllZip R (take index xs) ys → R x y → AllZip R (take (index + 1) xs) (ys ++ y ∷ [])
 zip_more {X} {Y} R xs ys index x y inside is they holds =
     rw (ap (λ (e : X). take index xs ++ e ∷ []) is ∙ sym (take_more xs index x inside)) at
@@ -80,6 +78,5 @@ holds_of_one_more {B} P d count xs y so_far here =
     rw so_far.0 at (subst (λ (x : B). P (length xs) x) (sym (get_or-append_seam xs y [] d))
     (subst (λ (n : ℕ). P n y) (sym so_far.0) here)) in (
       omega (arith, length-append xs (y ∷ [])),
-      below_more (λ k. P k (get_or more k d)) count earlier
-          last,
+      below_more (λ k. P k (get_or more k d)) count earlier last,
     )

@@ -6,12 +6,10 @@ use Rattle.olr_matching.proofs.Pairs.{one_next}
 
 abbrev pub OneRoute : Type 0
 OneRoute = (road : RoadMap) (class : ℕ) (from to : Place) (a b : List ℕ) → IsSoundMap road
-    → IsRoute road class from to a
-    → IsRoute road class from to b → a ≡ b
+    → IsRoute road class from to a → IsRoute road class from to b → a ≡ b
 
 same_candidates : {candidates : List (List Candidate)} {ranks : List ℕ} {a b : List Candidate}
-    → AreCandidatesAt candidates ranks a
-    → AreCandidatesAt candidates ranks b → a ≡ b
+    → AreCandidatesAt candidates ranks a → AreCandidatesAt candidates ranks b → a ≡ b
 same_candidates {ranks} {a} one other =
     by_index _ _ (one.count ∙ sym other.count) λ k x y is_x is_y.
     let rank = slice_index_or ranks k 0 in
@@ -20,8 +18,7 @@ same_candidates {ranks} {a} one other =
 
 module _ (law : OneRoute) {road : RoadMap} (map : IsSoundMap road) where
   same_leg : {tolerances : Tolerances} {next : Next} {from to : Place} {a b : Leg}
-      → IsLegOf road tolerances next from to a
-      → IsLegOf road tolerances next from to b → a ≡ b
+      → IsLegOf road tolerances next from to a → IsLegOf road tolerances next from to b → a ≡ b
   same_leg {next} {from} {to} one other =
       let same = one_length _ _ _ _ _ _ one.admitted.is_least other.admitted.is_least in
       let penalty = one.penalty ∙ ap (leg_penalty next) same ∙ sym other.penalty in
@@ -32,8 +29,7 @@ module _ (law : OneRoute) {road : RoadMap} (map : IsSoundMap road) where
       λ i. record { length = same i; penalty = penalty i; route = route i }
 
   same_leg_at : {layers : LayersValue} {chosen : List Candidate} {layer : ℕ} {a b : Leg}
-      → IsLegAt road layers chosen layer a
-      → IsLegAt road layers chosen layer b → a ≡ b
+      → IsLegAt road layers chosen layer a → IsLegAt road layers chosen layer b → a ≡ b
   same_leg_at one other =
       let next = one_next _ _ other.next one.next other.leads_on one.leads_on in
       let from = same_some _ other.from one.from other.from_is one.from_is in
@@ -41,8 +37,7 @@ module _ (law : OneRoute) {road : RoadMap} (map : IsSoundMap road) where
       same_leg one.leg_is (rw (next, from, to) at other.leg_is)
 
   same_legs : {layers : LayersValue} {chosen : List Candidate} {a b : List Leg}
-      → AreLegsBetween road layers chosen a
-      → AreLegsBetween road layers chosen b → a ≡ b
+      → AreLegsBetween road layers chosen a → AreLegsBetween road layers chosen b → a ≡ b
   same_legs one other = by_index _ _ (omega arith) λ k x y is_x is_y. same_leg_at
       (one.each k x is_x) (other.each k y is_y)
 

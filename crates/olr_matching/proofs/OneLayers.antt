@@ -10,8 +10,7 @@ use Rattle.olr_matching.proofs.Points.{leads_on}
 
 -- two places have one admitted length at most
 same_length : (road : RoadMap) (tolerances : Tolerances) (next : Next) (from to : Place)
-    (a b : Option ℕ)
-    → IsAdmittedLength road tolerances next from to a
+    (a b : Option ℕ) → IsAdmittedLength road tolerances next from to a
     → IsAdmittedLength road tolerances next from to b → a ≡ b
 same_length road tolerances next from to None None a b = refl
 same_length road tolerances next from to None (Some length) a b = absurd (a length b)
@@ -36,8 +35,7 @@ not_empty k m n inside = elim (eq-zero-or-pos n) [
 ]
 
 same_leg : (road : RoadMap) (tolerances : Tolerances) (next : Next)
-    (firsts seconds : List Candidate)
-    (a b : List (Option ℕ))
+    (firsts seconds : List Candidate) (a b : List (Option ℕ))
     → length a ≡ length firsts * length seconds → length b ≡ length firsts * length seconds
     → Has road tolerances next firsts seconds a → Has road tolerances next firsts seconds b → a ≡ b
 same_leg road tolerances next firsts seconds a b a_long b_long a_has b_has =
@@ -56,18 +54,15 @@ same_leg road tolerances next firsts seconds a b a_long b_long a_has b_has =
     let from_is = slice_get-get_or firsts first no_candidate first_inside in
     let to_is = slice_get-get_or seconds second no_candidate second_inside in
     let same = same_length road tolerances next from.place to.place _ _
-    (a_has first second from to from_is to_is)
-    (b_has first second from to from_is to_is) in
+    (a_has first second from to from_is to_is) (b_has first second from to from_is to_is) in
     subst (λ (j : ℕ). get_or a j None ≡ get_or b j None) place same)
 
 -- ---- all legs
 
 -- how many lengths the leg from a point has
 pub long : (road : RoadMap) (layers : LayersValue) (layer : ℕ) (next : Next)
-    → AreLayersOn road layers → layer < length layers.lengths
-    → LeadsOn layers.reference layer next
-    → length (get_or layers.lengths layer [])
-    ≡ length (get_or layers.candidates layer []) * length
+    → AreLayersOn road layers → layer < length layers.lengths → LeadsOn layers.reference layer next
+    → length (get_or layers.lengths layer []) ≡ length (get_or layers.candidates layer []) * length
     (get_or layers.candidates (layer + 1) [])
 long road layers layer next are inside leads =
     let p : Penalties = layers.penalties in
@@ -79,16 +74,14 @@ long road layers layer next are inside leads =
     ∙ sym (ap (λ (l : List (Option ℕ)). length l) (are.legs layer next leads)) ∙ pairs in
     rw (
       count_is p layers.candidates layer are.penalties,
-      count_is p layers.candidates (layer + 1)
-          are.penalties,
+      count_is p layers.candidates (layer + 1) are.penalties,
     ) at here
 
 same_penalties : (a b : Penalties) → a.candidates ≡ b.candidates → a.legs ≡ b.legs → a ≡ b
 same_penalties a b one other = λ i. record { candidates = one i; legs = other i }
 
 same_layers : (a b : LayersValue) → a.reference ≡ b.reference → a.tolerances ≡ b.tolerances
-    → a.candidates ≡ b.candidates → a.lengths ≡ b.lengths
-    → a.penalties ≡ b.penalties → a ≡ b
+    → a.candidates ≡ b.candidates → a.lengths ≡ b.lengths → a.penalties ≡ b.penalties → a ≡ b
 same_layers a b reference tolerances candidates lengths penalties = λ i.
     record {
       reference = reference i;
@@ -104,8 +97,7 @@ with_legs_of a b = record a { lengths = b.lengths; penalties = b.penalties }
 
 -- layers with the same reference, tolerances and candidates have the same lengths
 same_lengths : (road : RoadMap) (a b : LayersValue) → AreLayersOn road a
-    → AreLayersOn road (with_legs_of a b)
-    → a.lengths ≡ b.lengths
+    → AreLayersOn road (with_legs_of a b) → a.lengths ≡ b.lengths
 same_lengths road a b are other =
     ext_get_or [] a.lengths b.lengths (omega (arith, are.between, other.between))
     (λ layer inside.
@@ -113,8 +105,7 @@ same_lengths road a b are other =
     (omega (arith, inside, are.between, are.lists.all)) in
     let next : Next = leads.0 in
     same_leg road a.tolerances next (get_or a.candidates layer [])
-    (get_or a.candidates (layer + 1) [])
-    (get_or a.lengths layer []) (get_or b.lengths layer [])
+    (get_or a.candidates (layer + 1) []) (get_or a.lengths layer []) (get_or b.lengths layer [])
     (long road a layer next are inside leads.1)
     (long road (with_legs_of a b) layer next other
     (omega (arith, inside, are.between, other.between)) leads.1)
@@ -125,8 +116,7 @@ same_lengths road a b are other =
 
 -- and the same penalties
 same_legs : (road : RoadMap) (a b : LayersValue) → a.lengths ≡ b.lengths → AreLayersOn road a
-    → AreLayersOn road (with_legs_of a b)
-    → a.penalties.legs ≡ b.penalties.legs
+    → AreLayersOn road (with_legs_of a b) → a.penalties.legs ≡ b.penalties.legs
 same_legs road a b lengths are other =
     let count = layers_count are in
     let others = layers_count other in
@@ -143,8 +133,7 @@ one_layers one_lists road a b are other reference tolerances =
     let candidates : a.candidates ≡ b.candidates =
     one_lists a.tolerances a.reference road.lines a.candidates b.candidates are.lists lists in
     let same : b ≡ with_legs_of a b =
-    same_layers b (with_legs_of a b) (sym reference) (sym tolerances) (sym candidates) refl
-    refl in
+    same_layers b (with_legs_of a b) (sym reference) (sym tolerances) (sym candidates) refl refl in
     let other_are : AreLayersOn road (with_legs_of a b) = subst (AreLayersOn road) same other in
     let lengths : a.lengths ≡ b.lengths = same_lengths road a b are other_are in
     let legs : a.penalties.legs ≡ b.penalties.legs = same_legs road a b lengths are other_are in

@@ -7,8 +7,7 @@ use Rattle.olr_matching.proofs.Lists.{same_some, list_inside, all_at}
 
 -- the attributes that are read at a point that leads on
 pub leads_on_at : (reference : Reference) (layer : ℕ) (next known : Next) (points : List Point)
-    (d : Point) → LeadsOn reference layer known
-    → points ≡ points_of reference
+    (d : Point) → LeadsOn reference layer known → points ≡ points_of reference
     → (slice_index_or points layer d).next ≡ Some next → LeadsOn reference layer next
 leads_on_at reference layer next known points d h same is = record {
   point = h.point;
@@ -41,19 +40,16 @@ candidates_at road layers layer index candidate sound is =
     (slice_get-get_or layers.candidates layer [] inside)).0
 
 pub is_place : (road : RoadMap) (layers : LayersValue) (layer rank : ℕ) (candidate : Candidate)
-    → ArePlaces → AreLayersOn road layers
-    → IsOfRank layers.candidates layer rank candidate
+    → ArePlaces → AreLayersOn road layers → IsOfRank layers.candidates layer rank candidate
     → IsPlace road candidate.place
 is_place road layers layer rank candidate places sound is =
     let here = slice_index_or layers.candidates layer [] in
     all_at (λ (c : Candidate). IsPlace road c.place) here (rank - 1) candidate
     (places layers.tolerances layers.reference road layer here
-    (candidates_at road layers layer (rank - 1) candidate sound is.1))
-    is.1
+    (candidates_at road layers layer (rank - 1) candidate sound is.1)) is.1
 
 pub is_departure : (road : RoadMap) (layers : LayersValue) (layer rank after : ℕ)
-    (candidate next : Candidate) → AreDepartures
-    → AreLayersOn road layers
+    (candidate next : Candidate) → AreDepartures → AreLayersOn road layers
     → IsOfRank layers.candidates layer rank candidate
     → IsOfRank layers.candidates (layer + 1) after next → IsDeparture road candidate.place
 is_departure road layers layer rank after candidate next departures sound is behind =
@@ -63,22 +59,17 @@ is_departure road layers layer rank after candidate next departures sound is beh
     (list_inside layers.candidates (layer + 1) (after - 1) next behind.1) in
     all_at (λ (c : Candidate). IsDeparture road c.place) here (rank - 1) candidate
     (departures layers.tolerances layers.reference road layer here inside
-    (candidates_at road layers layer (rank - 1) candidate sound is.1))
-    is.1
+    (candidates_at road layers layer (rank - 1) candidate sound is.1)) is.1
 
 -- ---- legs
 
 -- the leg admits the pair with its length
 pub admitted : (road : RoadMap) (layers : LayersValue) (layer first second length : ℕ)
-    → AreLayersOn road layers
-    → (pair : IsPair layers layer first second length)
+    → AreLayersOn road layers → (pair : IsPair layers layer first second length)
     → IsAdmitted road layers.tolerances pair.next pair.from.place pair.to.place length
-admitted road layers layer first second length sound pair =
-    MatchOption-at_some
+admitted road layers layer first second length sound pair = MatchOption-at_some
     ((length : ℕ) → IsAdmitted road layers.tolerances pair.next pair.from.place pair.to.place length
-    → ⊥)
-    (IsAdmitted road layers.tolerances pair.next pair.from.place pair.to.place)
-    length
+    → ⊥) (IsAdmitted road layers.tolerances pair.next pair.from.place pair.to.place) length
     pair.length_is
     (sound.lengths layer pair.next (first - 1) (second - 1) pair.from pair.to pair.leads_on
     pair.from_is.1 pair.to_is.1)
@@ -119,8 +110,7 @@ module _ (road : RoadMap) (layers : LayersValue) (pair : Pair) (leg : LegOnMap)
         longer,
         here.at_most,
         search.limit,
-        ap
-            (λ (t : Tolerances). greatest_admitted t leg.next) leg_is.tolerances_are,
+        ap (λ (t : Tolerances). greatest_admitted t leg.next) leg_is.tolerances_are,
         here.is_least.long,
       )
 
@@ -130,8 +120,7 @@ module _ (road : RoadMap) (layers : LayersValue) (pair : Pair) (leg : LegOnMap)
       → IsRouteOfPair road layers pair.layer pair.first pair.second pieces
   route_of_pair pieces found =
       let route : IsRouteWithin road (class_limit layers.tolerances leg.next) from.place to.place
-      reach.limit pieces =
-      rw (leg_is.map_is, class_is) at found in
+      reach.limit pieces = rw (leg_is.map_is, class_is) at found in
       record {
         length = admits.length;
         pair = known;
@@ -139,8 +128,7 @@ module _ (road : RoadMap) (layers : LayersValue) (pair : Pair) (leg : LegOnMap)
           behind = route.behind;
           is = route.is;
           within = subst (λ (n : ℕ). walk_length road from.place to.place route.behind ≤ n)
-              here.is_least.long
-              (route.is.least here.is_least.behind here.is_least.is);
+              here.is_least.long (route.is.least here.is_least.behind here.is_least.is);
           pieces_are = route.pieces_are;
         };
       }
@@ -150,12 +138,10 @@ pub leg_of_pair : (road : RoadMap) (layers : LayersValue)
     (layer first second long length penalty : ℕ) (next : Next) (pieces : List Piece)
     → IsPair layers layer first second long
     → LeadsOn layers.reference layer next → penalty ≡ leg_penalty next long → length ≡ long
-    → AreLayersOn road layers
-    → IsRouteOfPair road layers layer first second pieces
+    → AreLayersOn road layers → IsRouteOfPair road layers layer first second pieces
     → IsLegOfPair road layers layer first second record {
       length = length;
-      penalty =
-          penalty;
+      penalty = penalty;
       route = pieces;
     }
 leg_of_pair road layers layer first second long length penalty next pieces known leads_on is same
@@ -179,9 +165,7 @@ leg_of_pair road layers layer first second long length penalty next pieces known
         penalty = is ∙ ap (λ (n : Next). leg_penalty n long)
             (one_next layers.reference layer next pair.next leads_on pair.leads_on) ∙ ap
             (leg_penalty pair.next) (sym same);
-        route =
-            subst (λ (n : ℕ). IsRouteWithin road (class_limit layers.tolerances pair.next)
-            pair.from.place pair.to.place n pieces)
-            (sym one ∙ sym same) route.route;
+        route = subst (λ (n : ℕ). IsRouteWithin road (class_limit layers.tolerances pair.next)
+            pair.from.place pair.to.place n pieces) (sym one ∙ sym same) route.route;
       };
     }

@@ -5,12 +5,10 @@ use Rattle.olr_binary.specs.declared.reference.Reference.TheVariants.{Line, Poin
 -- what a list has at a place before its end
 pub some_at : {X : Type 0} (xs : List X) (i : ℕ) → i < length xs → (x : X)
     × (slice_get xs i ≡ Some x)
-some_at xs i inside =
-    elim (slice_get_cases xs i).1 [
-      | inl found ↦ (found.0, found.2)
-      | inr past
-          ↦ absurd (omega (arith, inside, past.0))
-    ]
+some_at xs i inside = elim (slice_get_cases xs i).1 [
+  | inl found ↦ (found.0, found.2)
+  | inr past ↦ absurd (omega (arith, inside, past.0))
+]
 
 -- a reference has 2 to 32 points
 pub at_least_two : (reference : Reference) → IsReference reference
@@ -41,8 +39,7 @@ next_from (Some one) last within not_last is = (one, refl)
 
 -- a point that isn't the last leads on
 pub leads_on : (reference : Reference) (layer : ℕ) → IsReference reference
-    → layer + 1 < length (points_of reference)
-    → (next : Next) × LeadsOn reference layer next
+    → layer + 1 < length (points_of reference) → (next : Next) × LeadsOn reference layer next
 leads_on reference layer sound within =
     let points : List Point = points_of reference in
     let not_last : layer + 1 ≡ length points → ⊥ = λ last. omega (arith, last, within) in

@@ -8,20 +8,17 @@ use Rattle.olr_matching.proofs.Pairs.{is_place, is_departure}
 
 abbrev pub PiecesOfRoute : Type 0
 PiecesOfRoute = (road : RoadMap) (class : ℕ) (from to : Place) (limit : ℕ) (pieces : List Piece)
-    → IsSoundMap road → IsDeparture road from
-    → IsPlace road to
+    → IsSoundMap road → IsDeparture road from → IsPlace road to
     → IsRouteWithin road class from to limit pieces → AreRoutePieces road class from to pieces
 
 sound_leg : (road : RoadMap) (layers : LayersValue) (chosen : List Candidate) (layer : ℕ)
-    (leg : Leg) → PiecesOfRoute → IsSoundMap road
-    → (at : IsLegAt road layers chosen layer leg)
+    (leg : Leg) → PiecesOfRoute → IsSoundMap road → (at : IsLegAt road layers chosen layer leg)
     → IsDeparture road at.from.place → IsPlace road at.to.place → IsSoundLeg road leg
 sound_leg road layers chosen layer leg law map at departure place =
     let class = class_limit layers.tolerances at.next in
     let pieces = law road class at.from.place at.to.place leg.length
     leg.route map departure place at.leg_is.route in
-    let same =
-    one_length _ _ _ _ _ _ at.leg_is.admitted.is_least pieces.least in
+    let same = one_length _ _ _ _ _ _ at.leg_is.admitted.is_least pieces.least in
     record {
       length_is = same;
       long = rw same pieces.positive;
@@ -34,8 +31,7 @@ sound_leg road layers chosen layer leg law map at departure place =
 
 -- the candidate of a layer is that of its rank
 of_rank : (candidates : List (List Candidate)) (ranks : List ℕ) (chosen : List Candidate)
-    (layer : ℕ) (candidate : Candidate)
-    → AreCandidatesAt candidates ranks chosen
+    (layer : ℕ) (candidate : Candidate) → AreCandidatesAt candidates ranks chosen
     → slice_get chosen layer ≡ Some candidate
     → IsOfRank candidates layer (slice_index_or ranks layer 0) candidate
 of_rank candidates ranks chosen layer candidate they is =

@@ -24,8 +24,7 @@ never_fall candidates rise = λ i j d upto inside.
     let at_j = get_or-map (λ candidate. candidate.penalty) candidates j no_candidate d
     (omega arith) in
     let order : (get_or candidates i no_candidate).penalty
-    ≤ (get_or candidates j no_candidate).penalty =
-    elim (eq-or-lt_of_le upto) [
+    ≤ (get_or candidates j no_candidate).penalty = elim (eq-or-lt_of_le upto) [
       | inl same ↦ omega (arith, ap (λ k. (get_or candidates k no_candidate).penalty) same)
       | inr less ↦ no_greater (get_or candidates i no_candidate) (get_or candidates j no_candidate)
           (rise i j no_candidate less (omega (arith, count, inside)))
@@ -57,8 +56,7 @@ at_most_100 next (Some length) = omega arith
 
 -- the penalties of the lengths between the candidates of two points are legs
 legs_of : (road : RoadMap) (tolerances : Tolerances) (next : Next) (firsts seconds : List Candidate)
-    (lengths : List (Option ℕ))
-    → AreLengthsBetween road tolerances next firsts seconds lengths
+    (lengths : List (Option ℕ)) → AreLengthsBetween road tolerances next firsts seconds lengths
     → AreLegs (length firsts) (length seconds) (leg_penalties next lengths)
 legs_of road tolerances next firsts seconds lengths are = record {
   pairs = length-map lengths (λ (length : Option ℕ). option_map (leg_penalty next) length)
@@ -107,17 +105,14 @@ table_of road tolerances reference lists lengths legs sound at_most is are_lists
 pub table_of_vectors : (road : RoadMap) (tolerances : Tolerances) (reference : Reference)
     (lists : List (List Candidate)) (lengths : List (List (Option ℕ)))
     (penalties : List (Vec ℕ)) (legs : List (Vec (Option ℕ))) → IsSoundMap road → PenaltyAtMost
-    → IsReference reference
-    → AreLists tolerances reference road.lines lists
+    → IsReference reference → AreLists tolerances reference road.lines lists
     → AreLengthsOfLegs road tolerances reference lists lengths
     → map (λ (layer : Vec ℕ). layer.items) penalties ≡ map penalties_of lists
-    → ArePenaltiesOfLegs reference lengths (lengths_of legs)
-    → IsTable (vectors_of penalties legs)
+    → ArePenaltiesOfLegs reference lengths (lengths_of legs) → IsTable (vectors_of penalties legs)
 table_of_vectors road tolerances reference lists lengths penalties legs sound at_most is are_lists
     are_lengths are_penalties are_legs =
     rw are_penalties (table_of road tolerances reference lists lengths (lengths_of legs) sound
-    at_most is are_lists
-    are_lengths are_legs)
+    at_most is are_lists are_lengths are_legs)
 
 -- ---- the layers
 
@@ -130,8 +125,7 @@ pub are_layers : (road : RoadMap) (layers : LayersValue) (reference : Reference)
     → ArePenaltiesOfLegs reference layers.lengths layers.penalties.legs → AreLayersOn road layers
 are_layers road layers reference same is are_lists are_lengths table are_penalties are_legs =
     let leads : (layer : ℕ) (next : Next) → LeadsOn layers.reference layer next
-    → LeadsOn reference layer next =
-    λ layer next leads. rw (← same) leads in
+    → LeadsOn reference layer next = λ layer next leads. rw (← same) leads in
     let within : (layer : ℕ) (next : Next) → LeadsOn layers.reference layer next
     → layer < length layers.lengths =
     λ layer next it. omega (arith, leads_within reference layer next is (leads layer next it)) in

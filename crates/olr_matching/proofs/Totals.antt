@@ -7,8 +7,7 @@ module _ (road : RoadMap) (layers : LayersValue) (are : AreLayersOn road layers)
   -- candidates of the points from this one on have these ranks
   abbrev AreRanked : ℕ → List ℕ → List Candidate → Type 0
   AreRanked index ranks chosen = (k rank : ℕ) (c : Candidate) → slice_get ranks k ≡ Some rank
-      → slice_get chosen k ≡ Some c
-      → IsOfRank layers.candidates (index + k) rank c
+      → slice_get chosen k ≡ Some c → IsOfRank layers.candidates (index + k) rank c
 
   -- and these are the legs between each two of them
   abbrev AreBetween : ℕ → List Candidate → List Leg → Type 0
@@ -22,8 +21,7 @@ module _ (road : RoadMap) (layers : LayersValue) (are : AreLayersOn road layers)
       + sum_by (λ (leg : Leg). leg.penalty) legs
 
   sum_behind : (ranks : List ℕ) (index rank total : ℕ) (from : Candidate) (chosen : List Candidate)
-      (legs : List Leg)
-      → IsOfRank layers.candidates index rank from
+      (legs : List Leg) → IsOfRank layers.candidates index rank from
       → IsRestBehind road layers.tolerances layers.reference index from ranks total
       → length chosen ≡ length ranks → length legs ≡ length ranks
       → AreRanked (index + 1) ranks chosen → AreBetween index (from ∷ chosen) legs
@@ -47,18 +45,15 @@ module _ (road : RoadMap) (layers : LayersValue) (are : AreLayersOn road layers)
       let here : leg_at layers.penalties (index + 1) rank next ≡ Some leg.penalty =
       leg_of road layers are one_list index rank next from c is c_is leg.penalty
       (subst (λ (n : ℕ). Admits road layers.tolerances layers.reference n from c leg.penalty) {x =
-      index + 0} {y = index} (omega arith)
-      (between 0 leg from c refl refl refl)) in
+      index + 0} {y = index} (omega arith) (between 0 leg from c refl refl refl)) in
       let there = leg_of road layers are one_list index rank next from to is to_is penalty
       admitted in
       let one : leg.penalty ≡ penalty = same_Some leg.penalty penalty (sym here ∙ there) in
       let further = sum_behind ranks (index + 1) next rest c chosen legs c_is
       (subst (λ (x : Candidate). IsRestBehind road layers.tolerances layers.reference (index + 1) x
-      ranks rest) (sym same) behind)
-      (omega (arith, count)) (omega (arith, legs_count))
+      ranks rest) (sym same) behind) (omega (arith, count)) (omega (arith, legs_count))
       (λ k r d r_is d_is. subst (λ (n : ℕ). IsOfRank layers.candidates n r d) {x =
-      index + 1 + suc k} {y = index + 1 + 1 + k} (omega arith)
-      (ranked (suc k) r d r_is d_is))
+      index + 1 + suc k} {y = index + 1 + 1 + k} (omega arith) (ranked (suc k) r d r_is d_is))
       (λ k l a b l_is a_is b_is. subst (λ (n : ℕ). Admits road layers.tolerances layers.reference n
       a b l.penalty) {x = index + suc k} {y = index + 1 + k}
       (omega arith) (between (suc k) l a b l_is a_is b_is)) in
@@ -86,18 +81,15 @@ module _ (road : RoadMap) (layers : LayersValue) (are : AreLayersOn road layers)
       let same : c ≡ first = same_Some c first (sym c_is.1 ∙ first_is.1) in
       let further = sum_behind ranks 0 rank rest c chosen legs c_is
       (subst (λ (x : Candidate). IsRestBehind road layers.tolerances layers.reference 0 x ranks
-      rest) (sym same) behind)
-      (omega (arith, count)) (omega (arith, legs_count, count))
+      rest) (sym same) behind) (omega (arith, count)) (omega (arith, legs_count, count))
       (λ k r d r_is d_is. subst (λ (n : ℕ). IsOfRank layers.candidates n r d) {x = 0 + suc k} {y =
-      0 + 1 + k} (omega arith) (ranked (suc k) r d r_is d_is))
-      between in
+      0 + 1 + k} (omega arith) (ranked (suc k) r d r_is d_is)) between in
       omega (
         arith,
         sum,
         ap (λ (x : Candidate). x.penalty) same,
         further,
-        sum_by-cons
-            (λ (c : Candidate). c.penalty) c chosen,
+        sum_by-cons (λ (c : Candidate). c.penalty) c chosen,
       )
 
   -- the legs of parts admit their candidates
@@ -106,8 +98,7 @@ module _ (road : RoadMap) (layers : LayersValue) (are : AreLayersOn road layers)
   between_parts chosen legs they k leg from to leg_is from_is to_is =
       let at = they.each k leg leg_is in
       let one : at.from ≡ from = same_Some at.from from (sym at.from_is ∙ from_is) in
-      let other : at.to ≡ to =
-      same_Some at.to to (sym at.to_is
+      let other : at.to ≡ to = same_Some at.to to (sym at.to_is
       ∙ subst (λ (n : ℕ). slice_get chosen n ≡ Some to) {x = suc k} {y = k + 1} (omega arith)
       to_is) in
       subst (λ (c : Candidate). Admits road layers.tolerances layers.reference (0 + k) from c

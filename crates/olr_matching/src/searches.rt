@@ -173,10 +173,6 @@ impl Searches {
 
     /// The index of a search that has the lengths of a leg from a place. Where none is kept, it
     /// makes one from there, which ends once it has reached all second candidates, and keeps it.
-    ///
-    /// # Errors
-    ///
-    /// [`NoMemory`] where the allocator refused memory.
     pub(crate) fn find_or_search(
         &mut self,
         alloc: Global,

@@ -1,7 +1,6 @@
 -- A piece added to the end of joined pieces.
-use Rattle.std.proofs.lemmas.List.{append-nil, flat_map_more, length-set, take_all, take_more, take_more_set}
 use Rattle.std.proofs.lemmas.List.Concat.{flat_map-append}
-use Rattle.olr_report.proofs.Common.{Piece, Step, steps_in, steps_of, ◌≡◌, ℕ, ◌+◌, ◌-◌, ◌<◌, ◌≤◌, Some, List, [], ◌∷◌, ◌++◌, length, take, get_or, set, refl, sym, ◌∙◌, append_assoc, arith, flat_map, All-nil, All-pop, All-push, AreApart, IsJoined, IsNotEmpty, IsRouteOver, Touches}
+use Rattle.olr_report.proofs.Common.{Piece, Step, steps_in, steps_of, ◌≡◌, ℕ, ◌+◌, ◌-◌, ◌<◌, ◌≤◌, Some, List, [], ◌∷◌, ◌++◌, length, take, get_or, set, refl, sym, ◌∙◌, append_assoc, arith, flat_map, All-nil, All-pop, All-push, AreApart, IsJoined, IsNotEmpty, IsRouteOver, Touches, append-nil, flat_map_more, length-set, take_all, take_more, take_more_set}
 use Rattle.olr_report.proofs.StepLists.{touching_steps}
 
 -- ---- steps
@@ -15,8 +14,7 @@ steps_push pieces piece =
 
 -- the last piece gets another end
 apart_longer : (front : List Piece) (last longer : Piece) → longer.line ≡ last.line
-    → longer.from ≡ last.from → AreApart (front ++ last ∷ [])
-    → AreApart (front ++ longer ∷ [])
+    → longer.from ≡ last.from → AreApart (front ++ last ∷ []) → AreApart (front ++ longer ∷ [])
 apart_longer [] last longer line from apart = tt
 apart_longer (piece ∷ []) last longer line from apart =
     (λ touch. apart.0 (record { same_line = cc; same_position = cc }), tt)
@@ -24,8 +22,7 @@ apart_longer (piece ∷ next ∷ front) last longer line from apart =
     (apart.0, apart_longer (next ∷ front) last longer line from apart.1)
 
 apart_push : (front : List Piece) (last piece : Piece) → AreApart (front ++ last ∷ [])
-    → (Touches last piece → ⊥)
-    → AreApart (front ++ last ∷ piece ∷ [])
+    → (Touches last piece → ⊥) → AreApart (front ++ last ∷ piece ∷ [])
 apart_push [] last piece apart not_touching = (not_touching, tt)
 apart_push (first ∷ []) last piece apart not_touching = (apart.0, (not_touching, tt))
 apart_push (first ∷ next ∷ front) last piece apart not_touching =
@@ -34,8 +31,7 @@ apart_push (first ∷ next ∷ front) last piece apart not_touching =
 -- ---- the last piece
 
 longer_last : (front : List Piece) (last piece longer : Piece) → IsJoined (front ++ last ∷ [])
-    → Touches last piece → last.from ≤ last.to
-    → IsNotEmpty piece
+    → Touches last piece → last.from ≤ last.to → IsNotEmpty piece
     → longer.line ≡ last.line → longer.from ≡ last.from → longer.to ≡ piece.to
     → IsRouteOver (steps_of (front ++ last ∷ []) ++ steps_in piece) (front ++ longer ∷ [])
 longer_last front last piece longer joined touch forwards positive line from to = record {
@@ -45,14 +41,13 @@ longer_last front last piece longer joined touch forwards positive line from to 
         (omega (arith, touch.same_position));
     apart = apart_longer front last longer line from joined.apart;
   };
-  steps_are =
-      cc (
-        steps_push front longer,
-        touching_steps last piece longer touch.same_line touch.same_position forwards (omega arith)
-            line from to,
-        append_assoc (steps_of front) (steps_in last) (steps_in piece),
-        steps_push front last,
-      );
+  steps_are = cc (
+    steps_push front longer,
+    touching_steps last piece longer touch.same_line touch.same_position forwards (omega arith)
+        line from to,
+    append_assoc (steps_of front) (steps_in last) (steps_in piece),
+    steps_push front last,
+  );
 }
 
 piece_more : (front : List Piece) (last piece : Piece) → IsJoined (front ++ last ∷ [])
@@ -71,11 +66,9 @@ piece_more front last piece joined not_touching positive = record {
 -- ---- the same for a route and what it becomes
 
 pub appended_longer : (route front longer_route : List Piece) (last piece longer : Piece)
-    → route ≡ front ++ last ∷ []
-    → longer_route ≡ front ++ longer ∷ [] → IsJoined route
+    → route ≡ front ++ last ∷ [] → longer_route ≡ front ++ longer ∷ [] → IsJoined route
     → Touches last piece → IsNotEmpty piece → longer.line ≡ last.line → longer.from ≡ last.from
-    → longer.to ≡ piece.to
-    → IsRouteOver (steps_of route ++ steps_in piece) longer_route
+    → longer.to ≡ piece.to → IsRouteOver (steps_of route ++ steps_in piece) longer_route
 appended_longer route front longer_route last piece longer is longer_is joined touch positive line
     from to =
     let whole : IsJoined (front ++ last ∷ []) = rw (← is) joined in
@@ -85,8 +78,7 @@ appended_longer route front longer_route last piece longer is longer_is joined t
     (omega (arith, forwards)) positive line from to))
 
 pub appended_piece : (route front more : List Piece) (last piece : Piece)
-    → route ≡ front ++ last ∷ [] → more ≡ (front ++ last ∷ []) ++ piece ∷ []
-    → IsJoined route
+    → route ≡ front ++ last ∷ [] → more ≡ (front ++ last ∷ []) ++ piece ∷ [] → IsJoined route
     → (Touches last piece → ⊥) → IsNotEmpty piece
     → IsRouteOver (steps_of route ++ steps_in piece) more
 appended_piece route front more last piece is more_is joined not_touching positive =
@@ -94,14 +86,11 @@ appended_piece route front more last piece is more_is joined not_touching positi
 
 -- a route ends in its last piece
 last_of : (route : List Piece) (last : Piece) (count : ℕ) → count ≡ length route → 0 < count
-    → last ≡ get_or route (count - 1) last
-    → route ≡ take (count - 1) route ++ last ∷ []
-last_of route last count is positive at_end =
-    cc (
-      take_all (count - 1 + 1) route (omega arith),
-      take_more route (count - 1) last
-          (omega arith),
-    )
+    → last ≡ get_or route (count - 1) last → route ≡ take (count - 1) route ++ last ∷ []
+last_of route last count is positive at_end = cc (
+  take_all (count - 1 + 1) route (omega arith),
+  take_more route (count - 1) last (omega arith),
+)
 
 -- and in another one, where that is put in its place
 last_put : (route : List Piece) (longer : Piece) (count : ℕ) → count ≡ length route → 0 < count
@@ -139,8 +128,7 @@ pub first_piece : (route more : List Piece) (piece : Piece) → length route ≡
 first_piece [] more piece none more_is not_empty = rw more_is (record {
   joined = record {
     not_empty = All-push IsNotEmpty [] piece (All-nil IsNotEmpty) not_empty;
-    apart =
-        tt;
+    apart = tt;
   };
   steps_are = append-nil (steps_in piece);
 })
@@ -149,12 +137,10 @@ first_piece (last ∷ route) more piece none more_is not_empty = absurd (omega a
 -- ---- pieces one after the other
 
 pub no_pieces : (route : List Piece) → route ≡ [] → IsRouteOver [] route
-no_pieces route none =
-    rw none (record {
-      joined = record { not_empty = All-nil IsNotEmpty; apart = tt };
-      steps_are =
-          refl;
-    })
+no_pieces route none = rw none (record {
+  joined = record { not_empty = All-nil IsNotEmpty; apart = tt };
+  steps_are = refl;
+})
 
 -- the steps of one element more of a list
 pub steps_taken : {X : Type 0} (steps : X → List Step) (before : List Step) (all : List X) (i : ℕ)

@@ -24,8 +24,7 @@ pub total_more : (legs : List Leg) (leg : Leg) (i total : ℕ) → All IsMeasure
 total_more legs leg i total measured inside is (so_far, below) =
     let here : IsMeasured leg = rw is (All-get_or IsMeasured legs i leg inside measured) in
     let more : steps_of_legs (take i legs) ++ steps_of (get_or legs i leg).route
-    ≡ steps_of_legs (take (i + 1) legs) =
-    steps_taken (λ l. steps_of l.route) [] legs i leg inside
+    ≡ steps_of_legs (take (i + 1) legs) = steps_taken (λ l. steps_of l.route) [] legs i leg inside
     in
     let same : length (steps_of (get_or legs i leg).route) ≡ leg.length = cc (leg_steps leg here) in (
       omega (
@@ -33,8 +32,7 @@ total_more legs leg i total measured inside is (so_far, below) =
         so_far,
         same,
         ap length more,
-        length-append (steps_of_legs (take i legs))
-            (steps_of (get_or legs i leg).route),
+        length-append (steps_of_legs (take i legs)) (steps_of (get_or legs i leg).route),
       ),
       omega (arith, below, here.below),
     )
@@ -50,18 +48,12 @@ first_steps [] d measured some = absurd (omega (arith, some))
 first_steps (leg ∷ legs) d measured some =
     let here : IsMeasured leg = measured 0 leg some in (
       here.at_least,
-      omega (
-        arith,
-        leg_steps leg here,
-        length-append (steps_of leg.route)
-            (steps_of_legs legs),
-      ),
+      omega (arith, leg_steps leg here, length-append (steps_of leg.route) (steps_of_legs legs)),
     )
 
 -- and so it isn't empty, and reaches as far as the first leg is long
 pub reaches : (reference : Reference) (legs : List Leg) (route pieces : List Piece) (d : Leg)
-    (distance : ℕ) → IsReference reference
-    → AreLegsOf reference legs
+    (distance : ℕ) → IsReference reference → AreLegsOf reference legs
     → IsJoinedRoute legs route → pieces ≡ route → distance ≤ (get_or legs 0 d).length
     → (0 < sum_by piece_length pieces) × (distance ≤ sum_by piece_length pieces)
 reaches reference legs route pieces d distance is legs_are joined same within =

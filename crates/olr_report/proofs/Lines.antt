@@ -1,6 +1,5 @@
 -- The lines of joined routes, trimmed parts and places are those of the pieces of the legs.
-use Rattle.std.specs.List.{range_with_len}
-use Rattle.olr_report.proofs.Common.{IsJoinedRoute, IsNotEmpty, IsRouteOver, Leg, Line, Piece, Place, PointAlong, Reference, RoadMap, ◌≡◌, ℕ, zero, suc, ◌-◌, ◌<◌, List, [], ◌∷◌, ◌++◌, length, map, drop, slice_get, Option, Some, None, All, option_map, refl, subst, ap, ◌∙◌, arith, slice_range, All-nil, All-cons, All-head, All-tail, All-append, All-same, All-take, All-drop, same_Some, none-some, HasLine, HasPieces, HasPart, HasLocation, IsLocation, IsPartBetween, LocatedLine, LocatedPoint, LocatedValue, Step, steps_in, steps_of, steps_of_legs, start_of, end_of, place_at}
+use Rattle.olr_report.proofs.Common.{IsJoinedRoute, IsNotEmpty, IsRouteOver, Leg, Line, Piece, Place, PointAlong, Reference, RoadMap, ◌≡◌, ℕ, zero, suc, ◌-◌, ◌<◌, List, [], ◌∷◌, ◌++◌, length, map, drop, slice_get, Option, Some, None, All, option_map, refl, subst, ap, ◌∙◌, arith, slice_range, All-nil, All-cons, All-head, All-tail, All-append, All-same, All-take, All-drop, same_Some, none-some, HasLine, HasPieces, HasPart, HasLocation, IsLocation, IsPartBetween, LocatedLine, LocatedPoint, LocatedValue, Step, steps_in, steps_of, steps_of_legs, start_of, end_of, place_at, range_with_len}
 
 module _ (road : RoadMap) where
   abbrev IsStepOn : Step → Type 0
@@ -64,8 +63,7 @@ module _ (road : RoadMap) where
 
   route_over : (steps : List Step) (pieces : List Piece) → HasSteps steps → IsRouteOver steps pieces
       → HasPieces road pieces
-  route_over steps pieces has is =
-      pieces_of_steps pieces is.joined.not_empty
+  route_over steps pieces has is = pieces_of_steps pieces is.joined.not_empty
       (All-same IsStepOn (steps_of pieces) steps is.steps_are has)
 
   -- ---- a part of the steps, and a place on them
@@ -102,19 +100,16 @@ module _ (road : RoadMap) where
   route_of legs pieces has is = route_over (steps_of_legs legs) pieces (steps_of_all legs has) is
 
   pub location_of : (legs : List Leg) (reference : Reference) (located : LocatedValue)
-      → All IsLegOn legs → IsLocation legs reference located
-      → HasLocation road located
+      → All IsLegOn legs → IsLocation legs reference located → HasLocation road located
   location_of legs (Line points positive negative) (LocatedLine outer inner) has is =
       let steps = steps_of_all legs has in (
         part_of (steps_of_legs legs) _ _ outer steps is.outer_part,
-        part_of (steps_of_legs legs) _ _
-            inner steps is.inner_part,
+        part_of (steps_of_legs legs) _ _ inner steps is.inner_part,
       )
   location_of legs (PointAlong points orientation side positive) (LocatedPoint earliest latest) has
       is =
       let steps = steps_of_all legs has in (
         place_on (steps_of_legs legs) _ earliest steps is.earliest_place,
-        place_on
-            (steps_of_legs legs) _ latest steps is.latest_place,
+        place_on (steps_of_legs legs) _ latest steps is.latest_place,
       )
   location_of legs _ _ has is = absurd is

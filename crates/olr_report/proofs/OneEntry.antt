@@ -1,8 +1,7 @@
 -- A key has one entry at most: its parts are one value, and the joined route of its legs and the
 -- location of a reference on it are determined by the legs.
-use Rattle.olr_road.specs.RoadMap.{IsSoundMap}
 use Rattle.olr_matching.specs.Layers.{LayersValue}
-use Rattle.olr_report.proofs.Common.{Entry, IsEntryOf, IsRouteOver, Leg, Line, Piece, Place, PointAlong, Reference, RoadMap, Step, steps_of_legs, ◌≡◌, ℕ, List, [], ◌∷◌, map, Option, Some, None, refl, sym, ap, ◌∙◌, All, arith, All-head, All-tail, OneMatched, IsEntryAt, keys_of, IsJoinedRoute, IsLocation, IsPartBetween, LocatedLine, LocatedPoint, LocatedValue}
+use Rattle.olr_report.proofs.Common.{Entry, IsEntryOf, IsRouteOver, Leg, Line, Piece, Place, PointAlong, Reference, RoadMap, Step, steps_of_legs, ◌≡◌, ℕ, List, [], ◌∷◌, map, Option, Some, None, refl, sym, ap, ◌∙◌, All, arith, All-head, All-tail, OneMatched, IsEntryAt, keys_of, IsJoinedRoute, IsLocation, IsPartBetween, LocatedLine, LocatedPoint, LocatedValue, IsSoundMap}
 use Rattle.olr_report.specs.EntryLaws.{OneEntries, OneEntry, OneOfParts}
 
 abbrev OneRoute : Type 0
@@ -53,10 +52,8 @@ module _ (one_route : OneRoute) where
   list_of_parts reference [] [] keys matched is is' = refl
   list_of_parts reference (entry ∷ a) (entry' ∷ b) keys matched is is' =
       let first = entry_of_parts reference entry entry' (cc) (cc)
-      (All-head (IsEntryOf reference) entry a is)
-      (All-head (IsEntryOf reference) entry' b is') in
-      let others = list_of_parts reference a b (cc) (cc)
-      (All-tail (IsEntryOf reference) entry a is)
+      (All-head (IsEntryOf reference) entry a is) (All-head (IsEntryOf reference) entry' b is') in
+      let others = list_of_parts reference a b (cc) (cc) (All-tail (IsEntryOf reference) entry a is)
       (All-tail (IsEntryOf reference) entry' b is') in cc
   list_of_parts reference _ _ keys matched is is' = absurd (cc)
 
@@ -80,8 +77,7 @@ module _ (one_route : OneRoute) (one_matched : OneMatched) where
       let first = one_entry road layers sound entry entry' (cc)
       (All-head (IsEntryAt road layers) entry a is)
       (All-head (IsEntryAt road layers) entry' b is') in
-      let others = one_list road layers sound a b (cc)
-      (All-tail (IsEntryAt road layers) entry a is)
+      let others = one_list road layers sound a b (cc) (All-tail (IsEntryAt road layers) entry a is)
       (All-tail (IsEntryAt road layers) entry' b is') in cc
   one_list road layers sound _ _ keys is is' = absurd (cc)
 

@@ -41,8 +41,7 @@ pub step_behind : (piece : Piece) (steps : List Step) (k : ℕ)
     → slice_get (steps_in piece ++ steps) (piece_length piece + k) ≡ slice_get steps k
 step_behind piece steps k =
     subst (λ (count : ℕ). slice_get (steps_in piece ++ steps) (count + k) ≡ slice_get steps k)
-    (length-steps_in piece)
-    (slice_get-append_right (steps_in piece) steps k)
+    (length-steps_in piece) (slice_get-append_right (steps_in piece) steps k)
 
 -- the first step of pieces is that of the first one
 first_step : (piece : Piece) (rest : List Piece) → IsNotEmpty piece
@@ -80,15 +79,12 @@ not_shorter piece other (next ∷ rest) others joined same line from shorter =
     (record { line = other.line; at = other.from + (piece_length piece + 0) })
     (sym (first_step next rest goes_on) ∙ sym (step_behind piece (steps_of (next ∷ rest)) 0)
     ∙ ap (λ (steps : List Step). slice_get steps (piece_length piece + 0)) same
-    ∙ step_inside other (steps_of others) (piece_length piece + 0) (omega (arith, forwards)))
-    in
+    ∙ step_inside other (steps_of others) (piece_length piece + 0) (omega (arith, forwards))) in
     let at : next.from ≡ other.from + (piece_length piece + 0) =
     ap (λ (step : Step). step.at) steps in
     joined.apart.0 (record {
-      same_line = line
-          ∙ sym (ap (λ (step : Step). step.line) steps);
-      same_position =
-          omega (arith, at, forwards, from);
+      same_line = line ∙ sym (ap (λ (step : Step). step.line) steps);
+      same_position = omega (arith, at, forwards, from);
     })
 
 same_parts : (line from to on start end : ℕ) → line ≡ on → from ≡ start → to ≡ end
@@ -102,8 +98,7 @@ same_piece piece other line from to =
     same_parts piece.line piece.from piece.to other.line other.from other.to line from to
 
 same_end : (piece other : Piece) (rest others : List Piece) → IsJoined (piece ∷ rest)
-    → IsJoined (other ∷ others)
-    → steps_of (piece ∷ rest) ≡ steps_of (other ∷ others)
+    → IsJoined (other ∷ others) → steps_of (piece ∷ rest) ≡ steps_of (other ∷ others)
     → piece.line ≡ other.line → piece.from ≡ other.from → piece.to ≡ other.to
 same_end piece other rest others joined others_joined same line from =
     elim (cases_lt piece.to other.to) [
@@ -132,16 +127,14 @@ same_pieces (piece ∷ rest) (other ∷ others) a_joined b_joined same =
     (record { line = other.line; at = other.from })
     (sym (first_step piece rest (All-head IsNotEmpty piece rest a_joined.not_empty))
     ∙ ap (λ (steps : List Step). slice_get steps 0) same
-    ∙ first_step other others (All-head IsNotEmpty other others b_joined.not_empty))
-    in
+    ∙ first_step other others (All-head IsNotEmpty other others b_joined.not_empty)) in
     let line : piece.line ≡ other.line = ap (λ (step : Step). step.line) steps in
     let from : piece.from ≡ other.from = ap (λ (step : Step). step.at) steps in
     let here : piece ≡ other = same_piece piece other line from
     (same_end piece other rest others a_joined b_joined same line from) in
     let behind : steps_of rest ≡ steps_of others =
     append_cancel_left (steps_in piece) (steps_of rest) (steps_of others) (same
-    ∙ ap (λ (p : Piece). steps_in p ++ steps_of others) (sym here))
-    in
+    ∙ ap (λ (p : Piece). steps_in p ++ steps_of others) (sym here)) in
     let tails = same_pieces rest others (joined_tail piece rest a_joined)
     (joined_tail other others b_joined) behind in cc
 

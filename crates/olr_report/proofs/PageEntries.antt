@@ -1,6 +1,5 @@
 -- The entries of the first keys of a page, one more after the other.
-use Rattle.std.proofs.lemmas.List.{map_push, take_all, take_more}
-use Rattle.olr_report.proofs.Common.{AreEntriesOf, Entry, entry_of, IsEntryOf, KeyValue, Matched, Reference, ◌≡◌, ℕ, ◌+◌, ◌<◌, ◌≤◌, List, [], ◌∷◌, ◌++◌, length, map, take, get_or, sym, ap, ◌∙◌, All-same, All-push}
+use Rattle.olr_report.proofs.Common.{AreEntriesOf, Entry, entry_of, IsEntryOf, KeyValue, Matched, Reference, ◌≡◌, ℕ, ◌+◌, ◌<◌, ◌≤◌, List, [], ◌∷◌, ◌++◌, length, map, take, get_or, sym, ap, ◌∙◌, All-same, All-push, map_push, take_all, take_more}
 use Rattle.olr_report.specs.declared.page_entries.Entry.{Entry as Returned}
 
 -- what each entry has, where that of the first ones is the beginning of a list
@@ -19,8 +18,7 @@ more_of part all list entry count next inside is at are =
 module _ (reference : Reference) (keys : List KeyValue) (matched : List Matched)
     (list : List Returned) (count : ℕ) where
   pub with_entry : (new : List Returned) (entry : Returned) (next : ℕ) → count < length keys
-      → count < length matched → next ≡ count + 1
-      → entry.key.now ≡ get_or keys count entry.key.now
+      → count < length matched → next ≡ count + 1 → entry.key.now ≡ get_or keys count entry.key.now
       → entry.matched.now ≡ get_or matched count entry.matched.now
       → IsEntryOf reference (entry_of entry) → new ≡ list ++ entry ∷ []
       → AreEntriesOf reference (take count keys) (take count matched) (map entry_of list)

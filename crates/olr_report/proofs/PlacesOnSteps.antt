@@ -5,8 +5,7 @@ use Rattle.olr_report.proofs.OneRoute.{step_behind, step_inside}
 -- ---- one piece and the steps behind it
 
 place_here : (piece : Piece) (behind : List Step) (left : ℕ) → IsNotEmpty piece
-    → left ≤ piece_length piece
-    → place_at (steps_in piece ++ behind) left
+    → left ≤ piece_length piece → place_at (steps_in piece ++ behind) left
     ≡ Some (record { line = piece.line; at = piece.from + left })
 place_here piece behind zero positive within =
     cc (step_inside piece behind 0 (omega (arith, positive)))
@@ -37,25 +36,22 @@ module _ (sought : Option Place) (pieces : List Piece) (not_empty : All IsNotEmp
   pub place_found : i < length pieces → left ≤ piece_length (get_or pieces i d)
       → sought ≡ Some (record {
         line = (get_or pieces i d).line;
-        at =
-            (get_or pieces i d).from + left;
+        at = (get_or pieces i d).from + left;
       })
-  place_found inside within =
-      cc (
-        drop_more pieces i d inside,
-        place_here (get_or pieces i d) (steps_of (drop (i + 1) pieces)) left
-            (All-get_or IsNotEmpty pieces i d inside not_empty) within,
-      )
+  place_found inside within = cc (
+    drop_more pieces i d inside,
+    place_here (get_or pieces i d) (steps_of (drop (i + 1) pieces)) left
+        (All-get_or IsNotEmpty pieces i d inside not_empty) within,
+  )
 
   pub place_further : i < length pieces → piece_length (get_or pieces i d) < left
       → IsAlongRest sought (drop (i + 1) pieces) (left - piece_length (get_or pieces i d))
   place_further inside past =
       let sum = sum_by-drop_more piece_length pieces i d inside in record {
-        place_is =
-            cc (
-              place_behind (get_or pieces i d) (steps_of (drop (i + 1) pieces)) left past,
-              drop_more pieces i d inside,
-            );
+        place_is = cc (
+          place_behind (get_or pieces i d) (steps_of (drop (i + 1) pieces)) left past,
+          drop_more pieces i d inside,
+        );
         within = omega (arith, sum, so_far.within);
         positive = omega (arith, sum, so_far.within, past);
       }

@@ -72,5 +72,4 @@ module _ (road : RoadMap) (list : List Entry) (next : Option ArrayString)
       member (codes "matchings") (array_of (λ entry. entry_object road (entry_of entry)) list) (
       member (codes "next") (or_null (λ text. string text.bytes) next) no_members))
       ≡ page_object road (map entry_of list) last mark
-  same_page =
-      cc (mapped (entry_object road) entry_of list, same_next next found last mark same is)
+  same_page = cc (mapped (entry_object road) entry_of list, same_next next found last mark same is)

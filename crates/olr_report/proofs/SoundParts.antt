@@ -6,8 +6,7 @@ measured : (road : RoadMap) (leg : Leg) → IsSoundLeg road leg → IsMeasured l
 measured road leg is = record {
   length_is = is.length_is;
   at_least = is.long;
-  below = let short =
-      is.short in omega arith;
+  below = let short = is.short in omega arith;
 }
 
 is_forwards : (road : RoadMap) (leg : Leg) → IsSoundLeg road leg → All IsForwards leg.route

@@ -1,7 +1,6 @@
 -- Lists of steps: their lengths, and how they are cut and joined.
-use Rattle.std.specs.List.{range_with_len, sum_by}
 use Rattle.std.proofs.lemmas.List.FromFn.{length-map-range_with_len, take-map-range_with_len}
-use Rattle.olr_report.proofs.Common.{Piece, piece_length, Step, steps_in, steps_of, ◌≡◌, ℕ, zero, suc, ◌+◌, ◌-◌, ◌≤◌, min, List, [], ◌∷◌, ◌++◌, length, take, drop, map, refl, sym, ap, ◌∙◌, length-append, zero-add, add-zero, arith, drop_at, drop_min, take_min, length-take, sum_by-cons}
+use Rattle.olr_report.proofs.Common.{Piece, piece_length, Step, steps_in, steps_of, ◌≡◌, ℕ, zero, suc, ◌+◌, ◌-◌, ◌≤◌, min, List, [], ◌∷◌, ◌++◌, length, take, drop, map, refl, sym, ap, ◌∙◌, length-append, zero-add, add-zero, arith, drop_at, drop_min, take_min, length-take, sum_by-cons, range_with_len, sum_by}
 
 -- ---- any list
 
@@ -70,20 +69,16 @@ drop-stretch line from n k within =
     ))
 
 -- the part behind the first `skip` steps, at most `most` long
-part-stretch : (line from n skip most : ℕ)
-    → take most (drop skip (stretch line from n))
+part-stretch : (line from n skip most : ℕ) → take most (drop skip (stretch line from n))
     ≡ stretch line (from + min skip n) (min most (n - min skip n))
 part-stretch line from n skip most =
     let skipped : ℕ = min skip n in
     let rest : List Step = stretch line (from + skipped) (n - skipped) in
-    let dropped : drop skip (stretch line from n) ≡ rest =
-    cc (
+    let dropped : drop skip (stretch line from n) ≡ rest = cc (
       drop_min skip (stretch line from n),
       length-stretch line from n,
-      drop-stretch line from n
-          skipped (omega arith),
-    )
-    in
+      drop-stretch line from n skipped (omega arith),
+    ) in
     ap (take most) dropped ∙ sym (take_min most rest)
     ∙ ap (λ count. take (min most count) rest) (length-stretch line (from + skipped) (n - skipped))
     ∙ take-map-range_with_len (λ at. record { line = line; at = at }) (from + skipped) (n - skipped)
@@ -96,14 +91,13 @@ length-steps_in piece = length-stretch piece.line piece.from (piece_length piece
 
 pub length-steps_of : (pieces : List Piece) → length (steps_of pieces) ≡ sum_by piece_length pieces
 length-steps_of [] = refl
-length-steps_of (piece ∷ pieces) =
-    omega (
-      arith,
-      length-append (steps_in piece) (steps_of pieces),
-      length-steps_in piece,
-      length-steps_of pieces,
-      sum_by-cons piece_length piece pieces,
-    )
+length-steps_of (piece ∷ pieces) = omega (
+  arith,
+  length-append (steps_in piece) (steps_of pieces),
+  length-steps_in piece,
+  length-steps_of pieces,
+  sum_by-cons piece_length piece pieces,
+)
 
 -- the steps of a piece of which the first `skip` decimetres are left out, and which is at most
 -- `most` long
@@ -127,8 +121,7 @@ touching_steps first second whole line position forwards further same_line same_
     let count : piece_length whole ≡ piece_length first + piece_length second = omega arith in
     let next : second.from ≡ first.from + piece_length first = omega arith in
     let all : steps_in whole ≡ stretch first.line first.from
-    (piece_length first + piece_length second) =
-    rw (count, same_line, same_from) in
+    (piece_length first + piece_length second) = rw (count, same_line, same_from) in
     all ∙ stretch-add first.line first.from (piece_length first) (piece_length second)
     ∙ ap (λ at. steps_in first ++ stretch first.line at (piece_length second)) (sym next)
     ∙ ap (λ on. steps_in first ++ stretch on second.from (piece_length second)) line

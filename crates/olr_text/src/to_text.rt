@@ -15,10 +15,6 @@ pub trait ToText<On> {
     ghost text: { On → ℕ → Self → List ℕ };
 
     /// Adds the text of the item of this number, from 1.
-    ///
-    /// # Errors
-    ///
-    /// [`NoMemory`] where the allocator refused memory.
     fn push(&self, on: &On, number: usize, out: &mut String) -> Result<(), NoMemory>
         ensures { OnOk result (string_bytes out.new
             ≡ string_bytes out.old ++ text on.now number self.now) };

@@ -9,7 +9,8 @@ pub record AreAtMost (before after : Tolerances) : Type 0 where
 
 -- ---- one tolerance changed
 
-module _ {name : Tolerance} {value wider : ℕ} {given before after : Tolerances} (at_most : value ≤ wider)
+module _ {name : Tolerance} {value wider : ℕ} {given before after : Tolerances}
+    (at_most : value ≤ wider)
     (is : IsChanged name value given before)
     (also : IsChanged name wider given after) where
   unchanged : (other : Tolerance) → order_of other ≢ order_of name
@@ -29,8 +30,6 @@ module _ {name : Tolerance} {value wider : ℕ} {given before after : Tolerances
 
 -- with the same value
 pub at_most_same : {name : Tolerance} {value : ℕ} {given before after : Tolerances}
-    → IsChanged name value given before
-    → IsChanged name value given after
-    → AreAtMost before after
+    → IsChanged name value given before → IsChanged name value given after → AreAtMost before after
 at_most_same {name} {value} {given} {before} {after} is also = rw (one_changed is also)
     (record { each = λ name. omega arith; lowest = refl })

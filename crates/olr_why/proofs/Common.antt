@@ -20,7 +20,7 @@ pub use Rattle.olr_candidates.specs.declared.tolerances.Tolerance.TheVariants.{B
 pub use Rattle.olr_candidates.specs.declared.tolerances.Tolerance.{Tolerance}
 pub use Rattle.olr_candidates.specs.declared.tolerances.Tolerances.{Tolerances}
 pub use Rattle.olr_keys.specs.Answers.{AreAnswers}
-pub use Rattle.olr_keys.specs.Key.{KeyValue}
+pub use Rattle.olr_keys.specs.Key.{IsBefore, KeyValue}
 pub use Rattle.olr_keys.specs.Laws.{OneList}
 pub use Rattle.olr_keys.specs.Matching.{IsKey}
 pub use Rattle.olr_keys.specs.Table.{Penalties}

@@ -58,8 +58,7 @@ module _ {road : RoadMap} {layers : LayersValue} (are : AreLayersOn road layers)
           (
             from.0.place,
             from.2,
-            admits are layer before last from.0 to from.1 to_is length.0
-                length.1,
+            admits are layer before last from.0 to from.1 to_is length.0 length.1,
           ),
         ),
       )
@@ -77,16 +76,14 @@ module _ {road : RoadMap} {layers : LayersValue} (are : AreLayersOn road layers)
       let from_ends : EndsAt road layers.tolerances layers.reference layer from.place =
       rw found.3 ends in
       let it_admits : AdmitsPlaces road layers.tolerances layers.reference layer from.place
-      candidate.place =
-      rw found.3 it in
+      candidate.place = rw found.3 it in
       let to_is : IsCandidateOf layers.candidates (layer + 1) last candidate = rw add-one at in
       let length = length_of are layer found.0 last from candidate found.2 to_is it_admits in (
         slice_get_within (slice_index_or layers.candidates (suc layer) []) last candidate at,
         (
           found.0,
           is_end layer found.0 from found.2 from_ends,
-          is_some_from
-              (length_at layers layer found.0 last) length.0 length.1,
+          is_some_from (length_at layers layer found.0 last) length.0 length.1,
         ),
       )
 
@@ -113,8 +110,7 @@ module _ {road : RoadMap} {layers : LayersValue} (are : AreLayersOn road layers)
   -- the points up to a layer are the first without a tuple, where there is one of those before it
   first_without : (layer : ℕ) (ends : List ℕ) → layer < length (points_of layers.reference)
       → HasTuple road layers.tolerances layers.reference layer → AreEnds layers layer ends
-      → length ends ≡ 0
-      → IsFirst (HasNoTuple road layers.tolerances layers.reference) (layer + 1)
+      → length ends ≡ 0 → IsFirst (HasNoTuple road layers.tolerances layers.reference) (layer + 1)
   first_without layer ends inside has all none = record {
     holds = (
       omega (arith, inside),
@@ -134,13 +130,11 @@ module _ {road : RoadMap} {layers : LayersValue} (are : AreLayersOn road layers)
   pub without_later : (layer : ℕ) (before ends : List ℕ) → 1 ≤ layer
       → layer < length (points_of layers.reference)
       → AreEnds layers (layer - 1) before → 0 < length before → AreEnds layers (layer - 1 + 1) ends
-      → length ends ≡ 0
-      → IsFirst (HasNoTuple road layers.tolerances layers.reference) (layer + 1)
+      → length ends ≡ 0 → IsFirst (HasNoTuple road layers.tolerances layers.reference) (layer + 1)
   without_later layer before ends later inside earlier some all none =
       first_without layer ends inside
       (subst (HasTuple road layers.tolerances layers.reference) {x = suc (layer - 1)} {y = layer}
-      (omega (arith, later))
-      (has_tuple (layer - 1) before earlier some))
+      (omega (arith, later)) (has_tuple (layer - 1) before earlier some))
       (subst (λ (n : ℕ). AreEnds layers n ends) {x = layer - 1 + 1} {y = layer}
       (omega (arith, later)) all) none
 

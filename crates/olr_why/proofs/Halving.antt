@@ -27,8 +27,7 @@ module _ {road : RoadMap} {reference : Reference} {given : Tolerances} {name : T
   -- ---- the first two values
 
   pub first_two : {low high : ℕ} {first : Option KeyValue} → low ≡ value_of given name
-      → high ≡ greatest_of name
-      → low < high
+      → high ≡ greatest_of name → low < high
       → MatchOption first (IsTrialWith road given reference name high Crowded)
       (λ key. IsTrialWith road given reference name high (Matching key))
       → IsBracket road given reference name (record { low = low; high = high; first = first })
@@ -62,15 +61,13 @@ module _ {road : RoadMap} {reference : Reference} {given : Tolerances} {name : T
         (λ key. IsTrialWith road given reference name middle (Matching key))
         → IsBracket road given reference name
         (record { low = bracket.low; high = middle; first = first })
-    lower_half found =
-        record {
-          none =
-              is.none;
-          found = found;
-          above = is.above;
-          lower = low;
-          at_most = omega (arith, is.at_most, high);
-        }
+    lower_half found = record {
+      none = is.none;
+      found = found;
+      above = is.above;
+      lower = low;
+      at_most = omega (arith, is.at_most, high);
+    }
 
   -- ---- no value between them
 
@@ -78,8 +75,7 @@ module _ {road : RoadMap} {reference : Reference} {given : Tolerances} {name : T
       (close : bracket.high ≤ bracket.low + 1) where
     pub least_in : {key : KeyValue} → MatchingHasKey → bracket.first ≡ Some key
         → IsLeastEnough road given reference name bracket.high key
-    least_in law first =
-        least_enough law (omega (arith, is.above, is.lower)) (λ lesser above less.
+    least_in law first = least_enough law (omega (arith, is.above, is.lower)) (λ lesser above less.
         is.none lesser above (omega (arith, less, close))) (rw first at is.found)
 
     pub none_in : OneCandidateALine → order_of name ≢ order_of Lowest → bracket.first ≡ None
@@ -111,8 +107,7 @@ module _ {road : RoadMap} {reference : Reference} {given : Tolerances} {name : T
     below = is.below;
     enough = is.uncrowded;
     greatest = λ greater above below other. is.greatest greater (omega (arith, above)) below other;
-    first =
-        λ matching.
+    first = λ matching.
         none (record {
           changed = is.uncrowded.changed;
           is_changed = is.uncrowded.is_changed;

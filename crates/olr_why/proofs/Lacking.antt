@@ -19,8 +19,7 @@ module _ {road : RoadMap} {layers : LayersValue} (are : AreLayersOn road layers)
         omega (
           arith,
           none,
-          slice_get_within (slice_index_or layers.candidates index []) found.0
-              found.1 found.2,
+          slice_get_within (slice_index_or layers.candidates index []) found.0 found.1 found.2,
         ),
   )
 
@@ -52,8 +51,7 @@ module _ {road : RoadMap} {layers : LayersValue} (are : AreLayersOn road layers)
         let first = candidate_in_layer are from_is in
         let second = candidate_in_layer are to_is in
         let same : AdmitsPlaces road layers.tolerances layers.reference index first.1.place
-        second.1.place =
-        rw (first.3, second.3) it in
+        second.1.place = rw (first.3, second.3) it in
         let known = length_of are index first.0 second.0 first.1 second.1 first.2 second.2 same in
         none (any_some (slice_index_or layers.lengths index [])
         (first.0 * length (slice_index_or layers.candidates (index + 1) []) + second.0) known.0
@@ -98,8 +96,7 @@ module _ {road : RoadMap} {layers : LayersValue} (layer : ℕ) (are : AreLayersO
 
 -- a leg has at most 4,096 pairs of candidates
 pub lengths_at_most : {road : RoadMap} {layers : LayersValue} (layer : ℕ)
-    (are : AreLayersOn road layers)
-    → layer + 1 < length layers.candidates
+    (are : AreLayersOn road layers) → layer + 1 < length layers.candidates
     → length (slice_index_or layers.lengths layer []) ≤ 4096
 lengths_at_most layer are within =
     let most = mul-le _ _ 64 64 (count_at_most layer are (omega (arith, within)))

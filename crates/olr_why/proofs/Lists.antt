@@ -47,8 +47,7 @@ some_at xs (k, o, inside, at, some) =
       k,
       found.0,
       inside,
-      get_or_default xs k None o inside ∙ at
-          ∙ found.1,
+      get_or_default xs k None o inside ∙ at ∙ found.1,
     )
 
 -- ---- numbers gathered in a list
@@ -93,8 +92,7 @@ pub record AreSoFar {X : Type 0} (P : ℕ → X → Type 0) (count : ℕ) (xs : 
   pub each : (index : ℕ) (x : X) → slice_get xs index ≡ Some x → P index x
 
 pub one_more_element : {X : Type 0} {P : ℕ → X → Type 0} {count : ℕ} {xs more : List X} {x : X}
-    → AreSoFar P count xs → P count x
-    → more ≡ xs ++ x ∷ [] → AreSoFar P (count + 1) more
+    → AreSoFar P count xs → P count x → more ≡ xs ++ x ∷ [] → AreSoFar P (count + 1) more
 one_more_element {P} {xs} {x} so_far here is = rw is (record {
   long = length_push xs x ∙ ap (λ (n : ℕ). n + 1) so_far.long;
   each = push_each P xs x so_far.each (rw so_far.long here);

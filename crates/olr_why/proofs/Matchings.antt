@@ -10,8 +10,7 @@ module _ {road : RoadMap} {layers : LayersValue} (are : AreLayersOn road layers)
   place_of_rank : (index rank : ℕ) (candidate : Candidate)
       → HasCandidate road layers.tolerances layers.reference index rank candidate
       → IsCandidatePlace road layers.tolerances layers.reference index candidate.place
-  place_of_rank index rank candidate has =
-      place_of (rank - 1) has.all has.is
+  place_of_rank index rank candidate has = place_of (rank - 1) has.all has.is
 
   admits_places : (index : ℕ) (from to : Candidate) (penalty : ℕ)
       → Admits road layers.tolerances layers.reference index from to penalty
@@ -57,10 +56,8 @@ module _ {road : RoadMap} {layers : LayersValue} (are : AreLayersOn road layers)
           candidates = slice_index_or layers.candidates index [];
           all = list_of_point are index (is_point is);
           at_least = omega arith;
-          is =
-              subst (λ (k : ℕ). slice_get (slice_index_or layers.candidates index []) k
-              ≡ Some found.1) {x = found.0} {y = found.0 + 1 - 1} (omega arith)
-              found.2;
+          is = subst (λ (k : ℕ). slice_get (slice_index_or layers.candidates index []) k
+              ≡ Some found.1) {x = found.0} {y = found.0 + 1 - 1} (omega arith) found.2;
         },
         found.3,
       )
@@ -68,15 +65,13 @@ module _ {road : RoadMap} {layers : LayersValue} (are : AreLayersOn road layers)
   admits_candidates : (index : ℕ) (from to : Candidate)
       → (it : AdmitsPlaces road layers.tolerances layers.reference index from.place to.place)
       → Admits road layers.tolerances layers.reference index from to (leg_penalty it.next it.length)
-  admits_candidates index from to it =
-      record {
-        next = it.next;
-        leads_on = it.leads_on;
-        length = it.length;
-        admitted =
-            it.admitted;
-        penalty_is = refl;
-      }
+  admits_candidates index from to it = record {
+    next = it.next;
+    leads_on = it.leads_on;
+    length = it.length;
+    admitted = it.admitted;
+    penalty_is = refl;
+  }
 
   ranks_behind : (index : ℕ) (from : Candidate) (places : List Place)
       → AreAdmittedBehind road layers.tolerances layers.reference index from.place places
@@ -104,8 +99,7 @@ module _ {road : RoadMap} {layers : LayersValue} (are : AreLayersOn road layers)
       )
 
   ranks_of : (places : List Place) → length places ≡ length (points_of layers.reference)
-      → AreAdmitted road layers.tolerances layers.reference places
-      → (ranks : List ℕ) × (total : ℕ)
+      → AreAdmitted road layers.tolerances layers.reference places → (ranks : List ℕ) × (total : ℕ)
       × IsMatching road layers.tolerances layers.reference ranks total
   ranks_of [] count admitted = absurd
       (omega (arith, count, at_least_two layers.reference are.reference))

@@ -31,13 +31,12 @@ module _ (IsOf : Tolerance → Option Remedy → Type 0) where
       → AreOfNames IsOf names b → a ≡ b
   unfolding AreOfNames
   one_of_names one [] a b is also = is ∙ sym also
-  one_of_names one (name ∷ names) a b is also =
-      rw (
-        is.4,
-        also.4,
-        one name is.0 also.0 is.2 also.2,
-        one_of_names one names is.1 also.1 is.3 also.3,
-      ) refl
+  one_of_names one (name ∷ names) a b is also = rw (
+    is.4,
+    also.4,
+    one name is.0 also.0 is.2 also.2,
+    one_of_names one names is.1 also.1 is.3 also.3,
+  ) refl
 
 -- no lesser value of what is added to the lowest class is looked for
 pub not_lowest : (k : ℕ) (other : Tolerance) → k < length narrowed

@@ -25,8 +25,7 @@ module _ (road : RoadMap) where
       ap Some (one_least road class from to a b one.0 other.0)
 
   one_better : (next : Next) (from to : Place) (class end : ℕ) (known : Option ℕ)
-      (a b : Option Better)
-      → IsBetter road next from to class end known a
+      (a b : Option Better) → IsBetter road next from to class end known a
       → IsBetter road next from to class end known b → a ≡ b
   one_better next from to class end known a b =
       one_option a b (λ better is none. none better.class better.length is.0 is.1 is.2) λ x y is
@@ -90,8 +89,7 @@ module _ {road : RoadMap} where
       let admits = one.admits_is ∙ sym other.admits_is in
       let of = one.of_is ∙ sym other.of_is in
       let pairs : a.pairs ≡ b.pairs = elim (eq-zero-or-pos a.admits) [
-        | inl none ↦
-            one_pairs (rw next at (one.pairs none)) (other.pairs (sym admits ∙ none))
+        | inl none ↦ one_pairs (rw next at (one.pairs none)) (other.pairs (sym admits ∙ none))
         | inr some ↦ one.admitting some ∙ sym (other.admitting (omega arith))
       ] in
       λ i. record {
@@ -100,8 +98,7 @@ module _ {road : RoadMap} where
         to = to i;
         admits = admits i;
         of = of i;
-        pairs =
-            pairs i;
+        pairs = pairs i;
       }
 
   one_legs_of : {layers : LayersValue} {a b : List LegReason} → AreLegReasons road layers a

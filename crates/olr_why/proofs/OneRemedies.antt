@@ -18,8 +18,7 @@ module _ (one_layers : OneLayers) (one_list : OneList) (has_key : MatchingHasKey
         → IsFirstMatching road tolerances reference b → a ≡ b
     one_first a b one other =
         let layers = one_layers road one.layers other.layers one.on other.on (one.reference_is
-        ∙ sym other.reference_is)
-        (one.tolerances_is ∙ sym other.tolerances_is) in
+        ∙ sym other.reference_is) (one.tolerances_is ∙ sym other.tolerances_is) in
         let answers = one_list other.layers.penalties one.answers other.answers
         (rw (← layers) one.are) other.are in
         same_some (slice_get other.answers 0) a b (rw (← answers) one.first) other.first
@@ -38,10 +37,8 @@ module _ (one_layers : OneLayers) (one_list : OneList) (has_key : MatchingHasKey
     one_least_enough : {name : Tolerance} {value : ℕ} {a b : KeyValue}
         → IsLeastEnough road given reference name value a
         → IsLeastEnough road given reference name value b → a ≡ b
-    one_least_enough {a} {b} one other =
-        one_first road other.enough.changed a b
-        (rw (one_changed one.enough.is_changed other.enough.is_changed) at one.first)
-        other.first
+    one_least_enough {a} {b} one other = one_first road other.enough.changed a b
+        (rw (one_changed one.enough.is_changed other.enough.is_changed) at one.first) other.first
 
     one_wider : (name : Tolerance) (a b : Option Remedy) → IsWider road given reference name a
         → IsWider road given reference name b → a ≡ b
@@ -52,8 +49,7 @@ module _ (one_layers : OneLayers) (one_list : OneList) (has_key : MatchingHasKey
         let keys = one_least_enough (rw values at is.4) also.4 in
         λ i. record {
           change = (is.2 ∙ ap (Set name) values ∙ sym also.2) i;
-          matching =
-              (is.3 ∙ ap Some keys ∙ sym also.3) i;
+          matching = (is.3 ∙ ap Some keys ∙ sym also.3) i;
         }
 
     -- ---- a map without bans
@@ -66,8 +62,7 @@ module _ (one_layers : OneLayers) (one_list : OneList) (has_key : MatchingHasKey
         let keys = one_first (without_bans road) given is.0 also.0 is.4 also.4 in
         λ i. record {
           change = (is.1 ∙ sym also.1) i;
-          matching =
-              (is.2 ∙ ap Some keys ∙ sym also.2) i;
+          matching = (is.2 ∙ ap Some keys ∙ sym also.2) i;
         }
 
     -- ---- a lesser value
@@ -75,10 +70,8 @@ module _ (one_layers : OneLayers) (one_list : OneList) (has_key : MatchingHasKey
     one_greatest : {name : Tolerance} {value : ℕ} (a b : Option KeyValue)
         → IsGreatestUncrowded road given reference name value a
         → IsGreatestUncrowded road given reference name value b → a ≡ b
-    one_greatest a b one other =
-        one_matching road other.enough.changed a b
-        (rw (one_changed one.enough.is_changed other.enough.is_changed) at one.first)
-        other.first
+    one_greatest a b one other = one_matching road other.enough.changed a b
+        (rw (one_changed one.enough.is_changed other.enough.is_changed) at one.first) other.first
 
     one_narrower : (name : Tolerance) (a b : Option Remedy) → IsNarrower road given reference name a
         → IsNarrower road given reference name b → a ≡ b
@@ -89,22 +82,20 @@ module _ (one_layers : OneLayers) (one_list : OneList) (has_key : MatchingHasKey
         let matchings = one_greatest x.matching y.matching (rw values at is.2) also.2 in
         λ i. record {
           change = (is.1 ∙ ap (Set name) values ∙ sym also.1) i;
-          matching =
-              matchings i;
+          matching = matchings i;
         }
 
     -- ---- all of them
 
     all_wider : (a b : List Remedy) → AreWider road given reference a
         → AreWider road given reference b → a ≡ b
-    all_wider a b one other =
-        rw (
-          one.list_is,
-          other.list_is,
-          one_opener one.of_bans other.of_bans one.bans other.bans,
-          one_of_names (IsWider road given reference) one_wider by_trust one.of_tolerances
-              other.of_tolerances one.tolerances other.tolerances,
-        ) refl
+    all_wider a b one other = rw (
+      one.list_is,
+      other.list_is,
+      one_opener one.of_bans other.of_bans one.bans other.bans,
+      one_of_names (IsWider road given reference) one_wider by_trust one.of_tolerances
+          other.of_tolerances one.tolerances other.tolerances,
+    ) refl
 
     pub one_remedies : (verdict : Verdict) (a b : List Remedy)
         → AreRemedies road given reference verdict a → AreRemedies road given reference verdict b

@@ -37,8 +37,7 @@ module _ (road : RoadMap) (tolerances : Tolerances) (reference : Reference) wher
   -- ---- one verdict
 
   pub one_verdict : (a b : Verdict) → IsVerdict road tolerances reference a
-      → IsVerdict road tolerances reference b
-      → a ≡ b
+      → IsVerdict road tolerances reference b → a ≡ b
   one_verdict (Crowded a) (Crowded b) one other =
       ap Crowded (omega (arith, one.1, other.1, one_first _ one.0 other.0 one.2 other.2))
   one_verdict (Crowded a) _ one other = absurd (crowded a one other.0)
@@ -76,8 +75,7 @@ not_empty penalties answers key all is none =
 
 -- no point of layers has too many candidates
 pub uncrowded : {road : RoadMap} {layers : LayersValue} → NoListsAndTooMany
-    → AreLayersOn road layers
-    → IsUncrowded road layers.tolerances layers.reference
+    → AreLayersOn road layers → IsUncrowded road layers.tolerances layers.reference
 uncrowded not_both are index inside many = not_both _ _ _ _ index are.lists many
 
 pub match_has_answers : MatchingHasKey → NoListsAndTooMany → MatchHasAnswers

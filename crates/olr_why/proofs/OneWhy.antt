@@ -47,6 +47,5 @@ one_why laws road tolerances reference nearest a b one other =
     (rw verdict at one.legs) other.legs in
     let remedies =
     one_remedies laws.one_layers laws.one_list laws.matching_has_key reference road tolerances
-    b.verdict a.remedies b.remedies
-    (rw verdict at one.remedies) other.remedies in
+    b.verdict a.remedies b.remedies (rw verdict at one.remedies) other.remedies in
     λ i. record { points = points i; legs = legs i; verdict = verdict i; remedies = remedies i }

@@ -9,8 +9,7 @@ none_of (Some x) nothing = absurd (nothing refl)
 
 -- a pair that isn't answered
 pub unanswered : {answer : Bool} {greatest same : ℕ} (pair : PairLength)
-    → Decides answer (IsAnswered greatest pair)
-    → greatest ≡ same → answer ≡ false
+    → Decides answer (IsAnswered greatest pair) → greatest ≡ same → answer ≡ false
     → IsAnswered same pair → ⊥
 unanswered pair decides is is_false answered = not_both (decides.1 (rw is answered)) is_false
 

@@ -14,8 +14,7 @@ module _ (leg : LegOnMap) {end first : ℕ} {from : Place} where
   pub pair_at : (index : ℕ) (d : Candidate) {pair : PairLength}
       → IsPair leg end first (index + 1) from (get_or leg.seconds.now index d).place pair
       → IsPairAt leg end first from index pair
-  pair_at index d is to to_is =
-      rw (get_or_from_slice_get leg.seconds.now index to d to_is) at is
+  pair_at index d is to to_is = rw (get_or_from_slice_get leg.seconds.now index to d to_is) at is
 
   -- the pair that is read at an index, of the second candidate that is read there
   pub read_at : (index : ℕ) (d : Candidate) (none : PairLength) {pairs : List PairLength}
@@ -47,16 +46,14 @@ before_end xs ys k x inside is = slice_get-get_or xs k x inside
 
 behind_end : {X : Type 0} (xs ys : List X) (k : ℕ) (x : X)
     → slice_get (xs ++ ys) (length xs + k) ≡ Some x → slice_get ys k ≡ Some x
-behind_end xs ys k x is =
-    slice_get-get_or ys k x
+behind_end xs ys k x is = slice_get-get_or ys k x
     (omega (arith, slice_get_within (xs ++ ys) (length xs + k) x is, length-append xs ys))
     ∙ ap Some (sym (get_or-append-add xs ys k x)
     ∙ get_or_from_slice_get (xs ++ ys) (length xs + k) x x is)
 
 -- the pairs of one first candidate more
 pub one_more_first : (leg : LegOnMap) (firsts : List Candidate) (first : Candidate) {rank : ℕ}
-    {pairs row : List PairLength}
-    → rank ≡ length firsts + 1
+    {pairs row : List PairLength} → rank ≡ length firsts + 1
     → ArePairs leg.map.now leg.tolerances leg.next firsts leg.seconds.now pairs
     → ArePairsFrom leg 8 rank first.place row
     → ArePairs leg.map.now leg.tolerances leg.next (firsts ++ first ∷ []) leg.seconds.now

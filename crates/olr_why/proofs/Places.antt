@@ -30,8 +30,7 @@ module _ {road : RoadMap} {tolerances : Tolerances} {reference : Reference} {ind
           first = are.first;
           point = are.point;
           first_is = are.first_is;
-          point_is =
-              are.point_is;
+          point_is = are.point_is;
           just = just;
         };
         place_is = refl;
@@ -50,8 +49,7 @@ module _ {road : RoadMap} {tolerances : Tolerances} {reference : Reference} {ind
       let point : is.is.point ≡ are.point =
       same_Some is.is.point are.point (sym is.is.point_is ∙ are.point_is) in
       let just : IsCandidateAt tolerances (coordinates_of are.first.at) are.point last road.lines
-      place.line is.candidate =
-      rw (← first, ← point) is.is.just in
+      place.line is.candidate = rw (← first, ← point) is.is.just in
       let there : Contains candidates is.candidate =
       are.just.each is.candidate (place.line, just) in (
         there.0,
@@ -67,14 +65,12 @@ module _ {road : RoadMap} {layers : LayersValue} (are : AreLayersOn road layers)
   pub list_of_point : (index : ℕ) → index < length (points_of layers.reference)
       → AreCandidatesOf layers.tolerances layers.reference road.lines index
       (slice_index_or layers.candidates index [])
-  list_of_point index inside =
-      (are.lists.each index (slice_index_or layers.candidates index [])
+  list_of_point index inside = (are.lists.each index (slice_index_or layers.candidates index [])
       (slice_get-get_or layers.candidates index [] (omega (arith, inside, are.lists.all)))).0
 
   -- as many layers as the table has are the points
   pub points_count : {penalties : Penalties} {count : ℕ} → penalties ≡ layers.penalties
-      → count ≡ length penalties.candidates
-      → count ≡ length (points_of layers.reference)
+      → count ≡ length penalties.candidates → count ≡ length (points_of layers.reference)
   points_count same is =
       is ∙ ap (λ (p : Penalties). length p.candidates) same ∙ layers_count are ∙ are.lists.all
 
@@ -107,8 +103,7 @@ module _ {road : RoadMap} {layers : LayersValue} (are : AreLayersOn road layers)
           next = leads.0;
           leads_on = leads.1;
           length = known;
-          admitted =
-              subst (IsAdmittedLength road layers.tolerances leads.0 from.place to.place) is
+          admitted = subst (IsAdmittedLength road layers.tolerances leads.0 from.place to.place) is
               (are.lengths index leads.0 first second from to leads.1 from_is to_is);
         }
 
@@ -123,6 +118,5 @@ module _ {road : RoadMap} {layers : LayersValue} (are : AreLayersOn road layers)
     -- and the length of two candidates that a leg admits is known
     pub length_of : AdmitsPlaces road layers.tolerances layers.reference index from.place to.place
         → (known : ℕ) × (length_at layers index first second ≡ Some known)
-    length_of it =
-        known_length it.next it.length (length_at layers index first second) it.admitted
+    length_of it = known_length it.next it.length (length_at layers index first second) it.admitted
         (are.lengths index it.next first second from to it.leads_on from_is to_is)

@@ -1,8 +1,7 @@
 -- What is found with some tolerances, by the candidates of the points and the keys of the layers'
 -- table.
-use Rattle.olr_why.proofs.Common.{AreAnswers, Penalties, AdmitsPlaces, AreLayersOn, Candidate, HasMatching, IsUncrowded, KeyValue, LayersValue, MatchingHasKey, NoListsAndTooMany, points_of, Reference, RoadMap, Tolerances, ◌≡◌, zero, suc, ◌⊎◌, List, [], ◌∷◌, Option, None, Some, inl, inr, refl, ap, arith, AllPairs, Contains, slice_get, ℕ, ◌+◌, ◌*◌, ◌<◌, length, get_or, ◌∙◌, subst, All, Any, slice_index_or, IsFirstKey, IsTrial, cases_lt, get_or-map, get_or_past, length-map, nil_from_length, slice_get-get_or, slice_get_within, AreLists, lists_of, IsAdmittedLength, list_of}
+use Rattle.olr_why.proofs.Common.{AreAnswers, Penalties, AdmitsPlaces, AreLayersOn, Candidate, HasMatching, IsUncrowded, KeyValue, LayersValue, MatchingHasKey, NoListsAndTooMany, points_of, Reference, RoadMap, Tolerances, ◌≡◌, zero, suc, ◌⊎◌, List, [], ◌∷◌, Option, None, Some, inl, inr, refl, ap, arith, AllPairs, Contains, slice_get, ℕ, ◌+◌, ◌*◌, ◌<◌, length, get_or, ◌∙◌, subst, All, Any, slice_index_or, IsFirstKey, IsTrial, cases_lt, get_or-map, get_or_past, length-map, nil_from_length, slice_get-get_or, slice_get_within, AreLists, lists_of, IsAdmittedLength, list_of, IsBefore}
 use Rattle.olr_keys.specs.Finder.{IsNext}
-use Rattle.olr_keys.specs.Key.{IsBefore}
 use Rattle.olr_keys.specs.Order.{asymmetric}
 use Rattle.arrayvec.specs.ArrayVec.{ArrayVec, array_vec_len}
 use Rattle.olr_matching.specs.Lengths.{HasLegWithoutPair}
@@ -22,8 +21,7 @@ first_is_least first rest least rise (suc k, inside, is) (inr before) =
     absurd (asymmetric first least (rw is at (rise 0 (suc k) least (omega arith) inside)) before)
 
 least_is_first : (answers : List KeyValue) (found : Option KeyValue) → AllPairs IsBefore answers
-    → IsNext answers None found
-    → slice_get answers 0 ≡ found
+    → IsNext answers None found → slice_get answers 0 ≡ found
 least_is_first [] None rise next = refl
 least_is_first [] (Some least) rise next = absurd (omega (arith, next.0.0.1))
 least_is_first (first ∷ rest) None rise next = absurd (next first ((0, omega arith, refl), tt))
@@ -33,8 +31,7 @@ least_is_first (first ∷ rest) (Some least) rise next =
     (first_is_least first rest least rise next.0.0 (next.1 first (there, tt)))
 
 pub first_key : (penalties : Penalties) (answers : List KeyValue) (found : Option KeyValue)
-    → AreAnswers penalties answers
-    → IsNext answers None found → IsFirstKey penalties found
+    → AreAnswers penalties answers → IsNext answers None found → IsFirstKey penalties found
 first_key penalties answers found are next =
     record { answers = answers; are = are; is = least_is_first answers found are.rise next }
 
@@ -108,7 +105,8 @@ module _ {road : RoadMap} {tolerances : Tolerances} {reference : Reference} wher
 
   pub trial_without_pair : {lists : List (List Candidate)} → NoListsAndTooMany
       → AreLists tolerances reference road.lines lists
-      → HasLegWithoutPair road tolerances reference lists → IsTrial road tolerances reference NoMatching
+      → HasLegWithoutPair road tolerances reference lists → IsTrial road tolerances reference
+      NoMatching
   trial_without_pair law are lacks = (uncrowded road are law, none_without_pair are lacks)
 
   pub trial_with_empty : NoListsAndTooMany → (lists : List (ArrayVec Candidate))

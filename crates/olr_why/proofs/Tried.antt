@@ -8,8 +8,7 @@ use Rattle.olr_why.proofs.Widened.{matching, too_many}
 
 -- a value that a tolerance has is within its range
 pub value_in_range : {name : Tolerance} {value : ℕ} {given changed : Tolerances}
-    → IsChanged name value given changed
-    → IsTolerance name value
+    → IsChanged name value given changed → IsTolerance name value
 value_in_range {name} {changed =
     changed} is = subst (λ (v : ℕ). IsTolerance name v) is.changed_is (in_range changed name)
 
@@ -18,8 +17,7 @@ module _ (road : RoadMap) (reference : Reference) where
 
   -- a first matching is a matching
   pub has_matching : {tolerances : Tolerances} {key : KeyValue} → MatchingHasKey
-      → IsFirstMatching road tolerances reference key
-      → HasMatching road tolerances reference
+      → IsFirstMatching road tolerances reference key → HasMatching road tolerances reference
   has_matching {key = key} law first =
       let is : IsKey first.layers.penalties key =
       all_at (IsKey first.layers.penalties) first.answers 0 key first.are.only first.first in
@@ -34,10 +32,8 @@ module _ (road : RoadMap) (reference : Reference) where
 
   -- and with tolerances that are at least these too
   still_crowded : {before after : Tolerances} → OneCandidateALine → AreAtMost before after
-      → IsCrowded road before reference
-      → IsUncrowded road after reference → ⊥
-  still_crowded {after =
-      after} law wide (index, many) =
+      → IsCrowded road before reference → IsUncrowded road after reference → ⊥
+  still_crowded {after = after} law wide (index, many) =
       not_both after (index, too_many wide law reference road.lines index many)
 
 module _ {road : RoadMap} {reference : Reference} {given : Tolerances} {name : Tolerance} where

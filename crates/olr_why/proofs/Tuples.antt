@@ -31,8 +31,7 @@ module _ (road : RoadMap) (tolerances : Tolerances) (reference : Reference) wher
       )
 
   last_in : (index : ℕ) (places : List Place) → length places ≡ suc index
-      → AreAdmitted road tolerances reference places
-      → (place : Place) × EndsAt index place
+      → AreAdmitted road tolerances reference places → (place : Place) × EndsAt index place
   last_in index [] count admitted = absurd (omega (arith, count))
   last_in index (place ∷ rest) count admitted =
       let found = last_behind 0 place rest admitted.0 admitted.1 in (

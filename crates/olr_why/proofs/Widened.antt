@@ -34,8 +34,7 @@ module _ {before after : Tolerances} (at_most : AreAtMost before after) where
     still rank candidate (line, line_is, it) =
         let other : Candidate = record {
           place = candidate.place;
-          penalty =
-              penalty_of after point (head_of line) it.projection;
+          penalty = penalty_of after point (head_of line) it.projection;
         } in (
           other,
           (
@@ -91,8 +90,7 @@ module _ {before after : Tolerances} (at_most : AreAtMost before after) where
       record {
         same_length = refl;
         each = λ k d inside. absurd (omega (arith, inside));
-        places =
-            λ k d inside. absurd (omega (arith, inside));
+        places = λ k d inside. absurd (omega (arith, inside));
       },
     )
     all_still (first ∷ found) only =
@@ -104,13 +102,11 @@ module _ {before after : Tolerances} (at_most : AreAtMost before after) where
     module _ (one_a_line : OneCandidateALine) where
       -- two candidates at one place are the same
       same_at_place : (a b : Candidate) → IsOneOf before origin point is_last lines a
-          → IsOneOf before origin point is_last lines b
-          → a.place ≡ b.place → a ≡ b
+          → IsOneOf before origin point is_last lines b → a.place ≡ b.place → a ≡ b
       same_at_place a b is also place =
           let rank : is.0 ≡ also.0 = sym is.1.2.rates.line_is ∙ ap (λ (p : Place). p.line) place
           ∙ also.1.2.rates.line_is in
-          one_a_line before origin point is_last lines also.0 a b
-          (rw rank at is.1) also.1
+          one_a_line before origin point is_last lines also.0 a b (rw rank at is.1) also.1
 
       still_too_many : AreTooMany before origin point is_last lines
           → AreTooMany after origin point is_last lines
@@ -131,8 +127,7 @@ module _ {before after : Tolerances} (at_most : AreAtMost before after) where
 
   -- a point has too many candidates with the greater tolerances too
   pub too_many : OneCandidateALine → (reference : Reference) (lines : List RoadLine) (index : ℕ)
-      → HasTooMany before reference lines index
-      → HasTooMany after reference lines index
+      → HasTooMany before reference lines index → HasTooMany after reference lines index
   too_many one_a_line reference lines index it = record {
     first = it.first;
     point = it.point;
@@ -149,17 +144,14 @@ module _ {before after : Tolerances} (at_most : AreAtMost before after) where
         → IsCandidatePlace road before reference index place
         → IsCandidatePlace road after reference index place
     candidate_place index place it =
-        let found =
-        still (coordinates_of it.is.first.at) it.is.point
-        (index + 1 == length (points_of reference)) road.lines place.line it.candidate
-        it.is.just in
+        let found = still (coordinates_of it.is.first.at) it.is.point
+        (index + 1 == length (points_of reference)) road.lines place.line it.candidate it.is.just in
         record {
           candidate = found.0;
           is = record {
             first = it.is.first;
             point = it.is.point;
-            first_is =
-                it.is.first_is;
+            first_is = it.is.first_is;
             point_is = it.is.point_is;
             just = found.1;
           };
@@ -186,14 +178,12 @@ module _ {before after : Tolerances} (at_most : AreAtMost before after) where
 
     admits : (index : ℕ) (from to : Place) → AdmitsPlaces road before reference index from to
         → AdmitsPlaces road after reference index from to
-    admits index from to it =
-        record {
-          next = it.next;
-          leads_on = it.leads_on;
-          length = it.length;
-          admitted =
-              admitted it.next from to it.length it.admitted;
-        }
+    admits index from to it = record {
+      next = it.next;
+      leads_on = it.leads_on;
+      length = it.length;
+      admitted = admitted it.next from to it.length it.admitted;
+    }
 
     behind : (index : ℕ) (from : Place) (rest : List Place)
         → AreAdmittedBehind road before reference index from rest
@@ -202,8 +192,7 @@ module _ {before after : Tolerances} (at_most : AreAtMost before after) where
     behind index from (to ∷ rest) (is, leg, more) = (
       candidate_place (index + 1) to is,
       admits index from to leg,
-      behind (index + 1) to rest
-          more,
+      behind (index + 1) to rest more,
     )
 
     places_admitted : (places : List Place) → AreAdmitted road before reference places
@@ -217,8 +206,7 @@ module _ {before after : Tolerances} (at_most : AreAtMost before after) where
     matching it = record {
       places = it.places;
       count_is = it.count_is;
-      admitted =
-          places_admitted it.places it.admitted;
+      admitted = places_admitted it.places it.admitted;
     }
 
 -- a wider tolerance keeps both

@@ -88,8 +88,7 @@ pub(crate) fn likely_radius(
     on: &ReferenceOnMap<'_>,
     start: u32,
     most: u32,
-) -> Result<u32, NoMemory>
-{
+) -> Result<u32, NoMemory> {
     let mut least = most;
     for index in 0..on.reference.points().len() {
         least = least.min(crowding_radius(alloc, on, index, start, least)?);

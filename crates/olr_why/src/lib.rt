@@ -11,7 +11,8 @@
 //! - [`trial`]: what is found with some tolerances; [`trying`]: what is found with one value of a
 //!   tolerance.
 //! - [`bracket`], [`widening`]: the least value above the given one that gives a matching;
-//!   [`narrowing`]: the greatest one below it with which no point has too many candidates.
+//!   [`narrowing`]: the greatest one below it with which no point has too many candidates;
+//!   [`crowding`]: which radius is tried first.
 //! - [`remedy`]: a change that would help; [`remedies`]: all of them.
 //! - [`unbanned`]: the map without its bans; [`nearest_count`]: how many of the lines nearest to a
 //!   point are shown.

@@ -95,8 +95,7 @@ fn likely_value(
     on: &ReferenceOnMap<'_>,
     name: Tolerance,
     bracket: &Bracket,
-) -> Result<Option<u32>, NoMemory>
-{
+) -> Result<Option<u32>, NoMemory> {
     match (name, &bracket.first) {
         (Tolerance::Radius, None) => {
             let radius = likely_radius(alloc, on, bracket.low, bracket.high)?;

@@ -10,8 +10,7 @@ returns-in_err-projection c = rw c.from_residual.ensures (λ candidate is.
 pub candidate_by-requires-clause-class : goal.candidate_by-requires-clause-class
 candidate_by-requires-clause-class c =
     let at = c.in_ok-projection.ensures.projection in
-    let sound =
-    sound_at _ _ c.line-line.ensures.sound.lines.each at.1 in
+    let sound = sound_at _ _ c.line-line.ensures.sound.lines.each at.1 in
     rw (head_at c.args.map.now.lines c.args.rank at.0 c.line-line.result at.1
     c.line-line.ensures.line) sound.class
 
@@ -29,7 +28,6 @@ returns-in_default c =
       record {
         projection = c.in_ok-projection.projection;
         is_projection = at.2;
-        failed =
-            rw (← head) c.in_default.ensures;
+        failed = rw (← head) c.in_default.ensures;
       },
     )

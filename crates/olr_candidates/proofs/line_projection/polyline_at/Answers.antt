@@ -6,15 +6,13 @@ use Rattle.olr_candidates.proofs.line_projection.polyline_at.Goals as goal
 pub returns-clause-spots : goal.returns-clause-spots
 returns-clause-spots c = λ line at.
     let origin = coordinates_of c.args.query.now.plane in
-    c.polyline_of.ensures.spots ∙ spots_of origin _
-    ∙ ap (λ l. map (spot_of origin) l)
+    c.polyline_of.ensures.spots ∙ spots_of origin _ ∙ ap (λ l. map (spot_of origin) l)
     (points_at c.args.map.now.lines c.args.rank _ at c.points.ensures.points)
 
 pub returns-clause-polyline : goal.returns-clause-polyline
 returns-clause-polyline c =
     let at = line_at _ _ c.requires in
-    let sound =
-    sound_at _ _ c.points.ensures.sound.lines.each at.1 in
+    let sound = sound_at _ _ c.points.ensures.sound.lines.each at.1 in
     let points : map coordinates_of c.points.result.now ≡ at.0.points =
     points_at c.args.map.now.lines c.args.rank _ at.1 c.points.ensures.points in
     let origin = coordinates_of c.args.query.now.plane in

@@ -2,9 +2,6 @@ use Rattle.olr_candidates.proofs.Common.{coordinates_of, head_of, polyline_of, â
 use Rattle.olr_candidates.proofs.LineCandidates.{line_at, head_at}
 use Rattle.olr_candidates.proofs.line_projection.projection_at.Goals as goal
 
-pub project-requires-clause-polyline : goal.project-requires-clause-polyline
-project-requires-clause-polyline c = rw c.deref.ensures.0 c.polyline_at-polyline.ensures.polyline
-
 pub returns-clause-projection : goal.returns-clause-projection
 returns-clause-projection c =
     let at = line_at _ _ c.requires in

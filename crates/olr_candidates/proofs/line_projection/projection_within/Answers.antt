@@ -2,10 +2,6 @@ use Rattle.olr_candidates.proofs.Common.{coordinates_of, spot_of, IsNearest, Nea
 use Rattle.olr_candidates.proofs.LineCandidates.{line_at, head_at}
 use Rattle.olr_candidates.proofs.line_projection.projection_within.Goals as goal
 
-pub nearest-near-requires-clause-polyline : goal.nearest-near-requires-clause-polyline
-nearest-near-requires-clause-polyline c =
-    rw c.deref.ensures.0 c.polyline_at-polyline.ensures.polyline
-
 pub returns-then-near-most-clause-projection : goal.returns-then-near-most-clause-projection
 returns-then-near-most-clause-projection c = λ projection is.
     let origin = coordinates_of c.args.query.now.plane in

@@ -1,4 +1,4 @@
-use Rattle.olr_candidates.proofs.Common.{head_of, ◌≡◌, arith}
+use Rattle.olr_candidates.proofs.Common.{arith}
 use Rattle.olr_candidates.proofs.LineCandidates.{sound_at, head_at}
 use Rattle.olr_candidates.proofs.near.near_within.Goals as goal
 
@@ -10,22 +10,6 @@ returns-in_err-projection-clause-near c = rw c.from_residual.ensures (λ near is
 pub near_by-requires-clause-class : goal.near_by-requires-clause-class
 near_by-requires-clause-class c =
     let at = c.in_ok-projection.ensures.projection in
-    let sound =
-    sound_at _ _ c.line-line.ensures.sound.lines.each at.1 in
+    let sound = sound_at _ _ c.line-line.ensures.sound.lines.each at.1 in
     rw (head_at c.args.map.now.lines c.args.rank at.0 c.line-line.result at.1
     c.line-line.ensures.line) sound.class
-
-pub returns-clause-near : goal.returns-clause-near
-returns-clause-near c =
-    let at = c.in_ok-projection.ensures.projection in
-    let head : c.line-line.result ≡ head_of at.0 =
-    head_at c.args.map.now.lines c.args.rank _ _ at.1 c.line-line.ensures.line in (
-      at.0,
-      at.1,
-      record {
-        projection = c.in_ok-projection.projection;
-        is_projection =
-            at.2;
-        describes = rw (← head) c.near_by.ensures;
-      },
-    )

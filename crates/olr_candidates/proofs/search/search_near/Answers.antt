@@ -46,11 +46,9 @@ returns c =
     let near =
     subst (λ l. IsNear c.args.query.now c.args.map.now.lines c.args.query.now.tolerances.radius l)
     (cc (c.in-None.ensures.steps.0, append-nil seen)) c.loop-rank.invariant.1 in
-    let here : IsInRange (coordinates_of c.args.query.now.point.at) =
-    record {
+    let here : IsInRange (coordinates_of c.args.query.now.point.at) = record {
       lon = c.args.query.now.point.at.lon_in_range;
-      lat =
-          c.args.query.now.point.at.lat_in_range;
+      lat = c.args.query.now.point.at.lat_in_range;
     } in
     found_all _ _ _ _ c.loop-rank.invariant.2
     (λ rank candidate at. near.meeting.each rank (

@@ -19,8 +19,7 @@ returns c =
     let x : c.x_at.result ≡ x_of origin here.lon = simp lon at c.x_at.ensures.x in
     let next_x : c.x_at-2.result ≡ x_of origin (here.lon +ℤ c.reach_in_longitude.result +ℤ pos 1) =
     simp (lon, reach, bound, next) at c.x_at-2.ensures.x in
-    let beyond : (c.x_at.result +ℤ pos (100 * c.args.radius)) <ℤ c.x_at-2.result =
-    omega (
+    let beyond : (c.x_at.result +ℤ pos (100 * c.args.radius)) <ℤ c.x_at-2.result = omega (
       arith,
       ints,
       c.if-x_at-edge.false,

@@ -7,8 +7,7 @@ new-requires c =
     let are_legs = rw c.deref-2.ensures.value at c.in_ok-legs.ensures in
     let are_penalties = rw c.deref.ensures.value at c.in_ok-penalties.ensures in
     rw (c.deref-3.ensures.value, c.deref-4.ensures.value)
-    (table_of_vectors _ _ _ _
-    _
+    (table_of_vectors _ _ _ _ _
     _ _ c.sound.ensures c.bounds.ensures.penalty c.args.on.now.is_reference
     c.requires.lists c.requires.lengths are_penalties are_legs)
 
@@ -21,15 +20,12 @@ returns-clause-layers c =
       lengths = lengths_of _;
       penalties = c.in_ok-table.table;
     } in
-    let table =
-    rw (c.deref-3.ensures.value, c.deref-4.ensures.value) at c.in_ok-table.ensures in
+    let table = rw (c.deref-3.ensures.value, c.deref-4.ensures.value) at c.in_ok-table.ensures in
     let are_legs =
-    subst (λ (it : Penalties). ArePenaltiesOfLegs c.args.on.now.reference.now layers.lengths it.legs)
-    (sym table)
-    (rw c.deref-2.ensures.value at c.in_ok-legs.ensures) in
+    subst (λ (it : Penalties). ArePenaltiesOfLegs c.args.on.now.reference.now layers.lengths
+    it.legs) (sym table) (rw c.deref-2.ensures.value at c.in_ok-legs.ensures) in
     let are_penalties = ap (λ it. it.candidates) table
     ∙ (rw c.deref.ensures.value at c.in_ok-penalties.ensures) in
     let is_table = rw c.table.view_is at c.table.invariant in
     are_layers _ _ _ c.in_ok-copy_of.ensures c.args.on.now.is_reference c.requires.lists
-    c.requires.lengths
-    is_table are_penalties are_legs
+    c.requires.lengths is_table are_penalties are_legs

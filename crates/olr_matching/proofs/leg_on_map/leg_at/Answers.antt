@@ -18,8 +18,7 @@ returns c =
     let first = list_of c.args.tolerances.now c.args.reference.now road.lines lists c.args.layer
     c.requires.lists (omega (arith, count, c.requires.within)) in
     let second = list_of c.args.tolerances.now c.args.reference.now road.lines lists
-    (c.args.layer + 1) c.requires.lists
-    (omega (arith, count, c.requires.within)) in
+    (c.args.layer + 1) c.requires.lists (omega (arith, count, c.requires.within)) in
     let not_last : c.args.layer + 1 < length (points_of c.args.reference.now) =
     omega (arith, count, c.requires.lists.all, c.requires.within) in
     record {

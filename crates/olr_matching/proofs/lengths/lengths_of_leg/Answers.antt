@@ -11,12 +11,10 @@ loop-first-preserved c =
     let row = c.in_ok-push_row.ensures in
     record {
       rows = rw (
-        take_more leg.firsts.now c.loop-first.first-index no_candidate
-            c.loop-first-test.true,
+        take_more leg.firsts.now c.loop-first.first-index no_candidate c.loop-first-test.true,
         row.1,
       )
           (one_more_row leg.map.now leg.tolerances leg.next leg.seconds.now _ _
-          c.loop-first.lengths.items row.0
-          c.loop-first.invariant.rows row.2);
+          c.loop-first.lengths.items row.0 c.loop-first.invariant.rows row.2);
       searches = c.in_ok-index.ensures.searches;
     }

@@ -7,9 +7,8 @@ use Rattle.olr_matching.proofs.lengths.lengths_of_legs.Given as goal
 abbrev pub invariant-loop-layer : goal.invariant-loop-layer
 invariant-loop-layer l = record {
   legs : HoldsOfAll
-      (λ layer lengths. AreLengthsOfLeg l.on.map.now l.on.tolerances l.on.reference.now (lists_of l.candidates) layer
-      lengths)
-      [] l.layer (lengths_of l.lengths.items);
+      (λ layer lengths. AreLengthsOfLeg l.on.map.now l.on.tolerances l.on.reference.now
+      (lists_of l.candidates) layer lengths) [] l.layer (lengths_of l.lengths.items);
   admit : IsTrue l.stops_early → AdmitPairs (lengths_of l.lengths.items);
   searches : AreSearchesOn l.on.map.now l.searches;
 }

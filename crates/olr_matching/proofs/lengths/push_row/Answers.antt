@@ -10,6 +10,5 @@ loop-second-preserved c =
       row ++ found ∷ [],
       rw (c.in_ok-push.ensures.items, c.loop-second.invariant.1) (append_assoc _ row (found ∷ [])),
       rw (take_more leg.seconds.now c.loop-second.second-index no_candidate c.loop-second-test.true)
-          (one_more_length _ _ _ _ _ _ _ _ c.loop-second.invariant.2
-          c.admitted_length.ensures),
+          (one_more_length _ _ _ _ _ _ _ _ c.loop-second.invariant.2 c.admitted_length.ensures),
     )

@@ -6,5 +6,4 @@ use Rattle.olr_matching.proofs.penalties.penalties_of_legs.Given as goal
 abbrev pub invariant-loop-layer : goal.invariant-loop-layer
 invariant-loop-layer l = HoldsOfAll
     (λ layer penalties. ArePenaltiesOfLeg l.reference layer
-    (slice_index_or (lengths_of l.lengths) layer []) penalties)
-    [] l.layer (lengths_of l.legs.items)
+    (slice_index_or (lengths_of l.lengths) layer []) penalties) [] l.layer (lengths_of l.legs.items)

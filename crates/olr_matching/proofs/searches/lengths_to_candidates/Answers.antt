@@ -8,6 +8,5 @@ lengths_to-requires-clause-targets c = rw (c.deref.ensures.value, c.in_ok-target
     c.requires.places)
 
 pub returns-clause-covers : goal.returns-clause-covers
-returns-clause-covers c =
-    all_of_places (λ (place : Place). Covers c.in_ok-reach.reach place.line) _
+returns-clause-covers c = all_of_places (λ (place : Place). Covers c.in_ok-reach.reach place.line) _
     (rw (c.deref.ensures.value, c.in_ok-targets.ensures) at c.in_ok-reach.ensures.covers)

@@ -6,16 +6,14 @@ pub loop-piece-init : goal.loop-piece-init
 loop-piece-init c = record {
   place_is = refl;
   within = c.requires.within;
-  positive =
-      c.requires.positive;
+  positive = c.requires.positive;
 }
 
 pub returns-then-left-length : goal.returns-then-left-length
 returns-then-left-length c =
     let d : Piece = record { line = 0; from = 0; to = 0 } in
     place_found (place_at (steps_of c.args.pieces.now) c.args.distance) c.args.pieces.now
-    c.requires.not_empty c.loop-piece.piece-index
-    c.loop-piece.left d c.loop-piece.invariant
+    c.requires.not_empty c.loop-piece.piece-index c.loop-piece.left d c.loop-piece.invariant
     c.loop-piece-test.true (omega (arith, c.if-left-length.true, c.length_of-length.ensures))
     ∙ ap Some (cc)
 
@@ -32,6 +30,5 @@ pub unreachable-requires : goal.unreachable-requires
 unreachable-requires c =
     let d : Piece = record { line = 0; from = 0; to = 0 } in
     place_inside (place_at (steps_of c.args.pieces.now) c.args.distance) c.args.pieces.now
-    c.requires.not_empty c.loop-piece.piece-index
-    c.loop-piece.left d c.loop-piece.invariant
+    c.requires.not_empty c.loop-piece.piece-index c.loop-piece.left d c.loop-piece.invariant
     c.loop-piece-test.false

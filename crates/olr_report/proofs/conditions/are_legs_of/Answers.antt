@@ -5,8 +5,7 @@ pub loop-leg-preserved : goal.loop-leg-preserved
 loop-leg-preserved c =
     let leg = c.leg-item.result in
     All-more IsMeasured c.args.legs.now c.loop-leg.leg-index leg c.loop-leg-test.true
-    c.loop-leg.invariant
-    (rw (← c.leg-item.is) (c.is_measured.ensures.0 cc))
+    c.loop-leg.invariant (rw (← c.leg-item.is) (c.is_measured.ensures.0 cc))
 
 pub returns : goal.returns
 returns c = (

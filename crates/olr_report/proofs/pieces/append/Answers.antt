@@ -21,7 +21,6 @@ returns-2 c = elim c.in_default.branch [
       c.args.route.now.len c.args.route.now.ok.0
       (omega (arith, w.in-Some.ensures.item)) w.in-Some.ensures.value
       (c.in_ok-push.ensures.items ∙ ap (λ (r : Vec Piece). r.items ++ c.args.piece ∷ []) w.route-is)
-      c.requires.route.joined
-      (λ touch. absurd (cc (w.touches.ensures.1 touch, w.if-touches.false)))
+      c.requires.route.joined (λ touch. absurd (cc (w.touches.ensures.1 touch, w.if-touches.false)))
       (omega (arith, c.requires.forwards))
 ]

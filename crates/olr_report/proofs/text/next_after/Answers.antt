@@ -20,9 +20,8 @@ chosen true key is = refl
 chosen false key is = absurd cc
 
 pub returns-then-page : goal.returns-then-page
-returns-then-page c =
-    cc (
-      copied c.last.result,
-      last_is c.args.page.now.keys.items,
-      chosen c.args.page.now.more (last_of None c.args.page.now.keys.items) c.if-page.true,
-    )
+returns-then-page c = cc (
+  copied c.last.result,
+  last_is c.args.page.now.keys.items,
+  chosen c.args.page.now.more (last_of None c.args.page.now.keys.items) c.if-page.true,
+)

@@ -18,8 +18,7 @@ returns-then-is_empty-2 c = λ road are.
     (sym c.is_empty-in-loop-layer.ensures ∙ c.if-is_empty-2.true) in
     let count = points_count are c.table.ensures c.layers-layer-end.ensures.count in
     without_later are c.loop-layer.layer c.loop-layer.ends.items c.next_ends-ends.result.items
-    c.loop-layer.auto.layer
-    (omega (arith, count)) c.loop-layer.invariant.1 c.loop-layer.invariant.0
+    c.loop-layer.auto.layer (omega (arith, count)) c.loop-layer.invariant.1 c.loop-layer.invariant.0
     c.next_ends-ends.ensures none
 
 pub returns : goal.returns
@@ -31,5 +30,4 @@ returns c = λ road are.
       count,
       c.layers-layer-end.ensures.sound.layers_at_least,
       c.layers-layer-end.ensures.count,
-    )) c.loop-layer.invariant.1
-    c.loop-layer.invariant.0
+    )) c.loop-layer.invariant.1 c.loop-layer.invariant.0

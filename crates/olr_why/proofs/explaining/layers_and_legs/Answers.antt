@@ -1,7 +1,8 @@
 use Rattle.olr_why.proofs.AllReasons.{crowded_verdict}
 use Rattle.olr_why.proofs.explaining.layers_and_legs.Goals as goal
 
-pub returns-in-Err-TooManyCandidates-clause-verdict : goal.returns-in-Err-TooManyCandidates-clause-verdict
+pub returns-in-Err-TooManyCandidates-clause-verdict :
+    goal.returns-in-Err-TooManyCandidates-clause-verdict
 returns-in-Err-TooManyCandidates-clause-verdict c =
     crowded_verdict c.no_list_of_point_and_too_many.ensures c.args.on.now.map.now _ _
     c.in-Err-TooManyCandidates.number

@@ -6,7 +6,8 @@ use Rattle.olr_why.proofs.explaining.reasons_of_points.Goals as goal
 pub loop-index-preserved : goal.loop-index-preserved
 loop-index-preserved c =
     let OnMap : PointReason → Type 0 =
-    λ point. All (λ (near : NearLine). near.line < length c.args.on.now.map.now.lines) point.nearest in
+    λ point. All (λ (near : NearLine). near.line < length c.args.on.now.map.now.lines) point.nearest
+    in
     record {
       reasons = one_more_element c.loop-index.invariant.reasons (record {
         candidates = c.count_of-candidates.ensures;

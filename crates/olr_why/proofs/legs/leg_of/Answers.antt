@@ -17,8 +17,7 @@ overflow_cast-admits c =
       count,
       most,
       c.admitted-admits.ensures,
-      ap (λ (l : List (Option ℕ)). length l)
-          c.lengths.ensures,
+      ap (λ (l : List (Option ℕ)). length l) c.lengths.ensures,
     )
 
 pub pairs_where_none-requires : goal.pairs_where_none-requires

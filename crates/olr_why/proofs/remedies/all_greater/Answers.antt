@@ -1,4 +1,4 @@
-use Rattle.olr_why.specs.Remedies.{IsWider, by_trust}
+use Rattle.olr_why.proofs.Common.{IsWider, by_trust}
 use Rattle.olr_why.proofs.OfNames.{all_of_them, one_more}
 use Rattle.olr_why.proofs.remedies.all_greater.Goals as goal
 

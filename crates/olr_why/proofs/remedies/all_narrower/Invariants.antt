@@ -1,4 +1,4 @@
-use Rattle.olr_why.specs.Remedies.{IsNarrower, narrowed}
+use Rattle.olr_why.proofs.Common.{IsNarrower, narrowed}
 use Rattle.olr_why.proofs.OfNames.{AreUpTo}
 use Rattle.olr_why.proofs.remedies.all_narrower.Given as goal
 

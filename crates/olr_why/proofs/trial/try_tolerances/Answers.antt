@@ -2,8 +2,7 @@ use Rattle.olr_why.proofs.Trials.{trial_matching, trial_without_pair, trial_with
 use Rattle.olr_why.proofs.trial.try_tolerances.Goals as goal
 
 pub returns-then-has_empty : goal.returns-then-has_empty
-returns-then-has_empty c =
-    trial_with_empty c.no_lists_and_too_many.ensures c.in-Some.lists.items
+returns-then-has_empty c = trial_with_empty c.no_lists_and_too_many.ensures c.in-Some.lists.items
     (rw c.in-Some.is at c.in_ok-lists.ensures)
     (rw c.deref.ensures.value at (c.has_empty.ensures.0 c.if-has_empty.true))
 
@@ -21,6 +20,5 @@ returns-in-Some-3 c =
 pub returns : goal.returns
 returns c =
     let (on, reference, tolerances, _) = rw c.in-Some-2.is at c.in_ok-layers.ensures in
-    trial_without on reference tolerances
-    c.no_lists_and_too_many.ensures c.matching_has_key.ensures
+    trial_without on reference tolerances c.no_lists_and_too_many.ensures c.matching_has_key.ensures
     (rw c.in-None.is at c.in_ok-key.ensures)

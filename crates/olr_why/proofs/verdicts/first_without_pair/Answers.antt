@@ -15,8 +15,7 @@ returns-then-not-has_pair-clause-first c = λ road are.
     }
 
 pub loop-point-preserved : goal.loop-point-preserved
-loop-point-preserved c =
-    below_more (λ k. Any (λ (length : Option ℕ). IsSome length)
+loop-point-preserved c = below_more (λ k. Any (λ (length : Option ℕ). IsSome length)
     (slice_index_or c.args.layers.now.lengths k [])) c.loop-point.point
     c.loop-point.invariant (rw (← c.lengths.ensures) (c.has_pair.ensures.0 c.if-not-has_pair.false))
 

@@ -15,14 +15,12 @@ returns-in-Some c = (
 )
 
 pub loop-value-preserved : goal.loop-value-preserved
-loop-value-preserved c =
-    below_more
+loop-value-preserved c = below_more
     (λ (value : ℕ). c.args.on.now.tolerances.lowest < value
     → IsEnough c.args.on.now.map.now c.args.on.now.tolerances c.args.on.now.reference.now
     Lowest value → ⊥)
     c.loop-value.value c.loop-value.invariant (λ above. rw c.in_default.is at c.in_ok-key.ensures)
 
 pub returns : goal.returns
-returns c =
-    none_up_to_greatest (λ value above less enough. c.loop-value.invariant value
+returns c = none_up_to_greatest (λ value above less enough. c.loop-value.invariant value
     (omega (arith, less, c.loop-value-test.false)) above enough)

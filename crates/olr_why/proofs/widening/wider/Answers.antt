@@ -3,8 +3,7 @@ use Rattle.olr_why.proofs.Halving.{least_in, none_in}
 use Rattle.olr_why.proofs.widening.wider.Goals as goal
 
 pub returns-in_default-first : goal.returns-in_default-first
-returns-in_default-first c =
-    none_in c.loop-bracket.invariant
+returns-in_default-first c = none_in c.loop-bracket.invariant
     (omega (arith, c.loop-bracket-test.false)) c.one_candidate_a_line.ensures c.requires
     c.in_default-first.is
 

@@ -11,11 +11,9 @@ returns-in-NoMatching c =
     none_up_to_greatest (rw (← c.greatest-high.ensures) (none_up_to c.requires trial))
 
 pub returns-in-Crowded : goal.returns-in-Crowded
-returns-in-Crowded c =
-    first_two c.value-low.ensures c.greatest-high.ensures c.if-low-high.false
+returns-in-Crowded c = first_two c.value-low.ensures c.greatest-high.ensures c.if-low-high.false
     (rw c.in-Crowded.is at c.in_ok-try_value.ensures)
 
 pub returns-in-Matching : goal.returns-in-Matching
-returns-in-Matching c =
-    first_two c.value-low.ensures c.greatest-high.ensures c.if-low-high.false
+returns-in-Matching c = first_two c.value-low.ensures c.greatest-high.ensures c.if-low-high.false
     (rw c.in-Matching.is at c.in_ok-try_value.ensures)

@@ -8,8 +8,7 @@ next_of-requires c = (
   rw (
     ap (λ layers. layers.reference) c.layers.view_is,
     ap (λ routes. routes.layers.reference) c.self.view_is,
-  )
-      c.requires.pair.is.leads_on,
+  ) c.requires.pair.is.leads_on,
 )
 
 pub returns : goal.returns

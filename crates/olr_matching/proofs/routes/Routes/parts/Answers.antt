@@ -8,8 +8,7 @@ loop-layer-preserved c =
     let leg = c.in_ok-leg.field-0 in
     record {
       count = omega (arith, c.loop-layer.invariant.count, c.in_ok-push.ensures.len);
-      each = rw c.leg.ensures.same (push_leg _ _ _ _
-          _ _
+      each = rw c.leg.ensures.same (push_leg _ _ _ _ _ _
           _ c.loop-layer.invariant.count c.in_ok-push.ensures.items c.loop-layer.invariant.each
           (rw c.pair_at.ensures.is at c.in_ok-leg.ensures.leg));
       same = c.leg.ensures.same ∙ c.loop-layer.invariant.same;

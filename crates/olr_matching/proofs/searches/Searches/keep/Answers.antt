@@ -8,5 +8,4 @@ returns-clause-searches c = λ road they is.
 
 pub returns-in_err-push-clause-searches : goal.returns-in_err-push-clause-searches
 returns-in_err-push-clause-searches c =
-    λ road they is. rw (c.in_err-push.ensures.items, c.self.view_is)
-    (c.make_room.ensures road they)
+    λ road they is. rw (c.in_err-push.ensures.items, c.self.view_is) (c.make_room.ensures road they)

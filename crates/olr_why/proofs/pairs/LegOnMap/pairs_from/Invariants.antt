@@ -1,4 +1,4 @@
-use Rattle.olr_why.specs.inner.Pairs.{ArePairsFrom}
+use Rattle.olr_why.proofs.Common.{ArePairsFrom}
 use Rattle.olr_why.proofs.pairs.LegOnMap.pairs_from.Given as goal
 
 -- the class limits so far were looked at

@@ -1,4 +1,4 @@
-use Rattle.olr_matching.proofs.LengthRows.{no_candidate}
+use Rattle.olr_why.proofs.Common.{no_candidate}
 use Rattle.olr_why.proofs.Lists.{one_more_element}
 use Rattle.olr_why.proofs.PairLists.{pair_at}
 use Rattle.olr_why.proofs.pairs.LegOnMap.pairs_under_limit.Goals as goal
