@@ -1,30 +1,43 @@
 -- The lists of the points of a reference, from those of each.
+use Rattle.std.specs.Global.{Vec}
 use Rattle.olr_candidates.proofs.LineCandidates.{line_at}
-use Rattle.olr_candidates.proofs.Common.{ArrayVec, Reference, points_of, RoadLine, Candidate, Tolerances, ◌≡◌, ℕ, ◌+◌, ◌<◌, ◌≤◌, List, [], ◌∷◌, ◌++◌, length, get_or, inl, inr, ap, ◌∙◌, arith, slice_get-get_or, slice_get_within, OneListOfPoint, NoListOfPointAndTooMany, AreCandidatesOf, AreFirstLists, AreLists, HasTooMany, IsListOf, IsFirstTooMany, lists_of, first_or_last, length-append, map_push, same_lists}
+use Rattle.olr_candidates.proofs.Common.{ArrayVec, AreSeenFrom, SeenLine, map, slice_get, Some, Reference, points_of, RoadLine, Candidate, Tolerances, ◌≡◌, ℕ, ◌+◌, ◌<◌, ◌≤◌, List, [], ◌∷◌, ◌++◌, length, get_or, inl, inr, ap, ◌∙◌, arith, slice_get-get_or, slice_get_within, OneListOfPoint, NoListOfPointAndTooMany, AreCandidatesOf, AreFirstLists, AreLists, HasTooMany, IsListOf, IsFirstTooMany, lists_of, first_or_last, length-append, map_push, same_lists}
 
 -- ---- point by point
 
+-- this holds of each in a list of so many, by its index
+pub record AreSoMany {X : Type 0} (Holds : ℕ → X → Type 0) (count : ℕ) (list : List X) : Type 0
+  where
+    pub each : (index : ℕ) (x : X) → slice_get list index ≡ Some x → Holds index x
+    pub counted : length list ≡ count
+
+-- one more, in a list of what holds them
+pub one_more : {X Y : Type 0} (Holds : ℕ → X → Type 0) (of : Y → X) (count : ℕ) (list : List Y)
+    (y : Y) → AreSoMany Holds count (map of list) → Holds count (of y)
+    → AreSoMany Holds (count + 1) (map of (list ++ y ∷ []))
+one_more Holds of count list y so_far holds = rw (map_push of list y) (record {
+  each = λ index x at. elim (first_or_last (map of list) (of y) x index at) [
+    | inl before ↦ so_far.each index x before
+    | inr last ↦ rw (last.0, so_far.counted, ← last.1) holds
+  ];
+  counted = length-append (map of list) (of y ∷ []) ∙ ap (λ n. n + 1) so_far.counted;
+})
+
+-- the lines seen from the first points, so many
+abbrev pub AreSeenOf : Reference → List RoadLine → ℕ → ℕ → List (Vec SeenLine) → Type 0
+AreSeenOf reference lines reach count points = AreSoMany
+    (λ index seen. AreSeenFrom reference lines index reach seen) count
+    (map (λ seen. seen.items) points)
+
 module _ (tolerances : Tolerances) (reference : Reference) (lines : List RoadLine) where
   -- the lists of the first points, so many
-  pub record AreListsOf (count : ℕ) (lists : List (ArrayVec Candidate)) : Type 0 where
-    pub each : AreFirstLists tolerances reference lines (lists_of lists)
-    pub counted : length (lists_of lists) ≡ count
+  abbrev pub AreListsOf : ℕ → List (ArrayVec Candidate) → Type 0
+  AreListsOf count lists = AreSoMany (IsListOf tolerances reference lines) count (lists_of lists)
 
-  -- one point more
-  pub one_more : (count : ℕ) (lists : List (ArrayVec Candidate)) (list : ArrayVec Candidate)
-      → AreListsOf count lists
-      → AreCandidatesOf tolerances reference lines count list.items → length list.items ≤ 64
-      → AreListsOf (count + 1) (lists ++ list ∷ [])
-  one_more count lists list so_far are at_most =
-      let each : AreFirstLists tolerances reference lines (lists_of lists ++ list.items ∷ []) =
-      λ index other at. elim (first_or_last (lists_of lists) list.items other index at) [
-        | inl before ↦ so_far.each index other before
-        | inr last ↦ rw (last.0, so_far.counted, ← last.1) (are, at_most)
-      ] in
-      let counted = length-append (lists_of lists) (list.items ∷ [])
-      ∙ ap (λ n. n + 1) so_far.counted in
-      let more = map_push (λ l. l.items) lists list in
-      record { each = rw more each; counted = rw more counted }
+  -- all of them
+  pub all_lists : (count : ℕ) (lists : List (ArrayVec Candidate)) → AreListsOf count lists
+      → count ≡ length (points_of reference) → AreLists tolerances reference lines (lists_of lists)
+  all_lists count lists are all = record { each = are.each; all = are.counted ∙ all }
 
   -- the next point has too many, and none before
   pub first_too_many : (count : ℕ) (lists : List (ArrayVec Candidate)) → AreListsOf count lists

@@ -10,6 +10,7 @@ mod Lists
 mod WindowAround
 mod OfPoints
 mod SeenLines
+mod SeenFrom
 mod OneList
 mod ByNumbers
 mod NearLines

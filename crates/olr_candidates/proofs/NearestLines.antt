@@ -264,7 +264,9 @@ module _ (query : Query) (lines : List RoadLine) where
       answers _ _ _ among (omega arith)
       (λ near found. elim (cases_lt (100 * radius) near.distance) [
         | inl beyond ↦ inr (λ k d lt. inl (omega (arith, inside k d lt)))
-        | inr no_further ↦ inl (covers.each near.line near found no_further)
+        | inr no_further ↦ inl (covers.each near.line found.2.projection
+            (found.0, found.1, found.2.is_projection)
+            (omega (arith, no_further, found.2.describes.distance_is)))
       ])
 
   -- every line was tested

@@ -17,6 +17,10 @@ module _ (tolerances : Tolerances) (reference : Reference) (index : ℕ) (query 
     just = rw (← is.plane_is, ← is.last_is, ← is.tolerances_is) just;
   }
 
+  pub listed : (lines : List RoadLine) (list : List Candidate) → Answers query lines list
+      → AreCandidatesOf tolerances reference lines index list
+  listed lines list just = of_point (λ t o p l. AreCandidates t o p l lines list) just
+
   pub answered : (lines : List RoadLine) (refusal : TooManyCandidates)
       (found : Option (ArrayVec Candidate)) → refusal.0 ≡ index + 1
       → MatchOption found (FindsTooMany query lines) (λ list. Answers query lines list.items)
@@ -26,7 +30,7 @@ module _ (tolerances : Tolerances) (reference : Reference) (index : ℕ) (query 
   answered lines refusal None number many =
       (number, of_point (λ t o p l. AreTooMany t o p l lines) many)
   answered lines refusal (Some list) number just =
-      of_point (λ t o p l. AreCandidates t o p l lines list.items) just
+      listed lines list.items just
 
   -- the same of one line
   pub rated : (lines : List RoadLine) (rank : ℕ) (result : Result Candidate Rejection)

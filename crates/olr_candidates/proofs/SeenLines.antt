@@ -1,6 +1,6 @@
 -- The ranks of the lines that were tested.
 use Rattle.std.proofs.Math.Seq.{get_or-append_seam}
-use Rattle.olr_candidates.proofs.Common.{BoundingBox, RoadLine, ◌≡◌, ◌≢◌, ℕ, zero, suc, ◌<◌, List, [], ◌∷◌, ◌++◌, length, inl, inr, sym, ◌∙◌, length-append, refl, arith, ◌⊎◌, AllPairs, Contains, All-contains, Contains-append_left, Contains-append_right, Contains-push, Contains-push_cases, slice_get_within, IsWindowOf, RankMeetsWindow}
+use Rattle.olr_candidates.proofs.Common.{All, ◌≡◌, ◌≢◌, ℕ, zero, suc, ◌<◌, List, [], ◌∷◌, ◌++◌, length, inl, inr, sym, ◌∙◌, length-append, refl, arith, ◌⊎◌, AllPairs, Contains, All-contains, Contains-append_left, Contains-append_right, Contains-push, Contains-push_cases}
 
 pub one_seen : (seen : List ℕ) (rank : ℕ) {other : ℕ} → Contains (seen ++ rank ∷ []) other
     → Contains seen other ⊎ (other ≡ rank)
@@ -26,11 +26,3 @@ not_seen (x ∷ seen) rank rest once (zero, inside, same) =
 not_seen (x ∷ seen) rank rest once (suc k, inside, same) =
     not_seen seen rank rest (λ i j d lt within. once (suc i) (suc j) d (omega arith) (omega arith))
     (k, omega arith, same)
-
--- the ranks of a window are those of lines
-pub rank_within : (lines : List RoadLine) (window : BoundingBox) (seen : List ℕ) (rank : ℕ)
-    (rest : List ℕ) → IsWindowOf lines window (seen ++ rank ∷ rest) → rank < length lines
-rank_within lines window seen rank rest meeting =
-    let meets = All-contains (RankMeetsWindow lines window) _ _ meeting.only
-    (Contains-append_right seen (rank ∷ rest) rank (0, omega arith, refl)) in
-    slice_get_within lines rank meets.0 meets.1

@@ -6,8 +6,9 @@ pub mod Projection
 pub mod Candidate
 pub mod Rejection
 pub mod Candidates
-pub mod Query
 pub mod Points
+pub mod Seen
+pub mod Query
 pub mod Near
 pub mod Nearest
 pub mod Laws

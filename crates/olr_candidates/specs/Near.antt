@@ -83,14 +83,6 @@ module _ (tolerances : Tolerances) (origin : Coordinates) (point : Point) (is_la
     pub others : (near : NearLine) → IsOneNear near → Contains nearest near
         ⊎ All (λ (item : NearLine). IsNearer item near) nearest
 
-  -- ranks of lines, each once, and among them those of all lines at most so many metres away from
-  -- the point
-  pub record CoverRadius (radius : ℕ) (ranks : List ℕ) : Type 0 where
-    pub once : AllPairs (λ (a b : ℕ). a ≢ b) ranks
-    pub known : All (λ (rank : ℕ). rank < length lines) ranks
-    pub each : (rank : ℕ) (near : NearLine) → IsNearLineAt rank near
-        → near.distance ≤ 100 * radius → Contains ranks rank
-
 -- ---- the points of a reference, counted from 0; the first one is the origin of the plane
 
 module _ (tolerances : Tolerances) (reference : Reference) (lines : List RoadLine) where
@@ -104,9 +96,3 @@ module _ (tolerances : Tolerances) (reference : Reference) (lines : List RoadLin
   abbrev pub AreNearestOf : ℕ → ℕ → List NearLine → Type 0
   AreNearestOf index count nearest = HoldsAt reference index
       (λ origin point is_last. AreNearest tolerances origin point is_last lines count nearest)
-
-  -- ranks of lines, each once, and among them those of all lines at most so many metres away from a
-  -- point
-  abbrev pub AreLinesWithin : ℕ → ℕ → List ℕ → Type 0
-  AreLinesWithin index radius ranks = HoldsAt reference index
-      (λ origin point is_last. CoverRadius tolerances origin point is_last lines radius ranks)

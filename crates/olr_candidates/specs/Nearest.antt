@@ -4,7 +4,7 @@ use Rattle.olr_candidates.specs.Common.{coordinates_of, RoadLine}
 use Rattle.olr_candidates.specs.declared.near.NearLine.{NearLine}
 use Rattle.olr_candidates.specs.declared.query.Query.{Query}
 use Rattle.olr_candidates.specs.Near.{AreNearest, IsNearer, IsNearLineAt}
-use Rattle.olr_candidates.specs.Near.{CoverRadius as AreCovering}
+use Rattle.olr_candidates.specs.Query.{CoverRadius}
 
 -- A line goes into a list, behind one that it isn't nearer than and before those that it is nearer
 -- than; and of the list the first `count` are kept.
@@ -49,13 +49,7 @@ module _ (query : Query) (lines : List RoadLine) where
         → Contains nearest near ⊎ ((count ≤ length nearest)
         × All (λ (item : NearLine). IsNearer item near) nearest)
 
-  -- ranks of lines, among them those of all lines at most so many metres away from the query's
-  -- point
-  abbrev pub CoverRadius : ℕ → List ℕ → Type 0
-  CoverRadius radius ranks = AreCovering query.tolerances (coordinates_of query.plane) query.point
-      query.is_last lines radius ranks
-
-  -- the nearest among such lines
+  -- the nearest among lines that cover a radius
   abbrev pub AreNearestWithin : ℕ → ℕ → List NearLine → Type 0
-  AreNearestWithin radius count nearest = (ranks : List ℕ) × CoverRadius radius ranks
+  AreNearestWithin radius count nearest = (ranks : List ℕ) × CoverRadius query lines radius ranks
       × AreNearestAmong ranks count nearest

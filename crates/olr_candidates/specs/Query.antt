@@ -1,15 +1,16 @@
 -- What is asked of a map: the candidates of one point of a reference.
-use Rattle.std.specs.Prelude.{◌≡◌, ℕ, ◌+◌, ◌*◌, ◌==◌, List, length, Some, slice_get, All, AllPairs, Contains, ℤ, pos, ◌+ℤ◌, ◌-ℤ◌, ◌≤ℤ◌}
+use Rattle.std.specs.Prelude.{◌≡◌, ◌≢◌, ℕ, ◌+◌, ◌*◌, ◌≤◌, ◌==◌, List, length, Some, slice_get, All, AllPairs, Contains, ℤ, pos, ◌+ℤ◌, ◌-ℤ◌, ◌≤ℤ◌}
 use Rattle.olr_candidates.specs.Common.{Coordinates, coordinates_of, spot_of, Point, Reference, points_of, RoadLine}
 use Rattle.olr_base.specs.Coordinates.{IsInRange}
 use Rattle.olr_road.specs.declared.BoundingBox.{BoundingBox}
-use Rattle.olr_road.specs.Windows.{IsWindowOf}
 use Rattle.olr_candidates.specs.declared.candidate.Candidate.{Candidate}
 use Rattle.olr_candidates.specs.declared.projection.Projection.{Projection}
 use Rattle.olr_candidates.specs.declared.query.Query.{Query}
+use Rattle.olr_candidates.specs.declared.seen.SeenLine.{SeenLine}
 use Rattle.olr_candidates.specs.declared.tolerances.Tolerances.{Tolerances}
 use Rattle.olr_candidates.specs.declared.rejection.Rejection.{Rejection}
-use Rattle.olr_candidates.specs.Projection.{polyline_of, IsProjection}
+use Rattle.olr_candidates.specs.Seen.{AreSeen, IsProjectionAt, IsSeen, ranks_of}
+use Rattle.olr_candidates.specs.Seen.{CoverRadius as AreCovering}
 use Rattle.olr_candidates.specs.Candidates.{IsBefore, IsCandidateAt, IsRejectionAt, IsOneOf, AreCandidates, AreTooMany}
 
 -- the query for a point of a reference, counted from 0
@@ -25,9 +26,31 @@ pub record IsQueryOf (tolerances : Tolerances) (reference : Reference) (index : 
 module _ (query : Query) (lines : List RoadLine) where
   -- the projection of the query's point onto the line of a rank
   abbrev pub Projects : ℕ → Projection → Type 0
-  Projects rank projection = (line : RoadLine) × (slice_get lines rank ≡ Some line)
-      × IsProjection (polyline_of (coordinates_of query.plane) line) line.length query.is_last
-      (spot_of (coordinates_of query.plane) (coordinates_of query.point.at)) projection
+  Projects rank projection = IsProjectionAt (coordinates_of query.plane) query.point query.is_last
+      lines rank projection
+
+  -- ranks of lines, among them those of all lines at most so many metres away from the query's
+  -- point
+  abbrev pub CoverRadius : ℕ → List ℕ → Type 0
+  CoverRadius radius ranks = AreCovering (coordinates_of query.plane) query.point query.is_last
+      lines radius ranks
+
+  -- all lines at most so many metres away from the query's point
+  abbrev pub Sees : ℕ → List SeenLine → Type 0
+  Sees reach seen = AreSeen (coordinates_of query.plane) query.point query.is_last lines reach seen
+
+  -- all lines within the query's radius, and it may be others farther away
+  abbrev pub SeesRadius : List SeenLine → Type 0
+  SeesRadius seen = (reach : ℕ) × (query.tolerances.radius ≤ reach) × Sees reach seen
+
+  -- all lines at most so many metres away from the query's point among those of these ranks
+  pub record AreSeenAmong (reach : ℕ) (ranks : List ℕ) (seen : List SeenLine) : Type 0 where
+    pub only : All (IsSeen (coordinates_of query.plane) query.point query.is_last lines reach) seen
+    pub once : AllPairs (λ (a b : ℕ). a ≢ b) (ranks_of seen)
+    pub among : All (λ (rank : ℕ). Contains ranks rank) (ranks_of seen)
+    pub each : (rank : ℕ) (projection : Projection) → Contains ranks rank
+        → Projects rank projection → projection.distance ≤ 100 * reach
+        → Contains (ranks_of seen) rank
 
   -- the line of a rank is this candidate of the query's point
   abbrev pub Finds : ℕ → Candidate → Type 0
@@ -80,10 +103,3 @@ pub record CoversRadius (query : Query) (radius : ℕ) (window : BoundingBox) : 
       → (spot_of (coordinates_of query.plane) place).x
       ≤ℤ ((spot_of (coordinates_of query.plane) (coordinates_of query.point.at)).x +ℤ pos
       (100 * radius)) → place.lon ≤ℤ window.east
-
--- the ranks of the lines that meet such a window
-pub record IsNear (query : Query) (lines : List RoadLine) (radius : ℕ) (ranks : List ℕ) : Type 0
-  where
-    pub window : BoundingBox
-    pub covers : CoversRadius query radius window
-    pub meeting : IsWindowOf lines window ranks

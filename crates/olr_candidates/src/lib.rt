@@ -17,6 +17,11 @@
 //! - [`point`]: the candidates of a point of a reference; [`points`]: those of all its points;
 //!   [`fault`]: why there are none of all points.
 //!
+//! For trials with many tolerances:
+//!
+//! - [`seen`]: the lines around a point, with the projection of the point onto each, and the
+//!   candidates among them; [`surroundings`]: those around all points of a reference.
+//!
 //! To tell why a point has no candidate, or not the one that was expected:
 //!
 //! - [`near`]: a line near a point, candidate or not, and the conditions that it fails.
@@ -49,6 +54,8 @@ mod query;
 mod reference_on_map;
 mod rejection;
 mod search;
+mod seen;
+mod surroundings;
 mod tolerances;
 mod window;
 
@@ -58,7 +65,7 @@ pub use laws::{bounds, no_list_and_too_many, one_candidate_a_line, one_list, ran
 pub use list::MAX_CANDIDATES;
 pub use near::{FailedConditions, NearLine};
 pub use near_laws::{near_candidates, nearest_are_near, one_list_of_nearest, order_of_nearest};
-pub use near_point::{lines_around, near_line, nearest_lines};
+pub use near_point::{near_line, nearest_lines};
 pub use point::{TooManyCandidates, candidate_of_line, candidates};
 pub use point_laws::{
     no_list_of_point_and_too_many, no_lists_and_too_many, one_first_too_many, one_list_of_point,
@@ -67,4 +74,5 @@ pub use point_laws::{
 pub use points::candidates_of_points;
 pub use reference_on_map::ReferenceOnMap;
 pub use rejection::Rejection;
+pub use surroundings::Surroundings;
 pub use tolerances::{BadTolerance, Tolerance, Tolerances};

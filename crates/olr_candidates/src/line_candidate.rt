@@ -1,12 +1,12 @@
 //! Whether a line of the map is a candidate of a point.
 
-ghost use Rattle.std.specs.Prelude.{◌<◌, length, MatchOption, MatchResult};
-ghost use Rattle.olr_candidates.specs.Query.{Finds, Rejects};
+ghost use Rattle.std.specs.Prelude.{◌<◌, length, IfSome, MatchOption, MatchResult};
+ghost use Rattle.olr_candidates.specs.Query.{Finds, Projects, Rejects};
 ghost use Rattle.olr_candidates.specs.declared.candidate.Candidate.{Candidate as Found};
 
 use crate::candidate::{Candidate, candidate_by};
 use crate::line_projection::{projection_at, projection_within};
-use crate::projection::one_projection;
+use crate::projection::{Projection, one_projection};
 use crate::query::Query;
 use crate::rejection::Rejection;
 use olr_road::Map;
@@ -27,19 +27,37 @@ pub(crate) fn candidate_at(map: &Map, query: &Query, rank: u32) -> Result<Candid
     candidate_by(query, &line, rank, &projection)
 }
 
-/// The line of a rank as a candidate of the query's point, if it is one.
+/// The line of a rank as a candidate of the query's point, if it is one, by the point's projection
+/// onto it.
+pub(crate) fn candidate_of(
+    map: &Map,
+    query: &Query,
+    rank: u32,
+    projection: &Projection,
+) -> Option<Candidate>
+    requires projection { Projects query.now map.now.lines rank projection.now }
+    requires sector { IfSome projection.now.sector (λ sector. sector < 32) }
+    ensures { MatchOption result
+        ((candidate : Found) → Finds query.now map.now.lines rank candidate → ⊥)
+        (Finds query.now map.now.lines rank) }
+{
+    one_projection();
+    let line = map.line(rank);
+    let Ok(candidate) = candidate_by(query, &line, rank, projection) else {
+        return None;
+    };
+    Some(candidate)
+}
+
+/// The line of a rank as a candidate of the query's point, if it is one. Of a line farther away
+/// than the radius no more is measured than how far it is.
 pub(crate) fn candidate_within(map: &Map, query: &Query, rank: u32) -> Option<Candidate>
     requires { rank < length map.now.lines }
     ensures { MatchOption result
         ((candidate : Found) → Finds query.now map.now.lines rank candidate → ⊥)
         (Finds query.now map.now.lines rank) }
 {
-    one_projection();
     let most = 100 * u64::from(query.tolerances.radius);
     let projection = projection_within(map, query, rank, most)?;
-    let line = map.line(rank);
-    let Ok(candidate) = candidate_by(query, &line, rank, &projection) else {
-        return None;
-    };
-    Some(candidate)
+    candidate_of(map, query, rank, &projection)
 }

@@ -1,17 +1,17 @@
 //! The lines near a point of a reference.
 
-ghost use Rattle.std.specs.Prelude.{◌<◌, ◌≤◌, length, IfOk};
+ghost use Rattle.std.specs.Prelude.{◌<◌, length, IfOk};
 ghost use Rattle.olr_binary.specs.Reference.{points_of};
-ghost use Rattle.olr_candidates.specs.Near.{AreLinesWithin, AreNearestOf, IsNearLineOf};
+ghost use Rattle.olr_candidates.specs.Near.{AreNearestOf, IsNearLineOf};
 
 use crate::near::{NearLine, near_at};
-use crate::near_search::{lines_within, search_nearest};
+use crate::near_search::search_nearest;
 use crate::query::query_of;
 use crate::reference_on_map::ReferenceOnMap;
 use crate::tolerances::Tolerances;
 use olr_base::NoMemory;
 use olr_binary::Reference;
-use olr_road::{Map, Window};
+use olr_road::Map;
 use std::alloc::Global;
 
 /// The line of a rank near the point `index` of a reference, counted from 0, with the conditions on
@@ -50,17 +50,4 @@ pub fn nearest_lines(
     let query = query_of(on.reference, &on.tolerances, index);
     let nearest = search_nearest(alloc, on.map, &query, count)?;
     Ok(nearest)
-}
-
-/// The ranks of lines of the map, each once, and among them those of all lines that lie at most
-/// `radius` metres away from the point `index` of a reference, counted from 0. The reference has to
-/// have that point, and the radius is at most 1,000,000.
-pub fn lines_around<'a>(on: &ReferenceOnMap<'a>, index: usize, radius: u32) -> Window<'a>
-    requires index { index < length (points_of on.now.reference.now) }
-    requires radius { radius ≤ 1000000 }
-    ensures { AreLinesWithin on.now.tolerances on.now.reference.now on.now.map.now.lines index
-        radius result }
-{
-    let query = query_of(on.reference, &on.tolerances, index);
-    lines_within(on.map, &query, radius)
 }

@@ -3,16 +3,15 @@
 ghost use Rattle.std.specs.Prelude.{◌<◌, ◌≤◌, ◌++◌, ◌∷◌, [], ℕ, List, length, Contains};
 ghost use Rattle.std.specs.Prelude.{IfOk, MatchOption, OnOk};
 ghost use Rattle.olr_candidates.specs.Nearest.{AnswersNearest, AreNearestAmong, AreNearestWithin};
-ghost use Rattle.olr_candidates.specs.Nearest.{CoverRadius, FindsNear, IsBehindLast};
+ghost use Rattle.olr_candidates.specs.Nearest.{FindsNear, IsBehindLast};
 
 use crate::near::{NearLine, near_at, near_within};
 use crate::nearest::{keep, lie_within};
 use crate::projection::one_projection;
 use crate::query::Query;
-use crate::window::near_lines;
+use crate::window::lines_within;
 use olr_base::NoMemory;
-use olr_metric::{foot_on_segment, no_shorter_than_east, no_shorter_than_north};
-use olr_road::{Map, Window};
+use olr_road::Map;
 use std::alloc::Global;
 
 /// How far the first window reaches, in metres.
@@ -20,17 +19,6 @@ const FIRST_RADIUS: u32 = 30;
 
 /// How far the last one may reach. Each reaches up to twice as far as the one before it.
 const LAST_RADIUS: u32 = 1_000_000;
-
-/// The ranks of lines, among them all that lie at most so many metres away from the query's point.
-pub(crate) fn lines_within<'a>(map: &'a Map, query: &Query, radius: u32) -> Window<'a>
-    requires { radius ≤ 1000000 }
-    ensures { CoverRadius query.now map.now.lines radius result }
-{
-    foot_on_segment();
-    no_shorter_than_north();
-    no_shorter_than_east();
-    near_lines(map, query, radius)
-}
 
 /// The line of a rank near the query's point, unless there are so many lines in a list, and it is
 /// farther away than the last one.
@@ -109,8 +97,8 @@ fn nearest_of_all(
     Ok(nearest)
 }
 
-/// How far the window after one with these nearest lines reaches, in metres: twice as far, or, where
-/// it has so many lines, just as far as the last of them, so that it is the last window.
+/// How far the window after one with these nearest lines reaches, in metres: twice as far, or,
+/// where it has so many lines, just as far as the last of them, so that it is the last window.
 fn next_radius(nearest: &[NearLine], radius: u32, count: usize) -> u32
     requires { radius ≤ 1000000 }
     ensures rises { 1 ≤ radius → radius < result }

@@ -3,11 +3,11 @@
 ghost use Rattle.std.specs.Prelude.{◌≡◌, ◌*◌, ◌^◌, ◌≤◌, ℤ, pos, ◌≤ℤ◌, ◌+ℤ◌, ◌-ℤ◌, nat_abs};
 ghost use Rattle.olr_base.specs.Coordinates.{coordinates_of};
 ghost use Rattle.olr_base.specs.Range.{IsLatitude, IsLongitude};
-ghost use Rattle.olr_road.specs.RoadMap.{IsSoundMap};
-ghost use Rattle.olr_candidates.specs.Query.{x_of, CoversRadius, IsNear};
+ghost use Rattle.olr_candidates.specs.Query.{x_of, CoverRadius, CoversRadius};
 
 use crate::query::Query;
 use olr_base::Degrees;
+use olr_metric::{foot_on_segment, no_shorter_than_east, no_shorter_than_north};
 use olr_road::{BoundingBox, Map, Window};
 
 /// The least longitude of any place, in microdegrees.
@@ -108,12 +108,15 @@ fn window_around(query: &Query, radius: u32) -> BoundingBox
     }
 }
 
-/// The lines that meet the window of [`window_around`]. A line whose points all lie to one side of
-/// it is further away than the radius: the contract of `search_near` rests on this.
-pub(crate) fn near_lines<'a>(map: &'a Map, query: &Query, radius: u32) -> Window<'a>
+/// The ranks of lines, among them all that lie at most so many metres away from the query's point:
+/// those of the lines that meet the window of [`window_around`]. A line whose points all lie to one
+/// side of it is farther away than the radius.
+pub(crate) fn lines_within<'a>(map: &'a Map, query: &Query, radius: u32) -> Window<'a>
     requires { radius ≤ 1000000 }
-    ensures near { IsNear query.now map.now.lines radius result }
-    ensures sound { IsSoundMap map.now }
+    ensures { CoverRadius query.now map.now.lines radius result }
 {
+    foot_on_segment();
+    no_shorter_than_north();
+    no_shorter_than_east();
     map.window(&window_around(query, radius))
 }
