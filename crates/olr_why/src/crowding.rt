@@ -1,103 +1,87 @@
-//! About where a radius begins to give a point more than 64 candidates. The search for a radius that
-//! helps looks there first; only its time rests on it.
+//! The lines around the points that the search for a radius takes its candidates from, and the radius
+//! at which it looks first. Only its time rests on what is answered here, so no clause states it.
 
-ghost use Rattle.std.specs.Prelude.{◌+◌, ◌<◌, ◌≤◌, IfOk, length};
-ghost use Rattle.olr_binary.specs.Reference.{points_of};
+ghost use Rattle.std.specs.Prelude.{◌+◌, ◌<◌, ◌≤◌, IfOk, IfSome};
+ghost use Rattle.olr_candidates.specs.Seen.{AreSurroundings};
 
+use crate::trying::is_crowded_with;
 use olr_base::NoMemory;
-use olr_candidates::{FailedConditions, MAX_CANDIDATES, ReferenceOnMap, lines_around, near_line};
+use olr_candidates::{ReferenceOnMap, Surroundings, Tolerance};
 use std::alloc::Global;
 
-/// The greatest radius, in metres.
-const GREATEST: u32 = 1_000;
+/// How far the first look reaches at least, in metres.
+const FIRST_REACH: u32 = 30;
 
-/// The distances in centimetres of the lines around a point, counted from 0, that fail no condition
-/// but that of the radius: among them all that lie at most `reach` metres away.
-fn distances_around(
+/// The lines around the points up to a radius with which a point has more than 64 candidates, or
+/// else up to `most` metres: each look reaches twice as far as the one before it, the first twice as
+/// far as `start`. None where the lines are too many to keep.
+pub(crate) fn surroundings_up_to(
     alloc: Global,
     on: &ReferenceOnMap<'_>,
-    index: usize,
-    reach: u32,
-) -> Result<Vec<u64>, NoMemory>
-    requires index { index < length (points_of on.now.reference.now) }
-    requires reach { reach ≤ 1000000 }
-{
-    let mut distances = Vec::new(alloc);
-    for rank in lines_around(on, index, reach) {
-        let near = near_line(on.map, on.reference, &on.tolerances, index, rank);
-        let FailedConditions {
-            bearing,
-            class,
-            end,
-            ..
-        } = near.failed;
-        if !bearing && !class && !end {
-            distances.push(near.distance)?;
-        }
-    }
-    Ok(distances)
-}
-
-/// The least radius in metres, up to `reach`, with which a point has more than 64 candidates; `None`
-/// where it has no more.
-fn crowding_within(
-    alloc: Global,
-    on: &ReferenceOnMap<'_>,
-    index: usize,
-    reach: u32,
-) -> Result<Option<u32>, NoMemory>
-    requires index { index < length (points_of on.now.reference.now) }
-    requires reach { reach ≤ 1000000 }
-{
-    let mut distances = distances_around(alloc, on, index, reach)?;
-    distances.sort_unstable();
-    match distances.get(MAX_CANDIDATES) {
-        Some(distance) if *distance <= 100 * u64::from(reach) => Ok(Some(
-            distance.div_ceil(100) as u32,
-        )),
-        _ => Ok(None),
-    }
-}
-
-/// The same, by wider and wider windows beyond `start`; `most` where the point has no more than 64
-/// up to there.
-fn crowding_radius(
-    alloc: Global,
-    on: &ReferenceOnMap<'_>,
-    index: usize,
     start: u32,
     most: u32,
-) -> Result<u32, NoMemory>
-    requires { index < length (points_of on.now.reference.now) }
+) -> Result<Option<Surroundings>, NoMemory>
+    requires { most ≤ 1000 }
+    ensures around { IfOk result (λ around. IfSome around
+        (AreSurroundings on.now.reference.now on.now.map.now.lines)) }
+    ensures reach { IfOk result (λ around. IfSome around (λ around. around.reach ≤ most)) }
 {
-    let most = most.min(GREATEST);
-    let mut reach = 2 * start.clamp(1, GREATEST);
+    let mut reach = most.min(start).max(FIRST_REACH / 2) * 2;
     while reach < most {
-        if let Some(radius) = crowding_within(alloc, on, index, reach)? {
-            return Ok(radius);
+        let Some(around) = Surroundings::look(alloc, on, reach)? else {
+            return Ok(None);
+        };
+        if is_crowded_with(alloc, on, Tolerance::Radius, reach, Some(&around))? {
+            return Ok(Some(around));
         }
         reach *= 2;
     }
-    let radius = crowding_within(alloc, on, index, most)?;
-    Ok(radius.unwrap_or(most))
+    let around = Surroundings::look(alloc, on, most)?;
+    Ok(around)
 }
 
-/// The greatest radius in metres below `most` with which no point has more than 64 candidates.
+/// The greatest radius in metres, up to the reach of the lines around the points, with which no
+/// point has more than 64 candidates; 0 where there is none.
+fn uncrowded_radius(
+    alloc: Global,
+    on: &ReferenceOnMap<'_>,
+    around: &Surroundings,
+) -> Result<u32, NoMemory>
+    requires around { AreSurroundings on.now.reference.now on.now.map.now.lines around.now }
+    requires reach { around.now.reach ≤ 1000 }
+{
+    let mut low = 0;
+    let mut high = around.reach + 1;
+    while high - low > 1 {
+        let middle = low + (high - low) / 2;
+        if is_crowded_with(alloc, on, Tolerance::Radius, middle, Some(around))? {
+            high = middle;
+        } else {
+            low = middle;
+        }
+    }
+    Ok(low)
+}
+
+/// That radius, where there are such lines.
 pub(crate) fn likely_radius(
     alloc: Global,
     on: &ReferenceOnMap<'_>,
-    start: u32,
-    most: u32,
-) -> Result<u32, NoMemory> {
-    let mut least = most;
-    for index in 0..on.reference.points().len() {
-        least = least.min(crowding_radius(alloc, on, index, start, least)?);
-    }
-    Ok(least.saturating_sub(1))
+    around: Option<&Surroundings>,
+) -> Result<Option<u32>, NoMemory>
+    requires around { IfSome around (λ around.
+        AreSurroundings on.now.reference.now on.now.map.now.lines around.now) }
+    requires reach { IfSome around (λ around. around.now.reach ≤ 1000) }
+{
+    let Some(around) = around else {
+        return Ok(None);
+    };
+    let radius = uncrowded_radius(alloc, on, around)?;
+    Ok(Some(radius))
 }
 
-/// The value between two that is tried next: the likely one, or the one after it where that was tried
-/// and isn't enough, else the one in the middle.
+/// The value between two that is tried next: the likely one, or the one after it where that was
+/// tried and isn't enough, else the one in the middle.
 pub(crate) fn next_value(low: u32, high: u32, likely: Option<u32>) -> u32
     requires { low + 1 < high }
     ensures { (low < result) × (result < high) }

@@ -8,7 +8,7 @@ ghost use Rattle.olr_candidates.specs.Values.{value_of};
 ghost use Rattle.olr_why.specs.Remedies.{IsNarrower, IsUncrowdedWith};
 ghost use Rattle.olr_why.specs.inner.Trying.{IsGreatest};
 
-use crate::crowding::{likely_radius, next_value};
+use crate::crowding::{likely_radius, next_value, surroundings_up_to};
 use crate::remedy::{Change, Remedy};
 use crate::trying::{is_crowded_with, matching_with};
 use olr_base::NoMemory;
@@ -36,16 +36,18 @@ fn greatest_uncrowded(
     if low >= high {
         return Ok(None);
     }
-    if is_crowded_with(alloc, on, name, low)? {
+    if is_crowded_with(alloc, on, name, low, None)? {
         return Ok(None);
     }
-    let likely = match name {
-        Tolerance::Radius => Some(likely_radius(alloc, on, high, high)?),
+    let kept = match name {
+        Tolerance::Radius => surroundings_up_to(alloc, on, low, high)?,
         _ => None,
     };
+    let around = kept.as_ref();
+    let likely = likely_radius(alloc, on, around)?;
     while high - low > 1 {
         let middle = next_value(low, high, likely);
-        if is_crowded_with(alloc, on, name, middle)? {
+        if is_crowded_with(alloc, on, name, middle, around)? {
             high = middle;
         } else {
             low = middle;
@@ -68,7 +70,7 @@ pub(crate) fn narrower(
     let Some(value) = greatest_uncrowded(alloc, on, name)? else {
         return Ok(None);
     };
-    let matching = matching_with(alloc, on, name, value)?;
+    let matching = matching_with(alloc, on, name, value, None)?;
     Ok(Some(Remedy {
         change: Change::Set(name, value),
         matching,

@@ -13,7 +13,7 @@ use crate::trial::{Trial, try_tolerances};
 use crate::verdict::Verdict;
 use crate::widening::greater;
 use olr_base::NoMemory;
-use olr_candidates::{ReferenceOnMap, Tolerance};
+use olr_candidates::{ReferenceOnMap, Surroundings, Tolerance};
 use olr_road::Map;
 use std::alloc::Global;
 
@@ -61,7 +61,7 @@ fn without_bans(
         reference: on.reference,
         tolerances: on.tolerances,
     };
-    match try_tolerances(alloc, &on)? {
+    match try_tolerances(alloc, &on, None)? {
         Trial::Crowded => Ok(None),
         Trial::NoMatching => Ok(None),
         Trial::Matching(key) => Ok(Some(Remedy {
@@ -77,9 +77,11 @@ fn all_greater(alloc: Global, on: &ReferenceOnMap<'_>) -> Result<Vec<Remedy>, No
         (IsWider on.now.map.now on.now.tolerances on.now.reference.now) by_trust
         remedies.items) }
 {
+    let kept = Surroundings::look(alloc, on, on.tolerances.radius)?;
+    let around = kept.as_ref();
     let mut remedies = Vec::new(alloc);
     for name in BY_TRUST {
-        let remedy = greater(alloc, on, name)?;
+        let remedy = greater(alloc, on, name, around)?;
         push_if(&mut remedies, remedy)?;
     }
     Ok(remedies)
