@@ -1,7 +1,7 @@
 -- The lists of the points of a reference, from those of each.
 use Rattle.std.specs.Global.{Vec}
 use Rattle.olr_candidates.proofs.LineCandidates.{line_at}
-use Rattle.olr_candidates.proofs.Common.{ArrayVec, AreSeenFrom, SeenLine, map, slice_get, Some, Reference, points_of, RoadLine, Candidate, Tolerances, ◌≡◌, ℕ, ◌+◌, ◌<◌, ◌≤◌, List, [], ◌∷◌, ◌++◌, length, get_or, inl, inr, ap, ◌∙◌, arith, slice_get-get_or, slice_get_within, OneListOfPoint, NoListOfPointAndTooMany, AreCandidatesOf, AreFirstLists, AreLists, HasTooMany, IsListOf, IsFirstTooMany, lists_of, first_or_last, length-append, map_push, same_lists}
+use Rattle.olr_candidates.proofs.Common.{ArrayVec, AreSeenFrom, SeenLine, map, slice_get, Some, Reference, points_of, RoadLine, Candidate, Tolerances, ◌≡◌, ℕ, ◌+◌, ◌<◌, List, [], ◌∷◌, ◌++◌, length, get_or, inl, inr, ap, ◌∙◌, arith, slice_get-get_or, slice_get_within, OneListOfPoint, NoListOfPointAndTooMany, AreLists, HasTooMany, IsListOf, IsFirstTooMany, lists_of, first_or_last, length-append, map_push, same_lists}
 
 -- ---- point by point
 

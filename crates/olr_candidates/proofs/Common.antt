@@ -11,7 +11,7 @@ pub use Rattle.std.proofs.lemmas.Nat.{div_below, mul-le}
 pub use Rattle.std.proofs.lemmas.Option.{get_or_from_slice_get, none-some, same_Some, slice_get-get_or, slice_get_read, slice_get_within}
 pub use Rattle.std.specs.List.Sorted.{IsPermutation, IsStrictlyIncreasing}
 pub use Rattle.std.specs.List.{insert, join_with_byte, range_with_len}
-pub use Rattle.std.specs.Prelude.{◌==◌, AllPairs, Contains, Decides, MatchOption, MatchResult, filter, min, nat_abs, option_map, slice_get, ◌||◌, ◌⊎◌, ⊤}
+pub use Rattle.std.specs.Prelude.{◌==◌, AllPairs, Contains, Decides, IfSome, MatchOption, MatchResult, filter, min, nat_abs, option_map, slice_get, ◌||◌, ◌⊎◌, ⊤}
 pub use Rattle.arrayvec.specs.ArrayVec.{ArrayVec}
 pub use Rattle.olr_base.proofs.Contained.{first_or_last, further, here, no_longer}
 pub use Rattle.olr_base.proofs.Rising.{AreFirst, place_counts, same_beginning, same_list}
@@ -26,7 +26,7 @@ pub use Rattle.olr_candidates.specs.Near.{AreFailed, AreNearest, AreNearestOf, D
 pub use Rattle.olr_candidates.specs.Nearest.{AnswersNearest, AreNearestAmong, AreNearestWithin, FindsNear, IsAmong, IsBehindLast, Keeps}
 pub use Rattle.olr_candidates.specs.Points.{AreCandidatesOf, AreFirstLists, AreLists, HasTooMany, HoldsAt, IsCandidateOf, IsFirstTooMany, IsListOf, IsRejectionOf, lists_of}
 pub use Rattle.olr_candidates.specs.Projection.{HasBearing, IsProjection, bearing_arc, polyline_of}
-pub use Rattle.olr_candidates.specs.Query.{Answers, AreFound, AreSeenAmong, CoverRadius, CoversRadius, Finds, FindsTooMany, IsQueryOf, Projects, Rejects, Sees, SeesRadius, x_of}
+pub use Rattle.olr_candidates.specs.Query.{Answers, AreFound, AreSeenAmong, HoldAllWithin, CoversRadius, Finds, FindsTooMany, IsQueryOf, Projects, Rejects, Sees, SeesRadius, x_of}
 pub use Rattle.olr_candidates.specs.Seen.{AreSeen, AreSeenFrom, AreSurroundings, IsSeen, ranks_of, seen_of}
 pub use Rattle.olr_candidates.specs.declared.candidate.Candidate.{Candidate}
 pub use Rattle.olr_candidates.specs.declared.near.NearLine.{NearLine}

@@ -1,5 +1,5 @@
 -- A spot has one projection onto a polyline at most.
-use Rattle.olr_candidates.proofs.Common.{arith, Spot, Near, arc, IsNearest, Projection, IsProjection, ◌≡◌, ℕ, Bool, List, Option, Some, None, refl, MatchOption, IsAlong, bearing_arc, HasBearing}
+use Rattle.olr_candidates.proofs.Common.{arith, ◌<◌, IfSome, Spot, Near, arc, IsNearest, Projection, IsProjection, ◌≡◌, ℕ, Bool, List, Option, Some, None, refl, MatchOption, IsAlong, bearing_arc, HasBearing}
 use Rattle.olr_metric.specs.Sector.{Direction, zero_direction, IsSector}
 
 -- the plane's laws
@@ -44,3 +44,9 @@ one_projection nearests alongs one none polyline length is_last p a b is_project
     nearests _ _ _ _ other.nearest is_projection.nearest in
     same_projection a b (cc) (cc)
     (same_bearing alongs one none _ _ _ _ _ is_projection.bearing (rw (← same) other.bearing))
+
+-- a bearing is one of 32 sectors
+pub sector_at_most : {polyline : List Spot} {is_last : Bool} {near : Near} (sector : Option ℕ)
+    → HasBearing polyline is_last near sector → IfSome sector (λ s. s < 32)
+sector_at_most None has = tt
+sector_at_most (Some s) has = has.sector_of.in_range

@@ -2,8 +2,8 @@
 -- point by its query.
 use Rattle.std.specs.Global.{Vec}
 use Rattle.std.proofs.lemmas.Option.{slice_get-map}
-use Rattle.std.proofs.lemmas.List.{get_or-map, get_or_append_left, get_or_push, take_more}
-use Rattle.olr_candidates.proofs.Common.{All-contains, All-nil, All-push, AreSeenAmong, AreSeenFrom, AreSurroundings, Contains, Contains-append_left, Contains-push, CoverRadius, IsQueryOf, IsSeen, Projection, Projects, Query, Reference, RoadLine, SeenLine, Sees, SeesRadius, Surroundings, Tolerances, coordinates_of, ranks_of, seen_of, cases_lt, get_or, get_or-take, get_or_default, inl, inr, ap, length, length-append, length-map, length-take, map_push, sym, take, [], ◌++◌, ◌<◌, ◌∙◌, ◌∷◌, ◌≡◌, ◌≢◌, ◌≤◌, ◌*◌, ◌+◌, ℕ, AllPairs, All, List, None, Some, arith, option_map, slice_get-get_or, slice_get, slice_get_within, get_or_from_slice_get}
+use Rattle.std.proofs.lemmas.List.{get_or-map, get_or_append_left, get_or_push}
+use Rattle.olr_candidates.proofs.Common.{All-contains, All-nil, All-push, AreSeenAmong, AreSeenFrom, AreSurroundings, Contains, Contains-append_left, Contains-push, HoldAllWithin, IsQueryOf, IsSeen, Projection, Projects, Query, Reference, RoadLine, SeenLine, Sees, SeesRadius, Surroundings, Tolerances, coordinates_of, ranks_of, seen_of, cases_lt, get_or, get_or-take, get_or_default, inl, inr, ap, length, length-append, length-map, length-take, map_push, sym, take, [], ◌++◌, ◌<◌, ◌∙◌, ◌∷◌, ◌≡◌, ◌≢◌, ◌≤◌, ◌*◌, ℕ, AllPairs, All, List, None, Some, arith, option_map, slice_get-get_or, slice_get}
 use Rattle.olr_candidates.proofs.SeenLines.{now_seen, one_seen, still_seen}
 
 -- ---- ranks, each once
@@ -96,7 +96,7 @@ module _ (query : Query) (lines : List RoadLine) (reach : ℕ) where
         }
 
   -- all of them around the point
-  pub all_seen : (ranks : List ℕ) (seen : List SeenLine) → CoverRadius query lines reach ranks
+  pub all_seen : (ranks : List ℕ) (seen : List SeenLine) → HoldAllWithin query lines reach ranks
       → AreSeenAmong query lines reach ranks seen → Sees query lines reach seen
   all_seen ranks seen covers are = record {
     only = are.only;

@@ -1,6 +1,6 @@
 -- The ranks of the lines that were tested.
 use Rattle.std.proofs.Math.Seq.{get_or-append_seam}
-use Rattle.olr_candidates.proofs.Common.{All, ◌≡◌, ◌≢◌, ℕ, zero, suc, ◌<◌, List, [], ◌∷◌, ◌++◌, length, inl, inr, sym, ◌∙◌, length-append, refl, arith, ◌⊎◌, AllPairs, Contains, All-contains, Contains-append_left, Contains-append_right, Contains-push, Contains-push_cases}
+use Rattle.olr_candidates.proofs.Common.{◌≡◌, ◌≢◌, ℕ, zero, suc, List, [], ◌∷◌, ◌++◌, length, inl, inr, sym, ◌∙◌, length-append, arith, ◌⊎◌, AllPairs, Contains, Contains-append_left, Contains-push, Contains-push_cases}
 
 pub one_seen : (seen : List ℕ) (rank : ℕ) {other : ℕ} → Contains (seen ++ rank ∷ []) other
     → Contains seen other ⊎ (other ≡ rank)

@@ -1,6 +1,6 @@
 -- The lines nearest to a point of a reference, candidates or not, and the conditions that each of
 -- them fails.
-use Rattle.std.specs.Prelude.{◌≡◌, ◌≢◌, ℕ, ◌*◌, ◌<◌, ◌≤◌, ◌⊎◌, Bool, false, MatchBool, min, List, length, Option, Some, MatchOption, slice_get, All, AllPairs, Contains}
+use Rattle.std.specs.Prelude.{◌≡◌, ℕ, ◌<◌, ◌⊎◌, Bool, false, MatchBool, min, List, length, Option, Some, MatchOption, slice_get, All, AllPairs, Contains}
 use Rattle.olr_candidates.specs.Common.{Coordinates, coordinates_of, spot_of, Point, Reference, RoadLine, Line, head_of}
 use Rattle.olr_candidates.specs.declared.near.FailedConditions.{FailedConditions}
 use Rattle.olr_candidates.specs.declared.near.NearLine.{NearLine}

@@ -4,7 +4,7 @@ use Rattle.olr_candidates.specs.Common.{coordinates_of, RoadLine}
 use Rattle.olr_candidates.specs.declared.near.NearLine.{NearLine}
 use Rattle.olr_candidates.specs.declared.query.Query.{Query}
 use Rattle.olr_candidates.specs.Near.{AreNearest, IsNearer, IsNearLineAt}
-use Rattle.olr_candidates.specs.Query.{CoverRadius}
+use Rattle.olr_candidates.specs.Query.{HoldAllWithin}
 
 -- A line goes into a list, behind one that it isn't nearer than and before those that it is nearer
 -- than; and of the list the first `count` are kept.
@@ -51,5 +51,5 @@ module _ (query : Query) (lines : List RoadLine) where
 
   -- the nearest among lines that cover a radius
   abbrev pub AreNearestWithin : ℕ → ℕ → List NearLine → Type 0
-  AreNearestWithin radius count nearest = (ranks : List ℕ) × CoverRadius query lines radius ranks
+  AreNearestWithin radius count nearest = (ranks : List ℕ) × HoldAllWithin query lines radius ranks
       × AreNearestAmong ranks count nearest

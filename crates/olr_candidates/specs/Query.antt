@@ -1,4 +1,4 @@
--- What is asked of a map: the candidates of one point of a reference.
+-- What is asked of a map: the candidates of one point of a reference, and the lines around it.
 use Rattle.std.specs.Prelude.{◌≡◌, ◌≢◌, ℕ, ◌+◌, ◌*◌, ◌≤◌, ◌==◌, List, length, Some, slice_get, All, AllPairs, Contains, ℤ, pos, ◌+ℤ◌, ◌-ℤ◌, ◌≤ℤ◌}
 use Rattle.olr_candidates.specs.Common.{Coordinates, coordinates_of, spot_of, Point, Reference, points_of, RoadLine}
 use Rattle.olr_base.specs.Coordinates.{IsInRange}
@@ -10,7 +10,7 @@ use Rattle.olr_candidates.specs.declared.seen.SeenLine.{SeenLine}
 use Rattle.olr_candidates.specs.declared.tolerances.Tolerances.{Tolerances}
 use Rattle.olr_candidates.specs.declared.rejection.Rejection.{Rejection}
 use Rattle.olr_candidates.specs.Seen.{AreSeen, IsProjectionAt, IsSeen, ranks_of}
-use Rattle.olr_candidates.specs.Seen.{CoverRadius as AreCovering}
+use Rattle.olr_candidates.specs.Seen.{HoldAllWithin as HoldWithin}
 use Rattle.olr_candidates.specs.Candidates.{IsBefore, IsCandidateAt, IsRejectionAt, IsOneOf, AreCandidates, AreTooMany}
 
 -- the query for a point of a reference, counted from 0
@@ -29,21 +29,22 @@ module _ (query : Query) (lines : List RoadLine) where
   Projects rank projection = IsProjectionAt (coordinates_of query.plane) query.point query.is_last
       lines rank projection
 
-  -- ranks of lines, among them those of all lines at most so many metres away from the query's
-  -- point
-  abbrev pub CoverRadius : ℕ → List ℕ → Type 0
-  CoverRadius radius ranks = AreCovering (coordinates_of query.plane) query.point query.is_last
+  -- ranks of lines, each once, and among them those of all lines at most so many metres away from
+  -- the query's point
+  abbrev pub HoldAllWithin : ℕ → List ℕ → Type 0
+  HoldAllWithin radius ranks = HoldWithin (coordinates_of query.plane) query.point query.is_last
       lines radius ranks
 
   -- all lines at most so many metres away from the query's point
   abbrev pub Sees : ℕ → List SeenLine → Type 0
   Sees reach seen = AreSeen (coordinates_of query.plane) query.point query.is_last lines reach seen
 
-  -- all lines within the query's radius, and it may be others farther away
+  -- all lines within the query's radius, and maybe others farther away
   abbrev pub SeesRadius : List SeenLine → Type 0
   SeesRadius seen = (reach : ℕ) × (query.tolerances.radius ≤ reach) × Sees reach seen
 
-  -- all lines at most so many metres away from the query's point among those of these ranks
+  -- all lines at most so many metres away from the query's point among those of these ranks, each
+  -- once
   pub record AreSeenAmong (reach : ℕ) (ranks : List ℕ) (seen : List SeenLine) : Type 0 where
     pub only : All (IsSeen (coordinates_of query.plane) query.point query.is_last lines reach) seen
     pub once : AllPairs (λ (a b : ℕ). a ≢ b) (ranks_of seen)

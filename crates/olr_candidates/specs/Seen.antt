@@ -1,5 +1,5 @@
 -- The lines around a point of a reference, seen once, with the projection of the point onto each.
-use Rattle.std.specs.Prelude.{◌≡◌, ◌≢◌, ℕ, ◌*◌, ◌+◌, ◌<◌, ◌≤◌, ◌==◌, Bool, List, length, map, Some, slice_get, IfSome, All, AllPairs, Contains}
+use Rattle.std.specs.Prelude.{◌≡◌, ◌≢◌, ℕ, ◌*◌, ◌<◌, ◌≤◌, Bool, List, length, map, Some, slice_get, All, AllPairs, Contains}
 use Rattle.olr_candidates.specs.Common.{Coordinates, coordinates_of, spot_of, Point, Reference, points_of, RoadLine}
 use Rattle.olr_candidates.specs.declared.projection.Projection.{Projection}
 use Rattle.olr_candidates.specs.declared.seen.SeenLine.{SeenLine}
@@ -22,7 +22,7 @@ module _ (origin : Coordinates) (point : Point) (is_last : Bool) (lines : List R
 
   -- ranks of lines, each once, and among them those of all lines at most so many metres away from
   -- the point
-  pub record CoverRadius (radius : ℕ) (ranks : List ℕ) : Type 0 where
+  pub record HoldAllWithin (radius : ℕ) (ranks : List ℕ) : Type 0 where
     pub once : AllPairs (λ (a b : ℕ). a ≢ b) ranks
     pub known : All (λ (rank : ℕ). rank < length lines) ranks
     pub each : (rank : ℕ) (projection : Projection) → IsProjectionAt rank projection
@@ -32,12 +32,11 @@ module _ (origin : Coordinates) (point : Point) (is_last : Bool) (lines : List R
   pub record IsSeen (reach : ℕ) (one : SeenLine) : Type 0 where
     pub projection : IsProjectionAt one.line one.projection
     pub within : one.projection.distance ≤ 100 * reach
-    pub sector : IfSome one.projection.sector (λ sector. sector < 32)
 
   -- all such lines, each once
   pub record AreSeen (reach : ℕ) (seen : List SeenLine) : Type 0 where
     pub only : All (IsSeen reach) seen
-    pub covers : CoverRadius reach (ranks_of seen)
+    pub covers : HoldAllWithin reach (ranks_of seen)
 
 -- ---- the points of a reference, counted from 0; the first one is the origin of the plane
 
@@ -50,7 +49,8 @@ AreSeenFrom reference lines index reach seen = HoldsAt reference index
 abbrev pub seen_of : Surroundings → List (List SeenLine)
 seen_of surroundings = map (λ seen. seen.items) surroundings.points.items
 
--- of every point of a reference, point by point, all lines at most so many metres away
+-- of every point of a reference, point by point, all lines at most as many metres away as the
+-- surroundings reach
 pub record AreSurroundings (reference : Reference) (lines : List RoadLine)
     (surroundings : Surroundings) : Type 0 where
   pub each : (index : ℕ) (seen : List SeenLine) → slice_get (seen_of surroundings) index ≡ Some seen

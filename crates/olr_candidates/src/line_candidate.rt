@@ -1,6 +1,6 @@
 //! Whether a line of the map is a candidate of a point.
 
-ghost use Rattle.std.specs.Prelude.{◌<◌, length, IfSome, MatchOption, MatchResult};
+ghost use Rattle.std.specs.Prelude.{◌<◌, length, MatchOption, MatchResult};
 ghost use Rattle.olr_candidates.specs.Query.{Finds, Projects, Rejects};
 ghost use Rattle.olr_candidates.specs.declared.candidate.Candidate.{Candidate as Found};
 
@@ -27,16 +27,15 @@ pub(crate) fn candidate_at(map: &Map, query: &Query, rank: u32) -> Result<Candid
     candidate_by(query, &line, rank, &projection)
 }
 
-/// The line of a rank as a candidate of the query's point, if it is one, by the point's projection
-/// onto it.
-pub(crate) fn candidate_of(
+/// The line of a rank as a candidate of the query's point, if it is one, where the point's
+/// projection onto it is known.
+pub(crate) fn candidate_from(
     map: &Map,
     query: &Query,
     rank: u32,
     projection: &Projection,
 ) -> Option<Candidate>
-    requires projection { Projects query.now map.now.lines rank projection.now }
-    requires sector { IfSome projection.now.sector (λ sector. sector < 32) }
+    requires { Projects query.now map.now.lines rank projection.now }
     ensures { MatchOption result
         ((candidate : Found) → Finds query.now map.now.lines rank candidate → ⊥)
         (Finds query.now map.now.lines rank) }
@@ -59,5 +58,5 @@ pub(crate) fn candidate_within(map: &Map, query: &Query, rank: u32) -> Option<Ca
 {
     let most = 100 * u64::from(query.tolerances.radius);
     let projection = projection_within(map, query, rank, most)?;
-    candidate_of(map, query, rank, &projection)
+    candidate_from(map, query, rank, &projection)
 }

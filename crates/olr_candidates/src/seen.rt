@@ -1,10 +1,10 @@
 //! The lines around a point, with the projection of the point onto each.
 
-ghost use Rattle.std.specs.Prelude.{◌<◌, ◌≤◌, ◌++◌, ◌∷◌, [], ℕ, List, length, Contains, IfOk, IfSome, MatchOption, OnOk};
+ghost use Rattle.std.specs.Prelude.{◌<◌, ◌≤◌, ◌+◌, ◌++◌, ◌∷◌, [], ℕ, List, length, Contains, IfOk, IfSome, MatchOption, OnOk};
 ghost use Rattle.olr_candidates.specs.Query.{Answers, AreSeenAmong, FindsTooMany, Sees, SeesRadius};
 
 use crate::candidate::Candidate;
-use crate::line_candidate::candidate_of;
+use crate::line_candidate::candidate_from;
 use crate::line_projection::projection_within;
 use crate::list::MAX_CANDIDATES;
 use crate::projection::{Projection, one_projection};
@@ -34,10 +34,12 @@ fn add_seen(
     reach: u32,
 ) -> Result<(), NoMemory>
     requires { rank < length map.now.lines }
-    ensures { (ranks : List ℕ) → AreSeenAmong query.now map.now.lines reach ranks seen.old.items
+    ensures seen { (ranks : List ℕ)
+        → AreSeenAmong query.now map.now.lines reach ranks seen.old.items
         → (Contains ranks rank → ⊥)
         → OnOk result
         (AreSeenAmong query.now map.now.lines reach (ranks ++ rank ∷ []) seen.new.items) }
+    ensures at_most { OnOk result (length seen.new.items ≤ length seen.old.items + 1) }
 {
     one_projection();
     let Some(projection) = projection_within(map, query, rank, 100 * u64::from(reach)) else {
@@ -50,8 +52,8 @@ fn add_seen(
     Ok(())
 }
 
-/// The lines at most so many metres away from the query's point; `None` where the window around it
-/// has more than `most`.
+/// The lines at most so many metres away from the query's point; `None` where there are more than
+/// `most`, or `most` of them and another one near by.
 pub(crate) fn see(
     alloc: Global,
     map: &Map,
@@ -60,8 +62,9 @@ pub(crate) fn see(
     most: usize,
 ) -> Result<Option<Vec<SeenLine>>, NoMemory>
     requires { reach ≤ 1000000 }
-    ensures { IfOk result (λ seen. IfSome seen (λ seen.
+    ensures seen { IfOk result (λ seen. IfSome seen (λ seen.
         Sees query.now map.now.lines reach seen.items)) }
+    ensures at_most { IfOk result (λ seen. IfSome seen (λ seen. length seen.items ≤ most)) }
 {
     let mut seen = Vec::new(alloc);
     for rank in lines_within(map, query, reach) {
@@ -86,7 +89,7 @@ pub(crate) fn search_among(
 {
     let mut list = ArrayVec::new();
     for line in seen {
-        let candidate = candidate_of(map, query, line.line, &line.projection);
+        let candidate = candidate_from(map, query, line.line, &line.projection);
         add_if(&mut list, candidate)?;
     }
     Some(list)

@@ -29,7 +29,8 @@ pub struct Surroundings {
 
 impl Surroundings {
     /// The lines at most `reach` metres away from each point of a reference, whatever its
-    /// tolerances. `None` where there may be more than 100,000 of them: no clause states when.
+    /// tolerances; the reach is at most 1,000,000. `None` where there are more than 100,000 of them,
+    /// and it may be with just as many: no clause states when.
     ///
     /// # Errors
     ///
@@ -51,15 +52,16 @@ impl Surroundings {
             let Some(seen) = see(alloc, on.map, &query, reach, left)? else {
                 return Ok(None);
             };
-            left = left.saturating_sub(seen.len());
+            left -= seen.len();
             points.push(seen)?;
         }
         Ok(Some(Surroundings { reach, points }))
     }
 
     /// The candidates of each point, point by point: what
-    /// [`candidates_of_points`](crate::candidates_of_points) gives, without a look at the map's
-    /// polylines.
+    /// [`candidates_of_points`](crate::candidates_of_points) gives. These have to be the lines
+    /// around the points of this reference on this map, and reach as far as the radius. No polyline
+    /// of the map is looked at.
     ///
     /// # Errors
     ///

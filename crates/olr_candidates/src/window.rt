@@ -3,7 +3,7 @@
 ghost use Rattle.std.specs.Prelude.{◌≡◌, ◌*◌, ◌^◌, ◌≤◌, ℤ, pos, ◌≤ℤ◌, ◌+ℤ◌, ◌-ℤ◌, nat_abs};
 ghost use Rattle.olr_base.specs.Coordinates.{coordinates_of};
 ghost use Rattle.olr_base.specs.Range.{IsLatitude, IsLongitude};
-ghost use Rattle.olr_candidates.specs.Query.{x_of, CoverRadius, CoversRadius};
+ghost use Rattle.olr_candidates.specs.Query.{x_of, HoldAllWithin, CoversRadius};
 
 use crate::query::Query;
 use olr_base::Degrees;
@@ -113,7 +113,7 @@ fn window_around(query: &Query, radius: u32) -> BoundingBox
 /// side of it is farther away than the radius.
 pub(crate) fn lines_within<'a>(map: &'a Map, query: &Query, radius: u32) -> Window<'a>
     requires { radius ≤ 1000000 }
-    ensures { CoverRadius query.now map.now.lines radius result }
+    ensures { HoldAllWithin query.now map.now.lines radius result }
 {
     foot_on_segment();
     no_shorter_than_north();

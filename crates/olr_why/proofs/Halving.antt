@@ -1,7 +1,7 @@
 -- The least value of a tolerance that is enough lies between two values, which come closer with
 -- each trial. So does the greatest one below the given one with which no point has too many
 -- candidates.
-use Rattle.olr_why.proofs.Common.{KeyValue, Lowest, MatchingHasKey, Tolerance, NoMatching, OneCandidateALine, Reference, RoadMap, Tolerances, ◌≡◌, ◌≢◌, ℕ, ◌+◌, ◌<◌, ◌≤◌, None, Some, inl, inr, arith, Option, MatchOption, cases_lt, greatest_of, order_of, least_of, IsEnough, IsLeastEnough, value_of, IsGreatestUncrowded, IsUncrowdedWith, IsBracket, IsNoneUpTo, IsTrialWith, IsGreatest, IsMatchingWith}
+use Rattle.olr_why.proofs.Common.{KeyValue, Lowest, MatchingHasKey, Tolerance, NoMatching, OneCandidateALine, Reference, RoadMap, Tolerances, ◌≡◌, ◌≢◌, ℕ, ◌+◌, ◌<◌, ◌≤◌, None, Some, inl, inr, arith, Option, MatchOption, cases_lt, AreCrowdedFrom, greatest_of, order_of, least_of, IsEnough, IsLeastEnough, value_of, IsGreatestUncrowded, IsUncrowdedWith, IsBracket, IsNoneUpTo, IsTrialWith, IsGreatest, IsMatchingWith}
 use Rattle.olr_why.specs.declared.bracket.Bracket.{Bracket}
 use Rattle.olr_why.specs.declared.trial.Trial.TheVariants.{Crowded, Matching}
 use Rattle.olr_why.proofs.Tried.{crowded_up_is_none, least_enough, none_up_to, value_in_range, crowded_from}
@@ -97,6 +97,34 @@ module _ {road : RoadMap} {reference : Reference} {given : Tolerances} {name : T
   all_crowded differ law crowded value below uncrowded =
       crowded_from differ law crowded value (value_in_range uncrowded.is_changed).least below
       uncrowded
+
+  -- from a value on with which one has, or from the given one on
+  pub crowded_at : {high : ℕ} → order_of name ≢ order_of Lowest → OneCandidateALine
+      → (high < value_of given name → IsTrialWith road given reference name high Crowded)
+      → AreCrowdedFrom road given reference name high
+  crowded_at differ law crowded value at_least below =
+      crowded_from differ law (crowded (omega (arith, at_least, below))) value at_least below
+
+  -- the greatest value from a low one on and below a high one with which none has
+  pub greatest_in : {low high value : ℕ} → order_of name ≢ order_of Lowest → OneCandidateALine
+      → IsUncrowdedWith road given reference name low
+      → AreCrowdedFrom road given reference name high → high ≤ value_of given name
+      → low ≤ value → value < high
+      → (low < value → IsUncrowdedWith road given reference name value)
+      → (value + 1 < high → IsTrialWith road given reference name (value + 1) Crowded)
+      → IsGreatest road given reference name value
+  greatest_in {low} {high} {value} differ law with_low from_high at_most at_least less uncrowded
+      crowded = record {
+        below = omega (arith, less, at_most);
+        uncrowded = elim (cases_lt low value) [
+          | inl above ↦ uncrowded above
+          | inr no_more ↦ let same : value ≡ low = omega arith in rw same with_low
+        ];
+        greatest = elim (cases_lt (value + 1) high) [
+          | inl below ↦ crowded_from differ law (crowded below)
+          | inr no_less ↦ let same : value + 1 ≡ high = omega arith in rw same from_high
+        ];
+      }
 
   -- the first matching that the greatest value gives
   pub greatest_uncrowded : {value : ℕ} (answer : Option KeyValue)

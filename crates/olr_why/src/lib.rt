@@ -12,7 +12,7 @@
 //!   tolerance.
 //! - [`bracket`], [`widening`]: the least value above the given one that gives a matching;
 //!   [`narrowing`]: the greatest one below it with which no point has too many candidates;
-//!   [`crowding`]: which radius is tried first.
+//!   [`crowding`]: from which value on a point has too many candidates.
 //! - [`remedy`]: a change that would help; [`remedies`]: all of them.
 //! - [`unbanned`]: the map without its bans; [`nearest_count`]: how many of the lines nearest to a
 //!   point are shown.

@@ -1,23 +1,49 @@
 //! The greatest value of a tolerance below the given one with which no point has more than 64
 //! candidates.
 
-ghost use Rattle.std.specs.Prelude.{◌≢◌, ◌<◌, ℕ, IfOk, MatchOption};
+ghost use Rattle.std.specs.Prelude.{◌≢◌, ◌<◌, ◌≤◌, ℕ, IfOk, IfSome, MatchOption};
+ghost use Rattle.olr_candidates.specs.Seen.{AreSurroundings};
 ghost use Rattle.olr_candidates.specs.declared.tolerances.Tolerance.TheVariants.{Lowest};
 ghost use Rattle.olr_candidates.specs.Tolerances.{order_of};
 ghost use Rattle.olr_candidates.specs.Values.{value_of};
 ghost use Rattle.olr_why.specs.Remedies.{IsNarrower, IsUncrowdedWith};
-ghost use Rattle.olr_why.specs.inner.Trying.{IsGreatest};
+ghost use Rattle.olr_why.specs.declared.trial.Trial.TheVariants.{Crowded};
+ghost use Rattle.olr_why.specs.inner.Trying.{IsGreatest, IsTrialWith};
 
-use crate::crowding::{likely_radius, next_value, surroundings_up_to};
+use crate::crowding::{greatest_between, surroundings_up_to};
 use crate::remedy::{Change, Remedy};
 use crate::trying::{is_crowded_with, matching_with};
 use olr_base::NoMemory;
-use olr_candidates::{ReferenceOnMap, Tolerance, one_candidate_a_line};
+use olr_candidates::{ReferenceOnMap, Surroundings, Tolerance, one_candidate_a_line};
 use std::alloc::Global;
 
+/// The lines around the points up to the given radius, or up to one above `low` with which a point
+/// has more than 64 candidates; none for the other tolerances.
+fn surroundings_below(
+    alloc: Global,
+    on: &ReferenceOnMap<'_>,
+    name: Tolerance,
+    low: u32,
+) -> Result<Option<Surroundings>, NoMemory>
+    requires { low < value_of on.now.tolerances name }
+    ensures around { IfOk result (λ around. IfSome around
+        (AreSurroundings on.now.reference.now on.now.map.now.lines)) }
+    ensures above { IfOk result (λ around. IfSome around (λ around. low < around.reach)) }
+    ensures at_most { IfOk result (λ around. IfSome around
+        (λ around. around.reach ≤ value_of on.now.tolerances name)) }
+    ensures crowded { IfOk result (λ around. IfSome around
+        (λ around. around.reach < value_of on.now.tolerances name
+        → IsTrialWith on.now.map.now on.now.tolerances on.now.reference.now name around.reach
+        Crowded)) }
+{
+    match name {
+        Tolerance::Radius => surroundings_up_to(alloc, on, low, on.tolerances.radius),
+        _ => Ok(None),
+    }
+}
+
 /// The greatest value below the given one with which no point has more than 64 candidates; none
-/// where there is no such value. A point that has too many has with each greater value; so it
-/// is found by halving.
+/// where there is no such value.
 fn greatest_uncrowded(
     alloc: Global,
     on: &ReferenceOnMap<'_>,
@@ -31,29 +57,19 @@ fn greatest_uncrowded(
         (IsGreatest on.now.map.now on.now.tolerances on.now.reference.now name)) }
 {
     one_candidate_a_line();
-    let mut low = name.least();
-    let mut high = on.tolerances.value(name);
-    if low >= high {
+    let low = name.least();
+    let given = on.tolerances.value(name);
+    if low >= given {
         return Ok(None);
     }
     if is_crowded_with(alloc, on, name, low, None)? {
         return Ok(None);
     }
-    let kept = match name {
-        Tolerance::Radius => surroundings_up_to(alloc, on, low, high)?,
-        _ => None,
+    let value = match surroundings_below(alloc, on, name, low)? {
+        Some(around) => greatest_between(alloc, on, name, low, around.reach, Some(&around))?,
+        None => greatest_between(alloc, on, name, low, given, None)?,
     };
-    let around = kept.as_ref();
-    let likely = likely_radius(alloc, on, around)?;
-    while high - low > 1 {
-        let middle = next_value(low, high, likely);
-        if is_crowded_with(alloc, on, name, middle, around)? {
-            high = middle;
-        } else {
-            low = middle;
-        }
-    }
-    Ok(Some(low))
+    Ok(Some(value))
 }
 
 /// The greatest value below the given one with which no point has more than 64 candidates, and

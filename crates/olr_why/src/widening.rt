@@ -7,10 +7,11 @@ ghost use Rattle.olr_candidates.specs.Tolerances.{greatest_of, order_of};
 ghost use Rattle.olr_candidates.specs.Values.{value_of};
 ghost use Rattle.olr_why.specs.Common.{Reference, RoadMap, Tolerance, Tolerances};
 ghost use Rattle.olr_why.specs.Remedies.{IsEnough, IsWider};
+ghost use Rattle.olr_why.specs.declared.trial.Trial.TheVariants.{Crowded};
 ghost use Rattle.olr_why.specs.inner.Trying.{IsBracket, IsTrialWith};
 
 use crate::bracket::Bracket;
-use crate::crowding::{likely_radius, next_value, surroundings_up_to};
+use crate::crowding::{greatest_between, surroundings_up_to};
 use crate::laws::matching_has_key;
 use crate::remedy::{Change, Remedy};
 use crate::trial::Trial;
@@ -86,22 +87,80 @@ fn part_of(bracket: Bracket, value: u32, trial: Trial) -> Bracket
     }
 }
 
-/// The lines around the points for a radius between these values, where it is the radius.
+/// The lines around the points up to the high end of a radius, or up to one between both ends with
+/// which a point has more than 64 candidates; none for the other tolerances.
 fn wide_surroundings(
     alloc: Global,
     on: &ReferenceOnMap<'_>,
     name: Tolerance,
     bracket: &Bracket,
 ) -> Result<Option<Surroundings>, NoMemory>
-    requires { bracket.now.high ≤ greatest_of name }
+    requires lower { bracket.now.low < bracket.now.high }
+    requires high { bracket.now.high ≤ greatest_of name }
     ensures around { IfOk result (λ around. IfSome around
         (AreSurroundings on.now.reference.now on.now.map.now.lines)) }
-    ensures reach { IfOk result (λ around. IfSome around (λ around. around.reach ≤ 1000)) }
+    ensures above { IfOk result (λ around. IfSome around
+        (λ around. bracket.now.low < around.reach)) }
+    ensures crowded { IfOk result (λ around. IfSome around
+        (λ around. around.reach < bracket.now.high
+        → IsTrialWith on.now.map.now on.now.tolerances on.now.reference.now name around.reach
+        Crowded)) }
 {
     match (name, &bracket.first) {
         (Tolerance::Radius, None) => surroundings_up_to(alloc, on, bracket.low, bracket.high),
         (Tolerance::Radius, Some(_)) => Surroundings::look(alloc, on, bracket.high),
         _ => Ok(None),
+    }
+}
+
+/// The part of these values up to one above the low end with which a point has more than 64
+/// candidates; all of them where that one isn't below the high end.
+fn up_to(bracket: Bracket, crowded: u32) -> Bracket
+    requires { bracket.low < crowded }
+    ensures { (road : RoadMap) (given : Tolerances) (reference : Reference) (name : Tolerance)
+        → order_of name ≢ order_of Lowest → IsBracket road given reference name bracket
+        → (crowded < bracket.high → IsTrialWith road given reference name crowded Crowded)
+        → IsBracket road given reference name result }
+{
+    if crowded < bracket.high {
+        part_of(bracket, crowded, Trial::Crowded)
+    } else {
+        bracket
+    }
+}
+
+/// The part of these values up to the least one with which a point has more than 64 candidates.
+fn up_to_crowding(
+    alloc: Global,
+    on: &ReferenceOnMap<'_>,
+    name: Tolerance,
+    bracket: Bracket,
+    around: Option<&Surroundings>,
+) -> Result<Bracket, NoMemory>
+    requires name { order_of name ≢ order_of Lowest }
+    requires bracket { IsBracket on.now.map.now on.now.tolerances
+        on.now.reference.now name bracket }
+    requires around { IfSome around (λ around.
+        AreSurroundings on.now.reference.now on.now.map.now.lines around.now) }
+    ensures { IfOk result
+        (IsBracket on.now.map.now on.now.tolerances on.now.reference.now name) }
+{
+    if bracket.first.is_some() {
+        return Ok(bracket);
+    }
+    let value = greatest_between(alloc, on, name, bracket.low, bracket.high, around)?;
+    Ok(up_to(bracket, value + 1))
+}
+
+/// The value between both ends that is tried next: the one below a value that is too much, else the
+/// one in the middle.
+fn next_value(bracket: &Bracket) -> u32
+    requires { bracket.now.low + 1 < bracket.now.high }
+    ensures { (bracket.now.low < result) × (result < bracket.now.high) }
+{
+    match bracket.first {
+        None => bracket.high - 1,
+        Some(_) => bracket.low + (bracket.high - bracket.low) / 2,
     }
 }
 
@@ -125,9 +184,35 @@ fn least_of_them(name: Tolerance, bracket: Bracket) -> Option<Remedy>
     })
 }
 
+/// The least of these values that is enough, and the first matching that it gives. Where the high
+/// end is too much, the greatest value that isn't comes first; and then halving finds the least.
+fn least_between(
+    alloc: Global,
+    on: &ReferenceOnMap<'_>,
+    name: Tolerance,
+    bracket: Bracket,
+    around: Option<&Surroundings>,
+) -> Result<Option<Remedy>, NoMemory>
+    requires name { order_of name ≢ order_of Lowest }
+    requires bracket { IsBracket on.now.map.now on.now.tolerances
+        on.now.reference.now name bracket }
+    requires around { IfSome around (λ around.
+        AreSurroundings on.now.reference.now on.now.map.now.lines around.now) }
+    ensures { IfOk result
+        (IsWider on.now.map.now on.now.tolerances on.now.reference.now name) }
+{
+    let mut bracket = up_to_crowding(alloc, on, name, bracket, around)?;
+    while bracket.high - bracket.low > 1 {
+        let value = next_value(&bracket);
+        let trial = try_value(alloc, on, name, value, around)?;
+        bracket = part_of(bracket, value, trial);
+    }
+    Ok(least_of_them(name, bracket))
+}
+
 /// The least value above the given one that is enough, and the first matching that it gives. A
 /// greater value gives a matching, or makes a point have too many candidates, where a lesser
-/// one does; so the least that does either is found by halving.
+/// one does. So a tolerance of which the greatest value does neither can't help.
 fn wider(
     alloc: Global,
     on: &ReferenceOnMap<'_>,
@@ -140,21 +225,17 @@ fn wider(
     ensures { IfOk result
         (IsWider on.now.map.now on.now.tolerances on.now.reference.now name) }
 {
-    let Some(mut bracket) = wider_values(alloc, on, name, around)? else {
+    let Some(bracket) = wider_values(alloc, on, name, around)? else {
         return Ok(None);
     };
-    let wide = wide_surroundings(alloc, on, name, &bracket)?;
-    let likely = match bracket.first {
-        None => likely_radius(alloc, on, wide.as_ref())?,
-        Some(_) => None,
-    };
-    let around = wide.as_ref().or(around);
-    while bracket.high - bracket.low > 1 {
-        let value = next_value(bracket.low, bracket.high, likely);
-        let trial = try_value(alloc, on, name, value, around)?;
-        bracket = part_of(bracket, value, trial);
+    match wide_surroundings(alloc, on, name, &bracket)? {
+        Some(wide) => {
+            let bracket = up_to(bracket, wide.reach);
+            let remedy = least_between(alloc, on, name, bracket, Some(&wide))?;
+            Ok(remedy)
+        }
+        None => least_between(alloc, on, name, bracket, around),
     }
-    Ok(least_of_them(name, bracket))
 }
 
 /// The least value of what is added to the lowest class, above the given one, that is enough,

@@ -1,4 +1,4 @@
-use Rattle.olr_candidates.proofs.Common.{◌++◌, ◌∷◌, [], append_assoc, CoverRadius}
+use Rattle.olr_candidates.proofs.Common.{◌++◌, ◌∷◌, [], append_assoc, HoldAllWithin}
 use Rattle.olr_candidates.proofs.NearestLines.{none_nearest}
 use Rattle.olr_candidates.proofs.SeenLines.{not_seen}
 use Rattle.olr_candidates.proofs.near_search.nearest_in_window.Goals as goal
@@ -13,7 +13,7 @@ loop-rank-init c = (
 pub loop-rank-preserved : goal.loop-rank-preserved
 loop-rank-preserved c =
     let seen = c.loop-rank.invariant.0 in
-    let cover : CoverRadius c.args.query.now c.args.map.now.lines c.args.radius
+    let cover : HoldAllWithin c.args.query.now c.args.map.now.lines c.args.radius
     (seen ++ c.in-Some.rank ∷ c.next.new.self) =
     rw (← c.in-Some.ensures.steps) c.loop-rank.invariant.1 in (
       seen ++ c.in-Some.rank ∷ [],

@@ -1,5 +1,5 @@
 use Rattle.std.proofs.lemmas.List.{take_all, take_more}
-use Rattle.olr_candidates.proofs.Common.{AreFound, SeenLine, arith, get_or, length, ranks_of, take, ◌<◌, ◌≡◌}
+use Rattle.olr_candidates.proofs.Common.{SeenLine, arith, get_or, length, ranks_of, take, ◌<◌, ◌≡◌}
 use Rattle.olr_candidates.proofs.Lists.{found_within}
 use Rattle.olr_candidates.proofs.SeenFrom.{no_line, not_before, rank_at, ranks_count}
 use Rattle.olr_candidates.proofs.seen.search_among.Goals as goal
@@ -10,7 +10,7 @@ returns-in_err-add_if c =
     let at = rank_at c.args.seen.now c.loop-line.line-index c.loop-line-test.true in
     rw c.from_residual.ensures (c.in_err-add_if.ensures _ _ _ one.line
     c.loop-line.invariant (not_before _ _ one.line (omega (arith, ranks_count c.args.seen.now)) at
-    c.requires.2.covers.once) c.candidate_of-candidate.ensures)
+    c.requires.2.covers.once) c.candidate_from-candidate.ensures)
 
 pub loop-line-preserved : goal.loop-line-preserved
 loop-line-preserved c =
@@ -20,7 +20,7 @@ loop-line-preserved c =
     omega (arith, ranks_count c.args.seen.now) in
     rw (take_more (ranks_of c.args.seen.now) c.loop-line.line-index one.line within, at)
     (c.in_ok-add_if.ensures _ _ _ one.line c.loop-line.invariant
-    (not_before _ _ one.line within at c.requires.2.covers.once) c.candidate_of-candidate.ensures)
+    (not_before _ _ one.line within at c.requires.2.covers.once) c.candidate_from-candidate.ensures)
 
 pub returns : goal.returns
 returns c =

@@ -9,4 +9,4 @@ loop-index-preserved c = rw c.in_ok-push.ensures.items (one_more
     c.args.reach seen) (λ seen. seen.items) _ _ _ c.loop-index.invariant
     (of_point _ _ _ _ c.query_of-query.ensures.query
     (λ t o p l. AreSeen o p l c.args.on.now.map.now.lines c.args.reach c.in-Some.seen.items)
-    (rw c.in-Some.is at c.in_ok-seen.ensures)))
+    (rw c.in-Some.is at c.in_ok-seen.ensures.seen)))
