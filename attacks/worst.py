@@ -107,15 +107,16 @@ class Command(NamedTuple):
 
 LIST, MATCH, JSON, PLACES = Command("candidates"), Command("match"), Command("match", json=True), Command("places")
 WHY = Command("why")
+CROWDED = WHY._replace(further=("--radius", "1000"))  # a point has more than 64 candidates
 MATCH_BANS, JSON_BANS, WHY_BANS = MATCH._replace(bans=True), JSON._replace(bans=True), WHY._replace(bans=True)
 LONG_PAGE, PAGE_OF_ONE, ALL_PAGES, LOOK_AT_TWO = ("--page", "1000"), ("--page", "1"), ("--all",), ("--look", "2")
 
 ROWS = [
     (Map("spot"), [LIST, WHY]),
     (Map("spot", points=8, shape=16), [LIST]),
-    (Map("latitude", bans=20_000), [LIST, MATCH, JSON_BANS]),
+    (Map("latitude", bans=20_000), [LIST, MATCH, JSON_BANS, CROWDED]),
     (Map("latitude", points=8, shape=16), [LIST]),
-    (Map("ids", bans=20_000), [LIST, MATCH, JSON_BANS]),
+    (Map("ids", bans=20_000), [LIST, MATCH, JSON_BANS, CROWDED]),
     (Map("star", points=3, bans=20_000), [LIST, MATCH, JSON_BANS, WHY]),
     (Map("star"), [MATCH]),
     (Map("wide", points=3), [MATCH, MATCH._replace(further=LONG_PAGE), PLACES]),
