@@ -7,8 +7,8 @@
 // Ids are texts: `line` and `id`, those of a list `lines`, and the first number of each piece and of each place of a route. Other whole
 // numbers beyond 2^53, which no number of JavaScript tells apart, are texts too. Throws a SyntaxError for what isn't JSON.
 
-// A text, or a whole number of 16 digits or more.
-const TEXT_OR_LONG_NUMBER = /"(?:[^"\\]|\\.)*"|-?\d{16,}(?![\d.eE])/g;
+const TEXT_OR_NUMBER = /"(?:[^"\\]|\\.)*"|-?\d+(?:\.\d+)?(?:[eE][-+]?\d+)?/g;
+const LONG_NUMBER = /^-?\d{16,}$/;
 const IDS = new Set(["line", "id"]);
 // Lists of pieces, each a line's id and two positions, and places, each a line's id and a position.
 const PIECES = new Set(["route", "inner", "outer"]);
@@ -20,7 +20,7 @@ function exactJson(text) {
 }
 
 function withLongNumbersAsTexts(text) {
-  return text.replace(TEXT_OR_LONG_NUMBER, (found) => (found.startsWith('"') || Number.isSafeInteger(Number(found)) ? found : `"${found}"`));
+  return text.replace(TEXT_OR_NUMBER, (found) => (LONG_NUMBER.test(found) && !Number.isSafeInteger(Number(found)) ? `"${found}"` : found));
 }
 
 function withIds(value) {

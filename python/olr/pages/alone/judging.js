@@ -135,30 +135,3 @@ function reasonsOfDirection(off, place) {
   if (off < OTHER_DIRECTION) return [];
   return [{ weight: 10 * off, text: `the direction at point ${place + 1} differs by about ${fixed(off * 11.25, 0)} degrees` }];
 }
-
-// ---- what pages say of probabilities, and of how different two maps are
-
-// It is 1 or 0 only if it is so: one that is rounded is said to be above or below.
-function probabilityText(value) {
-  if (value >= 0.995 && value < 1) return "above 0.99";
-  if (value > 0 && value < 0.005) return "below 0.01";
-  return fixed(value, 2);
-}
-
-// Whether a feed told how different the maps are, when the confidence was made.
-function isFromFeed({ about }) {
-  const isTold = typeof about.feed === "object" && (about.feed?.statistics ?? null) !== null;
-  return isTold && (about.differ ?? null) === null;
-}
-
-// How different the two maps seem, or of how different ones the probabilities are; an empty text if the file doesn't say it.
-function differsText(confidence) {
-  if (confidence.map_differs === null) return "";
-  const number = rangeText(confidence.map_differs);
-  const about = isFromFeed(confidence) ? "The maps seem to differ" : "The probabilities are those of maps that differ";
-  return `${about} by ${number}, 1 as another vendor's.`;
-}
-
-function rangeText({ value, low, high }) {
-  return `${fixed(value, 1)} (${fixed(low, 1)} to ${fixed(high, 1)})`;
-}

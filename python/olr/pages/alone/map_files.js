@@ -21,9 +21,9 @@ const FILES_OF_MAP = {
   },
   bans: { header: ["from", "to"], columns: [ID_OF_MAP, ID_OF_MAP], hasShapes: false },
 };
-const MOST_SHAPE_POINTS = 64;
-const MOST_DIGITS = 16;
-const [COMMA, SEMICOLON, BLANK, MINUS, ZERO, TWO, FEED, RETURN] = Array.from(",; -02\n\r", (letter) => letter.charCodeAt(0));
+const MOST_POINTS_OF_SHAPE = 64;
+const MOST_DIGITS_OF_FIELD = 16;
+const [COMMA, SEMICOLON, BLANK, MINUS, ZERO, TWO, LINE_FEED, RETURN] = Array.from(",; -02\n\r", (letter) => letter.charCodeAt(0));
 
 function readColumns(what, text, folder) {
   const file = FILES_OF_MAP[what];
@@ -79,7 +79,7 @@ class MapScanner {
     let blanks = 0;
     for (let at = this.at; at < text.length; at += 1) {
       const code = text.charCodeAt(at);
-      if (code === FEED) feeds += 1;
+      if (code === LINE_FEED) feeds += 1;
       else if (code === BLANK) blanks += 1;
     }
     return [feeds, blanks];
@@ -92,7 +92,7 @@ class MapScanner {
   }
 
   ended() {
-    return this.at === this.text.length || this.passed(FEED) || (this.passed(RETURN) && this.passed(FEED));
+    return this.at === this.text.length || this.passed(LINE_FEED) || (this.passed(RETURN) && this.passed(LINE_FEED));
   }
 
   // Reads a number of 1 to 16 digits into an array. Says whether it is there, and within its limits.
@@ -112,14 +112,14 @@ class MapScanner {
     values[place] = value;
     // 2^53 + 1 is rounded to 2^53, which ends with a 2.
     const isExact = value < 2 ** 53 || text.charCodeAt(at - 1) === TWO;
-    return at > first && at - first <= MOST_DIGITS && value >= least && value <= greatest && isExact;
+    return at > first && at - first <= MOST_DIGITS_OF_FIELD && value >= least && value <= greatest && isExact;
   }
 
   // Reads the points of a shape behind those that are known. Says how many they are, or -1 if it is none.
   shape(points, known) {
     const code = this.text.charCodeAt(this.at);
-    if (code === FEED || code === RETURN || this.at === this.text.length) return 0;
-    for (let size = 1; size <= MOST_SHAPE_POINTS; size += 1) {
+    if (code === LINE_FEED || code === RETURN || this.at === this.text.length) return 0;
+    for (let size = 1; size <= MOST_POINTS_OF_SHAPE; size += 1) {
       const place = 2 * (known + size - 1);
       if (!this.read(LON_OF_MAP, points, place) || !this.passed(BLANK) || !this.read(LAT_OF_MAP, points, place + 1)) return -1;
       if (!this.passed(SEMICOLON)) return size;
@@ -138,10 +138,9 @@ function usualText(what, text, folder) {
     if (fields.length === header.length) return;
     throw new ToolError(`${folder}/${what}.csv: record ${index + 1} has ${fields.length} fields, not ${header.length}`);
   });
-  rows.forEach((fields, index) => {
-    if (!fields.every((field) => /^[0-9 ;-]*$/.test(field))) throw refusedRecord(what, index + 1);
-  });
-  return records.map((fields) => `${fields.join(",")}\n`).join("");
+  // What no number has in it might end a field.
+  const written = (field) => (/^[0-9 ;-]*$/.test(field) ? field : "x");
+  return [header, ...rows.map((fields) => fields.map(written))].map((fields) => `${fields.join(",")}\n`).join("");
 }
 
 // The records of CSV, as `olr` tells them apart: fields end at commas, records at CR, LF or both, and empty lines are none. A field that begins

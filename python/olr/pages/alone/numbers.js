@@ -1,8 +1,11 @@
 "use strict";
-// Numbers as Python and numpy round, write and add them, to the last bit.
+// Numbers as Python and numpy round and add them, to the last bit.
 //
-//   roundHalfEven(2.5) is 2; fixed(22.5, 0) is "22", as Python's f"{22.5:.0f}"; rounded(0.0625, 3) is 0.062, as round(0.0625, 3)
-//   hypotenuse(x, y), sumOf(values), leastOf(values)
+//   roundHalfEven(2.5)      2        np.round(2.5)
+//   rounded(0.0625, 3)      0.062    round(0.0625, 3)
+//   sumOf(values)                    np.add.reduceat
+//   hypotenuse(x, y)                 np.hypot
+//   leastOf(values)                  min(values)
 
 // The nearest whole number, of two that are as near the even one: `np.round`.
 function roundHalfEven(value) {
@@ -10,16 +13,6 @@ function roundHalfEven(value) {
   const rest = value - below;
   if (rest !== 0.5) return rest < 0.5 ? below : below + 1;
   return below % 2 === 0 ? below : below + 1;
-}
-
-// A number below 10^21 with so many digits behind the point. `toFixed` takes the greater one of two that are as near, Python the even one.
-function fixed(value, digits) {
-  const size = Math.abs(value);
-  const isTie = (size * 2 ** (digits + 1)) % 2 === 1;
-  const text = size.toFixed(digits);
-  const isOdd = Number(text.at(-1)) % 2 === 1;
-  const sign = value < 0 || Object.is(value, -0) ? "-" : "";
-  return sign + (isTie && isOdd ? (size - 10 ** -digits / 4).toFixed(digits) : text);
 }
 
 // A number with so many digits behind the point at most: Python's `round`.

@@ -1,0 +1,205 @@
+"""The map of the page that answers by itself: its files, and the geometries of lines, beside those of `olr.Network`."""
+
+import numpy as np
+import pytest
+import random
+from collections.abc import Callable
+from pathlib import Path
+from typing import Any
+
+from alone import Scripts, text_of
+from asking import draw_map
+from browser import Browser
+from drawn_maps import damage, draw_files
+from olr.errors import ToolError
+from olr.geometry.network import Network
+from olr.geometry.turning_back import turn_back
+from olr.model.columns import joined_columns, read_columns
+from olr.model.map_folder import read_map, write_map
+from olr.model.road_map import Ban, Line, Node, Position, RoadMap
+from olr.pages.view.surroundings import Box, Surroundings, path_of
+
+DAMAGED = 300
+
+
+@pytest.fixture(scope="module")
+def scripts(browser: Browser) -> Scripts:
+    return Scripts(browser)
+
+
+@pytest.fixture(scope="module")
+def folder(tmp_path_factory: pytest.TempPathFactory) -> Path:
+    """A drawn map with bans, and pairs of lines that go opposite ways, of which some turn more sharply than others."""
+    place = tmp_path_factory.mktemp("network")
+    drawn = read_map(draw_map(place / "drawn", 400, 800))
+    draws = random.Random(7)
+    lines = [line for line in drawn.lines]
+    for number, line in enumerate(drawn.lines[:150]):
+        shift = draws.choice([0, 0, 1, 20, 400])
+        shape = tuple(Position(lon + shift, lat - shift) for lon, lat in line.shape[::-1])
+        lines.append(Line(2**53 - number, line.end, line.start, line.road_class, line.form, line.length, shape))
+    bans = [Ban(one.id, other.id) for one in lines[:60] for other in lines if one.end == other.start]
+    write_map(RoadMap(drawn.nodes, lines, bans), place / "map", {})
+    return place / "map"
+
+
+@pytest.fixture(scope="module")
+def network(scripts: Scripts, folder: Path) -> Network:
+    """The network of that map, which the scripts have read too."""
+    scripts.read_map(folder)
+    return Network.read(folder)
+
+
+def raised(call: Callable[[], object]) -> str | None:
+    """The text of the error of a call."""
+    try:
+        call()
+    except ToolError as error:
+        return f"ToolError: {error}"
+    return None
+
+
+def test_lines(network: Network, scripts: Scripts) -> None:
+    of_lines = "({ids, length, from, to, class: road, form, count, nodes}) => [[...ids], [...length], [...road], [...form], [...from], [...to], count, nodes]"
+    ids, length, road_class, form, start, end, count, nodes = scripts.value(f"({of_lines})(network)")
+    assert list(map(int, ids)) == network.line_id.tolist() and count == len(ids)
+    assert (length, road_class, form) == (network.length.tolist(), network.road_class.tolist(), network.form.tolist())
+    assert network.node_id[start].tolist() == network.start.tolist()
+    assert network.node_id[end].tolist() == network.end.tolist() and nodes == len(network.node_id)
+    ordered = scripts.value("[...network.byId].map((index) => network.ids[index])")
+    assert list(map(int, ordered)) == sorted(network.line_id.tolist())
+    polylines = scripts.value("network.ids.map((_, index) => network.polyline(index))")
+    wanted = [network.points[first : first + size, ::-1].tolist() for first, size in zip(network.first, network.sizes)]
+    assert polylines == wanted
+    assert scripts.value("ids.map((id) => network.indexOf(id))", ids=ids) == list(range(count))
+    assert scripts.value("['1', '0', '-1', '', '01', 'x', '9007199254740993'].map((id) => network.has(id))") == [1 in network.line_id] + [False] * 6
+
+
+def test_paths_and_points(network: Network, scripts: Scripts) -> None:
+    draws = random.Random(3)
+    rows, places = [], []
+    lengths = dict(zip(network.line_id.tolist(), network.length.tolist()))
+    following = {node: network.line_id[network.start == node].tolist() for node in network.end.tolist()}
+    end = dict(zip(network.line_id.tolist(), network.end.tolist()))
+    for _ in range(400):
+        walk = [draws.choice(network.line_id.tolist())]
+        while draws.random() < 0.7 and following[end[walk[-1]]]:
+            walk.append(draws.choice(following[end[walk[-1]]]))
+        row = [[line, 0, lengths[line]] for line in walk]
+        row[0][1] = draws.choice([0, draws.randint(0, lengths[walk[0]]), lengths[walk[0]]])
+        row[-1][2] = draws.choice([row[-1][2], draws.randint(row[-1][1], row[-1][2]), row[-1][1]])
+        rows.append(row)
+        places.append([walk[0], row[0][1]])
+    rows.append([])
+    texts = [[[str(line), low, high] for line, low, high in row] for row in rows]
+    paths = scripts.value("rows.map((row) => network.path(row))", rows=texts)
+    assert paths == [path_of(network.path(row)) for row in rows]
+    named = [[dict(zip(("line", "from", "to"), piece)) for piece in row] for row in texts]
+    assert scripts.value("rows.map((row) => network.path(row))", rows=named) == paths
+    points = scripts.value("places.map(([id, at]) => network.pointAt(String(id), at))", places=places)
+    wanted = network.points_at(np.array(places))[:, ::-1]
+    assert np.abs(np.array(points) - wanted).max() < 1e-12
+    assert scripts.value("pathOf(points)", points=wanted.tolist()) == path_of(wanted[:, ::-1])
+
+
+def test_what_is_not_on_the_map(network: Network, scripts: Scripts) -> None:
+    line, length = int(network.line_id[5]), int(network.length[5])
+    for id, at in ((3, 0), (line, length + 1), (line, -1)):
+        wanted = raised(lambda: network.points_at(np.array([[id, at]])))
+        assert wanted is not None
+        assert scripts.tried("network.pointAt(id, at)", id=str(id), at=at) == wanted
+        assert scripts.tried("network.path([[id, 0, at]])", id=str(id), at=at) == wanted
+
+
+def test_lines_of_boxes_and_nodes(network: Network, scripts: Scripts) -> None:
+    draws = random.Random(4)
+    surroundings = Surroundings(network)
+    low, high = network.points.min(axis=0), network.points.max(axis=0)
+    boxes = [sorted(draws.uniform(low[axis], high[axis]) for _ in range(2)) for _ in range(40) for axis in (1, 0)]
+    # The corner of a box may be the end of a line.
+    west, south = network.points[0].tolist()
+    boxes += [[south, south], [west, west]]
+    found = scripts.value(
+        "boxes.map(([lats, lons]) => network.linesIn({ low: [lats[0], lons[0]], high: [lats[1], lons[1]] }))",
+        boxes=list(zip(boxes[::2], boxes[1::2])),
+    )
+    wanted = [
+        surroundings.within(Box(np.array([lats[0], lons[0]]), np.array([lats[1], lons[1]]))).tolist()
+        for lats, lons in zip(boxes[::2], boxes[1::2])
+    ]
+    assert found == wanted and any(wanted)
+    of_nodes = scripts.value("Array.from({ length: network.nodes }, (_, node) => [...network.linesOf(node)])")
+    by_id = np.argsort(network.line_id)
+    assert of_nodes == [by_id[network.start[by_id] == node].tolist() for node in network.node_id.tolist()]
+
+
+def test_bans(network: Network, scripts: Scripts, folder: Path) -> None:
+    bans = {tuple(ban) for ban in read_map(folder).bans}
+    turns = [(one, other) for one in network.line_id.tolist()[:200] for other in network.line_id.tolist()[::7]]
+    pairs = [list(map(str, pair)) for pair in (*bans, *turns)]
+    is_banned = "pairs.map((pair) => network.isBanned(...pair.map((id) => network.indexOf(id))))"
+    assert scripts.value(is_banned, pairs=pairs) == [pair in bans for pair in (*bans, *turns)]
+
+
+def test_routes_that_turn_back(network: Network, scripts: Scripts) -> None:
+    """All pairs of lines that follow one another, driven whole and in part."""
+    ids, ends, lengths = network.line_id.tolist(), network.end.tolist(), network.length.tolist()
+    starts = network.start.tolist()
+    routes = []
+    for one, end in enumerate(ends):
+        for other in (at for at, start in enumerate(starts) if start == end):
+            whole = [[ids[one], 0, lengths[one]], [ids[other], 0, lengths[other]]]
+            routes += [whole, [whole[1], *whole, whole[1]]]
+            if ends[other] == starts[one]:
+                routes += [[[ids[one], 0, lengths[one] - 1], whole[1]], [whole[0], [ids[other], 1, lengths[other]]]]
+                routes += [[[ids[one], lengths[one], lengths[one]], whole[1]], [whole[0], [ids[other], 0, 0]]]
+                routes += [[[ids[one], 1, lengths[one]], [ids[other], 0, 1]], [whole[0]]]
+    pieces = np.array([piece for route in routes for piece in route])
+    wanted = turn_back(pieces, np.array([len(route) for route in routes]), network).tolist()
+    assert 0 < wanted.count(True) < wanted.count(False)
+    texts = [[[str(line), low, high] for line, low, high in route] for route in routes]
+    assert scripts.value("routes.map((route) => turnsBack(route, network))", routes=texts) == wanted
+
+
+def columns_of(folder: Path) -> Any:
+    """The columns of the nodes and lines of a folder, as lists; or the error."""
+    found = []
+    for what in ("nodes", "lines"):
+        try:
+            columns = joined_columns(read_columns(what, folder / f"{what}.csv"), what)  # type: ignore[arg-type]
+        except ToolError as error:
+            return f"ToolError: {error}"
+        found.append([columns.numbers.tolist(), columns.points.ravel().tolist()])
+    return found
+
+
+COLUMNS = """["nodes", "lines"].map((what) => readColumns(what, texts[what], folder))
+.map(({ numbers, points, sizes }) => [numbers.map((one) => [...one]), [...points].slice(0, 2 * sizes.reduce((sum, size) => sum + size, 0))])"""
+
+
+def test_files_in_all_forms(scripts: Scripts, tmp_path: Path) -> None:
+    """Files of CSV as they may be written, and damaged ones, are read or refused as Python does it."""
+    draws = random.Random(11)
+    refused = 0
+    for number in range(DAMAGED):
+        files = draw_files(draws)
+        files = damage(draws, files) if number % 3 else files
+        for name, data in files.items():
+            (tmp_path / name).write_bytes(data)
+        texts = {what: text_of(tmp_path / f"{what}.csv") for what in ("nodes", "lines")}
+        wanted = columns_of(tmp_path)
+        refused += isinstance(wanted, str)
+        found = scripts.tried(COLUMNS, texts=texts, folder=str(tmp_path))
+        assert found == wanted, files
+    assert DAMAGED // 6 < refused < DAMAGED // 2
+
+
+def test_a_map_that_lacks_a_node(scripts: Scripts, tmp_path: Path) -> None:
+    (tmp_path / "nodes.csv").write_text("id,lon,lat\n1,0,0\n")
+    (tmp_path / "lines.csv").write_text("id,from,to,class,form,length,shape\n7,1,2,3,3,9,\n")
+    texts = {what: text_of(tmp_path / f"{what}.csv") for what in ("nodes", "lines")}
+    found = scripts.tried("Network.of({ ...texts, bans: null, folder })", texts=texts, folder=str(tmp_path))
+    assert found == raised(lambda: Network.read(tmp_path))
+    assert scripts.tried("Network.of({ nodes: texts.nodes, lines: '' })", texts=texts).startswith("ToolError: this page/lines.csv doesn't begin")
+    empty = {"nodes": "id,lon,lat", "lines": "id,from,to,class,form,length,shape\n"}
+    assert scripts.value("Network.of(texts).linesIn({ low: [0, 0], high: [1, 1] })", texts=empty) == []
