@@ -1,12 +1,15 @@
 """The scripts of the page that answers by itself, in a browser: what their functions say is compared with Python's."""
 
 import json
+import random
 from pathlib import Path
 from typing import Any
 
 import olr
+from asking import draw_map
 from browser import Browser
-from olr.model.map_folder import BANS, LINES, NODES
+from olr.model.map_folder import BANS, LINES, NODES, read_map, write_map
+from olr.model.road_map import Ban, Line, Position, RoadMap
 
 FOLDER = Path(olr.__file__).with_name("pages") / "alone"
 """Where they are."""
@@ -46,3 +49,19 @@ def _with_names(expression: str, given: dict[str, Any]) -> str:
 def text_of(file: Path) -> str | None:
     """The text of a file; None if there is none."""
     return file.read_bytes().decode("utf-8", "replace") if file.exists() else None
+
+
+def draw_two_ways(place: Path) -> Path:
+    """A drawn map with bans, and pairs of lines that go opposite ways, of which some turn more sharply than others. The ids of some are the
+    greatest ones."""
+    drawn = read_map(draw_map(place / "drawn", 400, 800))
+    draws = random.Random(7)
+    lines = list(drawn.lines)
+    for number, line in enumerate(drawn.lines[:150]):
+        shift = draws.choice([0, 0, 1, 20, 400])
+        shape = tuple(Position(lon + shift, lat - shift) for lon, lat in line.shape[::-1])
+        kinds = (line.road_class, line.form, line.length)
+        lines.append(Line(2**53 - number, line.end, line.start, *kinds, shape))
+    bans = [Ban(one.id, to.id) for one in lines[:60] for to in lines if one.end == to.start]
+    write_map(RoadMap(drawn.nodes, lines, bans), place / "map", {})
+    return place / "map"

@@ -7,16 +7,14 @@ from collections.abc import Callable
 from pathlib import Path
 from typing import Any
 
-from alone import Scripts, text_of
-from asking import draw_map
+from alone import Scripts, draw_two_ways, text_of
 from browser import Browser
 from drawn_maps import damage, draw_files
 from olr.errors import ToolError
 from olr.geometry.network import Network
 from olr.geometry.turning_back import turn_back
 from olr.model.columns import joined_columns, read_columns
-from olr.model.map_folder import read_map, write_map
-from olr.model.road_map import Ban, Line, Node, Position, RoadMap
+from olr.model.map_folder import read_map
 from olr.pages.view.surroundings import Box, Surroundings, path_of
 
 DAMAGED = 300
@@ -29,18 +27,7 @@ def scripts(browser: Browser) -> Scripts:
 
 @pytest.fixture(scope="module")
 def folder(tmp_path_factory: pytest.TempPathFactory) -> Path:
-    """A drawn map with bans, and pairs of lines that go opposite ways, of which some turn more sharply than others."""
-    place = tmp_path_factory.mktemp("network")
-    drawn = read_map(draw_map(place / "drawn", 400, 800))
-    draws = random.Random(7)
-    lines = [line for line in drawn.lines]
-    for number, line in enumerate(drawn.lines[:150]):
-        shift = draws.choice([0, 0, 1, 20, 400])
-        shape = tuple(Position(lon + shift, lat - shift) for lon, lat in line.shape[::-1])
-        lines.append(Line(2**53 - number, line.end, line.start, line.road_class, line.form, line.length, shape))
-    bans = [Ban(one.id, other.id) for one in lines[:60] for other in lines if one.end == other.start]
-    write_map(RoadMap(drawn.nodes, lines, bans), place / "map", {})
-    return place / "map"
+    return draw_two_ways(tmp_path_factory.mktemp("network"))
 
 
 @pytest.fixture(scope="module")
