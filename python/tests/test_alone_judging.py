@@ -1,5 +1,6 @@
 """What the page that answers by itself says of places: their likely order, probabilities, reasons and rows, beside those of the server."""
 
+import base64
 import json
 import numpy as np
 import pytest
@@ -7,7 +8,7 @@ import random
 from collections.abc import Mapping
 from itertools import islice
 from pathlib import Path
-from typing import Any, NamedTuple
+from typing import NamedTuple
 
 from alone import Scripts, draw_two_ways
 from asking import draw_references
@@ -23,10 +24,20 @@ from olr.confidence.likeness import Range
 from olr.geometry.network import Network
 from olr.likely.evidence import evidence_of, fit_of
 from olr.likely.long_list import listing
-from olr.likely.order import likely_costs
-from olr.model.answers import Places
+from olr.likely.order import (
+    Shown,
+    Verdict,
+    are_shown,
+    is_cut_off,
+    likely_costs,
+    likely_order,
+    verdict_within,
+)
+from olr.model.answers import Matching, PlaceOfReference, Places
+from olr.model.fault import Fault
 from olr.model.map_folder import read_map
 from olr.model.objects import raw_line, read_answer
+from olr.model.pieces import Pieces
 from olr.model.profiles import FEED, PROGRAM, tolerances_of
 from olr.model.questions import NUMBERS, TOLERANCES, all_words
 from olr.model.reference import read_reference
@@ -59,13 +70,16 @@ class Asked(NamedTuple):
         """The references of all records."""
         return [one.record.text().decode() for one in self.some]
 
-    def places(self, network: Network) -> list[Places | None]:
+    def answers(self, network: Network) -> list[Places | Fault]:
         """Their answers."""
-        found: list[Places | None] = []
+        found: list[Places | Fault] = []
         for one in self.some:
-            answer = read_answer("places", one.answer, network.digest) if not one.fault else None
-            assert answer is None or isinstance(answer, Places)
-            found.append(answer)
+            if one.fault is not None:
+                found.append(Fault(one.fault))
+            else:
+                answer = read_answer("places", one.answer, network.digest)
+                assert isinstance(answer, Places)
+                found.append(answer)
         return found
 
 
@@ -95,12 +109,22 @@ def records(folder: Path) -> list[bytes]:
         text_of(changed_points(one.points, Spreads().times(draws.uniform(0, 3)), draws))
         for one in islice(drawn, 120)
     ]
-    texts = [*changed, *draw_references(folder, 30), POINT]
+    texts = [*changed, *draw_references(folder, 30), *map(point_of, changed[:40]), POINT]
     lines = [f"{number}\t{text}".encode() for number, text in enumerate(texts)]
     return [*lines, f"{KEY}\t {texts[0]}\r".encode(), texts[1].encode(), b"\xff\t", b"x" * 70_000]
 
 
-def asked_with(program: Program, folder: Path, records: list[bytes], numbers: Mapping[str, int]) -> Asked:
+def point_of(text: str) -> str:
+    """The point along a line between the first and the last point of a reference."""
+    data = base64.b64decode(text)
+    return base64.b64encode(
+        b"\x2b" + data[1:10] + data[10:14] + data[-2:-1] + bytes([data[-1] & 31])
+    ).decode()
+
+
+def asked_with(
+    program: Program, folder: Path, records: list[bytes], numbers: Mapping[str, int]
+) -> Asked:
     """Asks for the long list, as the server does."""
     messages = folder.with_name("messages.txt")
     messages.write_bytes(b"\n".join(records) + b"\n")
@@ -108,14 +132,18 @@ def asked_with(program: Program, folder: Path, records: list[bytes], numbers: Ma
     lines = program.run("batch", "places", *words).stdout.splitlines()
     raw = list(map(raw_line, (line.encode() for line in lines)))
     some = [
-        Answered(Record(one.record, records[one.record - 1].removesuffix(b"\r")), one.answer, one.fault)
+        Answered(
+            Record(one.record, records[one.record - 1].removesuffix(b"\r")), one.answer, one.fault
+        )
         for one in raw
     ]
     return Asked(Kind("places", tuple(all_words(numbers))), lines, some)
 
 
 @pytest.fixture(scope="module", params=["feed", "program", "few", "apart"])
-def asked(request: pytest.FixtureRequest, program: Program, folder: Path, records: list[bytes]) -> Asked:
+def asked(
+    request: pytest.FixtureRequest, program: Program, folder: Path, records: list[bytes]
+) -> Asked:
     feed = tolerances_of(FEED) | DEFAULTS
     numbers = {
         "feed": feed,
@@ -131,10 +159,20 @@ def file(request: pytest.FixtureRequest, tmp_path_factory: pytest.TempPathFactor
     """That of a confidence."""
     if request.param == "shipped":
         return DEFAULT
-    weights = {"distance": 0.11, "direction": 0.7, "length": 0.013, "behind": 0.021}
-    none = {"turning_back": 1.3, "none": -1.7, "none_points": 0.31, "none_lines": 0.43}
     made = tmp_path_factory.mktemp("made") / "confidence.json"
-    return write_confidence(made, Range(0.4, 0.1, 0.9), profile=FEED, **weights, **none)
+    return write_confidence(
+        made,
+        Range(0.4, 0.1, 0.9),
+        profile=FEED,
+        distance=0.11,
+        direction=0.7,
+        length=0.013,
+        behind=0.021,
+        turning_back=1.3,
+        none=-1.7,
+        none_points=0.31,
+        none_lines=0.43,
+    )
 
 
 ROWS = "texts.map((text, at) => rowText(rowOf(lines[at], text, network, judgingBy(confidence, numbers))))"
@@ -148,8 +186,11 @@ def test_rows(asked: Asked, file: Path, network: Network, scripts: Scripts) -> N
     found = scripts.value(ROWS, confidence=json.loads(file.read_text()), **given)
     assert found == wanted
     rows = list(map(json.loads, wanted))
-    assert len(rows) == 155 and {"fault", "unique", "none"} <= {row["verdict"] for row in rows}
-    assert {row["fault"] is None for row in rows} == {True, False}
+    assert len(rows) == len(asked.some) > 190
+    assert {"fault", "unique", "none"} <= {row["verdict"] for row in rows}
+    points = [row for row, text in zip(rows, asked.texts()) if text.startswith("K")]
+    assert {row["total"] is None for row in points} == {True, False}
+    assert {row["probability"] for row in points} == {None}
 
 
 JUDGED = """texts.map((text, at) => {
@@ -163,16 +204,22 @@ def test_judgements(asked: Asked, file: Path, network: Network, scripts: Scripts
     confidence = Confidence.of_file(file)
     chosen = judging_by(confidence, tolerances_of(FEED), asked.numbers() | {"apart": 750})
     assert chosen.judging.confidence is confidence
-    answers, references = asked.places(network), list(map(read_reference, asked.texts()))
-    wanted = judged([one or olr_fault() for one in answers], references, network, chosen.judging)
-    judging = {"confidence": json.loads(file.read_text()), "shown": chosen.judging.shown._asdict() if chosen.judging.shown else None}
+    answers, references = asked.answers(network), list(map(read_reference, asked.texts()))
+    wanted = judged(answers, references, network, chosen.judging)
+    assert chosen.judging.shown is not None
+    shown = chosen.judging.shown._asdict()
+    judging = {"confidence": json.loads(file.read_text()), "shown": shown}
     found = scripts.value(JUDGED, lines=asked.lines, texts=asked.texts(), judging=judging)
     assert [one is None for one in found] == [one is None for one in wanted]
     cut_off = turning_back = 0
     for said, one in zip(found, wanted):
         if one is None:
             continue
-        assert (said["verdict"], said["margin"], said["isCutOff"]) == (one.verdict, one.margin, one.is_cut_off)
+        assert (said["verdict"], said["margin"], said["isCutOff"]) == (
+            one.verdict,
+            one.margin,
+            one.is_cut_off,
+        )
         assert said["noneOfThese"] == pytest.approx(one.none_of_these, abs=1e-12, rel=0)
         assert said["mapDiffers"] == (one.map_differs and one.map_differs._asdict())
         columns = [
@@ -180,7 +227,14 @@ def test_judgements(asked: Asked, file: Path, network: Network, scripts: Scripts
             for it in one.places
         ]
         assert [
-            (it["rank"], it["likely"], it["ends"], it["turnsBack"], it["reasons"], it["place"]["matching"]["cursor"])
+            (
+                it["rank"],
+                it["likely"],
+                it["ends"],
+                it["turnsBack"],
+                it["reasons"],
+                it["place"]["matching"]["cursor"],
+            )
             for it in said["places"]
         ] == columns
         for place, it in zip(said["places"], one.places):
@@ -188,12 +242,6 @@ def test_judgements(asked: Asked, file: Path, network: Network, scripts: Scripts
         cut_off += one.is_cut_off
         turning_back += any(it.turns_back for it in one.places)
     assert turning_back and (cut_off > 0 or asked.numbers()["look"] > 3)
-
-
-def olr_fault() -> Any:
-    from olr.model.fault import Fault
-
-    return Fault("BadBase64")
 
 
 EVIDENCE = """lines.map((line, at) => {
@@ -207,8 +255,8 @@ EVIDENCE = """lines.map((line, at) => {
 
 def test_evidence(asked: Asked, network: Network, scripts: Scripts) -> None:
     matchings, references = [], []
-    for answer, text in zip(asked.places(network), asked.texts()):
-        for place in answer.places if answer else ():
+    for answer, text in zip(asked.answers(network), asked.texts()):
+        for place in answer.places if isinstance(answer, Places) else ():
             matchings.append(place.matching)
             reference = read_reference(text)
             assert reference is not None
@@ -239,21 +287,69 @@ def test_evidence(asked: Asked, network: Network, scripts: Scripts) -> None:
 
 def test_all_places_in_the_likely_order(asked: Asked, network: Network, scripts: Scripts) -> None:
     """Without a confidence, and without numbers that say what is shown."""
-    wanted = judged([one or olr_fault() for one in asked.places(network)], [None] * len(asked.some), network)
+    wanted = judged(asked.answers(network), [None] * len(asked.some), network)
     found = scripts.value(JUDGED, lines=asked.lines, texts=asked.texts(), judging={})
     for said, one in zip(found, wanted):
         if one is not None:
             ranks = [(it.rank, it.probability, it.reasons) for it in one.places]
-            assert [(it["rank"], it["probability"], it["reasons"]) for it in said["places"]] == ranks
-            assert (said["verdict"], said["noneOfThese"], said["mapDiffers"], said["isCutOff"]) == (one.verdict, None, None, False)
+            assert [
+                (it["rank"], it["probability"], it["reasons"]) for it in said["places"]
+            ] == ranks
+            assert (said["verdict"], said["noneOfThese"], said["mapDiffers"], said["isCutOff"]) == (
+                one.verdict,
+                None,
+                None,
+                False,
+            )
+
+
+SHOWN = """answers.map((answer, at) => {
+  const { within, most, costs } = all[at];
+  const cut = isCutOff(answer, costs, { within });
+  return [likelyOrder(costs), areShown(answer, costs, { within, most }), verdictWithin(answer, within), cut];
+})"""
+
+
+def test_what_is_shown_of_a_list(scripts: Scripts) -> None:
+    """Of lists in which gaps, likely costs and what was reached are drawn from few numbers, so that many are equal."""
+    draws = random.Random(8)
+    verdicts: tuple[Verdict, ...] = ("unique", "ambiguous", "open")
+    answers, given, wanted = [], [], []
+    for _ in range(400):
+        gaps = sorted(draws.randrange(0, 60, 10) for _ in range(draws.randrange(5)))
+        gaps = [gap - gaps[0] for gap in gaps]
+        costs = [float(draws.randrange(0, 80, 10)) for _ in gaps]
+        reached = draws.choice([None, *range(100, 600, 50)])
+        total = draws.randrange(100)
+        found = (Matching("", (), (), Pieces(()), total + gap) for gap in gaps)
+        answer = Places(
+            looked=9,
+            places=tuple(PlaceOfReference(gap, one, 1) for gap, one in zip(gaps, found)),
+            verdict=draws.choice(verdicts) if gaps else "none",
+            next=None if reached is None else f"{reached}:1.1",
+        )
+        shown, array = Shown(draws.randrange(0, 60, 10), draws.randint(1, 4)), np.array(costs)
+        answers.append(answer.to_dict())
+        given.append({**shown._asdict(), "costs": costs})
+        wanted.append(
+            [
+                likely_order(array),
+                are_shown(answer, array, shown),
+                verdict_within(answer, shown.within),
+                is_cut_off(answer, array, shown),
+            ]
+        )
+    assert scripts.value(SHOWN, answers=answers, all=given) == wanted
+    assert {one[2] for one in wanted} == {"unique", "ambiguous", "open", "none"}
+    assert {one[3] for one in wanted} == {True, False}
 
 
 def test_why_there_are_no_probabilities(scripts: Scripts) -> None:
     confidence, shipped = Confidence.default(), json.loads(DEFAULT.read_text())
     draws = random.Random(6)
-    for _ in range(40):
+    for _ in range(60):
         numbers = tolerances_of(FEED) | {"apart": 750}
-        for name in draws.sample(list(numbers), draws.choice([0, 1, 3])):
+        for name in draws.sample(list(numbers), draws.choice([0, 1, 3, 7])):
             numbers[name] += draws.choice([0, 1, -1])
         if draws.random() < 0.5:
             numbers |= {"within": draws.randrange(100), "most": draws.randint(1, 100)}
@@ -266,4 +362,9 @@ def test_why_there_are_no_probabilities(scripts: Scripts) -> None:
         assert (found["judging"]["confidence"] is None) == (wanted.judging.confidence is None)
         assert wanted.judging.shown is not None
         assert found["judging"]["shown"] == wanted.judging.shown._asdict()
-    assert scripts.value("listing({ apart: 3, look: 9, within: 5 })") == {"apart": 3, "look": 9, "within": 14620, "most": 100}
+    assert scripts.value("listing({ apart: 3, look: 9, within: 5 })") == {
+        "apart": 3,
+        "look": 9,
+        "within": 14620,
+        "most": 100,
+    }

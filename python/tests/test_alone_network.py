@@ -3,17 +3,17 @@
 import numpy as np
 import pytest
 import random
-from collections.abc import Callable
+from collections.abc import Callable, Sequence
 from pathlib import Path
 from typing import Any
 
-from alone import Scripts, draw_two_ways, text_of
+from alone import TRIED, Scripts, draw_two_ways, text_of
 from browser import Browser
-from drawn_maps import damage, draw_files
+from drawn_maps import Files, damage, draw_files
 from olr.errors import ToolError
 from olr.geometry.network import Network
 from olr.geometry.turning_back import turn_back
-from olr.model.columns import joined_columns, read_columns
+from olr.model.columns import What, joined_columns, read_columns
 from olr.model.map_folder import read_map
 from olr.pages.view.surroundings import Box, Surroundings, path_of
 
@@ -48,25 +48,41 @@ def raised(call: Callable[[], object]) -> str | None:
 
 def test_lines(network: Network, scripts: Scripts) -> None:
     of_lines = "({ids, length, from, to, class: road, form, count, nodes}) => [[...ids], [...length], [...road], [...form], [...from], [...to], count, nodes]"
-    ids, length, road_class, form, start, end, count, nodes = scripts.value(f"({of_lines})(network)")
+    ids, length, road_class, form, start, end, count, nodes = scripts.value(
+        f"({of_lines})(network)"
+    )
     assert list(map(int, ids)) == network.line_id.tolist() and count == len(ids)
-    assert (length, road_class, form) == (network.length.tolist(), network.road_class.tolist(), network.form.tolist())
+    assert (length, road_class, form) == (
+        network.length.tolist(),
+        network.road_class.tolist(),
+        network.form.tolist(),
+    )
     assert network.node_id[start].tolist() == network.start.tolist()
     assert network.node_id[end].tolist() == network.end.tolist() and nodes == len(network.node_id)
     ordered = scripts.value("[...network.byId].map((index) => network.ids[index])")
     assert list(map(int, ordered)) == sorted(network.line_id.tolist())
     polylines = scripts.value("network.ids.map((_, index) => network.polyline(index))")
-    wanted = [network.points[first : first + size, ::-1].tolist() for first, size in zip(network.first, network.sizes)]
+    wanted = [
+        network.points[first : first + size, ::-1].tolist()
+        for first, size in zip(network.first, network.sizes)
+    ]
     assert polylines == wanted
     assert scripts.value("ids.map((id) => network.indexOf(id))", ids=ids) == list(range(count))
-    assert scripts.value("['1', '0', '-1', '', '01', 'x', '9007199254740993'].map((id) => network.has(id))") == [1 in network.line_id] + [False] * 6
+    assert (
+        scripts.value(
+            "['1', '0', '-1', '', '01', 'x', '9007199254740993'].map((id) => network.has(id))"
+        )
+        == [1 in network.line_id] + [False] * 6
+    )
 
 
 def test_paths_and_points(network: Network, scripts: Scripts) -> None:
     draws = random.Random(3)
     rows, places = [], []
     lengths = dict(zip(network.line_id.tolist(), network.length.tolist()))
-    following = {node: network.line_id[network.start == node].tolist() for node in network.end.tolist()}
+    following = {
+        node: network.line_id[network.start == node].tolist() for node in network.end.tolist()
+    }
     end = dict(zip(network.line_id.tolist(), network.end.tolist()))
     for _ in range(400):
         walk = [draws.choice(network.line_id.tolist())]
@@ -83,7 +99,9 @@ def test_paths_and_points(network: Network, scripts: Scripts) -> None:
     assert paths == [path_of(network.path(row)) for row in rows]
     named = [[dict(zip(("line", "from", "to"), piece)) for piece in row] for row in texts]
     assert scripts.value("rows.map((row) => network.path(row))", rows=named) == paths
-    points = scripts.value("places.map(([id, at]) => network.pointAt(String(id), at))", places=places)
+    points = scripts.value(
+        "places.map(([id, at]) => network.pointAt(String(id), at))", places=places
+    )
     wanted = network.points_at(np.array(places))[:, ::-1]
     assert np.abs(np.array(points) - wanted).max() < 1e-12
     assert scripts.value("pathOf(points)", points=wanted.tolist()) == path_of(wanted[:, ::-1])
@@ -102,7 +120,11 @@ def test_lines_of_boxes_and_nodes(network: Network, scripts: Scripts) -> None:
     draws = random.Random(4)
     surroundings = Surroundings(network)
     low, high = network.points.min(axis=0), network.points.max(axis=0)
-    boxes = [sorted(draws.uniform(low[axis], high[axis]) for _ in range(2)) for _ in range(40) for axis in (1, 0)]
+    boxes = [
+        sorted(draws.uniform(low[axis], high[axis]) for _ in range(2))
+        for _ in range(40)
+        for axis in (1, 0)
+    ]
     # The corner of a box may be the end of a line.
     west, south = network.points[0].tolist()
     boxes += [[south, south], [west, west]]
@@ -111,18 +133,28 @@ def test_lines_of_boxes_and_nodes(network: Network, scripts: Scripts) -> None:
         boxes=list(zip(boxes[::2], boxes[1::2])),
     )
     wanted = [
-        surroundings.within(Box(np.array([lats[0], lons[0]]), np.array([lats[1], lons[1]]))).tolist()
+        surroundings.within(
+            Box(np.array([lats[0], lons[0]]), np.array([lats[1], lons[1]]))
+        ).tolist()
         for lats, lons in zip(boxes[::2], boxes[1::2])
     ]
     assert found == wanted and any(wanted)
-    of_nodes = scripts.value("Array.from({ length: network.nodes }, (_, node) => [...network.linesOf(node)])")
+    of_nodes = scripts.value(
+        "Array.from({ length: network.nodes }, (_, node) => [...network.linesOf(node)])"
+    )
     by_id = np.argsort(network.line_id)
-    assert of_nodes == [by_id[network.start[by_id] == node].tolist() for node in network.node_id.tolist()]
+    assert of_nodes == [
+        by_id[network.start[by_id] == node].tolist() for node in network.node_id.tolist()
+    ]
 
 
 def test_bans(network: Network, scripts: Scripts, folder: Path) -> None:
     bans = {tuple(ban) for ban in read_map(folder).bans}
-    turns = [(one, other) for one in network.line_id.tolist()[:200] for other in network.line_id.tolist()[::7]]
+    turns = [
+        (one, other)
+        for one in network.line_id.tolist()[:200]
+        for other in network.line_id.tolist()[::7]
+    ]
     pairs = [list(map(str, pair)) for pair in (*bans, *turns)]
     is_banned = "pairs.map((pair) => network.isBanned(...pair.map((id) => network.indexOf(id))))"
     assert scripts.value(is_banned, pairs=pairs) == [pair in bans for pair in (*bans, *turns)]
@@ -138,8 +170,14 @@ def test_routes_that_turn_back(network: Network, scripts: Scripts) -> None:
             whole = [[ids[one], 0, lengths[one]], [ids[other], 0, lengths[other]]]
             routes += [whole, [whole[1], *whole, whole[1]]]
             if ends[other] == starts[one]:
-                routes += [[[ids[one], 0, lengths[one] - 1], whole[1]], [whole[0], [ids[other], 1, lengths[other]]]]
-                routes += [[[ids[one], lengths[one], lengths[one]], whole[1]], [whole[0], [ids[other], 0, 0]]]
+                routes += [
+                    [[ids[one], 0, lengths[one] - 1], whole[1]],
+                    [whole[0], [ids[other], 1, lengths[other]]],
+                ]
+                routes += [
+                    [[ids[one], lengths[one], lengths[one]], whole[1]],
+                    [whole[0], [ids[other], 0, 0]],
+                ]
                 routes += [[[ids[one], 1, lengths[one]], [ids[other], 0, 1]], [whole[0]]]
     pieces = np.array([piece for route in routes for piece in route])
     wanted = turn_back(pieces, np.array([len(route) for route in routes]), network).tolist()
@@ -150,43 +188,107 @@ def test_routes_that_turn_back(network: Network, scripts: Scripts) -> None:
 
 def columns_of(folder: Path) -> Any:
     """The columns of the nodes and lines of a folder, as lists; or the error."""
-    found = []
-    for what in ("nodes", "lines"):
-        try:
-            columns = joined_columns(read_columns(what, folder / f"{what}.csv"), what)  # type: ignore[arg-type]
-        except ToolError as error:
-            return f"ToolError: {error}"
-        found.append([columns.numbers.tolist(), columns.points.ravel().tolist()])
-    return found
+    whats: tuple[What, ...] = ("nodes", "lines")
+    try:
+        all_columns = [joined_columns(read_columns(it, folder / f"{it}.csv"), it) for it in whats]
+    except ToolError as error:
+        return f"ToolError: {error}"
+    return [[it.numbers.tolist(), it.points.ravel().tolist()] for it in all_columns]
 
 
-COLUMNS = """["nodes", "lines"].map((what) => readColumns(what, texts[what], folder))
-.map(({ numbers, points, sizes }) => [numbers.map((one) => [...one]), [...points].slice(0, 2 * sizes.reduce((sum, size) => sum + size, 0))])"""
+COLUMNS = f"""all.map((texts) => {TRIED}(() => ["nodes", "lines"].map((what) => {{
+  const {{ numbers, points, sizes }} = readColumns(what, texts[what + ".csv"], folder);
+  return [numbers.map((one) => [...one]), [...points].slice(0, 2 * sizes.reduce((sum, size) => sum + size, 0))];
+}})))"""
+
+
+def require_same_columns(scripts: Scripts, folder: Path, all_files: Sequence[Files]) -> list[Any]:
+    """Sees that the scripts read all files, or refuse them, as Python does: it is said what that says."""
+    wanted = []
+    for files in all_files:
+        for name, data in files.items():
+            (folder / name).write_bytes(data)
+        wanted.append(columns_of(folder))
+    texts = [{name: it.decode("utf-8", "replace") for name, it in one.items()} for one in all_files]
+    found = scripts.value(COLUMNS, all=texts, folder=str(folder))
+    for said, one, files in zip(found, wanted, all_files, strict=True):
+        assert said == one, files
+    return wanted
 
 
 def test_files_in_all_forms(scripts: Scripts, tmp_path: Path) -> None:
-    """Files of CSV as they may be written, and damaged ones, are read or refused as Python does it."""
+    """Files of CSV as they may be written, and damaged ones."""
     draws = random.Random(11)
-    refused = 0
-    for number in range(DAMAGED):
-        files = draw_files(draws)
-        files = damage(draws, files) if number % 3 else files
-        for name, data in files.items():
-            (tmp_path / name).write_bytes(data)
-        texts = {what: text_of(tmp_path / f"{what}.csv") for what in ("nodes", "lines")}
-        wanted = columns_of(tmp_path)
-        refused += isinstance(wanted, str)
-        found = scripts.tried(COLUMNS, texts=texts, folder=str(tmp_path))
-        assert found == wanted, files
-    assert DAMAGED // 6 < refused < DAMAGED // 2
+    drawn = [draw_files(draws) for _ in range(DAMAGED)]
+    all_files = [files if at % 3 == 0 else damage(draws, files) for at, files in enumerate(drawn)]
+    wanted = require_same_columns(scripts, tmp_path, all_files)
+    assert DAMAGED // 6 < sum(isinstance(one, str) for one in wanted) < DAMAGED // 2
+
+
+@pytest.mark.parametrize(
+    "row, is_right",
+    [
+        (b"9007199254740992,1,1,7,0,10000000,", True),
+        (b"9007199254740993,1,1,7,0,1,", False),
+        (b"9007199254740994,1,1,7,0,1,", False),
+        (b"0000000000000007,1,1,7,0,0000001,-0 -00", True),
+        (b"00000000000000007,1,1,7,0,1,", False),
+        (b"7,1,1,8,0,1,", False),
+        (b"7,1,1,7,0,0,", False),
+        (b"7,1,1,7,0,10000001,", False),
+        (b"-7,1,1,7,0,1,", False),
+        (b"7,1,1,7,0,1,180000000 -80000000", True),
+        (b"7,1,1,7,0,1,180000001 1", False),
+        (b"7,1,1,7,0,1,1 80000001", False),
+        (b"7,1,1,7,0,1," + b";".join([b"1 2"] * 64), True),
+        (b"7,1,1,7,0,1," + b";".join([b"1 2"] * 65), False),
+        (b"7,1,1,7,0,1,1 2;", False),
+        (b"7,1,1,7,0,1,1 2,", False),
+        (b"7,1,1,7,0,1", False),
+        (b'"7","1",1,7,0,"1"0,"1 2"', True),
+        (b'"7""",1,1,7,0,1,', False),
+        (b'7,1,1,7,0,1,"1 2', True),
+        (b'""\n7,1,1,7,0,1,', False),
+        (b"\n\r\n7,1,1,7,0,1,\r\r", True),
+        (b"7,1,1,7,0,1,\r\n8,1,1,7,0,1,1 2\r\n", True),
+    ],
+)
+def test_rows_by_hand(row: bytes, is_right: bool, scripts: Scripts, tmp_path: Path) -> None:
+    lines = b"id,from,to,class,form,length,shape\n" + row
+    files = {"nodes.csv": b"id,lon,lat\n1,0,0\n", "lines.csv": lines}
+    (wanted,) = require_same_columns(scripts, tmp_path, [files])
+    assert isinstance(wanted, list) == is_right
+
+
+def test_a_point_on_the_way_and_a_loop(scripts: Scripts, tmp_path: Path) -> None:
+    """A piece that begins or ends at a point of a line has it once; who goes round a loop again doesn't turn back."""
+    (tmp_path / "nodes.csv").write_text("id,lon,lat\n1,0,0\n2,0,1000\n")
+    rows = "7,1,2,3,3,2000,0 500\n9,1,1,3,3,2000,1000 0;1000 1\n"
+    (tmp_path / "lines.csv").write_text(f"id,from,to,class,form,length,shape\n{rows}")
+    network = Network.read(tmp_path)
+    texts = {what: text_of(tmp_path / f"{what}.csv") for what in ("nodes", "lines")}
+    for row in ([7, 1000, 2000], [7, 0, 1000], [7, 1000, 1000], [7, 500, 1500]):
+        path = scripts.value(
+            "Network.of(texts).path([row])", texts=texts, row=[str(row[0]), *row[1:]]
+        )
+        assert path == path_of(network.path([row]))
+    round_twice = [["9", 0, 2000]] * 2
+    assert not turn_back(np.array([[9, 0, 2000]] * 2), np.array([2]), network)[0]
+    assert not scripts.value("turnsBack(row, Network.of(texts))", texts=texts, row=round_twice)
 
 
 def test_a_map_that_lacks_a_node(scripts: Scripts, tmp_path: Path) -> None:
     (tmp_path / "nodes.csv").write_text("id,lon,lat\n1,0,0\n")
     (tmp_path / "lines.csv").write_text("id,from,to,class,form,length,shape\n7,1,2,3,3,9,\n")
     texts = {what: text_of(tmp_path / f"{what}.csv") for what in ("nodes", "lines")}
-    found = scripts.tried("Network.of({ ...texts, bans: null, folder })", texts=texts, folder=str(tmp_path))
+    found = scripts.tried(
+        "Network.of({ ...texts, bans: null, folder })", texts=texts, folder=str(tmp_path)
+    )
     assert found == raised(lambda: Network.read(tmp_path))
-    assert scripts.tried("Network.of({ nodes: texts.nodes, lines: '' })", texts=texts).startswith("ToolError: this page/lines.csv doesn't begin")
+    assert scripts.tried("Network.of({ nodes: texts.nodes, lines: '' })", texts=texts).startswith(
+        "ToolError: this page/lines.csv doesn't begin"
+    )
     empty = {"nodes": "id,lon,lat", "lines": "id,from,to,class,form,length,shape\n"}
-    assert scripts.value("Network.of(texts).linesIn({ low: [0, 0], high: [1, 1] })", texts=empty) == []
+    assert (
+        scripts.value("Network.of(texts).linesIn({ low: [0, 0], high: [1, 1] })", texts=empty) == []
+    )

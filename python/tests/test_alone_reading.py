@@ -49,13 +49,36 @@ def references(folder: Path) -> list[str]:
             continue
         for _ in range(3):
             if data:
-                data[draws.choice([0, 1, 4, draws.randrange(len(data)), -1, -2])] ^= 1 << draws.randrange(8)
+                place = draws.choice([0, 1, 4, draws.randrange(len(data)), -1, -2])
+                data[place] ^= 1 << draws.randrange(8)
             end = len(data) + draws.choice([0, 0, 0, -1, -7])
-            changed.append(base64.b64encode(data[: max(end, 0)] + b"\x80" * draws.choice([0, 0, 1, 7])).decode())
-    spoiled = [" \t" + texts[0] + "\r\n", texts[1] + "=", texts[1][:-1], "\x0b" + texts[0], texts[0] + "\xa0", "====", ""]
-    # Thirty-three points, and bits of the last letter that stand for nothing.
-    long = base64.b64encode(b"\x0b" + b"\0" * 6 + b"\0" * 3 + b"\0" * 7 * 31 + b"\0" * 6).decode()
-    return [*texts, *changed, *spoiled, long, "CwVF+yN2yhpnBAFdAAsaFg==", "CwVF+yN2yhpnBAFdAAsaFh=="]
+            more = b"\x80" * draws.choice([0, 0, 1, 7])
+            changed.append(base64.b64encode(data[: max(end, 0)] + more).decode())
+    spoiled = [
+        " \t" + texts[0] + "\r\n",
+        texts[1] + "=",
+        texts[1][:-1],
+        "\x0b" + texts[0],
+        texts[0] + "\xa0",
+        "====",
+        "",
+    ]
+    # 32 points and 33, and bits of the last letter that stand for nothing.
+    long = [base64.b64encode(b"\x0b" + bytes(9 + 7 * more + 6)).decode() for more in (30, 31)]
+    return [*texts, *changed, *spoiled, *long, *with_offsets(), "CwVF+yN2yhpnBAFdAAsaFh=="]
+
+
+def with_offsets() -> list[str]:
+    """References of both kinds with flags of offsets, and with bytes of offsets."""
+    plain = base64.b64decode("CwVF+yN2yhpnBAFdAAsaFg==")
+    return [
+        base64.b64encode(
+            bytes([kind]) + plain[1:-1] + bytes([plain[-1] | flags]) + offsets
+        ).decode()
+        for kind in (0x0B, 0x2B, 0x8B)
+        for flags in (0, 0x20, 0x40, 0x60)
+        for offsets in (b"", b"\x05", b"\x05\xc8")
+    ]
 
 
 def test_references(scripts: Scripts, tmp_path: Path) -> None:
@@ -63,7 +86,9 @@ def test_references(scripts: Scripts, tmp_path: Path) -> None:
     wanted = [read_reference(text) for text in texts]
     kinds = {one.kind if one else None for one in wanted}
     assert kinds == {"line", "point-along-line", None}
-    assert scripts.value("texts.map(readReference)", texts=texts) == [one and one.to_dict() for one in wanted]
+    assert scripts.value("texts.map(readReference)", texts=texts) == [
+        one and one.to_dict() for one in wanted
+    ]
 
 
 def with_ids(value: Any) -> Any:
@@ -98,12 +123,23 @@ def test_answers_of_the_program(scripts: Scripts, program: Program, top: Path) -
 
 def test_ids_beyond_the_numbers_of_javascript(scripts: Scripts) -> None:
     found = {
-        '{"line":18446744073709551615,"at":9007199254740991}': {"line": "18446744073709551615", "at": 9007199254740991},
-        '{"id":7,"lines":[9007199254740993,1],"total":-9007199254740993}': {"id": "7", "lines": ["9007199254740993", "1"], "total": "-9007199254740993"},
+        '{"line":18446744073709551615,"at":9007199254740991}': {
+            "line": "18446744073709551615",
+            "at": 9007199254740991,
+        },
+        '{"id":7,"lines":[9007199254740993,1],"total":-9007199254740993}': {
+            "id": "7",
+            "lines": ["9007199254740993", "1"],
+            "total": "-9007199254740993",
+        },
         '[{"key":"a\\"9007199254740993","route":[[9007199254740993,0,1]],"outer":null}]': [
             {"key": 'a"9007199254740993', "route": [["9007199254740993", 0, 1]], "outer": None}
         ],
-        '{"earliest":[9007199254740992,5],"id":null,"share":0.12345678901234567}': {"earliest": ["9007199254740992", 5], "id": None, "share": 0.12345678901234567},
+        '{"earliest":[9007199254740992,5],"id":null,"share":0.12345678901234567}': {
+            "earliest": ["9007199254740992", 5],
+            "id": None,
+            "share": 0.12345678901234567,
+        },
     }
     assert scripts.value("texts.map(exactJson)", texts=list(found)) == list(found.values())
     assert scripts.tried("exactJson('{')").startswith("SyntaxError")
@@ -113,10 +149,14 @@ def test_numbers(scripts: Scripts) -> None:
     """Those that lie halfway between two others among them."""
     draws = random.Random(1)
     values = [number / 16 for number in range(-40, 40)] + [draws.uniform(-2, 2) for _ in range(200)]
-    assert scripts.value("values.map((one) => rounded(one, 3))", values=values) == [round(one, 3) for one in values]
+    assert scripts.value("values.map((one) => rounded(one, 3))", values=values) == [
+        round(one, 3) for one in values
+    ]
     halves = [number / 4 for number in range(-20, 20)]
     assert scripts.value("values.map(roundHalfEven)", values=halves) == np.round(halves).tolist()
-    pairs = [(draws.random() * 10 ** -draws.randrange(9), draws.uniform(-1, 1)) for _ in range(500)] + [(0, 0), (0, 2), (3, 4)]
+    pairs = [
+        (draws.random() * 10 ** -draws.randrange(9), draws.uniform(-1, 1)) for _ in range(500)
+    ] + [(0, 0), (0, 2), (3, 4)]
     lengths = scripts.value("pairs.map(([x, y]) => hypotenuse(x, y))", pairs=pairs)
     assert lengths == pytest.approx([math.hypot(*pair) for pair in pairs], rel=3e-16, abs=0)
     rows = [[draws.uniform(0, 100) for _ in range(size)] for size in (*range(1, 40), 129, 137, 300)]

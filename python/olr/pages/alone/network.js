@@ -264,8 +264,7 @@ class Network {
   _putBetween(points, index, low, high) {
     const last = this._first[index + 1] - 1;
     for (let at = this._first[index] + 1; at < last; at += 1) {
-      const isWithin = this._arcs[at] > low && this._arcs[at] < high;
-      if (isWithin || (low <= 0 && high >= 1)) points.push(this._point(at));
+      if (this._arcs[at] > low && this._arcs[at] < high) points.push(this._point(at));
     }
   }
 }

@@ -8,7 +8,6 @@
 // and `lowest` are null at the last point, and a point along a line has `orientation` and `side` in place of `negative`.
 
 const MOST_POINTS_OF_REFERENCE = 32;
-const MOST_LETTERS = 344;
 const [LINE_STATUS, POINT_STATUS] = [0x0b, 0x2b];
 // Bytes of the first point with the status in front, of one between, and of the last one.
 const [FIRST_BYTES, BETWEEN_BYTES, LAST_BYTES] = [10, 7, 6];
@@ -21,8 +20,8 @@ function readReference(text) {
   const kind = bytes.length ? bytes[0] & 0x7f : 0;
   const more = Math.floor((bytes.length - FIRST_BYTES - LAST_BYTES) / BETWEEN_BYTES);
   const offsets = bytes.length - FIRST_BYTES - LAST_BYTES - more * BETWEEN_BYTES;
-  if (more < 0 || more + 2 > MOST_POINTS_OF_REFERENCE || offsets > 2) return null;
-  if (kind !== LINE_STATUS && (kind !== POINT_STATUS || more > 0 || offsets > 1)) return null;
+  if (more < 0 || more + 2 > MOST_POINTS_OF_REFERENCE) return null;
+  if (kind !== LINE_STATUS && (kind !== POINT_STATUS || more > 0)) return null;
   const end = bytes.length - offsets;
   const flags = bytes[end - 1];
   const [hasPositive, hasNegative] = [Boolean(flags & HAS_POSITIVE), Boolean(flags & HAS_NEGATIVE) && kind === LINE_STATUS];
@@ -63,7 +62,7 @@ function absolute(number) {
 function bytesOf(text) {
   const trimmed = text.replace(/^[ \t\r\n]+|[ \t\r\n]+$/g, "");
   const none = new Uint8Array(0);
-  if (trimmed.length > MOST_LETTERS || !/^[A-Za-z0-9+/]+={0,2}$/.test(trimmed) || trimmed.length % 4 !== 0) return none;
+  if (!/^[A-Za-z0-9+/]+={0,2}$/.test(trimmed) || trimmed.length % 4 !== 0) return none;
   const letters = atob(trimmed);
   return btoa(letters) === trimmed ? Uint8Array.from(letters, (letter) => letter.charCodeAt(0)) : none;
 }
