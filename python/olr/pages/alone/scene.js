@@ -1,0 +1,155 @@
+"use strict";
+// All that the page draws of a reference, as data for `pictureOf`. Positions are [latitude, longitude] in degrees, ids are texts.
+//
+//   const scene = sceneOf({ reference, show, candidates, places, page, why, network, streets, judgement, confidence, note, numbers, mapName,
+//     tiles, tables });
+//
+// `reference` is its text, and `show` what it says. `candidates`, `places`, `page` (of `match`) and `why` are the program's answers, as
+// `exactJson` reads them, or else the texts of faults; `places` was asked for the long list, and `why` is null where it fits somewhere
+// (`fitsSomewhere`). `streets` are those of `Streets.of(network)`, which are made once. `judgement` is that of the places,
+// as `judging.js` has it, or null if `places` is a fault; by `confidence`, which is null where there are no probabilities: then `note` says
+// why, or is an empty text. `numbers` are all tolerances and the numbers of `places`, by the names of options: what was asked for, not the
+// long list. `mapName` is the name of the map's folder in commands, or null. `tables` are those of `tables.py`.
+//
+// Throws a ToolError if the map hasn't a line of an answer.
+function sceneOf(given) {
+  const { reference, show, page, why, network, streets, confidence = null, note = "", numbers, mapName = null, tiles = null, tables } = given;
+  const scene = {
+    reference: reference.trim(),
+    kind: show.kind.replaceAll("-", " "),
+    offsets: offsetsText(show),
+    points: pointsOfScene(show),
+    candidates: [],
+    entries: [],
+    why: null,
+    command: "",
+    verdict: { word: "refused", text: "" },
+    probability: [],
+    looking: "",
+  };
+  if (!isFault(given.candidates)) scene.candidates = given.candidates.points.map((point) => rankedCandidates(point, network));
+  if (!isFault(given.places) && !isFault(page)) addPlaces(scene, given.judgement, page, network, confidence);
+  else scene.verdict.text = faultSentence(isFault(given.places) ? given.places : page, tables);
+  if ((why ?? null) !== null) scene.why = whyOfScene(why, network, tables);
+  Object.assign(scene, notesOf(firstMatching(scene, given), show, network, streets, numbers.lowest));
+  Object.assign(scene, linesAround(network, boxOf(scene)));
+  scene.command = commandText(scene.why === null ? "places" : "why", scene.reference, mapName, { ...numbers, ...tables.longList }, tables);
+  if (note && scene.entries.length) scene.probability = [`${note[0].toUpperCase()}${note.slice(1)}.`];
+  scene.tiles = tiles;
+  return scene;
+}
+
+// Whether there is a place, or a matching.
+function fitsSomewhere(places, page) {
+  return !isFault(places) && !isFault(page) && (places.places.length > 0 || page.matchings.length > 0);
+}
+
+const isFault = (answer) => typeof answer === "string";
+
+function faultSentence(text, tables) {
+  return `${text}: ${faultOf(text, tables.faults).meaning}.`;
+}
+
+// The verdict, the probabilities and the entries.
+function addPlaces(scene, judgement, page, network, confidence) {
+  scene.verdict = { word: judgement.verdict, text: verdictText(judgement.verdict, judgement.margin) };
+  if (confidence !== null && judgement.places.length) scene.probability = probabilityTexts(judgement, confidence);
+  if (judgement.isCutOff) scene.looking = CUT_OFF_TEXT;
+  scene.entries = entriesOf(judgement.places, page, network);
+}
+
+// The points of a reference. The direction at the last one is that back along the road.
+function pointsOfScene(show) {
+  return show.points.map((point) => ({
+    spot: [point.lat / 1e6, point.lon / 1e6],
+    direction: [point.sector * SECTOR_DEGREES, (point.sector + 1) * SECTOR_DEGREES],
+    text: pointText(point),
+    leg: legText(point),
+  }));
+}
+
+// The candidates of a point.
+function rankedCandidates(point, network) {
+  return point.map((one, index) => ({ rank: index + 1, line: one.line, at: one.at, penalty: one.penalty, spot: spotOf(one, network) }));
+}
+
+// The places, the likeliest one first, and then those of the first matchings that don't open one.
+function entriesOf(places, page, network) {
+  const entries = places.map((one) => {
+    const { matching, members, gap } = one.place;
+    return {
+      ...entryOf(matching, network),
+      title: `Place ${one.likely}`,
+      gap,
+      members: members === 1 ? "1 matching" : `${members} matchings`,
+      probability: placeProbabilityText(one),
+      facts: placeTexts(one),
+      reasons: one.reasons,
+    };
+  });
+  const openers = new Set(places.map((one) => one.place.matching.cursor));
+  page.matchings.forEach((matching, index) => {
+    if (openers.has(matching.cursor)) return;
+    const gap = matching.total - page.matchings[0].total;
+    entries.push({
+      ...entryOf(matching, network), title: `Matching ${index + 1}`, gap, members: null, probability: "", facts: [], reasons: "",
+    });
+  });
+  return entries;
+}
+
+// A matching with its geometries.
+function entryOf(matching, network) {
+  const [route, outer, inner] = [matching.route, matching.outer, matching.inner].map(piecesOf);
+  const path = (pieces) => pieces && pathOf(network.path(pieces));
+  const entry = {
+    cursor: matching.cursor,
+    total: matching.total,
+    ranks: matching.cursor.split(":")[1].split(".").map(Number),
+    legs: legsText(matching.legs),
+    lines: idsText(route.map((piece) => piece.line)),
+    route: path(route),
+    outer: path(outer),
+    inner: path(inner),
+    spot: null,
+    ends: [],
+    length: "",
+  };
+  if (matching.earliest && matching.latest) {
+    const ends = [matching.earliest, matching.latest].map(placeOnLineOf);
+    entry.spot = spotOf(halfwayPlace(route, ...ends), network);
+    entry.ends = ends.map((end) => spotOf(end, network));
+  } else if (outer) {
+    entry.length = metresText(lengthOfPieces(outer));
+  }
+  return entry;
+}
+
+// The ids of lines, the first ones if there are many.
+function idsText(lines) {
+  const most = 6;
+  return lines.slice(0, most).join(" ") + (lines.length > most ? ` and ${lines.length - most} more` : "");
+}
+
+// Why nothing fits, and the lines near the points.
+function whyOfScene(why, network, tables) {
+  if (isFault(why)) return { texts: [faultSentence(why, tables)], remedies: [], near: [] };
+  const lines = why.points.flatMap((point) => point.nearest);
+  return {
+    texts: whyTexts(why),
+    remedies: why.remedies.map(remedyText),
+    near: lines.map((line) => ({ line: line.line, not: line.not, spot: spotOf(line, network) })),
+  };
+}
+
+// Where a place on a line is.
+function spotOf({ line, at }, network) {
+  return pathOf([network.pointAt(line, at)])[0];
+}
+
+// The matching of the first entry, if there is one.
+function firstMatching(scene, { places, page }) {
+  if (!scene.entries.length) return null;
+  const { cursor } = scene.entries[0];
+  return [...places.places.map((place) => place.matching), ...page.matchings].find((one) => one.cursor === cursor);
+}
