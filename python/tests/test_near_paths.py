@@ -262,6 +262,7 @@ class Given(NamedTuple):
     streets: Streets
     turns: set[tuple[int, int]]
     ends: Ends
+    road_map: RoadMap
 
 
 def given(draw: random.Random) -> Given:
@@ -284,8 +285,9 @@ def given(draw: random.Random) -> Given:
     first, last = draw.randrange(count), draw.randrange(count)
     left = draw.randint(1, lines[first].length)
     until = draw.choice([0, draw.randint(0, lines[last].length)])
-    streets = streets_on(RoadMap((), draw.sample(lines, count), bans))
-    return Given(streets, turns - banned, Ends(first, left, last, until, draw.choice([3, 4, 7])))
+    road_map = RoadMap((), draw.sample(lines, count), bans)
+    ends = Ends(first, left, last, until, draw.choice([3, 4, 7]))
+    return Given(streets_on(road_map), turns - banned, ends, road_map)
 
 
 Found = tuple[int, tuple[int, ...]]
@@ -294,7 +296,7 @@ Found = tuple[int, tuple[int, ...]]
 
 def walks(about: Given, limit: int) -> Iterator[Found]:
     """All walks of two lines or more within a limit, each with its length."""
-    streets, turns, ends = about
+    streets, turns, ends, _ = about
     stack: list[Found] = [(ends.left, (ends.first,))]
     while stack:
         length, lines = stack.pop()
@@ -327,7 +329,7 @@ def test_beside_all_walks(part: int) -> None:
     found = 0
     for _ in range(1500):
         about = given(draw)
-        streets, _, ends = about
+        streets, _, ends, _ = about
         limit = draw.choice([600, 800, 1000])
         all_walks = sorted(walks(about, limit))
         least = least_length(streets, ends, limit)

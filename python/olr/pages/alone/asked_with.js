@@ -16,6 +16,5 @@ function commandText(question, reference, mapName, numbers, tables) {
 
 // A word as a shell reads it, as Python's `shlex.quote` has it.
 function quotedWord(word) {
-  if (!word) return "''";
   return /^[\w@%+=:,./-]+$/.test(word) ? word : `'${word.replaceAll("'", "'\"'\"'")}'`;
 }

@@ -3,7 +3,7 @@
 // { line, from, to } and { line, at }, with the id of the line as a text. Positions are in decimetres.
 
 // Pieces of an answer; null where there are none.
-function piecesOf(given) {
+function piecesOrNull(given) {
   return (given ?? null) === null ? null : given.map(pieceOf);
 }
 

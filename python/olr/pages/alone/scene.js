@@ -100,7 +100,7 @@ function entriesOf(places, page, network) {
 
 // A matching with its geometries.
 function entryOf(matching, network) {
-  const [route, outer, inner] = [matching.route, matching.outer, matching.inner].map(piecesOf);
+  const [route, outer, inner] = [matching.route, matching.outer, matching.inner].map(piecesOrNull);
   const path = (pieces) => pieces && pathOf(network.path(pieces));
   const entry = {
     cursor: matching.cursor,

@@ -64,7 +64,7 @@ class RouteOfWalk {
 
   rejoined(along, index, apart) {
     if (along === WALK_APART) return along;
-    const start = index ? this.behind[index - 1] : 0;
+    const start = this.behind[index - 1] ?? 0;
     return start - this.behind[along] >= apart ? WALK_APART : index;
   }
 }

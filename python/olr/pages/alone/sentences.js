@@ -1,8 +1,8 @@
 "use strict";
 // What the page says of a reference: verdicts and reasons in sentences. Lengths are shown in metres.
 //
-// References, answers and faults are those of the program's JSON, with ids as texts; a judgement and a confidence are as `judging.js` has
-// them.
+// References, answers and faults are those of the program's JSON, with ids as texts; a judgement is as `judging.js` has it, and a
+// confidence the JSON of its file.
 
 const INTERVAL_METRES = 58.6;
 const SECTOR_DEGREES = 11.25;
@@ -106,7 +106,7 @@ function isFromFeed(confidence) {
 
 // How different the two maps seem, or of how different ones the probabilities are; an empty text if the confidence doesn't say it.
 function differsText(confidence) {
-  const differs = confidence.mapDiffers;
+  const differs = confidence.map_differs;
   if (differs === null) return "";
   const number = `${fixed(differs.value, 1)} (${fixed(differs.low, 1)} to ${fixed(differs.high, 1)})`;
   if (isFromFeed(confidence)) return `The maps seem to differ by ${number}, 1 as another vendor's.`;
