@@ -79,7 +79,8 @@ def walked(draw: random.Random, about: Given, route: Sequence[int]) -> Walked:
         first = at - start + sum(piece.to - piece.from_ for piece in pieces[:number])
         legs = [first, legs[0] - first]
     lowest = draw.choice([0, 0, 1, 3])
-    said = [ReferencePoint(3, 3, 0, 0, 0, 1, max(0, ends.class_limit - lowest)) for _ in points[1:]]
+    told = 7 if ends.class_limit == 7 else max(0, ends.class_limit - lowest)
+    said = [ReferencePoint(3, 3, 0, 0, 0, 1, told) for _ in points[1:]]
     matching = Matching("0:1", tuple(Leg(leg, 0) for leg in legs), tuple(points), Pieces(pieces), 0)
     return Walked(matching, Reference("line", (*said, ReferencePoint(3, 3, 0, 0, 0))), lowest)
 
@@ -172,10 +173,11 @@ def test_beside_python(alone: Scripts) -> None:
 def test_too_many_lines(alone: Scripts) -> None:
     """Nothing is said where a search takes too long, or the map lacks a line."""
     about = given(random.Random(1))
-    steps = "() => { const steps = new Steps(3); steps.take(3); steps.take(1); }"
-    assert alone.tried(f"({steps})()") == (
-        "ToolError: there are too many lines around to search other paths"
-    )
+    text = "ToolError: there are too many lines around to search other paths"
+    search = "leastLength(Streets.of(Network.of(map)).limited(most), ends, 9)"
+    ends = {"first": 0, "left": 1, "last": 0, "until": 0, "classLimit": 7}
+    for most, expected in ((0, text), (1000, None)):
+        assert alone.tried(search, map=texts_of(about), ends=ends, most=most) == expected
     route = [["7777", 0, 5]]
     points = [{"line": "7777", "at": 5}, {"line": "7777", "at": 5}]
     matching = {"legs": [{"length": 5}], "points": points, "route": route}

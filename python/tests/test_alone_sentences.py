@@ -163,7 +163,7 @@ def test_commands(alone: Scripts) -> None:
     """Words are quoted as a shell needs it, and what is as the program has it by default isn't there."""
     questions: tuple[What, ...] = ("places", "why", "match", "candidates")
     for question in questions:
-        for name in ("town", "it's", "a b", "", "ä", "$(x)", "a/b-c.d", None):
+        for name in ("town", "it's", "a b", "", "ä", "$(x)", "a/b-c.d", "5%", None):
             numbers = {"radius": 75, "bearing": 4, "apart": 10, "within": 30, "page": 9}
             found = said(alone, "commandText", question, " abc= ", name, numbers, tables())
             assert found == command_text(question, " abc= ", name, numbers)
