@@ -271,40 +271,50 @@ def test_hostile_maps(alone: Scripts, program: Program, tmp_path: Path, seed: in
     assert_same(alone, asked.cases(texts, {"profile": "program", "radius": "300", "percent": "80"}))
 
 
-def test_other_paths(alone: Scripts, program: Program, tmp_path: Path) -> None:
+OF_WORSE_CLASS = "shorter; the reference allows class 3 or better."
+
+
+@pytest.mark.parametrize(
+    ("drawn", "note"),
+    [
+        (block(middle=True), "Leg 2: another path is as short."),
+        (block(south=(600, 610)), "Leg 1: another path is 1.0 m longer."),
+        (block(south=(600, 611)), None),
+        (block(south=(600, 724), behind=120_000), "Leg 1: another path is 12.4 m longer."),
+        (block(south=(600, 725), behind=120_000), None),
+        (
+            block(south=(600, 500), south_class=5),
+            f"Leg 1: a road of class 5 would be 10.0 m {OF_WORSE_CLASS}",
+        ),
+        (block(south=(600, 501), south_class=5), None),
+        (
+            block(south=(477, 477), south_class=5, behind=20_000),
+            f"Leg 1: a road of class 5 would be 24.6 m {OF_WORSE_CLASS}",
+        ),
+        (block(south=(477, 478), south_class=5, behind=20_000), None),
+        (block(bans=[(1, 4)]), None),
+        (Block(block().drawing, text_of([Point(0, 0, EAST, 1), Point(1000, 0, WEST)])), None),
+    ],
+)
+def test_other_paths(
+    alone: Scripts, program: Program, tmp_path: Path, drawn: Block, note: str | None
+) -> None:
     """Ways round a block that are as short, longer by so much that it counts or doesn't, or shorter on roads of a worse class; on the second
     leg too. From a place on a line to one further on there is one path."""
-    on_one_line = text_of([Point(0, 0, EAST, 1, 7), Point(1000, 0, WEST)])
-    drawn = {
-        "Leg 2: another path is as short.": block(middle=True),
-        "Leg 1: another path is 1.0 m longer.": block(south=(600, 610)),
-        "": block(south=(600, 611)),
-        "Leg 1: another path is 12.4 m longer.": block(south=(600, 724), behind=120_000),
-        " ": block(south=(600, 725), behind=120_000),
-        "Leg 1: a road of class 5 would be 10.0 m shorter; the reference allows class 3 or better.": block(
-            south=(600, 500), south_class=5
-        ),
-        "  ": block(south=(600, 501), south_class=5),
-        "Leg 1: a road of class 5 would be 24.6 m shorter; the reference allows class 3 or better.": block(
-            south=(477, 477), south_class=5, behind=20_000
-        ),
-        "   ": block(south=(477, 478), south_class=5, behind=20_000),
-        "    ": block(bans=[(1, 4)]),
-        "     ": Block(block().drawing, on_one_line),
-    }
-    for number, (note, one) in enumerate(drawn.items()):
-        folder = one.drawing.write(tmp_path / f"map{number}")
-        alone.read_map(folder)
-        asked = MapAsked.of(program, folder)
-        (scene,) = assert_same(alone, asked.cases([one.text], {"profile": "program"}))
-        assert scene["notes"] == ([note] if note.strip() else [])
-        assert len(scene["entries"]) >= 1
-    folder = block(south_class=5, south=(600, 500)).drawing.write(tmp_path / "worse")
+    folder = drawn.drawing.write(tmp_path / "map")
     alone.read_map(folder)
-    cases = MapAsked.of(program, folder).cases(
-        [block().text], {"profile": "program", "lowest": "1"}
-    )
-    (scene,) = assert_same(alone, cases)
+    asked = MapAsked.of(program, folder)
+    (scene,) = assert_same(alone, asked.cases([drawn.text], {"profile": "program"}))
+    assert scene["notes"] == ([] if note is None else [note])
+    assert len(scene["entries"]) >= 1
+
+
+def test_a_tolerance_for_classes(alone: Scripts, program: Program, tmp_path: Path) -> None:
+    drawn = block(south_class=5, south=(600, 500))
+    folder = drawn.drawing.write(tmp_path / "map")
+    alone.read_map(folder)
+    options = {"profile": "program", "lowest": "1"}
+    (scene,) = assert_same(alone, MapAsked.of(program, folder).cases([drawn.text], options))
     assert "the reference and --lowest 1 allow class 4 or better." in scene["notes"][0]
 
 
