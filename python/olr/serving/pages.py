@@ -9,9 +9,8 @@ from starlette.responses import Response
 from typing import Any, NamedTuple
 
 from olr.model.fault_table import ROWS
-from olr.model.profiles import FEED, PROFILES, about_text, tolerances_of
-from olr.model.questions import NUMBERS, TOLERANCES, Number
 from olr.pages.html import data_text, filled, leaflet, leaflet_licence, origin_of
+from olr.pages.page_data import page_data
 from olr.serving.limits import Limits
 from olr.serving.listing import MOST_ROWS
 from olr.serving.lists import most_bytes
@@ -69,26 +68,10 @@ def assets() -> dict[str, Asset]:
 
 def with_data(page: Asset, limits: Limits, tiles: str | None) -> Asset:
     """The page with what its script needs to know."""
-    data = {
-        "tolerances": _numbers(TOLERANCES),
-        "numbers": _numbers(numbers_of("places", limits.look)),
-        "profiles": [
-            {"name": name, "about": about_text(name), "tolerances": tolerances_of(name)}
-            for name in PROFILES
-        ],
-        "profile": FEED,
-        "names": {what: list(numbers) for what, numbers in NUMBERS.items()},
-        "body": most_bytes(limits),
-        "rows": MOST_ROWS,
-        "tiles": tiles,
-    }
+    data = page_data(numbers_of("places", limits.look), most_bytes(limits), MOST_ROWS, tiles)
+    data |= {"title": "olr-tools serve"}
     text = filled(page.content.decode(), {"data": data_text(data)})
     return page._replace(content=text.encode())
-
-
-def _numbers(numbers: Mapping[str, Number]) -> list[dict[str, Any]]:
-    """What fields of numbers show."""
-    return [{"name": name} | number._asdict() for name, number in numbers.items()]
 
 
 def described(document: Mapping[str, Any]) -> str:

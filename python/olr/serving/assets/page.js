@@ -110,7 +110,7 @@
   const nothing = () => {
     picture.clear();
     find("panel").hidden = true;
-    told("empty", "olr-tools serve", "");
+    told("empty", data.title, "");
   };
   const told = (word, title, text) => {
     document.body.dataset.state = word;

@@ -1,0 +1,120 @@
+"""The file of a page that answers by itself: serve's page, the program, a map, and what its scripts have of Python's tables."""
+
+import base64
+import gzip
+import json
+import re
+from collections.abc import Mapping
+from importlib import resources
+from typing import Any, NamedTuple
+
+from olr.model.profiles import PROFILES, tolerances_of
+from olr.model.questions import NUMBERS, TOLERANCES, Number
+from olr.pages.alone.tables import tables
+from olr.pages.html import data_text, filled, leaflet
+from olr.pages.page_data import page_data
+
+POLICY = (
+    "default-src 'none'; script-src 'unsafe-inline' 'wasm-unsafe-eval'; worker-src blob:; style-src 'unsafe-inline'; img-src data: blob:; "
+    "base-uri 'none'; form-action 'none'"
+)
+"""Nothing is loaded from outside, and nothing is sent there."""
+OWN = ("asking.js",)
+"""Scripts of the page that come before those of the server's page."""
+WORKER = (
+    "packing.js",
+    "questions.js",
+    "numbers.js",
+    "formats.js",
+    "exact_json.js",
+    "reference.js",
+    "map_files.js",
+    "network.js",
+    "turning_back.js",
+    "likely.js",
+    "judging.js",
+    "rows.js",
+    "worker.js",
+)
+"""Scripts of its worker."""
+MOST_LIST, MOST_ROWS = 16 << 20, 10_000
+"""Bytes of a list, and messages of one that are shown, as on a server."""
+ASSET = re.compile(r'assets/([a-z.-]+)')
+STYLE = re.compile(r'<link rel="stylesheet" href="assets/([a-z.-]+)">\n')
+SCRIPT = re.compile(r'<script src="assets/([a-z.-]+)" defer></script>\n')
+
+
+class Carried(NamedTuple):
+    """What a page carries."""
+
+    name: str
+    """Of the map, as its reader sees it."""
+    digest: Mapping[str, str | None]
+    """Of its files."""
+    files: Mapping[str, bytes]
+    """Those of the map, and `olr.wasm`."""
+    confidence: Mapping[str, Any]
+    """The JSON of the file that says how probable places are."""
+
+
+def html_of(carried: Carried) -> str:
+    """The page. Raises `ToolError` if Leaflet isn't installed."""
+    data = page_data(NUMBERS["places"], MOST_LIST, MOST_ROWS, None) | {
+        "title": carried.name,
+        "map": {"name": carried.name, "digest": carried.digest},
+        "questions": _questions(),
+        "tables": tables(),
+        "confidence": carried.confidence,
+    }
+    text = filled(_asset("index.html"), {"data": data_text(data)})
+    text = STYLE.sub(lambda found: f"<style>{_asset(found[1])}</style>\n", text)
+    names = SCRIPT.findall(text)
+    scripts = [*map(_own, OWN), *map(_asset, names)]
+    behind = [
+        f'<script id="packed" type="text/plain">{packed(carried.files)}</script>',
+        f'<script id="worker" type="text/plain">{_inline("".join(map(_own, WORKER)))}</script>',
+        *(f"<script>{_inline(script)}</script>" for script in scripts),
+    ]
+    policy = f'<meta http-equiv="Content-Security-Policy" content="{POLICY}">'
+    text = SCRIPT.sub("", text).replace("<head>\n", f"<head>\n{policy}\n", 1)
+    return text.replace("</body>", "\n".join([*behind, "</body>"]))
+
+
+def packed(files: Mapping[str, bytes]) -> str:
+    """Files as a text: a line of JSON with the name and size of each, and then their bytes, packed by gzip, in base64."""
+    head = json.dumps([{"name": name, "size": len(content)} for name, content in files.items()])
+    content = b"".join([head.encode(), b"\n", *files.values()])
+    return base64.b64encode(gzip.compress(content, mtime=0)).decode()
+
+
+def _questions() -> dict[str, Any]:
+    """The numbers of questions, and the tolerances of profiles."""
+    return {
+        "tolerances": _rows(TOLERANCES),
+        "numbers": {what: _rows(numbers) for what, numbers in NUMBERS.items()},
+        "profiles": {name: tolerances_of(name) for name in PROFILES},
+    }
+
+
+def _rows(numbers: Mapping[str, Number]) -> dict[str, Any]:
+    return {name: number._asdict() for name, number in numbers.items()}
+
+
+def _inline(script: str) -> str:
+    """A script as it may stand in an element."""
+    return script.replace("</script", "<\\/script")
+
+
+def _own(name: str) -> str:
+    return resources.files("olr.pages.alone").joinpath(name).read_text(encoding="utf-8")
+
+
+def _asset(name: str) -> str:
+    """A file of the server's page."""
+    if name == "leaflet.js":
+        return leaflet("leaflet.min.js")
+    if name == "leaflet.css":
+        return re.sub(r"url\([^)]*\)", "none", leaflet(name))
+    shared = resources.files("olr.pages").joinpath(name)
+    own = resources.files("olr.serving").joinpath("assets", name)
+    return (shared if shared.is_file() else own).read_text(encoding="utf-8")

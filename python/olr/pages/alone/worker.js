@@ -1,0 +1,186 @@
+"use strict";
+// The worker of the page that answers by itself: it unpacks the program and the map, and answers addresses as the server does.
+//
+// It is told { kind: "start", packed, data } first, then { kind: "ask", id, address, body, accept } and { kind: "drop", id }. It tells
+// { kind: "head", id, status, type }, { kind: "piece", id, piece }, and { kind: "end", id } or { kind: "dropped", id }; and
+// { kind: "state", status } once it is ready, or can't be.
+
+const JSON_TYPE = "application/json";
+const LINES_TYPE = "application/x-ndjson";
+const FEATURES_TYPE = "application/geo+json-seq";
+// Records that are answered before others get a turn.
+const RECORDS_OF_LOT = 16;
+const QUESTIONS_OF_PROGRAM = ["candidates", "match", "places", "why"];
+
+// What questions are answered by: { program, network, streets, questions, tables, confidence, map, tiles }.
+let known = null;
+const dropped = new Set();
+
+// ---- the start
+async function begun({ packed, data }) {
+  const files = await unpacked(packed);
+  const text = (name) => (files[name] ? new TextDecoder().decode(files[name]) : null);
+  const map = { "nodes.csv": files["nodes.csv"], "lines.csv": files["lines.csv"] };
+  if (files["bans.csv"]) map["bans.csv"] = files["bans.csv"];
+  const program = await Program.of(files["olr.wasm"], map);
+  const network = Network.of({ nodes: text("nodes.csv"), lines: text("lines.csv"), bans: text("bans.csv") });
+  const { questions, tables, confidence, map, tiles } = data;
+  return { program, network, streets: Streets.of(network), questions, tables, confidence, map, tiles };
+}
+
+// ---- addresses
+// What an address answers: { status, type, pieces }, whose pieces are texts, and may come one after the other.
+function answerOf({ address, body, accept }) {
+  const [path, query = ""] = address.split(/\?(.*)/s);
+  const options = optionsOf(query);
+  if (path === "health") return said({ map: known.map.name, digest: known.map.digest });
+  if (path === "messages") return lined(LINES_TYPE, messagesOf(body, options));
+  if (path === "scene") return said(sceneAt(options));
+  if (path === "rows") return lined(LINES_TYPE, rowsOf(body, numbersOf("places", options, known.questions)));
+  if (path === "batch/places" && accept.includes(FEATURES_TYPE)) return lined(FEATURES_TYPE, featuresOf(body, numbersOf("places", options, known.questions)));
+  if (path === "show") return texted(shown(options));
+  if (QUESTIONS_OF_PROGRAM.includes(path)) return texted(ownAnswer(questionOf(path, options, known.questions)));
+  throw new Problem(404, "NotFound", "there is no such address");
+}
+
+const said = (value) => texted(JSON.stringify(value));
+const texted = (text) => lined(JSON_TYPE, [text]);
+const lined = (type, pieces) => ({ status: 200, type, pieces });
+
+// The program's own answer to a question, as it writes it.
+function ownAnswer(question) {
+  return throwing(known.program.answer(question.what, question.numbers, recordText(question.ref), question.after));
+}
+
+function shown(options) {
+  const { ref, ...others } = Object.fromEntries(options);
+  if (ref === undefined) throw badRequest("ref is missing: the text of a reference, in base64");
+  for (const name of Object.keys(others)) throw badRequest(`${quoted(name)} is no option of this address`);
+  return throwing(known.program.show(recordText(ref)));
+}
+
+// A text, or a fault as a problem.
+function throwing({ text, fault }) {
+  if (fault === null) return text;
+  const { meaning } = faultOf(fault, known.tables.faults);
+  throw new Problem(422, fault.split(" ")[0], meaning ? `${fault}: ${meaning}` : fault);
+}
+
+// ---- one reference
+function sceneAt(options) {
+  const { ref, numbers } = questionOf("places", options, known.questions);
+  const { program, network, streets, confidence, questions, tables, map, tiles } = known;
+  const tolerances = Object.fromEntries(Object.keys(questions.tolerances).map((name) => [name, numbers[name]]));
+  const text = recordText(ref);
+  const ask = (what, others = {}) => {
+    const { text: answer, fault } = program.answer(what, { ...tolerances, ...others }, text);
+    return fault === null ? exactJson(answer) : fault;
+  };
+  const show = exactJson(throwing(program.show(text)));
+  const { judging, note } = judgingBy(confidence, numbers);
+  const ofPlaces = Object.fromEntries(Object.keys(questions.numbers.places).map((name) => [name, numbers[name]]));
+  const [candidates, places, page] = [ask("candidates"), ask("places", listing(ofPlaces)), ask("match", defaultsOf("match"))];
+  const why = fitsSomewhere(places, page) ? null : ask("why", defaultsOf("why"));
+  const judgement = typeof places === "string" ? null : judged(places, readReference(text), network, judging);
+  return sceneOf({
+    reference: ref, show, candidates, places, page, why, network, streets, judgement, confidence: judging.confidence, note, numbers,
+    mapName: map.name, tiles, tables,
+  });
+}
+
+const defaultsOf = (what) => Object.fromEntries(Object.entries(known.questions.numbers[what]).map(([name, number]) => [name, number.default]));
+
+// ---- many
+// The records of a body: lines of a key, a tab and a reference.
+async function recordsOf(body) {
+  const lines = (typeof body === "string" ? body : await body.text()).split("\n").filter(Boolean);
+  return lines.map((line) => line.split(/\t(.*)/s).slice(0, 2));
+}
+
+// The lines of the program about records, some at a time, and the reference of each.
+async function* answered(body, numbers) {
+  const records = await recordsOf(body);
+  for (let begin = 0; begin < records.length; begin += RECORDS_OF_LOT) {
+    const lot = records.slice(begin, begin + RECORDS_OF_LOT);
+    const lines = known.program.lines("places", listing(numbers), lot);
+    yield lines.map((line, at) => [line, lot[at][1]]);
+  }
+}
+
+async function* rowsOf(body, numbers) {
+  const chosen = judgingBy(known.confidence, numbers);
+  for await (const lot of answered(body, numbers)) yield lot.map(([line, ref]) => `${rowText(rowOf(line, ref, known.network, chosen))}\n`).join("");
+}
+
+async function* featuresOf(body, numbers) {
+  const { judging } = judgingBy(known.confidence, numbers);
+  for await (const lot of answered(body, numbers)) yield lot.map(([line, ref]) => featureLine(line, ref, known.network, judging)).join("");
+}
+
+async function* messagesOf(body, options) {
+  const reading = Object.fromEntries(options);
+  const bytes = new Uint8Array(await body.arrayBuffer());
+  let rows;
+  try {
+    rows = readList(bytes, reading);
+  } catch (error) {
+    if (!(error instanceof ToolError)) throw error;
+    throw new Problem(422, "UnreadableList", error.message);
+  }
+  yield rows.map((row) => `${JSON.stringify(row)}\n`).join("");
+}
+
+// ---- telling
+const turn = () => new Promise((done) => {
+  const { port1, port2 } = new MessageChannel();
+  port1.onmessage = done;
+  port2.postMessage(null);
+});
+
+// Why something isn't answered, as a problem.
+function problemOf(error) {
+  if (error instanceof Problem) return error;
+  if (error instanceof ToolError) return new Problem(503, "MapRefused", error.message);
+  return new Problem(503, "ProgramFailed", error.message);
+}
+
+async function answer(question) {
+  const { id } = question;
+  const encoder = new TextEncoder();
+  let isBegun = false;
+  const head = (status, type) => {
+    isBegun = true;
+    postMessage({ kind: "head", id, status, type });
+  };
+  try {
+    const { status, type, pieces } = answerOf(question);
+    for await (const piece of pieces) {
+      if (!isBegun) head(status, type);
+      postMessage({ kind: "piece", id, piece: encoder.encode(piece) });
+      await turn();
+      if (dropped.delete(id)) return postMessage({ kind: "dropped", id });
+    }
+    if (!isBegun) head(status, type);
+  } catch (error) {
+    if (isBegun) return postMessage({ kind: "dropped", id });
+    const problem = problemOf(error);
+    head(problem.status, "application/problem+json");
+    postMessage({ kind: "piece", id, piece: encoder.encode(JSON.stringify(problem.document())) });
+  }
+  return postMessage({ kind: "end", id });
+}
+
+// Questions are answered one after the other: the program has one thread.
+let last = null;
+addEventListener("message", ({ data: told }) => {
+  if (told.kind === "start") {
+    last = begun(told).then((all) => { known = all; }).then(() => postMessage({ kind: "state", status: "ready" }), (error) => {
+      postMessage({ kind: "state", status: "failed" });
+      throw error;
+    });
+  } else if (told.kind === "drop") {
+    dropped.add(told.id);
+  } else {
+    last = last.then(() => (dropped.delete(told.id) ? postMessage({ kind: "dropped", id: told.id }) : answer(told)));
+  }
+});
