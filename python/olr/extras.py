@@ -17,6 +17,7 @@ COMMANDS = {
     "import osm": ("maps", "Make a map from an OpenStreetMap file."),
     "import vector": ("maps", "Make a map from a GeoPackage, Shapefile or GeoJSON file."),
     "match": ("geo", "Match a file of references, and write geometries."),
+    "page": ("geo", "Write a page that answers by itself, without a server."),
     "regions": ("scale", "Make a store of a map of any size."),
     "report": ("geo", "Say what is wrong with a feed, or with a map, as a page."),
     "run": ("scale", "Match any number of references, on many machines."),

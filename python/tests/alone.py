@@ -10,6 +10,7 @@ from asking import draw_map
 from browser import Browser
 from olr.model.map_folder import BANS, LINES, NODES, read_map, write_map
 from olr.model.road_map import Ban, Line, Position, RoadMap
+from olr.pages.alone.page import SHARED
 
 FOLDER = Path(olr.__file__).with_name("pages") / "alone"
 """Where they are."""
@@ -22,7 +23,7 @@ class Scripts:
 
     def __init__(self, browser: Browser) -> None:
         self._browser = browser
-        scripts = "\n".join(file.read_text() for file in sorted(FOLDER.glob("*.js")))
+        scripts = "\n".join((FOLDER / name).read_text() for name in SHARED)
         browser.value(f"{scripts}\nnull")
 
     def value(self, expression: str, **given: Any) -> Any:

@@ -2,6 +2,8 @@
 
 import base64
 import gzip
+import hashlib
+import html
 import json
 import re
 from collections.abc import Mapping
@@ -10,38 +12,54 @@ from typing import Any, NamedTuple
 
 from olr.model.profiles import PROFILES, tolerances_of
 from olr.model.questions import NUMBERS, TOLERANCES, Number
+from olr.pages.alone.module import MODULE
 from olr.pages.alone.tables import tables
-from olr.pages.html import data_text, filled, leaflet
+from olr.pages.html import data_text, filled, leaflet, leaflet_licence, origin_of
 from olr.pages.page_data import page_data
 
-POLICY = (
-    "default-src 'none'; script-src 'unsafe-inline' 'wasm-unsafe-eval'; worker-src blob:; style-src 'unsafe-inline'; img-src data: blob:; "
-    "base-uri 'none'; form-action 'none'"
-)
-"""Nothing is loaded from outside, and nothing is sent there."""
 OWN = ("asking.js",)
 """Scripts of the page that come before those of the server's page."""
-WORKER = (
+SHARED = (
     "packing.js",
     "questions.js",
     "numbers.js",
     "formats.js",
     "exact_json.js",
-    "reference.js",
     "map_files.js",
     "network.js",
+    "pieces.js",
     "turning_back.js",
+    "reference.js",
+    "faults.js",
+    "asked_with.js",
     "likely.js",
     "judging.js",
     "rows.js",
-    "worker.js",
+    "sentences.js",
+    "surroundings.js",
+    "streets.js",
+    "searching.js",
+    "near_paths.js",
+    "scene.js",
 )
+"""Scripts that make of the program's answers what the server makes of them, in an order in which they can be read."""
+WORKER = (*SHARED, "olr.js", "program.js", "worker.js")
 """Scripts of its worker."""
 MOST_LIST, MOST_ROWS = 16 << 20, 10_000
 """Bytes of a list, and messages of one that are shown, as on a server."""
-ASSET = re.compile(r'assets/([a-z.-]+)')
 STYLE = re.compile(r'<link rel="stylesheet" href="assets/([a-z.-]+)">\n')
 SCRIPT = re.compile(r'<script src="assets/([a-z.-]+)" defer></script>\n')
+OF_SERVER = {
+    '    <a href="docs" class="small">addresses and faults</a>\n': "",
+    '<a href="assets/leaflet-licence.txt">its licence</a>': '<a href="#licence">its licence</a>',
+}
+"""What the server's page has that this one can't have, and what stands in its place."""
+ABOUT = """      <h2>What this page is</h2>
+      <p>It has the program olr in it, as a WebAssembly module, and the map {name}. Nothing that you enter leaves it, and it needs no network.
+        The program is built from one that is proved: what was done to it since is tested, not proved.</p>
+      <p class="small">Module {module}, map {map}.</p>
+      <details id="licence" class="small"><summary>The licence of Leaflet</summary><pre>{licence}</pre></details>
+"""
 
 
 class Carried(NamedTuple):
@@ -55,11 +73,13 @@ class Carried(NamedTuple):
     """Those of the map, and `olr.wasm`."""
     confidence: Mapping[str, Any]
     """The JSON of the file that says how probable places are."""
+    tiles: str | None = None
+    """A URL of tiles with `{z}`, `{x}` and `{y}`: the page loads nothing else."""
 
 
 def html_of(carried: Carried) -> str:
     """The page. Raises `ToolError` if Leaflet isn't installed."""
-    data = page_data(NUMBERS["places"], MOST_LIST, MOST_ROWS, None) | {
+    data = page_data(NUMBERS["places"], MOST_LIST, MOST_ROWS, carried.tiles) | {
         "title": carried.name,
         "map": {"name": carried.name, "digest": carried.digest},
         "questions": _questions(),
@@ -75,9 +95,22 @@ def html_of(carried: Carried) -> str:
         f'<script id="worker" type="text/plain">{_inline("".join(map(_own, WORKER)))}</script>',
         *(f"<script>{_inline(script)}</script>" for script in scripts),
     ]
-    policy = f'<meta http-equiv="Content-Security-Policy" content="{POLICY}">'
+    policy = f'<meta http-equiv="Content-Security-Policy" content="{policy_of(carried.tiles)}">'
+    for old, new in OF_SERVER.items():
+        text = text.replace(old, new)
+    text = text.replace("    </section>\n", f"{_about(carried)}    </section>\n", 1)
     text = SCRIPT.sub("", text).replace("<head>\n", f"<head>\n{policy}\n", 1)
     return text.replace("</body>", "\n".join([*behind, "</body>"]))
+
+
+def policy_of(tiles: str | None) -> str:
+    """Nothing is loaded from outside but images of `tiles`, if that is given, and nothing is sent there. Raises `ToolError` if it isn't the
+    URL of tiles."""
+    images = "data:" if tiles is None else f"data: {origin_of(tiles)}"
+    return (
+        "default-src 'none'; script-src 'unsafe-inline' 'wasm-unsafe-eval'; worker-src blob:; style-src 'unsafe-inline'; "
+        f"img-src {images}; base-uri 'none'; form-action 'none'"
+    )
 
 
 def packed(files: Mapping[str, bytes]) -> str:
@@ -85,6 +118,18 @@ def packed(files: Mapping[str, bytes]) -> str:
     head = json.dumps([{"name": name, "size": len(content)} for name, content in files.items()])
     content = b"".join([head.encode(), b"\n", *files.values()])
     return base64.b64encode(gzip.compress(content, mtime=0)).decode()
+
+
+def _about(carried: Carried) -> str:
+    """What the page says of itself."""
+    module = hashlib.sha256(carried.files[MODULE]).hexdigest()
+    values = {
+        "name": carried.name,
+        "module": module,
+        "map": carried.digest["network"] or "",
+        "licence": leaflet_licence(),
+    }
+    return ABOUT.format_map({name: html.escape(value) for name, value in values.items()})
 
 
 def _questions() -> dict[str, Any]:

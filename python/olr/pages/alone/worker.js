@@ -20,9 +20,8 @@ const dropped = new Set();
 async function begun({ packed, data }) {
   const files = await unpacked(packed);
   const text = (name) => (files[name] ? new TextDecoder().decode(files[name]) : null);
-  const map = { "nodes.csv": files["nodes.csv"], "lines.csv": files["lines.csv"] };
-  if (files["bans.csv"]) map["bans.csv"] = files["bans.csv"];
-  const program = await Program.of(files["olr.wasm"], map);
+  const { "olr.wasm": module, ...ofMap } = files;
+  const program = await Program.of(module, ofMap);
   const network = Network.of({ nodes: text("nodes.csv"), lines: text("lines.csv"), bans: text("bans.csv") });
   const { questions, tables, confidence, map, tiles } = data;
   return { program, network, streets: Streets.of(network), questions, tables, confidence, map, tiles };
