@@ -320,7 +320,7 @@ def test_what_is_shown_of_a_list(scripts: Scripts) -> None:
         gaps = [gap - gaps[0] for gap in gaps]
         costs = [float(draws.randrange(0, 80, 10)) for _ in gaps]
         reached = draws.choice([None, *range(100, 600, 50)])
-        total = draws.randrange(100)
+        total = draws.randrange(600)
         found = (Matching("", (), (), Pieces(()), total + gap) for gap in gaps)
         answer = Places(
             looked=9,

@@ -17,7 +17,7 @@ from olr.model.columns import What, joined_columns, read_columns
 from olr.model.map_folder import read_map
 from olr.pages.view.surroundings import Box, Surroundings, path_of
 
-DAMAGED = 300
+DAMAGED = 150
 
 
 @pytest.fixture(scope="module")
@@ -245,6 +245,7 @@ def test_files_in_all_forms(scripts: Scripts, tmp_path: Path) -> None:
         (b"7,1,1,7,0,1,1 2;", False),
         (b"7,1,1,7,0,1,1 2,", False),
         (b"7,1,1,7,0,1", False),
+        (b"7,1,1,7,0,1,x", False),
         (b'"7","1",1,7,0,"1"0,"1 2"', True),
         (b'"7""",1,1,7,0,1,', False),
         (b'7,1,1,7,0,1,"1 2', True),

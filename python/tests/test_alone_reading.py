@@ -6,6 +6,7 @@ import math
 import numpy as np
 import pytest
 import random
+import re
 from pathlib import Path
 from typing import Any
 
@@ -26,15 +27,16 @@ def scripts(browser: Browser) -> Scripts:
 
 def test_no_two_scripts_declare_one_name() -> None:
     """They are one script at last."""
-    words = ("function ", "function* ", "async function ", "class ", "const ", "let ")
+    declared = re.compile(
+        r"^(?:(?:async )?function\*? |class |const |let )(?:(\w+)|\[([^\]]*)\])", re.MULTILINE
+    )
     names = [
-        line.removeprefix(word).split("(")[0].split(" ")[0]
+        name
         for file in FOLDER.glob("*.js")
-        for line in file.read_text().splitlines()
-        for word in words
-        if line.startswith(word) and not line.startswith("const [") and "function*" not in word
+        for one, several in declared.findall(file.read_text())
+        for name in ([one] if one else several.split(", "))
     ]
-    assert len(names) > 50 and sorted(set(names)) == sorted(names)
+    assert len(names) > 100 and sorted(set(names)) == sorted(names)
 
 
 def references(folder: Path) -> list[str]:
