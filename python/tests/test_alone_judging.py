@@ -193,6 +193,28 @@ def test_rows(asked: Asked, file: Path, network: Network, scripts: Scripts) -> N
     assert {row["probability"] for row in points} == {None}
 
 
+def test_rows_of_the_examples(
+    program: Program, folder: Path, top: Path, tmp_path: Path, scripts: Scripts
+) -> None:
+    place = tmp_path / "map"
+    place.mkdir()
+    for name in ("nodes.csv", "lines.csv", "bans.csv"):
+        (place / name).write_bytes((top / "examples" / name).read_bytes())
+    messages = b"".join(
+        (top / "examples" / it).read_bytes() for it in ("messages.tsv", "unmatched.tsv")
+    )
+    asked = asked_with(program, place, messages.split(b"\n")[:-1], tolerances_of(FEED) | DEFAULTS)
+    judged_by = JudgedBy(asked.kind, Confidence.default())
+    wanted = lines_of(asked.some, Network.read(place), judged_by).decode().splitlines()
+    given = {"lines": asked.lines, "texts": asked.texts(), "numbers": asked.numbers()}
+    scripts.read_map(place)
+    try:
+        found = scripts.value(ROWS, confidence=json.loads(DEFAULT.read_text()), **given)
+    finally:
+        scripts.read_map(folder)
+    assert found == wanted and len(wanted) > 5
+
+
 JUDGED = """texts.map((text, at) => {
   const { answer, fault } = exactJson(lines[at]);
   return fault === null ? judged(answer, readReference(text), network, judging) : null;

@@ -47,9 +47,10 @@ def raised(call: Callable[[], object]) -> str | None:
 
 
 def test_lines(network: Network, scripts: Scripts) -> None:
-    of_lines = "({ids, length, from, to, class: road, form, count, nodes}) => [[...ids], [...length], [...road], [...form], [...from], [...to], count, nodes]"
+    names = ("ids", "length", "class", "form", "from", "to")
+    columns = ", ".join(f"[...network.{name}]" for name in names)
     ids, length, road_class, form, start, end, count, nodes = scripts.value(
-        f"({of_lines})(network)"
+        f"[{columns}, network.count, network.nodes]"
     )
     assert list(map(int, ids)) == network.line_id.tolist() and count == len(ids)
     assert (length, road_class, form) == (

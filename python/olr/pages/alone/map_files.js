@@ -23,7 +23,8 @@ const FILES_OF_MAP = {
 };
 const MOST_POINTS_OF_SHAPE = 64;
 const MOST_DIGITS_OF_FIELD = 16;
-const [COMMA, SEMICOLON, BLANK, MINUS, ZERO, TWO, LINE_FEED, RETURN] = Array.from(",; -02\n\r", (letter) => letter.charCodeAt(0));
+const CODES_OF_FILES = Array.from(",; -02\n\r", (letter) => letter.charCodeAt(0));
+const [COMMA_CODE, SEMICOLON_CODE, BLANK_CODE, MINUS_CODE, ZERO_CODE, TWO_CODE, FEED_CODE, RETURN_CODE] = CODES_OF_FILES;
 
 function readColumns(what, text, folder) {
   const file = FILES_OF_MAP[what];
@@ -59,10 +60,10 @@ class MapScanner {
     for (; this.at < text.length; count += 1) {
       let isRight = true;
       for (let column = 0; isRight && column < numbers.length; column += 1) {
-        isRight = (column === 0 || this.passed(COMMA)) && this.read(file.columns[column], numbers[column], count);
+        isRight = (column === 0 || this.passed(COMMA_CODE)) && this.read(file.columns[column], numbers[column], count);
       }
       if (isRight && file.hasShapes) {
-        const size = this.passed(COMMA) ? this.shape(points, known) : -1;
+        const size = this.passed(COMMA_CODE) ? this.shape(points, known) : -1;
         isRight = size >= 0;
         sizes[count] = Math.max(size, 0);
         known += sizes[count];
@@ -79,8 +80,8 @@ class MapScanner {
     let blanks = 0;
     for (let at = this.at; at < text.length; at += 1) {
       const code = text.charCodeAt(at);
-      if (code === LINE_FEED) feeds += 1;
-      else if (code === BLANK) blanks += 1;
+      if (code === FEED_CODE) feeds += 1;
+      else if (code === BLANK_CODE) blanks += 1;
     }
     return [feeds, blanks];
   }
@@ -92,17 +93,17 @@ class MapScanner {
   }
 
   ended() {
-    return this.at === this.text.length || this.passed(LINE_FEED) || (this.passed(RETURN) && this.passed(LINE_FEED));
+    return this.at === this.text.length || this.passed(FEED_CODE) || (this.passed(RETURN_CODE) && this.passed(FEED_CODE));
   }
 
   // Reads a number of 1 to 16 digits into an array. Says whether it is there, and within its limits.
   read({ least, greatest }, values, place) {
-    const isNegative = least < 0 && this.passed(MINUS);
+    const isNegative = least < 0 && this.passed(MINUS_CODE);
     const { text, at: first } = this;
     let at = first;
     let value = 0;
     for (;;) {
-      const digit = text.charCodeAt(at) - ZERO;
+      const digit = text.charCodeAt(at) - ZERO_CODE;
       if (!(digit >= 0 && digit <= 9)) break;
       value = value * 10 + digit;
       at += 1;
@@ -111,18 +112,18 @@ class MapScanner {
     value = isNegative ? -value : value;
     values[place] = value;
     // 2^53 + 1 is rounded to 2^53, which ends with a 2.
-    const isExact = value < 2 ** 53 || text.charCodeAt(at - 1) === TWO;
+    const isExact = value < 2 ** 53 || text.charCodeAt(at - 1) === TWO_CODE;
     return at > first && at - first <= MOST_DIGITS_OF_FIELD && value >= least && value <= greatest && isExact;
   }
 
   // Reads the points of a shape behind those that are known. Says how many they are, or -1 if it is none.
   shape(points, known) {
     const code = this.text.charCodeAt(this.at);
-    if (code === LINE_FEED || code === RETURN || this.at === this.text.length) return 0;
+    if (code === FEED_CODE || code === RETURN_CODE || this.at === this.text.length) return 0;
     for (let size = 1; size <= MOST_POINTS_OF_SHAPE; size += 1) {
       const place = 2 * (known + size - 1);
-      if (!this.read(LON_OF_MAP, points, place) || !this.passed(BLANK) || !this.read(LAT_OF_MAP, points, place + 1)) return -1;
-      if (!this.passed(SEMICOLON)) return size;
+      if (!this.read(LON_OF_MAP, points, place) || !this.passed(BLANK_CODE) || !this.read(LAT_OF_MAP, points, place + 1)) return -1;
+      if (!this.passed(SEMICOLON_CODE)) return size;
     }
     return -1;
   }
@@ -132,7 +133,9 @@ class MapScanner {
 function usualText(what, text, folder) {
   const { header } = FILES_OF_MAP[what];
   const records = recordsOfCsv(text);
-  if ((records[0] || []).join("\n") !== header.join("\n")) throw new ToolError(`${folder}/${what}.csv doesn't begin with the header ${header.join(",")}`);
+  if ((records[0] || []).join("\n") !== header.join("\n")) {
+    throw new ToolError(`${folder}/${what}.csv doesn't begin with the header ${header.join(",")}`);
+  }
   const rows = records.slice(1);
   rows.forEach((fields, index) => {
     if (fields.length === header.length) return;
