@@ -1,4 +1,4 @@
-// Tries heap.c on this machine, with 6,000,000 calls that are drawn: blocks keep what was written to them, lie at multiples
+// Tries heap.c on this machine, with 400,000 calls that are drawn: blocks keep what was written to them, lie at multiples
 // of 16, and don't overlap; free blocks never touch; in the end all is one free block. A refused growth is an answer.
 //
 //     cc -O1 -fsanitize=undefined,address -fno-strict-aliasing web/heap_test.c -o heap_test && ./heap_test [PAGES]
@@ -64,7 +64,7 @@ int main(int count, char **words) {
     }
     unsigned long refused = 0;
     srand(7);
-    for (long call = 0; call < 6000000; call++) {
+    for (long call = 0; call < 400000; call++) {
         int which = rand() % COUNT, kind = rand() % 8;
         size_t size = rand() % (kind == 0 ? 300000 : kind == 1 ? 8000 : 200);
         unsigned char *old = blocks[which];
@@ -84,7 +84,7 @@ int main(int count, char **words) {
         memset(block, which, size);
         blocks[which] = block;
         sizes[which] = size;
-        if (call % 100000 == 0) {
+        if (call % 20000 == 0) {
             walk();
         }
     }
@@ -95,5 +95,5 @@ int main(int count, char **words) {
     }
     walk();
     require(size_of((Block *)(__heap_base + 8)) == (u64)(end - __heap_base) - 8, "in the end there is more than one free block");
-    printf("%lu of 6000000 calls were refused, %llu pages\n", refused, pages);
+    printf("%lu of 400000 calls were refused, %llu pages\n", refused, pages);
 }

@@ -26,4 +26,6 @@ def command(
     require_page(file, force, inputs)
     made = made_of(folder, confidence, tiles)
     write_whole(file, made.page.encode(), force, inputs)
-    click.echo(f"{file}: {len(made.page.encode()) / 1e6:.1f} MB, with a map of {made.lines:,} lines")
+    click.echo(
+        f"{file}: {len(made.page.encode()) / 1e6:.1f} MB, with a map of {made.lines:,} lines"
+    )

@@ -15,4 +15,6 @@ def find_module() -> Path:
     for path in PLACES:
         if path.is_file():
             return path
-    raise ToolError(f"there is no {MODULE}: a page that answers by itself needs a release that has it")
+    raise ToolError(
+        f"there is no {MODULE}: a page that answers by itself needs a release that has it"
+    )
