@@ -1,0 +1,203 @@
+"use strict";
+// The text of a file of XML: its letters, the lines of places in it, and what may stand around elements. What is broken has the words of expat.
+//
+// `XmlText` is what `XmlReader` of list_xml.js goes through. Work grows with the bytes: no part is looked at again for each of others.
+
+const MOST_TOKEN = 4 << 20;
+const MOST_TEXT = 1 << 20;
+const MOST_OPEN = 500;
+const MOST_NAMES = 1 << 16;
+const XML_NAME = /[:_\p{L}\p{Nl}][:_.\-\u00b7\p{L}\p{Nl}\p{Nd}\p{M}]*/uy;
+const XML_DECLARED = /<!(?:[A-Za-z_]+|$)/y;
+const XML_NAME_PART = /[:_.\-\u00b7\p{L}\p{Nl}\p{Nd}\p{M}]+/uy;
+const XML_BLANKS = /[ \t\r\n]*/y;
+const XML_REFERENCE = /&(?:#([0-9]+)|#x([0-9a-fA-F]+)|([:_\p{L}\p{Nl}][:_.\-\u00b7\p{L}\p{Nl}\p{Nd}\p{M}]*));/uy;
+const XML_DATA = /[^<&]*/y;
+const XML_VALUE = /[^<&"']*/y;
+const NO_XML = /[\x00-\x08\x0b\x0c\x0e-\x1f\ufffe\uffff]/;
+const XML_DECLARATION =
+  /<\?xml[ \t\r\n]+version[ \t\r\n]*=[ \t\r\n]*(?:"[\w.-]*"|'[\w.-]*')(?:[ \t\r\n]+encoding[ \t\r\n]*=[ \t\r\n]*(?:"([A-Za-z][\w.-]*)"|'([A-Za-z][\w.-]*)'))?(?:[ \t\r\n]+standalone[ \t\r\n]*=[ \t\r\n]*(?:"(?:yes|no)"|'(?:yes|no)'))?[ \t\r\n]*\?>/y;
+const DOCUMENT_NAME = /<!DOCTYPE[ \t\r\n]+[:_\p{L}\p{Nl}][:_.\-\u00b7\p{L}\p{Nl}\p{Nd}\p{M}]*(?=[ \t\r\n[>])/uy;
+const DOCUMENT_TYPE = /<!DOCTYPE[ \t\r\n]+[:_\p{L}\p{Nl}][:_.\-\u00b7\p{L}\p{Nl}\p{Nd}\p{M}]*(?:[ \t\r\n]+(?:SYSTEM|PUBLIC[ \t\r\n]+(?:"[^"]*"|'[^']*'))[ \t\r\n]+(?:"[^"]*"|'[^']*'))?[ \t\r\n]*(?=[[>])/uy;
+const XML_ENTITIES = { lt: "<", gt: ">", amp: "&", quot: '"', apos: "'" };
+const NOT_WELL_FORMED = "not well-formed (invalid token)";
+
+// Goes through a text, of which `at` is the place, and `event` where that begins which is read. `walk` hears of it.
+class XmlText {
+  constructor(pieces, walk) {
+    this.walk = walk;
+    walk.reader = this;
+    this.at = this.event = this.passedLines = 0;
+    this.names = new Set();
+    this.letters = 0;
+    this.open = [];
+    Object.assign(this, decodedXml(pieces, this));
+    const broken = this.text.search(NO_XML);
+    if (broken >= 0) {
+      this.text = this.text.slice(0, broken);
+      this.isBroken = true;
+    }
+    this.nextEnd = 0;
+  }
+
+  // The line of the event that is read.
+  line() {
+    return this.passedLines + 1 + (this.text.slice(0, this.event).match(/\r\n|\r|\n/g) ?? []).length;
+  }
+
+  broken(reason, at = this.at) {
+    this.event = at;
+    return new ListError(`${LIST_NAME}: line ${this.line()} isn't XML: ${reason}: repair it, or give another --format`);
+  }
+
+  // The error of a text that ends within a token, or where an element is open.
+  cut() {
+    if (this.isBroken) return this.broken(NOT_WELL_FORMED, this.text.length);
+    // A carriage return at the end may be half of a line end.
+    this.event = this.at === this.text.length && this.text.endsWith("\r") ? this.at - 1 : this.at;
+    return new ListError(`${LIST_NAME}: line ${this.line()} is its last one, within an element: it was cut short`);
+  }
+
+  // Goes behind a token. Throws `ListError` where a limit was passed at the end of a piece within it.
+  pass(end) {
+    this.event = this.at;
+    while (this.nextEnd < this.ends.length && this.ends[this.nextEnd] < end) this.requireLimits(this.ends[this.nextEnd++]);
+    this.at = end;
+  }
+
+  requireLimits(behind) {
+    const { walk } = this;
+    if (behind - this.at > MOST_TOKEN) throw walk.error("begins a tag or a comment of more than 4,194,304 bytes");
+    if (walk.openElements() > MOST_OPEN) throw walk.error("is within more than 500 elements");
+    if (this.names.size > MOST_NAMES || this.letters > MOST_TEXT) throw walk.error("has a new name, behind too many others");
+    if (walk.heardLetters() > MOST_TEXT) throw walk.error("is in a text of more than 1,048,576 letters");
+  }
+
+  note(name) {
+    if (this.names.has(name)) return;
+    this.names.add(name);
+    this.letters += name.length;
+  }
+
+  // What a pattern finds there, or null.
+  found(pattern, at = this.at) {
+    pattern.lastIndex = at;
+    return pattern.exec(this.text);
+  }
+
+  blanks(at) {
+    return at + this.found(XML_BLANKS, at)[0].length;
+  }
+
+  // Where a part of a token has to end that begins there. Throws where it doesn't.
+  upTo(end, at) {
+    const found = this.text.indexOf(end, at);
+    if (found >= 0) return found + end.length;
+    this.pass(this.text.length + 1);
+    this.at = this.event;
+    throw this.cut();
+  }
+
+  prolog() {
+    if (this.text.startsWith("<?xml") && /[ \t\r\n?]/.test(this.text[5] ?? "?")) {
+      const end = this.upTo("?>", 0);
+      const found = this.found(XML_DECLARATION);
+      if (!found || found[0].length !== end) throw this.broken("XML declaration not well-formed");
+      this.pass(end);
+    }
+    this.aside("syntax error");
+    if (this.at >= this.text.length) throw this.cut();
+    if (!this.text.startsWith("<!", this.at)) return;
+    const opening = this.found(XML_DECLARED);
+    if (opening && this.at + opening[0].length === this.text.length) throw this.cut();
+    if (!opening || !/[ \t\r\n[]/.test(this.text[this.at + opening[0].length])) {
+      if (this.text[this.at + 2] !== "[") throw this.broken(NOT_WELL_FORMED, this.at + (opening?.[0].length ?? 2));
+    }
+    if (opening?.[0] === "<!DOCTYPE") {
+      const found = this.found(DOCUMENT_TYPE);
+      if (!found && !/[[>]/.test(this.text.slice(this.at))) throw this.cut();
+      if (!found) throw this.broken(this.found(DOCUMENT_NAME) ? "syntax error" : NOT_WELL_FORMED);
+      this.event = this.at + found[0].length;
+      throw this.walk.error("has a document type, and such files aren't read: take it out");
+    }
+    throw this.broken("syntax error");
+  }
+
+  epilog() {
+    this.aside(null);
+    if (this.at >= this.text.length) {
+      if (this.isBroken) throw this.cut();
+      return;
+    }
+    throw this.second();
+  }
+
+  second() {
+    this.event = this.at;
+    return new ListError(`${LIST_NAME}: line ${this.line()} begins another document: give each a file of its own`);
+  }
+
+  // Passes over blanks, comments and instructions outside of elements. Throws where something else is, but for an element or a declaration.
+  aside(reason) {
+    for (;;) {
+      this.pass(this.blanks(this.at));
+      const { text, at } = this;
+      if (at >= text.length) return;
+      if (text.startsWith("<!--", at)) this.comment();
+      else if (text.startsWith("<?", at)) this.instruction();
+      else if (text[at] !== "<") throw this.stray(reason);
+      else if (reason === null || /[:_!\p{L}\p{Nl}]/u.test(text[at + 1] ?? "!")) return;
+      else throw this.broken(NOT_WELL_FORMED);
+    }
+  }
+
+  // The error of what stands outside of elements. What has a meaning within a document type is no wrong token.
+  stray(reason) {
+    const { text, at } = this;
+    const name = this.found(XML_NAME_PART);
+    const behind = name ? at + name[0].length : at + 1;
+    const isToken = name ? /^(?:[ \t\r\n>),|[%+*?]|$)/.test(text.slice(behind, behind + 1)) : /["'%,[\]()|>#]/.test(text[at]);
+    if (!isToken) return this.broken(NOT_WELL_FORMED, name ? behind : at);
+    return reason === null ? this.second() : this.broken(reason);
+  }
+
+  comment() {
+    const end = this.upTo("--", this.at + 4);
+    if (end >= this.text.length) throw this.cut();
+    if (this.text[end] !== ">") throw this.broken(NOT_WELL_FORMED, end);
+    this.pass(end + 1);
+  }
+
+  instruction() {
+    const name = this.found(XML_NAME, this.at + 2);
+    if (!name && this.at + 2 >= this.text.length) throw this.cut();
+    if (!name) throw this.broken(NOT_WELL_FORMED, this.at + 2);
+    const behind = this.at + 2 + name[0].length;
+    if (name[0].toLowerCase() === "xml") {
+      if (name[0] !== "xml") throw this.broken(NOT_WELL_FORMED, behind);
+      this.upTo("?>", behind);
+      throw this.second();
+    }
+    if (!/[ \t\r\n]/.test(this.text[behind] ?? " ") && !this.text.startsWith("?>", behind)) throw this.broken(NOT_WELL_FORMED, behind);
+    this.pass(this.upTo("?>", behind));
+  }
+
+  // The letters of a reference, and where it ends. An entity that isn't known is an error of the event.
+  referenceAt(at, event) {
+    const found = this.found(XML_REFERENCE, at);
+    if (!found) {
+      const part = /&(?:#(?:x[0-9a-fA-F]*|[0-9]*)|[:_.\-\u00b7\p{L}\p{Nl}\p{Nd}\p{M}]*)/uy;
+      const behind = at + this.found(part, at)[0].length;
+      throw behind >= this.text.length ? this.cut() : this.broken(NOT_WELL_FORMED, behind);
+    }
+    const [whole, decimal, hexadecimal, name] = found;
+    if (name !== undefined) {
+      if (!Object.hasOwn(XML_ENTITIES, name)) throw this.broken("undefined entity", event);
+      return [XML_ENTITIES[name], at + whole.length];
+    }
+    const code = decimal === undefined ? parseInt(hexadecimal, 16) : parseInt(decimal, 10);
+    const isLetter = code > 0 && code < 0x110000 && !(code >= 0xd800 && code < 0xe000) && !NO_XML.test(String.fromCodePoint(code));
+    if (!isLetter) throw this.broken("reference to invalid character number", at);
+    return [String.fromCodePoint(code), at + whole.length];
+  }
+}
