@@ -111,7 +111,7 @@ function hasColumn(header, column) {
 }
 
 // The columns of a header, by the separator that gives most.
-function columnsOf(header) {
+function columnsOfHeader(header) {
   const all = Object.keys(SEPARATORS).map((separator) => headerCells(header, separator));
   return all.reduce((most, cells) => (cells.length > most.length ? cells : most));
 }
@@ -124,23 +124,23 @@ function separatorOf(header, ref) {
     found.set(JSON.stringify(cells), { cells, one });
   }
   const fit = [...found.values()].filter(({ cells }) => cells.includes(ref)).map(({ one }) => one);
-  if (!fit.length) throw new ListError(`${LIST_NAME} has no column ${ref}: name it by --ref: ${shown(columnsOf(header))}`);
+  if (!fit.length) throw new ToolError(`${LIST_NAME} has no column ${ref}: name it by --ref: ${shownTexts(columnsOfHeader(header))}`);
   if (fit.length > 1) {
     const ways = fit.reverse().map((separator) => SEPARATORS[separator]);
-    throw new ListError(`${LIST_NAME} has a column ${ref} by ${ways.join(" and by ")}: name it otherwise, and by --ref`);
+    throw new ToolError(`${LIST_NAME} has a column ${ref} by ${ways.join(" and by ")}: name it otherwise, and by --ref`);
   }
   return fit[0];
 }
 
-// Where a column is. Throws `ListError` if there is none, or several.
+// Where a column is. Throws `ToolError` if there is none, or several.
 function placeOf(columns, column, option) {
   const count = columns.filter((one) => one === column).length;
   if (count === 1) return columns.indexOf(column);
   const how = count === 0 ? "no column" : `${count} columns`;
-  throw new ListError(`${LIST_NAME} has ${how} ${column}: name one by --${option}: ${shown(columns)}`);
+  throw new ToolError(`${LIST_NAME} has ${how} ${column}: name one by --${option}: ${shownTexts(columns)}`);
 }
 
-// The messages of a table, rows without any cell left out. Throws `ListError` if the columns aren't there or a row isn't one of the table.
+// The messages of a table, rows without any cell left out. Throws `ToolError` if the columns aren't there or a row isn't one of the table.
 function* messagesOfTable(lines, { ref, key }) {
   let blank = 0;
   let header = "";
@@ -170,13 +170,13 @@ function* messagesOfTable(lines, { ref, key }) {
       number += 1;
       if (row.slice(columns.length).some((cell) => cell)) {
         const place = `${LIST_NAME}: line ${blank + rows.line}`;
-        throw new ListError(`${place} has ${row.length} cells, and the header ${columns.length}: quote a cell that has the separator in it`);
+        throw new ToolError(`${place} has ${row.length} cells, and the header ${columns.length}: quote a cell that has the separator in it`);
       }
       const cell = (at) => row[at] ?? "";
       yield { record: number, key: keyAt === null ? null : cell(keyAt), reference: oneLine(cell(reference)), fault: null };
     }
   } catch (error) {
     if (!(error instanceof CsvError)) throw error;
-    throw new ListError(`${LIST_NAME}: line ${blank + rows.line} isn't understood: ${error.message}: look at the quotes up to there`);
+    throw new ToolError(`${LIST_NAME}: line ${blank + rows.line} isn't understood: ${error.message}: look at the quotes up to there`);
   }
 }

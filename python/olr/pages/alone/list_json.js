@@ -6,7 +6,7 @@
 //   pythonText(value)   the text that `json.dumps` with `ensure_ascii=False` gives of a value
 
 // Arrays and objects within each other that Python reads.
-const MOST_NESTED = 990;
+const MOST_NESTED = 984;
 const MOST_DIGITS = 4300;
 const HALF_LETTER = /[\ud800-\udfff]/u;
 

@@ -2,7 +2,7 @@
 // Lists of JSON: lines, sequences and documents, with members by their paths; and where a file has its references, if that wasn't said.
 //
 //   messagesOfObjects(bytes, reading), messagesOfSequence(bytes, reading), messagesOfDocuments(pieces, reading)
-//   placeOfReferences(pieces, base64)   the path of the references, or null. Throws `ListError` if there are several
+//   placeOfReferences(pieces, base64)   the path of the references, or null. Throws `ToolError` if there are several
 //
 // A path has names with dots between them, and `[]` behind the name of an array, whose elements are meant.
 
@@ -10,7 +10,7 @@ const USUAL_PLACES = new Set(["ref", "[].ref", "properties.ref", "features[].ref
 const MOST_PATHS = 10;
 const MOST_LOOKED = 16 << 20;
 // Values within each other of which Python makes a text.
-const MOST_PLAIN = 480;
+const MOST_PLAIN = 494;
 const COLLECTION = /"type"[ \t\n\r\f\v]*:[ \t\n\r\f\v]*"FeatureCollection"/;
 
 const isObject = (value) => value instanceof Map;
@@ -18,7 +18,7 @@ const isFeature = (value) => isObject(value) && value.get("type") === "Feature";
 const isNothing = (value) => value === null || value === undefined;
 
 // { elements, member }: the records, up to the last `[]`, and the member of a record, which is empty where it is a reference itself.
-function pathOf(text) {
+function memberPathOf(text) {
   const inner = text.slice(0, -2);
   const path = text.endsWith("[]") && inner.includes("[]") ? inner : text;
   const behind = path.lastIndexOf("[]") < 0 ? 0 : path.lastIndexOf("[]") + 2;
@@ -61,21 +61,21 @@ function* elementsIn(document, elements) {
 // How many arrays and objects a value has within each other.
 function nested(value) {
   let most = 0;
-  for (const waiting = [[value, 0]]; waiting.length; ) {
+  for (const waiting = [[value, 1]]; waiting.length; ) {
     const [one, depth] = waiting.pop();
+    if (!Array.isArray(one) && !isObject(one)) continue;
     most = Math.max(most, depth);
-    const inner = Array.isArray(one) ? one : isObject(one) ? one.values() : [];
-    for (const it of inner) waiting.push([it, depth + 1]);
+    for (const it of one.values()) waiting.push([it, depth + 1]);
   }
   return most;
 }
 
-// A value as a text: what is none has that of its JSON. Throws `ListError`, about `what` it is of.
+// A value as a text: what is none has that of its JSON. Throws `ToolError`, about `what` it is of.
 function textOf(value, what) {
   if (isNothing(value)) return null;
-  if (typeof value !== "string" && nested(value) > MOST_PLAIN) throw new ListError(`${what} has too many values within each other`);
+  if (typeof value !== "string" && nested(value) > MOST_PLAIN) throw new ToolError(`${what} has too many values within each other`);
   const text = typeof value === "string" ? value : pythonText(value);
-  if (HALF_LETTER.test(text)) throw new ListError(`${what} has half a character: surrogates not allowed`);
+  if (HALF_LETTER.test(text)) throw new ToolError(`${what} has half a character: surrogates not allowed`);
   return text;
 }
 
@@ -104,14 +104,14 @@ function* messagesOfElements(elements, path, reading, place) {
 
 function* objects(elements, place) {
   for (const element of elements) {
-    if (!isObject(element.value)) throw new ListError(`${place} ${element.number} is no object with members, as {"key":..,"ref":..}`);
+    if (!isObject(element.value)) throw new ToolError(`${place} ${element.number} is no object with members, as {"key":..,"ref":..}`);
     yield element;
   }
 }
 
 // Elements, if one of the first ones has a member.
 function withMember(elements, path, option, place) {
-  const refusal = (held) => new ListError(`${place} ${held[0].number} has no member ${path}: name it by --${option}`);
+  const refusal = (held) => new ToolError(`${place} ${held[0].number} has no member ${path}: name it by --${option}`);
   return withOne(elements, ({ value }) => !isNothing(memberOf(value, path)), refusal);
 }
 
@@ -122,7 +122,7 @@ function* numbered(values) {
 
 // The messages of documents that were read whole. Where a path leads to several of one, they are counted over all.
 function messagesOfWhole(documents, reading, what) {
-  const path = pathOf(reading.ref || "ref");
+  const path = memberPathOf(reading.ref || "ref");
   if (!path.elements) return messagesOfElements(documents, path, reading, `${LIST_NAME}: ${what}`);
   const values = (function* () {
     for (const { value } of documents) yield* elementsIn(value, path.elements);
@@ -135,7 +135,7 @@ function readWhole(text, refusal) {
     return pythonJson(text);
   } catch (error) {
     if (!(error instanceof JsonError)) throw error;
-    throw new ListError(`${refusal}: ${error.reason}: repair it, or give another --format`);
+    throw new ToolError(`${refusal}: ${error.reason}: repair it, or give another --format`);
   }
 }
 
@@ -168,7 +168,7 @@ function messagesOfSequence(bytes, reading) {
 }
 
 function messagesOfDocuments(pieces, reading) {
-  let path = pathOf(reading.ref || "ref");
+  let path = memberPathOf(reading.ref || "ref");
   if (!path.elements && pieces.length && isCollection(pieces.peeked)) path = { elements: "features[]", member: path.member };
   const values = numbered(new Documents(pieces).valuesAt(path.elements));
   return messagesOfElements(values, path, reading, `${LIST_NAME}: element`);
@@ -198,12 +198,12 @@ function placeOfReferences(pieces, base64) {
       if (counts.size > MOST_PATHS) break;
     }
   } catch (error) {
-    if (!(error instanceof ListError)) throw error;
+    if (!(error instanceof ToolError)) throw error;
   }
   if (counts.size < 2) return [...counts.keys()][0] ?? null;
   const most = [...counts].sort(([, one], [, other]) => other - one);
   const listed = most.map(([path, count]) => `--ref ${quotedPath(path)} (${grouped(count)})`);
-  throw new ListError(`${LIST_NAME} has references in several members: choose one: ${listed.join(", ")}`);
+  throw new ToolError(`${LIST_NAME} has references in several members: choose one: ${listed.join(", ")}`);
 }
 
 // The places of what looks like a reference, and of whatever is where one usually is.
@@ -229,5 +229,5 @@ function* placesOfReferences(pieces, base64) {
 // A path as a shell has it.
 function quotedPath(path) {
   const isPlain = /^[\w@%+=:,./-]+$/.test(path);
-  return shown([isPlain ? path : `'${path.replaceAll("'", `'"'"'`)}'`]);
+  return shownTexts([isPlain ? path : `'${path.replaceAll("'", `'"'"'`)}'`]);
 }

@@ -56,7 +56,8 @@ class Tokens {
     if (JSON_NAMES[first]) return this.word(...JSON_NAMES[first]);
     if (first === 0x22) return this.string();
     if (first === 0x2d || isDigit(first)) return this.number();
-    throw new WalkError(`lexical error: ${first === 0x2f ? "probable comment found in input text, comments are not enabled" : "invalid char in json text"}`);
+    const isComment = first === 0x2f;
+    throw new WalkError(`lexical error: ${isComment ? "probable comment found in input text, comments are not enabled" : "invalid char in json text"}`);
   }
 
   // The byte at a place: -1 where more has to be known, and a blank at the end of all.
@@ -118,7 +119,7 @@ class Tokens {
     }
     const text = lenientUtf8.decode(bytes.subarray(this.at + 1, at));
     this.at = at + 1;
-    return ["string", text.includes("\\") ? unescaped(text) : text];
+    return ["string", text.includes("\\") ? withoutEscapes(text) : text];
   }
 
   // How many bytes an escape has behind its backslash: 0 where more has to be known.
@@ -138,7 +139,7 @@ class Tokens {
 }
 
 // A string without its escapes. Of half a pair the parser makes a question mark, or takes what follows for the other half.
-function unescaped(text) {
+function withoutEscapes(text) {
   return text.replace(/\\u([dD][89abAB][0-9a-fA-F]{2})(?:\\u([0-9a-fA-F]{4}))?|\\u([0-9a-fA-F]{4})|\\(.)/gs, (_, high, low, one, plain) => {
     if (plain !== undefined) return JSON_ESCAPES.get(plain);
     if (high !== undefined) {
@@ -147,7 +148,7 @@ function unescaped(text) {
       return String.fromCodePoint((((first & 0x3f) << 10) | ((((first >> 6) & 0xf) + 1) << 16)) + (parseInt(low, 16) & 0x3ff));
     }
     const code = parseInt(one, 16);
-    if (code >= 0xdc00 && code < 0xe000) throw new ListError(`${LIST_NAME} isn't UTF-16, as its first bytes say: ${UTF_8_HINT}`);
+    if (code >= 0xdc00 && code < 0xe000) throw new ToolError(`${LIST_NAME} isn't UTF-16, as its first bytes say: ${UTF_8_HINT}`);
     return String.fromCharCode(code);
   });
 }

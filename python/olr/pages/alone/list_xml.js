@@ -19,7 +19,7 @@ function messagesOfXml(pieces, reading, said) {
     said.push(...walk.hints);
   })();
   if (reading.key === null) return found;
-  const refusal = () => new ListError(`${LIST_NAME} has no ${reading.key} around its first references: name another by --key`);
+  const refusal = () => new ToolError(`${LIST_NAME} has no ${reading.key} around its first references: name another by --key`);
   return withOne(found, ({ key }) => key !== null, refusal);
 }
 
@@ -29,7 +29,9 @@ function decodedXml(pieces, reader) {
   const { found, passedLines } = withoutBlanksBefore(pieces);
   reader.passedLines = passedLines;
   const head = String.fromCharCode(...(found[0]?.subarray(0, 1000) ?? []));
-  const declared = /^<\?xml[^>]*?\sencoding\s*=\s*["']([^"']+)["']/.exec(head)?.[1].toLowerCase() ?? "utf-8";
+  XML_DECLARATION.lastIndex = 0;
+  const [, double, single] = XML_DECLARATION.exec(head) ?? [];
+  const declared = (double ?? single ?? "utf-8").toLowerCase();
   const isUtf16 = head.startsWith("<\0") || head.startsWith("\0<");
   if (isUtf16) return decodedPieces(found, new TextDecoder(head.startsWith("<") ? "utf-16le" : "utf-16be"));
   if (declared === "utf-8" || declared.startsWith("utf-16") || declared.startsWith("utf16")) {
@@ -41,7 +43,7 @@ function decodedXml(pieces, reader) {
     return { ...decoded, text, isBroken: !broken.isCut, isCut: broken.isCut };
   }
   const table = tableOf(declared);
-  if (typeof table === "string") return { text: head, ends: [], fault: `isn't XML that is read: ${table}` };
+  if (typeof table === "string") return { text: head, ends: [], fault: `isn't XML that is read: ${shownTexts([table])}` };
   const decode = (piece) => Array.from(piece, (byte) => table[byte]).join("");
   return decodedPieces(found, { decode });
 }
@@ -83,10 +85,8 @@ function tableOf(name) {
   }
   if (!SINGLE_BYTES.test(decoder.encoding)) return "multi-byte encodings are not supported";
   const isWestern = decoder.encoding === "windows-1252";
-  return bytes.map((byte) => {
-    const letter = decoder.decode(Uint8Array.of(byte));
-    return letter === "\ufffd" || (isWestern && NO_LETTERS_OF_1252.has(byte)) ? "\0" : letter;
-  });
+  const all = decoder.decode(Uint8Array.from(bytes));
+  return bytes.map((byte) => (all[byte] === "\ufffd" || (isWestern && NO_LETTERS_OF_1252.has(byte)) ? "\0" : all[byte]));
 }
 
 class XmlReader extends XmlText {
@@ -94,7 +94,6 @@ class XmlReader extends XmlText {
     const { walk, text } = this;
     if (!text.length && !this.isBroken) return;
     try {
-      if (this.fault) throw this.fault;
       this.prolog();
       for (this.step(); this.open.length; this.step()) {
         if (walk.isQuiet()) yield* walk.taken();
@@ -102,7 +101,7 @@ class XmlReader extends XmlText {
       this.epilog();
       walk.finish();
     } catch (error) {
-      if (!(error instanceof ListError)) throw error;
+      if (!(error instanceof ToolError)) throw error;
       yield* walk.taken();
       throw error;
     }
@@ -119,8 +118,15 @@ class XmlReader extends XmlText {
     else if (text.startsWith("<!--", at)) this.comment();
     else if (text.startsWith("<![CDATA[", at)) this.cdata();
     else if (text.startsWith("<?", at)) this.instruction();
-    else if (text[at + 1] === "!") throw text.length - at < 9 && "<![CDATA[".startsWith(text.slice(at)) | "<!--".startsWith(text.slice(at)) ? this.cut() : this.broken(NOT_WELL_FORMED, at + 2);
+    else if (text[at + 1] === "!") throw this.declared();
     else this.startTag();
+  }
+
+  // The error of what begins as a declaration, or as a comment that is cut off.
+  declared() {
+    const rest = this.text.slice(this.at, this.at + 9);
+    const isBegun = this.text.length - this.at < 9 && ["<![CDATA[", "<!--"].some((whole) => whole.startsWith(rest));
+    return isBegun ? this.cut() : this.broken(NOT_WELL_FORMED, this.at + 2);
   }
 
   // Text up to the next sign, or to the end of a piece.
@@ -130,7 +136,8 @@ class XmlReader extends XmlText {
     const closing = text.slice(at, behind).indexOf("]]>");
     const end = closing < 0 ? behind : at + closing;
     while (this.at < end) {
-      const here = this.ends[this.nextEnd] > this.at ? Math.min(end, this.ends[this.nextEnd]) : end;
+      const ahead = this.ends[this.nextEnd] > this.at ? this.ends[this.nextEnd] : this.ends[this.nextEnd + 1];
+      const here = Math.min(end, ahead ?? end);
       const letters = text.slice(this.at, here);
       this.pass(here);
       this.walk.text(letters.replace(/\r\n?/g, "\n"));

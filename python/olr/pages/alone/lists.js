@@ -3,7 +3,7 @@
 //
 //   readList(bytes, { format, ref, key, base64 })   an array of { record, key, reference, fault }, one for each reference
 //
-// `bytes` are those of a file, and what isn't said is null. Of a list that is longer than MOST_ROWS one row more is there. It throws a `ListError`
+// `bytes` are those of a file, and what isn't said is null. Of a list that is longer than MOST_ROWS one row more is there. It throws a `ToolError`
 // for a list that isn't understood: its message is the text of the server.
 
 const MOST_ROWS = 10_000;
@@ -13,7 +13,14 @@ const JSON_FORMATS = ["jsonl", "jsonseq", "json"];
 const FIRST_PIECE = 4096;
 const NEXT_PIECE = 1 << 18;
 const PARSED_PIECE = 1 << 16;
-const PACKED = { gzip: [0x1f, 0x8b], bzip2: [0x42, 0x5a, 0x68], zip: [0x50, 0x4b, 3, 4], xz: [0xfd, 0x37, 0x7a, 0x58, 0x5a, 0], zstd: [0x28, 0xb5, 0x2f, 0xfd] };
+// What is packed begins with.
+const PACKED = {
+  gzip: [0x1f, 0x8b],
+  bzip2: [0x42, 0x5a, 0x68],
+  zip: [0x50, 0x4b, 3, 4],
+  xz: [0xfd, 0x37, 0x7a, 0x58, 0x5a, 0],
+  zstd: [0x28, 0xb5, 0x2f, 0xfd],
+};
 
 function readList(bytes, { format = null, ref = null, key = null, base64 = "plain" } = {}) {
   const reading = { format: format || null, ref, key, base64: base64 || "plain" };
@@ -21,13 +28,13 @@ function readList(bytes, { format = null, ref = null, key = null, base64 = "plai
   const rows = [];
   try {
     for (const message of messagesIn(bytes, reading, said)) {
-      rows.push({ ...message, reference: recordText(message.reference) });
+      rows.push({ ...message, reference: referenceText(message.reference) });
       if (rows.length > MOST_ROWS) break;
     }
   } catch (error) {
-    if (!(error instanceof ListError)) throw error;
+    if (!(error instanceof ToolError)) throw error;
     // What the server's reader had said before stands in front.
-    throw new ListError([...new Set(said), error.message].join("\n"));
+    throw new ToolError([...new Set(said), error.message].join("\n"));
   }
   return rows;
 }
@@ -48,7 +55,7 @@ function joined(pieces) {
 // The pieces in which the server reads a list, in UTF-8 and without the mark of it.
 function piecesOf(bytes) {
   for (const [name, first] of Object.entries(PACKED)) {
-    if (startsWith(bytes, first)) throw new ListError(`${LIST_NAME} is packed by ${name}: unpack it first`);
+    if (startsWith(bytes, first)) throw new ToolError(`${LIST_NAME} is packed by ${name}: unpack it first`);
   }
   const pieces = [];
   for (let at = 0; at < bytes.length; at += pieces[pieces.length - 1].length) pieces.push(bytes.subarray(at, at + (at ? NEXT_PIECE : FIRST_PIECE)));
@@ -67,7 +74,7 @@ function inUtf8(pieces, encoding) {
     found.push(encoder.encode(decoder.decode()));
   } catch {
     // What came before is read first.
-    found.fault = new ListError(`${LIST_NAME} isn't UTF-16, as its first bytes say: ${UTF_8_HINT}`);
+    found.fault = new ToolError(`${LIST_NAME} isn't UTF-16, as its first bytes say: ${UTF_8_HINT}`);
   }
   return found;
 }
@@ -101,12 +108,12 @@ function messagesIn(bytes, reading, said) {
   if (reading.format === null) refuseBinary(seen);
   const kind = formatOf(line, reading);
   if (kind === "tab" && (reading.ref !== null || reading.key !== null) && line.length) {
-    throw new ListError(`${LIST_NAME} has no names of columns or members: leave out --ref and --key`);
+    throw new ToolError(`${LIST_NAME} has no names of columns or members: leave out --ref and --key`);
   }
   const pieces = [seen, ...rest].flatMap(parsedPieces);
   pieces.peeked = seen.subarray(0, NEXT_PIECE);
-  let read = reading;
-  if (JSON_FORMATS.includes(kind) && reading.ref === null && !hasUsualMember(line)) read = { ...reading, ref: placeOfReferences(pieces, reading.base64) };
+  const isSought = JSON_FORMATS.includes(kind) && reading.ref === null && !hasUsualMember(line);
+  const read = isSought ? { ...reading, ref: placeOfReferences(pieces, reading.base64) } : reading;
   let messages = all.fault ? messagesBefore(all.fault, kind, pieces, read) : messagesOfFormat(kind, pieces, read, said);
   if (reading.base64 !== "plain") messages = withPlain(messages, reading.base64);
   return reading.format === null ? withReferences(messages, kind) : messages;
@@ -162,11 +169,11 @@ function* messagesOfLines(bytes) {
 // ---- which format it is
 function refuseBinary(head) {
   if (startsWithText(head, "PAR1")) {
-    throw new ListError(`${LIST_NAME} is Parquet: convert it, such as by duckdb -c "COPY (FROM '${LIST_NAME}') TO 'messages.csv'"`);
+    throw new ToolError(`${LIST_NAME} is Parquet: convert it, such as by duckdb -c "COPY (FROM '${LIST_NAME}') TO 'messages.csv'"`);
   }
   const isShapefile = startsWith(head, [0, 0, 0x27, 0x0a]);
   if (!isShapefile && !startsWithText(head, "SQLite format 3\0")) return;
-  throw new ListError(`${LIST_NAME} is a ${isShapefile ? "Shapefile" : "GeoPackage"}: name the file itself, unpacked`);
+  throw new ToolError(`${LIST_NAME} is a ${isShapefile ? "Shapefile" : "GeoPackage"}: name the file itself, unpacked`);
 }
 
 // The format of a list whose first line that isn't blank is this one.
@@ -204,28 +211,42 @@ function jsonIn(line) {
 
 function unclear(header, hasReturns, isNamed, { ref, base64 }) {
   if (header.includes("\ufffd") || header.includes("\0")) {
-    return new ListError(`${LIST_NAME} isn't UTF-8: convert it, such as by iconv -f ${header.includes("\0") ? "UTF-16LE" : "LATIN1"} -t UTF-8`);
+    return new ToolError(`${LIST_NAME} isn't UTF-8: convert it, such as by iconv -f ${header.includes("\0") ? "UTF-16LE" : "LATIN1"} -t UTF-8`);
   }
-  if (hasReturns) return new ListError(`${LIST_NAME} has carriage returns alone in its first line: if lines end there convert it, such as by tr '\\r' '\\n'`);
-  const columns = columnsOf(header);
+  if (hasReturns) {
+    const found = `${LIST_NAME} has carriage returns alone in its first line`;
+    return new ToolError(`${found}: if lines end there convert it, such as by tr '\\r' '\\n'`);
+  }
+  const columns = columnsOfHeader(header);
   if (columns.some((column) => looksLikeAReference(column, base64))) {
-    return new ListError(`${LIST_NAME} has no header: write one above its first line, such as key,ref`);
+    return new ToolError(`${LIST_NAME} has no header: write one above its first line, such as key,ref`);
   }
-  const wanted = `${LIST_NAME} has no column ${ref || "ref"}: name it by --ref: ${shown(columns)}`;
-  return new ListError(isNamed ? wanted : `${wanted}; or say --format tab if its first line is a record`);
+  const wanted = `${LIST_NAME} has no column ${ref || "ref"}: name it by --ref: ${shownTexts(columns)}`;
+  return new ToolError(isNamed ? wanted : `${wanted}; or say --format tab if its first line is a record`);
 }
+
+// What to do where there are no references.
+const OTHER_PLACES = {
+  tab: "if it has columns, name one",
+  csv: "name another column",
+  jsonl: "name another member",
+  jsonseq: "name another member",
+  json: "name another member",
+  xml: "name another element",
+};
 
 // Messages, if one of the first hundred looks as if it had a reference.
 function withReferences(messages, kind) {
   const refusal = (held) => {
     const records = held.length === 1 ? "record" : `${held.length} records`;
     const ofUrls = held.map(({ reference }) => reference).filter((reference) => looksLikeAReference(reference, "url"));
-    const text = quotedText(shown([ofUrls[0] ?? held[0].reference]));
+    const text = quotedText(shownTexts([ofUrls[0] ?? held[0].reference]));
     if (ofUrls.length) {
-      return new ListError(`${LIST_NAME} has base64 for URLs in its first ${records}, as ${text}: say --base64 url, or --format ${kind} if this is meant`);
+      const found = `${LIST_NAME} has base64 for URLs in its first ${records}, as ${text}`;
+      return new ToolError(`${found}: say --base64 url, or --format ${kind} if this is meant`);
     }
-    const option = JSON_FORMATS.includes(kind) ? "name another member" : kind === "tab" ? "if it has columns, name one" : kind === "xml" ? "name another element" : "name another column";
-    return new ListError(`${LIST_NAME} has no reference in its first ${records}, but ${text}: ${option} by --ref, or say --format ${kind} if this is meant`);
+    const found = `${LIST_NAME} has no reference in its first ${records}, but ${text}`;
+    return new ToolError(`${found}: ${OTHER_PLACES[kind]} by --ref, or say --format ${kind} if this is meant`);
   };
   return withOne(messages, ({ reference, fault }) => fault !== null || looksLikeAReference(reference), refusal);
 }

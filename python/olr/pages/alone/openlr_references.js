@@ -206,6 +206,6 @@ class ReferenceWalk extends Walk {
   }
 
   unknown(local) {
-    this.hint(`<${shown([local])}> in a reference isn't known, and isn't read`);
+    this.hint(`<${shownTexts([local])}> in a reference isn't known, and isn't read`);
   }
 }

@@ -12,7 +12,12 @@ const LINE_ATTRIBUTES = fieldsOf({
   FOW: "form",
   BEAR: "bearing",
 });
-const PATH_ATTRIBUTES = fieldsOf({ openlrLowestFRCToNextLRPoint: "lowest", openlrDistanceToNextLRPoint: "distance", LFRCNP: "lowest", DNP: "distance" });
+const PATH_ATTRIBUTES = fieldsOf({
+  openlrLowestFRCToNextLRPoint: "lowest",
+  openlrDistanceToNextLRPoint: "distance",
+  LFRCNP: "lowest",
+  DNP: "distance",
+});
 const COORDINATES = fieldsOf({ longitude: "longitude", latitude: "latitude", Longitude: "longitude", Latitude: "latitude" });
 const OFFSETS = fieldsOf({ openlrPositiveOffset: "positive", openlrNegativeOffset: "negative", PosOff: "positive", NegOff: "negative" });
 const LAST_POINT = new Map([
@@ -70,20 +75,22 @@ const OWN_NAMES = {
 };
 
 // The numbers of words, as DATEX II has them, and in capital letters with underscores.
-function wordsOf(...words) {
+function numbersOfWords(...words) {
   const snakes = words.map((word) => word.replace(/(?=[A-Z])/g, "_").toUpperCase());
   return new Map([words, snakes].flatMap((both) => both.map((word, number) => [word, number])));
 }
 
 const CLASS_WORDS = new Map(Array.from({ length: 8 }, (_, number) => [`FRC${number}`, number]));
-const FORM_WORDS = wordsOf("undefined", "motorway", "multipleCarriageway", "singleCarriageway", "roundabout", "trafficSquare", "slipRoad", "other");
+const FORM_WORDS = numbersOfWords(
+  ..."undefined motorway multipleCarriageway singleCarriageway roundabout trafficSquare slipRoad other".split(" "),
+);
 FORM_WORDS.set("TRAFFICSQUARE", 5).set("SLIPROAD", 6);
 const FIELD_WORDS = {
   class: CLASS_WORDS,
   lowest: CLASS_WORDS,
   form: FORM_WORDS,
-  side: wordsOf("onRoadOrUnknown", "right", "left", "both"),
-  orientation: wordsOf("noOrientationOrUnknown", "withLineDirection", "againstLineDirection", "both"),
+  side: numbersOfWords("onRoadOrUnknown", "right", "left", "both"),
+  orientation: numbersOfWords("noOrientationOrUnknown", "withLineDirection", "againstLineDirection", "both"),
 };
 
 // The number of a word of a field, which may have blanks around it: -1 for what is none.
@@ -116,12 +123,12 @@ function kindOf(name) {
 }
 
 const BINARIES_ELEMENT = "BinaryLocationReferences";
-const REFERENCE_STARTS = new Set(["XMLLocationReference", "LineLocationReference", "PointLocationReference", "AreaLocationReference", BINARIES_ELEMENT]);
+const REFERENCE_STARTS = new Set("XMLLocationReference LineLocationReference PointLocationReference AreaLocationReference".split(" ")).add(BINARIES_ELEMENT);
 const OWN_RECORD = "OpenLR";
 const OWN_KEY = "LocationID";
 const SITUATION = "situationRecord";
 const DATEX_ROOTS = new Set(["d2LogicalModel", "messageContainer", "payload", "payloadPublication"]);
-const POINT_ELEMENTS = new Set(["openlrLocationReferencePoint", "openlrLastLocationReferencePoint", "LocationReferencePoint", "LastLocationReferencePoint"]);
+const POINT_ELEMENTS = new Set([DATEX_NAMES, OWN_NAMES].flatMap(({ points, last }) => [points, last]));
 
 // Whether an element has references within it, or is a part of one.
 function beginsReference(name) {

@@ -68,7 +68,7 @@ class KnownElements extends ReferenceWalk {
   finish() {
     super.finish();
     if (!this.number && !this.isKnown) {
-      throw new ListError(`${LIST_NAME} has no element of DATEX II or OpenLR: name the element or @attribute with references by --ref`);
+      throw new ToolError(`${LIST_NAME} has no element of DATEX II or OpenLR: name the element or @attribute with references by --ref`);
     }
     if (this.without) this.hint(`${grouped(this.without)} of ${grouped(this.situations)} situation records have no OpenLR, and so no row`);
   }

@@ -68,7 +68,7 @@ class Walk {
   }
 
   error(what) {
-    return new ListError(`${LIST_NAME}: line ${this.reader.line()} ${what}`);
+    return new ToolError(`${LIST_NAME}: line ${this.reader.line()} ${what}`);
   }
 
   nextNumber() {
@@ -154,7 +154,7 @@ class NamedElements extends Walk {
   finish() {
     if (this.record !== null) return;
     const what = this.refAttribute ? "attribute" : "element";
-    throw new ListError(`${LIST_NAME} has no ${what} ${this.ref}: name another one by --ref`);
+    throw new ToolError(`${LIST_NAME} has no ${what} ${this.ref}: name another one by --ref`);
   }
 
   // The element of a reference or a key ends.
@@ -200,7 +200,7 @@ class NamedElements extends Walk {
   }
 
   requireRoom(owner) {
-    if (owner.references.length > MOST_WAITING) throw this.error(`has more than 10,000 references in one element ${shown([owner.name])}`);
+    if (owner.references.length > MOST_WAITING) throw this.error(`has more than 10,000 references in one element ${shownTexts([owner.name])}`);
   }
 
   // The name of records is known, if it wasn't: those that came before have their messages.

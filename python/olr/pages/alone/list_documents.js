@@ -22,7 +22,7 @@ class Documents {
     this.states = ["start"];
   }
 
-  // Notes the next piece. Throws `ListError` for what isn't UTF-8 and for an element that is too large.
+  // Notes the next piece. Throws `ToolError` for what isn't UTF-8 and for an element that is too large.
   read(piece) {
     this.lines += this.endsOfPiece;
     this.endsOfPiece = 0;
@@ -33,7 +33,7 @@ class Documents {
     let toBroken = 0;
     for (let at = 0; at < piece.length; at += 1) {
       this.digits = isDigit(piece[at]) ? this.digits + 1 : 0;
-      if (this.digits > MOST_DIGITS) throw new ListError(`${LIST_NAME} has a number of more than 4,300 digits`);
+      if (this.digits > MOST_DIGITS) throw new ToolError(`${LIST_NAME} has a number of more than 4,300 digits`);
       if (piece[at] !== 10) continue;
       this.endsOfPiece += 1;
       if (broken && before + at < broken.at) toBroken += 1;
@@ -42,7 +42,7 @@ class Documents {
     if (this.held === null) return;
     this.held += piece.length;
     if (this.held > MOST_ELEMENT) {
-      throw new ListError(`${LIST_NAME} has an element of more than 16 MiB: say by --ref where its records are, such as records[].ref`);
+      throw new ToolError(`${LIST_NAME} has an element of more than 16 MiB: say by --ref where its records are, such as records[].ref`);
     }
   }
 
@@ -57,7 +57,7 @@ class Documents {
         if (!(error instanceof WalkError)) throw error;
         const last = this.lines + this.endsOfPiece;
         const lines = this.lines === last ? `line ${last}` : `lines ${this.lines} to ${last}`;
-        throw new ListError(`${LIST_NAME} isn't JSON: ${error.message} in ${lines}`);
+        throw new ToolError(`${LIST_NAME} isn't JSON: ${error.message} in ${lines}`);
       }
       for (const one of found) if (one !== null) yield one;
     }
@@ -123,11 +123,11 @@ class Documents {
       if (event === "start_map" || event === "start_array") places.of("end_map", null);
       yield found;
     }
-    if (!isThere) throw new ListError(`${LIST_NAME} has no ${elements}: say by --ref where references are`);
+    if (!isThere) throw new ToolError(`${LIST_NAME} has no ${elements}: say by --ref where references are`);
   }
 }
 
-const tooDeep = () => new ListError(`${LIST_NAME} has more than ${MOST_DEPTH} arrays and objects within each other`);
+const tooDeep = () => new ToolError(`${LIST_NAME} has more than ${MOST_DEPTH} arrays and objects within each other`);
 
 // The value that begins with an event, with what follows of it.
 function wholeValue(event, value, events, depth) {

@@ -7,18 +7,28 @@ const MOST_TOKEN = 4 << 20;
 const MOST_TEXT = 1 << 20;
 const MOST_OPEN = 500;
 const MOST_NAMES = 1 << 16;
-const XML_NAME = /[:_\p{L}\p{Nl}][:_.\-\u00b7\p{L}\p{Nl}\p{Nd}\p{M}]*/uy;
+const NAME_START = ":_\\p{L}\\p{Nl}";
+const NAME_PART = `[${NAME_START}.\\-\\u00b7\\p{Nd}\\p{M}]`;
+const NAME = `[${NAME_START}]${NAME_PART}*`;
+const BLANK = "[ \\t\\r\\n]";
+const QUOTED = `(?:"[^"]*"|'[^']*')`;
+// An attribute of a declaration, whose value is like this.
+const attributeLike = (name, value) => `${name}${BLANK}*=${BLANK}*(?:"${value}"|'${value}')`;
 const XML_DECLARED = /<!(?:[A-Za-z_]+|$)/y;
-const XML_NAME_PART = /[:_.\-\u00b7\p{L}\p{Nl}\p{Nd}\p{M}]+/uy;
-const XML_BLANKS = /[ \t\r\n]*/y;
-const XML_REFERENCE = /&(?:#([0-9]+)|#x([0-9a-fA-F]+)|([:_\p{L}\p{Nl}][:_.\-\u00b7\p{L}\p{Nl}\p{Nd}\p{M}]*));/uy;
+const XML_NAME = new RegExp(NAME, "uy");
+const XML_NAME_PART = new RegExp(`${NAME_PART}+`, "uy");
+const XML_BLANKS = new RegExp(`${BLANK}*`, "y");
+const XML_REFERENCE = new RegExp(`&(?:#([0-9]+)|#x([0-9a-fA-F]+)|(${NAME}));`, "uy");
+const XML_REFERENCE_BEGUN = new RegExp(`&(?:#(?:x[0-9a-fA-F]*|[0-9]*)|${NAME_PART}*)`, "uy");
 const XML_DATA = /[^<&]*/y;
 const XML_VALUE = /[^<&"']*/y;
 const NO_XML = /[\x00-\x08\x0b\x0c\x0e-\x1f\ufffe\uffff]/;
-const XML_DECLARATION =
-  /<\?xml[ \t\r\n]+version[ \t\r\n]*=[ \t\r\n]*(?:"[\w.-]*"|'[\w.-]*')(?:[ \t\r\n]+encoding[ \t\r\n]*=[ \t\r\n]*(?:"([A-Za-z][\w.-]*)"|'([A-Za-z][\w.-]*)'))?(?:[ \t\r\n]+standalone[ \t\r\n]*=[ \t\r\n]*(?:"(?:yes|no)"|'(?:yes|no)'))?[ \t\r\n]*\?>/y;
-const DOCUMENT_NAME = /<!DOCTYPE[ \t\r\n]+[:_\p{L}\p{Nl}][:_.\-\u00b7\p{L}\p{Nl}\p{Nd}\p{M}]*(?=[ \t\r\n[>])/uy;
-const DOCUMENT_TYPE = /<!DOCTYPE[ \t\r\n]+[:_\p{L}\p{Nl}][:_.\-\u00b7\p{L}\p{Nl}\p{Nd}\p{M}]*(?:[ \t\r\n]+(?:SYSTEM|PUBLIC[ \t\r\n]+(?:"[^"]*"|'[^']*'))[ \t\r\n]+(?:"[^"]*"|'[^']*'))?[ \t\r\n]*(?=[[>])/uy;
+const [VERSION, ENCODING] = [attributeLike("version", "[\\w.-]*"), attributeLike("encoding", "([A-Za-z][\\w.-]*)")];
+const STANDALONE = attributeLike("standalone", "(?:yes|no)");
+const XML_DECLARATION = new RegExp(`<\\?xml${BLANK}+${VERSION}(?:${BLANK}+${ENCODING})?(?:${BLANK}+${STANDALONE})?${BLANK}*\\?>`, "y");
+const DOCUMENT_NAME = new RegExp(`<!DOCTYPE${BLANK}+${NAME}(?=[ \\t\\r\\n[>])`, "uy");
+const PUBLIC_OR_SYSTEM = `(?:SYSTEM|PUBLIC${BLANK}+${QUOTED})${BLANK}+${QUOTED}`;
+const DOCUMENT_TYPE = new RegExp(`<!DOCTYPE${BLANK}+${NAME}(?:${BLANK}+${PUBLIC_OR_SYSTEM})?${BLANK}*(?=[[>])`, "uy");
 const XML_ENTITIES = { lt: "<", gt: ">", amp: "&", quot: '"', apos: "'" };
 const NOT_WELL_FORMED = "not well-formed (invalid token)";
 
@@ -47,7 +57,7 @@ class XmlText {
 
   broken(reason, at = this.at) {
     this.event = at;
-    return new ListError(`${LIST_NAME}: line ${this.line()} isn't XML: ${reason}: repair it, or give another --format`);
+    return new ToolError(`${LIST_NAME}: line ${this.line()} isn't XML: ${reason}: repair it, or give another --format`);
   }
 
   // The error of a text that ends within a token, or where an element is open.
@@ -55,10 +65,10 @@ class XmlText {
     if (this.isBroken) return this.broken(NOT_WELL_FORMED, this.text.length);
     // A carriage return at the end may be half of a line end.
     this.event = this.at === this.text.length && this.text.endsWith("\r") ? this.at - 1 : this.at;
-    return new ListError(`${LIST_NAME}: line ${this.line()} is its last one, within an element: it was cut short`);
+    return new ToolError(`${LIST_NAME}: line ${this.line()} is its last one, within an element: it was cut short`);
   }
 
-  // Goes behind a token. Throws `ListError` where a limit was passed at the end of a piece within it.
+  // Goes behind a token. Throws `ToolError` where a limit was passed at the end of a piece within it.
   pass(end) {
     this.event = this.at;
     while (this.nextEnd < this.ends.length && this.ends[this.nextEnd] < end) this.requireLimits(this.ends[this.nextEnd++]);
@@ -104,6 +114,7 @@ class XmlText {
       const found = this.found(XML_DECLARATION);
       if (!found || found[0].length !== end) throw this.broken("XML declaration not well-formed");
       this.pass(end);
+      if (this.fault) throw this.walk.error(this.fault);
     }
     this.aside("syntax error");
     if (this.at >= this.text.length) throw this.cut();
@@ -134,7 +145,7 @@ class XmlText {
 
   second() {
     this.event = this.at;
-    return new ListError(`${LIST_NAME}: line ${this.line()} begins another document: give each a file of its own`);
+    return new ToolError(`${LIST_NAME}: line ${this.line()} begins another document: give each a file of its own`);
   }
 
   // Passes over blanks, comments and instructions outside of elements. Throws where something else is, but for an element or a declaration.
@@ -186,8 +197,7 @@ class XmlText {
   referenceAt(at, event) {
     const found = this.found(XML_REFERENCE, at);
     if (!found) {
-      const part = /&(?:#(?:x[0-9a-fA-F]*|[0-9]*)|[:_.\-\u00b7\p{L}\p{Nl}\p{Nd}\p{M}]*)/uy;
-      const behind = at + this.found(part, at)[0].length;
+      const behind = at + this.found(XML_REFERENCE_BEGUN, at)[0].length;
       throw behind >= this.text.length ? this.cut() : this.broken(NOT_WELL_FORMED, behind);
     }
     const [whole, decimal, hexadecimal, name] = found;
