@@ -11,10 +11,9 @@ const NAME_START = ":_\\p{L}\\p{Nl}";
 const NAME_PART = `[${NAME_START}.\\-\\u00b7\\p{Nd}\\p{M}]`;
 const NAME = `[${NAME_START}]${NAME_PART}*`;
 const BLANK = "[ \\t\\r\\n]";
-const QUOTED = `(?:"[^"]*"|'[^']*')`;
 // An attribute of a declaration, whose value is like this.
 const attributeLike = (name, value) => `${name}${BLANK}*=${BLANK}*(?:"${value}"|'${value}')`;
-const XML_DECLARED = /<!(?:[A-Za-z_]+|$)/y;
+const XML_DECLARED = /<!(?:[A-Za-z_:]+|$)/y;
 const XML_NAME = new RegExp(NAME, "uy");
 const XML_NAME_PART = new RegExp(`${NAME_PART}+`, "uy");
 const XML_BLANKS = new RegExp(`${BLANK}*`, "y");
@@ -26,9 +25,7 @@ const NO_XML = /[\x00-\x08\x0b\x0c\x0e-\x1f\ufffe\uffff]/;
 const [VERSION, ENCODING] = [attributeLike("version", "[\\w.-]*"), attributeLike("encoding", "([A-Za-z][\\w.-]*)")];
 const STANDALONE = attributeLike("standalone", "(?:yes|no)");
 const XML_DECLARATION = new RegExp(`<\\?xml${BLANK}+${VERSION}(?:${BLANK}+${ENCODING})?(?:${BLANK}+${STANDALONE})?${BLANK}*\\?>`, "y");
-const DOCUMENT_NAME = new RegExp(`<!DOCTYPE${BLANK}+${NAME}(?=[ \\t\\r\\n[>])`, "uy");
-const PUBLIC_OR_SYSTEM = `(?:SYSTEM|PUBLIC${BLANK}+${QUOTED})${BLANK}+${QUOTED}`;
-const DOCUMENT_TYPE = new RegExp(`<!DOCTYPE${BLANK}+${NAME}(?:${BLANK}+${PUBLIC_OR_SYSTEM})?${BLANK}*(?=[[>])`, "uy");
+const DOCUMENT_SIGN = new RegExp(`[,[\\](|>]|\\)(?=[ \\t\\r\\n>,|)*?+]|$)|#${NAME}(?=[ \\t\\r\\n)>%|]|$)|<[${NAME_START}!?]|%(?=[ \\t\\r\\n%]|$)`, "uy");
 const XML_ENTITIES = { lt: "<", gt: ">", amp: "&", quot: '"', apos: "'" };
 const NOT_WELL_FORMED = "not well-formed (invalid token)";
 
@@ -121,16 +118,10 @@ class XmlText {
     if (!this.text.startsWith("<!", this.at)) return;
     const opening = this.found(XML_DECLARED);
     if (opening && this.at + opening[0].length === this.text.length) throw this.cut();
-    if (!opening || !/[ \t\r\n[]/.test(this.text[this.at + opening[0].length])) {
-      if (this.text[this.at + 2] !== "[") throw this.broken(NOT_WELL_FORMED, this.at + (opening?.[0].length ?? 2));
-    }
-    if (opening?.[0] === "<!DOCTYPE") {
-      const found = this.found(DOCUMENT_TYPE);
-      if (!found && !/[[>]/.test(this.text.slice(this.at))) throw this.cut();
-      if (!found) throw this.broken(this.found(DOCUMENT_NAME) ? "syntax error" : NOT_WELL_FORMED);
-      this.event = this.at + found[0].length;
-      throw this.walk.error("has a document type, and such files aren't read: take it out");
-    }
+    const behind = this.at + (opening?.[0].length ?? 2);
+    const isToken = opening ? /^(?:[ \t\r\n]|%[^ \t\r\n%])/.test(this.text.slice(behind, behind + 2)) : this.text[behind] === "[";
+    if (!isToken) throw this.broken(NOT_WELL_FORMED, behind);
+    if (opening?.[0] === "<!DOCTYPE") this.documentType(behind);
     throw this.broken("syntax error");
   }
 
@@ -162,13 +153,49 @@ class XmlText {
     }
   }
 
-  // The error of what stands outside of elements. What has a meaning within a document type is no wrong token.
-  stray(reason) {
+  // Throws the error of a document type, behind its first word.
+  documentType(begin) {
+    this.at = begin;
+    for (let wanted = "name"; ; ) {
+      this.at = this.blanks(this.at);
+      const { kind, text, end } = this.token();
+      this.event = this.at;
+      if ((kind === "[" || kind === ">") && (wanted === "external" || wanted === "end")) {
+        throw this.walk.error("has a document type, and such files aren't read: take it out");
+      }
+      if (wanted === "name" && kind === "name") wanted = "external";
+      else if (wanted === "external" && (text === "SYSTEM" || text === "PUBLIC")) wanted = text === "PUBLIC" ? "public" : "system";
+      else if (kind === "literal" && (wanted === "public" || wanted === "system")) wanted = wanted === "public" ? "system" : "end";
+      else throw this.broken("syntax error");
+      this.at = end;
+    }
+  }
+
+  // What stands outside of elements, by what it would be within a document type: { kind, text, end }. Throws where it is nothing there.
+  token() {
     const { text, at } = this;
-    const name = this.found(XML_NAME_PART);
-    const behind = name ? at + name[0].length : at + 1;
-    const isToken = name ? /^(?:[ \t\r\n>),|[%+*?]|$)/.test(text.slice(behind, behind + 1)) : /["'%,[\]()|>#]/.test(text[at]);
-    if (!isToken) return this.broken(NOT_WELL_FORMED, name ? behind : at);
+    if (at >= text.length) throw this.cut();
+    const next = (end) => text.slice(end, end + 1);
+    const named = this.found(XML_NAME_PART);
+    if (named) {
+      const end = at + named[0].length;
+      if (end === text.length && this.isBroken) throw this.cut();
+      if (!/^(?:[ \t\r\n>),|[%+*?]|$)/.test(next(end))) throw this.broken(NOT_WELL_FORMED, end);
+      return { kind: this.found(XML_NAME) ? "name" : "other", text: named[0], end };
+    }
+    if (text[at] === '"' || text[at] === "'") {
+      const end = text.indexOf(text[at], at + 1) + 1;
+      if (!end) throw this.cut();
+      if (!/^(?:[ \t\r\n>%[]|$)/.test(next(end))) throw this.broken(NOT_WELL_FORMED, end);
+      return { kind: "literal", end };
+    }
+    if (!this.found(DOCUMENT_SIGN)) throw this.broken(NOT_WELL_FORMED);
+    return { kind: text[at], end: at + 1 };
+  }
+
+  // The error of what stands outside of elements.
+  stray(reason) {
+    this.token();
     return reason === null ? this.second() : this.broken(reason);
   }
 
