@@ -14,7 +14,7 @@ from conftest import TOP, Program
 from feeds import point_along_line
 from olr.asking.records import Answered, Record
 from olr.confidence.judged import Judged, judged
-from olr.geometry.network import Network, between, middle
+from olr.geometry.network import Network, middle
 from olr.model.answers import Matching, Page, Places
 from olr.model.objects import raw_line, read_answer
 from olr.model.pieces import Piece
@@ -27,7 +27,13 @@ from olr.serving.queries import Options, kind_of
 from olr.serving.tasks import JudgedBy
 
 COUNT = 60
-OPTIONS = [{"profile": "feed"}, {"radius": "60", "lowest": "1"}, {"most": "3", "within": "60", "apart": "200"}]
+KIOSK = "KwVGnCN20HPDBwFCATFjT5Y="
+"""A point along a line with an offset."""
+OPTIONS = [
+    {"profile": "feed"},
+    {"radius": "60", "lowest": "1"},
+    {"most": "3", "within": "60", "apart": "200"},
+]
 LOOK = 1000
 
 
@@ -48,7 +54,9 @@ class Asked(NamedTuple):
         ]
 
 
-def ask(program: Program, folder: Path, texts: Sequence[str], what: What, options: Options) -> Asked:
+def ask(
+    program: Program, folder: Path, texts: Sequence[str], what: What, options: Options
+) -> Asked:
     """Asks the program about references on a map, with the options of an address."""
     kind = kind_of(what, options, LOOK)
     asked = listing_of(kind) if what == "places" else kind
@@ -60,7 +68,9 @@ def ask(program: Program, folder: Path, texts: Sequence[str], what: What, option
     return Asked(Network.read(folder), JudgedBy(kind, None), lines, texts)
 
 
-def geometry_of(network: Network, matchings: Sequence[Matching]) -> tuple[dict[str, Any], dict[str, Any]]:
+def geometry_of(
+    network: Network, matchings: Sequence[Matching]
+) -> tuple[dict[str, Any], dict[str, Any]]:
     """The points of what matchings cover, and those halfway of points along a line, latitude first, by texts that name them."""
     paths, points = {}, {}
     for one in matchings:
@@ -129,14 +139,21 @@ def maps(tmp_path_factory: pytest.TempPathFactory) -> Callable[[str], tuple[Path
     known = (TOP / "examples/messages.tsv").read_text().splitlines()
     texts = draw_references(drawn, COUNT)
     texts += [point_along_line(text) for text in texts if len(text) == 24]
-    found = {"drawn": (drawn, texts), "example": (example, [line.split("\t")[1] for line in known])}
+    found = {
+        "drawn": (drawn, texts),
+        "example": (example, [KIOSK, *(line.split("\t")[1] for line in known)]),
+    }
     return found.__getitem__
 
 
 @pytest.mark.parametrize("options", OPTIONS)
 @pytest.mark.parametrize("name", ["drawn", "example"])
 def test_places(
-    scripts: Browser, program: Program, maps: Callable[[str], tuple[Path, list[str]]], name: str, options: Options
+    scripts: Browser,
+    program: Program,
+    maps: Callable[[str], tuple[Path, list[str]]],
+    name: str,
+    options: Options,
 ) -> None:
     folder, texts = maps(name)
     asked = ask(program, folder, texts, "places", options)
@@ -167,11 +184,17 @@ def test_places(
 
 
 @pytest.mark.parametrize("name", ["drawn", "example"])
-def test_matchings(scripts: Browser, program: Program, maps: Callable[[str], tuple[Path, list[str]]], name: str) -> None:
+def test_matchings(
+    scripts: Browser, program: Program, maps: Callable[[str], tuple[Path, list[str]]], name: str
+) -> None:
     """Lines of the program become lines of features."""
     folder, texts = maps(name)
     asked = ask(program, folder, texts, "match", {"page": "4"})
-    answers = [read_answer("match", raw.answer, None) for raw in map(raw_line, asked.lines) if raw.fault is None]
+    answers = [
+        read_answer("match", raw.answer, None)
+        for raw in map(raw_line, asked.lines)
+        if raw.fault is None
+    ]
     pages = [one for one in answers if isinstance(one, Page)]
     paths, points = geometry_of(asked.network, [it for one in pages for it in one.matchings])
     given = json.dumps([line.decode() for line in asked.lines])
@@ -191,21 +214,34 @@ def test_an_answer_that_is_too_large(scripts: Browser) -> None:
         line = f'{{"answer":{answer},"fault":null,"key":"k","record":7}}'
         one = Answered(Record(7, b"k\tx"), answer.encode(), None)
         script = "judged = () => ({ places: [], verdict: 'none', margin: null }), readReference = () => null, featureLine"
-        found = scripts.value(f"var judged, readReference; {script}({json.dumps(line)}, 'x', null, null)")
+        found = scripts.value(
+            f"var judged, readReference; {script}({json.dumps(line)}, 'x', null, null)"
+        )
         assert found == lines_of([one], network, judged_by).decode()
 
 
 def test_names_of_lines(scripts: Browser) -> None:
     """Sources and names, of which one that several lines in a row have is there once."""
-    matching = {
+    matching: dict[str, Any] = {
         **{"total": 1, "cursor": "1:1.1", "points": [], "legs": [], "route": [], "inner": None},
-        "outer": [[line, 0, 10] for line in (1, 2, 3, 4, 1)],
+        "outer": [[str(line), 0, 10] for line in (1, 2, 3, 4, 1)],
     }
     page = {"matchings": [matching], "next": None}
-    sources = [[str(line), {"source": source, "name": name}] for line, source, name in
-               [(1, "a", "High Street"), (2, "a", ""), (3, "b", "High Street"), (4, "c", None)]]
+    sources = [
+        [str(line), {"source": source, "name": name}]
+        for line, source, name in [
+            (1, "a", "High Street"),
+            (2, "a", ""),
+            (3, "b", "High Street"),
+            (4, "c", None),
+        ]
+    ]
     given = f"featuresOfPage({{ page: {json.dumps(page)} }}, {{ path: () => [] }}, new Map({json.dumps(sources)}))"
     (found,) = scripts.value(given)
     names = found["properties"]
-    assert (names["sources"], names["names"], names["lines"]) == ("a;b;c;a", "High Street", "1;2;3;4;1")
+    assert (names["sources"], names["names"], names["lines"]) == (
+        "a;b;c;a",
+        "High Street",
+        "1;2;3;4;1",
+    )
     assert found["geometry"] is None and list(names)[0] == "likely"

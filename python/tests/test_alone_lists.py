@@ -9,7 +9,6 @@ import re
 from collections import Counter
 from collections.abc import Callable, Iterator
 from itertools import islice
-from pathlib import Path
 from typing import Any
 
 from alone_scripts import FOLDER, LISTS, load
@@ -77,6 +76,9 @@ def examples() -> Iterator[bytes]:
     texts += ["a,b,c\n1,2,3\n", "ref,ref\n", f"ref;a,ref\n{ONE}", f"{ONE},{TWO}\n", "a\rb"]
     texts += ["<a/>", "<a>", "<a><b></a>", "<!DOCTYPE a><a/>", '<a b="1" b="2"/>', "<a>&x;</a>"]
     yield from (text.encode() for text in texts)
+    keys = "<q><LocationID>2</LocationID></q>"
+    records = [f"<r>{keys * count}<openlrBinary>{ONE}</openlrBinary></r>" for count in (1, 2, 0)]
+    yield f"<d>{''.join(records)}</d>".encode()
     yield b"\xff\xfe\x00\xd8"
 
 
@@ -93,7 +95,7 @@ def readings() -> Iterator[Reading]:
                 yield Reading(None, ref, key)
 
 
-SIGNS = '" < > & / { } [ ] , : 0 1 - . e A \' \\ ; | = # x ! -- <!-- --> <![CDATA[ ]]> <? ?> &lt; &#65; &#0; &x;'
+SIGNS = "\" < > & / { } [ ] , : 0 1 - . e A ' \\ ; | = # x ! -- <!-- --> <![CDATA[ ]]> <? ?> &lt; &#65; &#0; &x;"
 MARKS = [sign.encode() for sign in SIGNS.split()]
 MARKS += [b"\n", b"\r", b"\t", b" ", b"\0", b"\xff", b"\xc3", b"\xe2\x82\xac", b"\x1e", b"null"]
 MARKS += [b"true", b"\\u00e9", b"\\ud83d", b"encoding='latin1'", b"openlr", b"FRC3", b"ref", b"key"]
@@ -165,6 +167,8 @@ def many() -> Iterator[Case]:
         yield b"[" * depth + b"]" * depth, Reading("json")
     for format in ("json", "jsonl"):
         yield b'{"ref":1%s}' % (b"0" * 5000), Reading(format)  # type: ignore[arg-type]
+    for depth in (500, 501):
+        yield b"<a>" * depth + b" " * 70_000, Reading("xml")
     yield b"<a>" * 40_000, Reading("xml")
     yield b"<a><!--%s--></a>" % (b"x\n" * 2_500_000), Reading("xml")
     yield b"<a><ref>%s</ref></a>" % (b"x\n" * 700_000), Reading(ref="ref")
@@ -177,7 +181,9 @@ def many() -> Iterator[Case]:
     yield b"<d><q>%s</q></d>" % rows_of_x, Reading(ref="x", key="k")
     for encoding in DECLARED:
         for id in ("a", "\xe4\x81\xa4"):
-            text = f'<?xml version="1.0" encoding="{encoding}"?>\n<f><r id="{id}"><x>{ONE}</x></r></f>'
+            text = (
+                f'<?xml version="1.0" encoding="{encoding}"?>\n<f><r id="{id}"><x>{ONE}</x></r></f>'
+            )
             yield text.encode("latin1"), Reading(ref="x")
 
 
@@ -224,7 +230,9 @@ def given(case: Case) -> list[str | None]:
     return [base64.b64encode(data).decode(), format, ref, key, base]
 
 
-def compare(scripts: Browser, cases: list[Case], capsys: pytest.CaptureFixture[str]) -> Counter[str]:
+def compare(
+    scripts: Browser, cases: list[Case], capsys: pytest.CaptureFixture[str]
+) -> Counter[str]:
     """Reads lists by the scripts and by Python, and counts what became of them."""
     counts: Counter[str] = Counter()
     for begin in range(0, len(cases), CASES_AT_ONCE):

@@ -25,7 +25,10 @@ const NO_XML = /[\x00-\x08\x0b\x0c\x0e-\x1f\ufffe\uffff]/;
 const [VERSION, ENCODING] = [attributeLike("version", "[\\w.-]*"), attributeLike("encoding", "([A-Za-z][\\w.-]*)")];
 const STANDALONE = attributeLike("standalone", "(?:yes|no)");
 const XML_DECLARATION = new RegExp(`<\\?xml${BLANK}+${VERSION}(?:${BLANK}+${ENCODING})?(?:${BLANK}+${STANDALONE})?${BLANK}*\\?>`, "y");
-const DOCUMENT_SIGN = new RegExp(`[,[\\](|>]|\\)(?=[ \\t\\r\\n>,|)*?+]|$)|#${NAME}(?=[ \\t\\r\\n)>%|]|$)|<[${NAME_START}!?]|%(?=[ \\t\\r\\n%]|$)`, "uy");
+// Signs that mean something within a document type.
+const CLOSING_SIGN = "\\)(?=[ \\t\\r\\n>,|)*?+]|$)";
+const SIGN_OF_NAME = `#${NAME}(?=[ \\t\\r\\n)>%|]|$)|<[${NAME_START}!?]`;
+const DOCUMENT_SIGN = new RegExp(`[,[\\](|>]|${CLOSING_SIGN}|${SIGN_OF_NAME}|%(?=[ \\t\\r\\n%]|$)`, "uy");
 const XML_ENTITIES = { lt: "<", gt: ">", amp: "&", quot: '"', apos: "'" };
 const NOT_WELL_FORMED = "not well-formed (invalid token)";
 
@@ -211,12 +214,14 @@ class XmlText {
     if (!name && this.at + 2 >= this.text.length) throw this.cut();
     if (!name) throw this.broken(NOT_WELL_FORMED, this.at + 2);
     const behind = this.at + 2 + name[0].length;
-    if (name[0].toLowerCase() === "xml") {
-      if (name[0] !== "xml") throw this.broken(NOT_WELL_FORMED, behind);
+    if (behind >= this.text.length) throw this.cut();
+    if (!/[ \t\r\n?]/.test(this.text[behind])) throw this.broken(NOT_WELL_FORMED, behind);
+    if (name[0].toLowerCase() === "xml" && name[0] !== "xml") throw this.broken(NOT_WELL_FORMED, behind);
+    if (this.text[behind] === "?" && (this.text[behind + 1] ?? ">") !== ">") throw this.broken(NOT_WELL_FORMED, behind + 1);
+    if (name[0] === "xml") {
       this.upTo("?>", behind);
       throw this.second();
     }
-    if (!/[ \t\r\n]/.test(this.text[behind] ?? " ") && !this.text.startsWith("?>", behind)) throw this.broken(NOT_WELL_FORMED, behind);
     this.pass(this.upTo("?>", behind));
   }
 

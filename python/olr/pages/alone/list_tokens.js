@@ -57,7 +57,8 @@ class Tokens {
     if (first === 0x22) return this.string();
     if (first === 0x2d || isDigit(first)) return this.number();
     const isComment = first === 0x2f;
-    throw new WalkError(`lexical error: ${isComment ? "probable comment found in input text, comments are not enabled" : "invalid char in json text"}`);
+    const why = isComment ? "probable comment found in input text, comments are not enabled" : "invalid char in json text";
+    throw new WalkError(`lexical error: ${why}`);
   }
 
   // The byte at a place: -1 where more has to be known, and a blank at the end of all.

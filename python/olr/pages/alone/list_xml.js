@@ -32,8 +32,8 @@ function decodedXml(pieces, reader) {
   XML_DECLARATION.lastIndex = 0;
   const [, double, single] = XML_DECLARATION.exec(head) ?? [];
   const declared = (double ?? single ?? "utf-8").toLowerCase();
-  const isUtf16 = head.startsWith("<\0") || head.startsWith("\0<");
-  if (isUtf16) return decodedPieces(found, new TextDecoder(head.startsWith("<") ? "utf-16le" : "utf-16be"));
+  const zero = head.slice(0, 2).indexOf("\0");
+  if (zero >= 0 && head.length > 1) return decodedPieces(found, new TextDecoder(zero === 0 ? "utf-16be" : "utf-16le"));
   if (declared === "utf-8" || declared.startsWith("utf-16") || declared.startsWith("utf16")) {
     const broken = firstNotUtf8(joined(found));
     const decoded = decodedPieces(found, new TextDecoder("utf-8", { ignoreBOM: true }));

@@ -138,6 +138,7 @@ function messagesOfFormat(kind, pieces, reading, said) {
 function* messagesBefore(fault, kind, pieces, reading) {
   if (kind === "jsonseq") throw fault;
   const whole = joined(pieces);
+  if (kind === "xml" && whole.length < 1000 && !whole.includes(0x3e)) throw fault;
   const isOfLines = kind !== "json" && kind !== "xml";
   try {
     yield* messagesOfFormat(kind, isOfLines ? [whole.subarray(0, whole.lastIndexOf(10) + 1)] : pieces, reading, []);

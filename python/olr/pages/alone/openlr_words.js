@@ -123,7 +123,10 @@ function kindOf(name) {
 }
 
 const BINARIES_ELEMENT = "BinaryLocationReferences";
-const REFERENCE_STARTS = new Set("XMLLocationReference LineLocationReference PointLocationReference AreaLocationReference".split(" ")).add(BINARIES_ELEMENT);
+const REFERENCE_STARTS = new Set([
+  ...["XMLLocationReference", "LineLocationReference", "PointLocationReference", "AreaLocationReference"],
+  BINARIES_ELEMENT,
+]);
 const OWN_RECORD = "OpenLR";
 const OWN_KEY = "LocationID";
 const SITUATION = "situationRecord";
