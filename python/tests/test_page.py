@@ -172,3 +172,23 @@ def test_what_the_command_refuses(
     monkeypatch.setattr(module, "PLACES", (tmp_path / "olr.wasm",))
     with pytest.raises(ToolError, match="there is no olr.wasm"):
         module.find_module()
+
+
+def test_a_list_is_read_answered_and_saved(opened: Browser) -> None:
+    text = (TOP / "examples/messages.tsv").read_text()
+    opened.value(f"document.getElementById('list-text').value = {json.dumps(text)}, null")
+    opened.click("#list-button")
+    opened.click("#list-form button.main")
+    opened.value(LISTED)
+    rows = opened.value("document.querySelector('#rows').innerText")
+    assert "unique" in rows and "refused" in rows and "BadLength" in rows
+    body = "".join(f"{at}\t{ref}\n" for at, ref in enumerate(references()[:2]))
+    headers = {"Accept": "application/geo+json-seq"}
+    query = "batch/places?profile=feed&most=1"
+    status, lines = asked(opened, query, method="POST", body=body, headers=headers)
+    features = [json.loads(line.removeprefix("\x1e")) for line in lines.splitlines()]
+    assert status == 200 and [one["properties"]["verdict"] for one in features] == ["unique"] * 2
+    assert (opened.errors, opened.loaded) == ([], [])
+
+
+LISTED = "new Promise(done => { const wait = () => document.getElementById('list').dataset.state === 'done' ? done(1) : setTimeout(wait, 20); wait(); })"

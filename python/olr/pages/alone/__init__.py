@@ -17,4 +17,6 @@ scripts without a document, one behind the other. Names follow those of Python.
 | `likely.js`, `judging.js`, `rows.js` | `olr.likely`, `olr.confidence`, and rows of a list |
 | `scene.js`, `sentences.js`, `surroundings.js` | `olr.pages.view` |
 | `near_paths.js`, `searching.js`, `streets.js` | `olr.near_paths` |
+| `lists.js`, `list_*.js`, `openlr_*.js` | `olr.messages`: lists of references in all formats |
+| `features.js` | `olr.matching`: GeoJSON with the columns of tables |
 """

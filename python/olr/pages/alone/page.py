@@ -41,6 +41,22 @@ SHARED = (
     "searching.js",
     "near_paths.js",
     "scene.js",
+    "list_kept.js",
+    "list_texts.js",
+    "list_csv.js",
+    "list_tokens.js",
+    "list_json.js",
+    "list_members.js",
+    "list_markup.js",
+    "list_elements.js",
+    "list_documents.js",
+    "list_xml.js",
+    "openlr_words.js",
+    "openlr_writing.js",
+    "openlr_references.js",
+    "openlr_xml.js",
+    "lists.js",
+    "features.js",
 )
 """Scripts that make of the program's answers what the server makes of them, in an order in which they can be read."""
 WORKER = (*SHARED, "olr.js", "program.js", "worker.js")
