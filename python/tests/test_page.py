@@ -186,7 +186,7 @@ def test_a_list_is_read_answered_and_saved(opened: Browser) -> None:
     headers = {"Accept": "application/geo+json-seq"}
     query = "batch/places?profile=feed&most=1"
     status, lines = asked(opened, query, method="POST", body=body, headers=headers)
-    features = [json.loads(line.removeprefix("\x1e")) for line in lines.splitlines()]
+    features = [json.loads(line.removeprefix("\x1e")) for line in lines.split("\n") if line]
     assert status == 200 and [one["properties"]["verdict"] for one in features] == ["unique"] * 2
     assert (opened.errors, opened.loaded) == ([], [])
 
