@@ -9,7 +9,7 @@ from browser import Browser
 FOLDER = Path(olr.__file__).with_name("pages") / "alone"
 LISTS = (
     *("list_texts", "list_csv", "list_json", "list_tokens", "list_documents", "list_members"),
-    *("list_markup", "list_xml", "list_elements", "list_kept", "lists"),
+    *("list_markup", "list_xml", "list_elements", "list_kept", "list_packed", "lists"),
     *("openlr_words", "openlr_writing", "openlr_references", "openlr_xml"),
 )
 """Those that read lists."""

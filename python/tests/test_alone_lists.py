@@ -1,11 +1,13 @@
 """Lists on the page that answers by itself: what its scripts read is what `POST /messages` answers."""
 
 import base64
+import gzip
 import io
 import json
 import pytest
 import random
 import re
+import zipfile
 from collections import Counter
 from collections.abc import Callable, Iterator
 from itertools import islice
@@ -16,10 +18,11 @@ from browser import Browser
 from conftest import TOP
 from olr.errors import ToolError
 from olr.messages import markup
-from olr.messages.message import Format, Reading
+from olr.messages.message import BASE64, Format, Reading
 from olr.messages.reading import messages_in
 from olr.serving.listing import MOST_ROWS, NAME, line_of
-from olr.serving.lists import FORMATS_OF_LISTS
+from olr.serving.limits import Limits
+from olr.serving.lists import FORMATS_OF_LISTS, most_bytes
 from test_messages_json import FEATURES, PLACED, SHAPES, lines
 from xml_records import feed
 
@@ -79,6 +82,7 @@ def examples() -> Iterator[bytes]:
     keys = "<q><LocationID>2</LocationID></q>"
     records = [f"<r>{keys * count}<openlrBinary>{ONE}</openlrBinary></r>" for count in (1, 2, 0)]
     yield f"<d>{''.join(records)}</d>".encode()
+    yield b"<a/>\n\xc3"
     yield b"\xff\xfe\x00\xd8"
 
 
@@ -219,6 +223,13 @@ def scripts(browser: Browser) -> Browser:
           } catch (error) {
             return error instanceof ToolError ? error.message : String(error.stack);
           }
+        }
+        async function triedPacked([data]) {
+          try {
+            return readList(await unpackedList(Uint8Array.from(atob(data), (letter) => letter.charCodeAt(0))));
+          } catch (error) {
+            return error instanceof ToolError ? error.message : String(error.stack);
+          }
         } null"""
     )
     return browser
@@ -278,8 +289,84 @@ def test_values_within_each_other(scripts: Browser) -> None:
     assert "maximum recursion depth exceeded" in found('"q"', "[" * 984 + "]" * 984)
 
 
+def zipped(
+    files: dict[str, str], method: int = zipfile.ZIP_DEFLATED, comment: bytes = b""
+) -> bytes:
+    """A zip of files."""
+    made = io.BytesIO()
+    with zipfile.ZipFile(made, "w", method) as archive:
+        archive.comment = comment
+        for name, text in files.items():
+            archive.writestr(name, text)
+    return made.getvalue()
+
+
+LIST = f"key,ref\nm1,{ONE}\n"
+ENDED = zipped({"a.csv": LIST})[:-30]
+
+
+@pytest.mark.parametrize(
+    "data",
+    [
+        gzip.compress(LIST.encode()),
+        gzip.compress(LIST.encode("utf-16")),
+        gzip.compress(gzip.compress(LIST.encode())),
+        zipped({"a.csv": LIST}),
+        zipped({"a.csv": LIST}, zipfile.ZIP_STORED, b"a comment"),
+        zipped({"a.csv": LIST, "folder/": "", "__MACOSX/a.csv": "x"}),
+        zipped({"a.csv": LIST, "b.csv": LIST}),
+        zipped({"xl/workbook.xml": ""}),
+        zipped({"a.csv": LIST}, zipfile.ZIP_BZIP2),
+        LIST.encode(),
+    ],
+)
+def test_packed_lists(scripts: Browser, capsys: pytest.CaptureFixture[str], data: bytes) -> None:
+    case = data, Reading()
+    found = scripts.value(f"triedPacked({json.dumps(given(case))})")
+    assert found == expected(case, lambda: capsys.readouterr().err)
+
+
+@pytest.mark.parametrize(
+    "data", [gzip.compress(LIST.encode())[:-9], ENDED, b"PK\3\4", b"PK\3\4" + b"x" * 100]
+)
+def test_damaged_packed_lists(scripts: Browser, data: bytes) -> None:
+    """A browser says in its own words what is wrong."""
+    found = scripts.value(f"triedPacked({json.dumps(given((data, Reading())))})")
+    assert re.fullmatch("the list can't be unpacked: .*: copy the file again", found)
+
+
+def test_refusals(scripts: Browser) -> None:
+    """What the server refuses with these words, too."""
+
+    def said(call: str) -> Any:
+        return scripts.value(
+            f"(() => {{ try {{ {call}; }} catch (error) {{ return error.message; }} }})()"
+        )
+
+    assert (
+        said("readList(new Uint8Array(0), { format: 'xlsx' })")
+        == f"format is one of {', '.join(FORMATS_OF_LISTS)}"
+    )
+    assert (
+        said("readList(new Uint8Array(0), { base64: 'x' })")
+        == f"base64 is one of {', '.join(BASE64)}"
+    )
+    most = most_bytes(Limits())
+    assert said(f"requireListSize({most})") is None
+    assert (
+        said(f"requireListSize({most + 1})")
+        == f"a list has {most:,} bytes at most here: olr-tools match reads any file"
+    )
+
+
+def test_what_becomes_too_much(scripts: Browser) -> None:
+    data = gzip.compress(bytes(130 << 20), 1)
+    found = scripts.value(f"triedPacked({json.dumps(given((data, Reading())))})")
+    assert found.startswith("the list becomes more than 128 MiB: ")
+
+
 @pytest.mark.parametrize("first", ["1f8b08", "425a68", "504b0304", "fd377a585a00", "28b52ffd"])
-def test_packed_lists_are_refused(scripts: Browser, first: str) -> None:
+def test_other_packed_lists_are_refused(scripts: Browser, first: str) -> None:
     found = scripts.value(f"tried({json.dumps(given((bytes.fromhex(first), Reading())))})")
     assert re.fullmatch("the list is packed by [a-z0-9]+: unpack it first", found)
 

@@ -7,27 +7,28 @@ const MOST_TOKEN = 4 << 20;
 const MOST_TEXT = 1 << 20;
 const MOST_OPEN = 500;
 const MOST_NAMES = 1 << 16;
-const NAME_START = ":_\\p{L}\\p{Nl}";
-const NAME_PART = `[${NAME_START}.\\-\\u00b7\\p{Nd}\\p{M}]`;
-const NAME = `[${NAME_START}]${NAME_PART}*`;
-const BLANK = "[ \\t\\r\\n]";
+const MARKUP_NAME_START = ":_\\p{L}\\p{Nl}";
+const MARKUP_NAME_PART = `[${MARKUP_NAME_START}.\\-\\u00b7\\p{Nd}\\p{M}]`;
+const MARKUP_NAME = `[${MARKUP_NAME_START}]${MARKUP_NAME_PART}*`;
+const MARKUP_BLANK = "[ \\t\\r\\n]";
 // An attribute of a declaration, whose value is like this.
-const attributeLike = (name, value) => `${name}${BLANK}*=${BLANK}*(?:"${value}"|'${value}')`;
+const attributeLike = (name, value) => `${name}${MARKUP_BLANK}*=${MARKUP_BLANK}*(?:"${value}"|'${value}')`;
 const XML_DECLARED = /<!(?:[A-Za-z_:]+|$)/y;
-const XML_NAME = new RegExp(NAME, "uy");
-const XML_NAME_PART = new RegExp(`${NAME_PART}+`, "uy");
-const XML_BLANKS = new RegExp(`${BLANK}*`, "y");
-const XML_REFERENCE = new RegExp(`&(?:#([0-9]+)|#x([0-9a-fA-F]+)|(${NAME}));`, "uy");
-const XML_REFERENCE_BEGUN = new RegExp(`&(?:#(?:x[0-9a-fA-F]*|[0-9]*)|${NAME_PART}*)`, "uy");
+const XML_NAME = new RegExp(MARKUP_NAME, "uy");
+const XML_NAME_PART = new RegExp(`${MARKUP_NAME_PART}+`, "uy");
+const XML_BLANKS = new RegExp(`${MARKUP_BLANK}*`, "y");
+const XML_REFERENCE = new RegExp(`&(?:#([0-9]+)|#x([0-9a-fA-F]+)|(${MARKUP_NAME}));`, "uy");
+const XML_REFERENCE_BEGUN = new RegExp(`&(?:#(?:x[0-9a-fA-F]*|[0-9]*)|${MARKUP_NAME_PART}*)`, "uy");
 const XML_DATA = /[^<&]*/y;
 const XML_VALUE = /[^<&"']*/y;
 const NO_XML = /[\x00-\x08\x0b\x0c\x0e-\x1f\ufffe\uffff]/;
-const [VERSION, ENCODING] = [attributeLike("version", "[\\w.-]*"), attributeLike("encoding", "([A-Za-z][\\w.-]*)")];
-const STANDALONE = attributeLike("standalone", "(?:yes|no)");
-const XML_DECLARATION = new RegExp(`<\\?xml${BLANK}+${VERSION}(?:${BLANK}+${ENCODING})?(?:${BLANK}+${STANDALONE})?${BLANK}*\\?>`, "y");
+const [VERSION_PART, ENCODING_PART] = [attributeLike("version", "[\\w.-]*"), attributeLike("encoding", "([A-Za-z][\\w.-]*)")];
+const STANDALONE_PART = attributeLike("standalone", "(?:yes|no)");
+const OTHER_PARTS = `(?:${MARKUP_BLANK}+${ENCODING_PART})?(?:${MARKUP_BLANK}+${STANDALONE_PART})?${MARKUP_BLANK}*`;
+const XML_DECLARATION = new RegExp(`<\\?xml${MARKUP_BLANK}+${VERSION_PART}${OTHER_PARTS}\\?>`, "y");
 // Signs that mean something within a document type.
 const CLOSING_SIGN = "\\)(?=[ \\t\\r\\n>,|)*?+]|$)";
-const SIGN_OF_NAME = `#${NAME}(?=[ \\t\\r\\n)>%|]|$)|<[${NAME_START}!?]`;
+const SIGN_OF_NAME = `#${MARKUP_NAME}(?=[ \\t\\r\\n)>%|]|$)|<[${MARKUP_NAME_START}!?]`;
 const DOCUMENT_SIGN = new RegExp(`[,[\\](|>]|${CLOSING_SIGN}|${SIGN_OF_NAME}|%(?=[ \\t\\r\\n%]|$)`, "uy");
 const XML_ENTITIES = { lt: "<", gt: ">", amp: "&", quot: '"', apos: "'" };
 const NOT_WELL_FORMED = "not well-formed (invalid token)";
@@ -131,7 +132,7 @@ class XmlText {
   epilog() {
     this.aside(null);
     if (this.at >= this.text.length) {
-      if (this.isBroken) throw this.cut();
+      if (this.isBroken || this.isCut) throw this.cut();
       return;
     }
     throw this.second();
@@ -151,6 +152,7 @@ class XmlText {
       if (text.startsWith("<!--", at)) this.comment();
       else if (text.startsWith("<?", at)) this.instruction();
       else if (text[at] !== "<") throw this.stray(reason);
+      else if (reason === null && at + 1 >= text.length) throw this.cut();
       else if (reason === null || /[:_!\p{L}\p{Nl}]/u.test(text[at + 1] ?? "!")) return;
       else throw this.broken(NOT_WELL_FORMED);
     }

@@ -31,7 +31,8 @@ function decodedXml(pieces, reader) {
   const head = String.fromCharCode(...(found[0]?.subarray(0, 1000) ?? []));
   XML_DECLARATION.lastIndex = 0;
   const [, double, single] = XML_DECLARATION.exec(head) ?? [];
-  const declared = (double ?? single ?? "utf-8").toLowerCase();
+  const name = double ?? single ?? "utf-8";
+  const declared = name.toLowerCase();
   const zero = head.slice(0, 2).indexOf("\0");
   if (zero >= 0 && head.length > 1) return decodedPieces(found, new TextDecoder(zero === 0 ? "utf-16be" : "utf-16le"));
   if (declared === "utf-8" || declared.startsWith("utf-16") || declared.startsWith("utf16")) {
@@ -43,7 +44,8 @@ function decodedXml(pieces, reader) {
     return { ...decoded, text, isBroken: !broken.isCut, isCut: broken.isCut };
   }
   const table = tableOf(declared);
-  if (typeof table === "string") return { text: head, ends: [], fault: `isn't XML that is read: ${shownTexts([table])}` };
+  if (table === null) return { text: head, ends: [], fault: `isn't XML that is read: ${shownTexts([`unknown encoding: ${name}`])}` };
+  if (typeof table === "string") return { text: head, ends: [], fault: `isn't XML that is read: ${table}` };
   const decode = (piece) => Array.from(piece, (byte) => table[byte]).join("");
   return decodedPieces(found, { decode });
 }
@@ -70,7 +72,7 @@ function decodedPieces(pieces, decoder) {
   return { text: texts.join(""), ends };
 }
 
-// The letters of the bytes of an encoding, with a zero, which XML hasn't, for what is none; or why it isn't read.
+// The letters of the bytes of an encoding, with a zero, which XML hasn't, for what is none; or why it isn't read; null where it isn't known.
 function tableOf(name) {
   const isAscii = name === "us-ascii" || name === "ascii";
   const isLatin = /^(iso[-_]?8859[-_]1|latin[-_]?1|l1)$/.test(name);
@@ -81,7 +83,7 @@ function tableOf(name) {
   try {
     decoder = new TextDecoder(name.replace(/^cp(125\d)$/, "windows-$1"));
   } catch {
-    return `unknown encoding: ${name}`;
+    return null;
   }
   if (!SINGLE_BYTES.test(decoder.encoding)) return "multi-byte encodings are not supported";
   const isWestern = decoder.encoding === "windows-1252";

@@ -2,11 +2,13 @@
 // Lists of references, read as `POST /messages` of `olr-tools serve` reads them: the format is known by the first bytes.
 //
 //   readList(bytes, { format, ref, key, base64 })   an array of { record, key, reference, fault }, one for each reference
+//   requireListSize(size)                           throws a `ToolError` for a list of more bytes than a page takes
 //
 // `bytes` are those of a file, and what isn't said is null. Of a list that is longer than MOST_ROWS one row more is there. It throws a `ToolError`
 // for a list that isn't understood: its message is the text of the server.
 
 const MOST_ROWS = 10_000;
+const MOST_LIST_BYTES = 16 << 20;
 const LIST_FORMATS = ["tab", "csv", "jsonl", "jsonseq", "json", "xml"];
 const JSON_FORMATS = ["jsonl", "jsonseq", "json"];
 // How the server reads: so much at first, then so much, and a parser so much of that at once.
@@ -24,6 +26,8 @@ const PACKED = {
 
 function readList(bytes, { format = null, ref = null, key = null, base64 = "plain" } = {}) {
   const reading = { format: format || null, ref, key, base64: base64 || "plain" };
+  if (reading.format !== null && !LIST_FORMATS.includes(format)) throw new ToolError(`format is one of ${LIST_FORMATS.join(", ")}`);
+  if (!["plain", "url"].includes(reading.base64)) throw new ToolError("base64 is one of plain, url");
   const said = [];
   const rows = [];
   try {
@@ -37,6 +41,10 @@ function readList(bytes, { format = null, ref = null, key = null, base64 = "plai
     throw new ToolError([...new Set(said), error.message].join("\n"));
   }
   return rows;
+}
+
+function requireListSize(size) {
+  if (size > MOST_LIST_BYTES) throw new ToolError(`a list has ${grouped(MOST_LIST_BYTES)} bytes at most here: olr-tools match reads any file`);
 }
 
 const startsWith = (bytes, first) => first.every((byte, at) => bytes[at] === byte);
