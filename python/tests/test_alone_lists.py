@@ -134,7 +134,7 @@ def drawn(seed: int, count: int) -> Iterator[Case]:
     draws = random.Random(seed)
     known = [data for data in examples() if not data.startswith(b"\xff\xfe")]
     pairs = [(data, reading) for data in known for reading in readings()]
-    read = list(filter(is_read, draws.sample(pairs, len(pairs) // 4)))
+    read = list(filter(is_read, draws.sample(pairs, len(pairs) // 6)))
     formats: list[Format | None] = [None, None, None, *FORMATS_OF_LISTS]
     refs = [None, None, None, "ref", "olr", "openlrBinary", "@id", "results[].location.olr"]
     keys = [None, None, None, "key", "id", "@id", "LocationID", "longitude"]
@@ -259,11 +259,11 @@ def compare(
 def test_examples(scripts: Browser, capsys: pytest.CaptureFixture[str]) -> None:
     cases = [(data, reading) for data in examples() for reading in readings()]
     counts = compare(scripts, cases, capsys)
-    assert min(counts["read"], counts["refused"]) > 150, counts
+    assert min(counts["read"], counts["refused"]) > 100, counts
 
 
 def test_damaged_lists(scripts: Browser, capsys: pytest.CaptureFixture[str]) -> None:
-    counts = compare(scripts, list(drawn(1, 800)), capsys)
+    counts = compare(scripts, list(drawn(1, 500)), capsys)
     assert min(counts["read"], counts["refused"]) > 100, counts
 
 
