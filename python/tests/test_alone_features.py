@@ -7,7 +7,7 @@ from pathlib import Path
 from typing import Any, NamedTuple
 
 import numpy as np
-from alone_scripts import load
+from alone import Scripts
 from asking import draw_map, draw_references
 from browser import Browser
 from conftest import TOP, Program
@@ -118,8 +118,7 @@ def as_script_has_it(one: Judged | None, answer: bytes) -> Any:
 @pytest.fixture(scope="module")
 def scripts(browser: Browser) -> Browser:
     """The browser with the scripts that make features, on a map that knows the geometries that it was given."""
-    names = ["features", "list_json", "network", "formats", "numbers", "pieces", "exact_json"]
-    load(browser, names)
+    Scripts(browser)
     browser.value(
         """function mapOf(paths, points) {
           const nameOf = ({ line, from, to }) => `${line} ${from} ${to}`;

@@ -13,7 +13,7 @@ from collections.abc import Callable, Iterator
 from itertools import islice
 from typing import Any
 
-from alone_scripts import FOLDER, LISTS, load
+from alone import Scripts
 from browser import Browser
 from conftest import TOP
 from olr.errors import ToolError
@@ -214,7 +214,7 @@ def hostile() -> Iterator[Case]:
 @pytest.fixture(scope="module")
 def scripts(browser: Browser) -> Browser:
     """The browser with the scripts that read lists."""
-    load(browser, [*LISTS, "network", "formats"])
+    Scripts(browser)
     browser.value(
         """function tried([data, format, ref, key, base64]) {
           const bytes = Uint8Array.from(atob(data), (letter) => letter.charCodeAt(0));
@@ -369,12 +369,3 @@ def test_what_becomes_too_much(scripts: Browser) -> None:
 def test_other_packed_lists_are_refused(scripts: Browser, first: str) -> None:
     found = scripts.value(f"tried({json.dumps(given((bytes.fromhex(first), Reading())))})")
     assert re.fullmatch("the list is packed by [a-z0-9]+: unpack it first", found)
-
-
-def test_names_are_declared_once() -> None:
-    """All scripts are one behind the other in a worker."""
-    declared = re.compile(r"^(?:async )?(?:const|let|class|function\*?) (\w+)", re.MULTILINE)
-    names = Counter(
-        name for file in FOLDER.glob("*.js") for name in declared.findall(file.read_text())
-    )
-    assert [name for name, count in names.items() if count > 1] == []

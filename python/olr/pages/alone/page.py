@@ -43,6 +43,7 @@ SHARED = (
     "scene.js",
     "list_kept.js",
     "list_texts.js",
+    "list_packed.js",
     "list_csv.js",
     "list_tokens.js",
     "list_json.js",

@@ -117,11 +117,14 @@ async function* featuresOf(body, numbers) {
 }
 
 async function* messagesOf(body, options) {
-  const reading = Object.fromEntries(options);
-  const bytes = new Uint8Array(await body.arrayBuffer());
+  const known = ["format", "ref", "key", "base64"];
+  for (const name of options.keys()) {
+    if (!known.includes(name)) throw badRequest(`${quoted(name)} is no option of this address: it has ${known.join(", ")}`);
+  }
   let rows;
   try {
-    rows = readList(bytes, reading);
+    requireListSize(body.size);
+    rows = readList(await unpackedList(new Uint8Array(await body.arrayBuffer())), Object.fromEntries(options));
   } catch (error) {
     if (!(error instanceof ToolError)) throw error;
     throw new Problem(422, "UnreadableList", error.message);
