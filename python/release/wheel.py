@@ -39,9 +39,10 @@ def metadata(packed: Path) -> list[Entry]:
 
 
 def package_files(state: State) -> list[Entry]:
-    """The files of the package `olr`, below the folder `olr`."""
+    """The files of the package `olr`, below the folder `olr`, and the module of the program for pages."""
     names = state.names("python/olr")
-    return [Entry(name.removeprefix("python/"), state.read(name)) for name in names]
+    module = Entry("olr/bin/olr.wasm", state.read("released/olr.wasm"))
+    return [*(Entry(name.removeprefix("python/"), state.read(name)) for name in names), module]
 
 
 def _sources(state: State) -> list[Entry]:
