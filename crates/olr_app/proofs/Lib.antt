@@ -7,3 +7,4 @@ pub mod PagesOf
 pub mod JsonListing
 pub mod Alone
 pub mod OnePage
+pub mod OnMap

@@ -49,18 +49,27 @@ IsAnswerOn marks (Places asked) accepted road answer =
 IsAnswerOn marks (Why asked) accepted road answer =
     AreReasons asked.format asked.tolerances asked.nearest accepted.reference road answer
 
--- The answer of one of many requests on a map that was read for all of them: the bytes of its
--- output without marks, or the fault of the first stage that has one. (A mark names the whole map,
--- and so takes time in proportion to it.)
-abbrev pub IsAnswerOfMany : RoadMap → Request → Result (List ℕ) Fault → Type 0
-IsAnswerOfMany road request =
-    AndThen (Accepts request) (λ (accepted : Accepted). IsAnswerOn false request accepted road)
+-- The answer of a request on a map that was read before, with marks or without: the bytes of its
+-- output, or the fault of the first stage that has one, which is the refusal of its own texts or
+-- that of a stage on the map.
+abbrev pub IsAnswerOnMap : Bool → RoadMap → Request → Result (List ℕ) Fault → Type 0
+IsAnswerOnMap marks road request =
+    AndThen (Accepts request) (λ (accepted : Accepted). IsAnswerOn marks request accepted road)
 
 -- The fault that comes in place of that answer: the one of the texts; or memory was refused, which
 -- befalls a request that is accepted alone.
-abbrev pub IsFaultOfMany : RoadMap → Request → Fault → Type 0
-IsFaultOfMany road request fault = IsAnswerOfMany road request (Err fault)
+abbrev pub IsFaultOnMap : Bool → RoadMap → Request → Fault → Type 0
+IsFaultOnMap marks road request fault = IsAnswerOnMap marks road request (Err fault)
     ⊎ ((fault ≡ NoMemory) × IsAccepted request)
+
+-- The answer of one of many requests on a map that was read for all of them: that without marks. (A
+-- mark names the whole map, and so takes time in proportion to it.)
+abbrev pub IsAnswerOfMany : RoadMap → Request → Result (List ℕ) Fault → Type 0
+IsAnswerOfMany = IsAnswerOnMap false
+
+-- the fault that comes in place of that answer
+abbrev pub IsFaultOfMany : RoadMap → Request → Fault → Type 0
+IsFaultOfMany = IsFaultOnMap false
 
 module _ (texts : Texts) where
   -- the map of the files, or the fault that lies in their texts

@@ -4,7 +4,8 @@ ghost use Rattle.std.specs.Prelude.{IfErr, IfOk, Ok, OnOk, string_bytes, true};
 ghost use Rattle.olr_binary.specs.Reference.{IsReference};
 ghost use Rattle.olr_map.specs.Files.{IsReadInOrder, texts_of};
 ghost use Rattle.olr_app.specs.Accepting.{Accepts, ReportsRefusal};
-ghost use Rattle.olr_app.specs.Answer.{IsAnswerOn, IsAnswered, IsFault, IsOutput, IsReason, IsReferenceIn};
+ghost use Rattle.olr_app.specs.Answer.{IsAnswerOn, IsAnswerOnMap, IsAnswered, IsFault, IsFaultOnMap};
+ghost use Rattle.olr_app.specs.Answer.{IsOutput, IsReason, IsReferenceIn};
 ghost use Rattle.olr_app.specs.Sources.{AnswerLeaves};
 ghost use Rattle.olr_app.specs.Stages.{IsStageFault};
 
@@ -71,6 +72,28 @@ fn output_on_map(
         Request::Places(asked) => places_listing(alloc, map, asked, reference),
         Request::Why(asked) => reasons_of(alloc, map, asked, reference),
     }
+}
+
+/// Answers a request on a map that was read before: the whole output, which is what [`run`] writes
+/// where the files of the map are those of this one. That of [`Request::Show`] is the same on each
+/// map.
+///
+/// # Errors
+///
+/// The refusal of the reference, or else [`Fault::BadCursor`] where the text of a cursor isn't that
+/// of one, whatever memory does; else, for a request that asks for matchings,
+/// [`Fault::CursorOfOther`] where the cursor has the mark of other inputs; else, but for
+/// [`Request::Why`], [`Fault::TooManyCandidates`] with the first point that has more than 64; else
+/// [`Fault::CursorNotHere`] where the cursor isn't that of a matching; [`Fault::NoMemory`] where
+/// the allocator refused memory.
+pub fn answer_on_map(alloc: Global, request: &Request<'_>, map: &Map) -> Result<String, Fault>
+    ensures answer { IfOk result (λ output.
+        IsAnswerOnMap true map.now request.now (Ok (string_bytes output))) }
+    ensures fault { IfErr result (IsFaultOnMap true map.now request.now) }
+    ensures refused { ReportsRefusal request.now result }
+{
+    let accepted = accept(request)?;
+    output_on_map(alloc, request, &accepted, map)
 }
 
 /// The whole output of a request that is accepted. It reads the files of the map, if the request

@@ -5,7 +5,7 @@
 //!
 //! - [`accepting`]: the reference and the cursor of its own texts, before any file is read.
 //! - [`answering`]: [`run`], which reads the map that the request asks for, makes the whole output
-//!   and only then writes it.
+//!   and only then writes it; [`answer_on_map`], the same output on a map that was read before.
 //! - [`listing`]: the text of candidates, by [`listing_json`] where it is JSON; [`matching`]: the
 //!   pages of matchings; [`places`]: the places, and whether the match is unique; [`why`]: why
 //!   there is no matching.
@@ -27,7 +27,7 @@ mod sink;
 mod why;
 mod writing;
 
-pub use answering::run;
+pub use answering::{answer_on_map, run};
 pub use olr_candidates::{Tolerance, Tolerances};
 pub use olr_map::{File, In, Source};
 pub use olr_matching::PageSize;
@@ -39,4 +39,4 @@ pub use olr_why::NearestCount;
 pub use one_of_many::answer_text;
 pub use question_on_map::{QuestionOnMap, unbanned_for};
 pub use sink::{Out, Sink};
-pub use writing::put_whole;
+pub use writing::{put_whole, write_whole};

@@ -37,7 +37,7 @@ pub fn put_whole<O: Sink>(out: &mut O, bytes: &[u8]) -> Result<(), Failed>
 ///
 /// [`Failed`] where the sink failed in a call, or took no byte of a rest. It took a front of the
 /// bytes then.
-pub(crate) fn write_whole<O: Sink>(out: &mut O, bytes: &[u8]) -> Result<(), Failed>
+pub fn write_whole<O: Sink>(out: &mut O, bytes: &[u8]) -> Result<(), Failed>
     ensures whole { OnOk result (Appends (O.taken out.old) (O.taken out.new) bytes.now) }
     ensures none_failed { OnOk result (O.failed out.new ≡ O.failed out.old) }
     ensures written { OnOk result

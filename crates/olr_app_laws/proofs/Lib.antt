@@ -8,6 +8,7 @@ mod HeadlineChain
 mod HeadlineCursors
 mod HeadlineAll
 mod Marks
+mod OnMap
 mod AsRuns
 mod OneRequest
 mod OneLine

@@ -151,12 +151,13 @@ impl Answering {
     }
 }
 
-/// Answers each record of an input on a map that is read, by one line of JSON.
+/// Answers each record of an input on a map that was read before, by one line of JSON, as
+/// [`run_batch`](crate::run_batch) does.
 ///
 /// # Errors
 ///
 /// Those of [`run_batch`](crate::run_batch), but for those of the map.
-pub(crate) fn answer_records<S: Source, O: Sink>(
+pub fn answer_records<S: Source, O: Sink>(
     alloc: Global,
     map: &Map,
     asked: &Question,

@@ -4,7 +4,8 @@
 //! The map is read once, and then a record goes through these modules in order:
 //!
 //! - [`line`]: the line of a record; [`record`]: what is written for it.
-//! - [`answering`]: the loop over the records, which come from `olr_messages`.
+//! - [`answering`]: [`answer_records`], the loop over the records, which come from `olr_messages`,
+//!   on a map that was read before.
 //! - [`batch`]: [`run_batch`], all of this from the files of a map to the output.
 //!
 //! That an answer is what [`run`](olr_app::run) prints for the text alone is a law of
@@ -16,4 +17,5 @@ mod batch;
 mod line;
 mod record;
 
+pub use answering::answer_records;
 pub use batch::run_batch;
