@@ -1,114 +1,15 @@
 //! From words to the bytes of the output.
 
-use olr_app::{Fault, File, In, Question, Request, Sink, Source, run};
+ghost use Rattle.std.specs.Prelude.{◌≡◌, OnOk};
+ghost use Rattle.std.specs.Io.KnownBytes.{Appends};
+ghost use Rattle.olr_explain.specs.Explaining.{explained_text};
+
+use crate::opening::{Disk, MapFiles, NO_BANS, open, open_files};
+use olr_app::{Fault, In, Question, Request, Sink, Source, put_whole, run};
 use olr_batch::run_batch;
+use olr_explain::{Section, Topic, explained, faults};
 use olr_words::{Asked, Files, Input, Rejected, asked_of};
 use std::alloc::Global;
-
-/// Why a file isn't open.
-#[derive(Clone, Copy, Debug, PartialEq, Eq)]
-pub enum NotOpened {
-    /// The allocator refused memory.
-    NoMemory,
-    /// There is no such file, or it can't be read.
-    Failed,
-}
-
-/// What opens files, and where standard input comes from.
-pub trait Disk {
-    /// An open file.
-    type Opened: Source + Drop;
-
-    /// Standard input.
-    type Standard: Source + Drop;
-
-    /// Opens the file of a path, to be read from its start.
-    ///
-    /// # Errors
-    ///
-    /// [`NotOpened`] where it can't be opened.
-    fn open(&mut self, path: &str) -> Result<Self::Opened, NotOpened>;
-
-    /// Whether something has this path, even if it can't be opened.
-    fn has(&mut self, path: &str) -> bool;
-
-    /// Standard input.
-    fn standard_input(&mut self) -> Self::Standard;
-}
-
-/// Opens a file, whose fault is this where it can't be opened.
-fn open<D: Disk>(disk: &mut D, path: &str, fault: Fault) -> Result<D::Opened, Fault> {
-    match disk.open(path) {
-        Ok(opened) => Ok(opened),
-        Err(NotOpened::NoMemory) => Err(Fault::NoMemory),
-        Err(NotOpened::Failed) => Err(fault),
-    }
-}
-
-/// The open files of a map.
-#[derive(Drop)]
-struct MapFiles<F: Drop> {
-    nodes: F,
-    lines: F,
-    bans: Option<F>,
-}
-
-/// Opens the files of these paths, the nodes first.
-fn open_paths<D: Disk>(
-    disk: &mut D,
-    nodes: &str,
-    lines: &str,
-    bans: Option<&str>,
-) -> Result<MapFiles<D::Opened>, Fault> {
-    let nodes = open(disk, nodes, Fault::OpenFailed(File::Nodes))?;
-    let lines = open(disk, lines, Fault::OpenFailed(File::Lines))?;
-    let bans = match bans {
-        Some(path) => Some(open(disk, path, Fault::OpenFailed(File::Bans))?),
-        None => None,
-    };
-    Ok(MapFiles { nodes, lines, bans })
-}
-
-/// The path of a file in a folder.
-fn path_in(alloc: Global, folder: &str, name: &str) -> Result<String, Fault> {
-    let Ok(path) = format!(in alloc; "{folder}/{name}") else {
-        return Err(Fault::NoMemory);
-    };
-    Ok(path)
-}
-
-/// A path, if something has it.
-fn existing<'a, D: Disk>(disk: &mut D, path: &'a str) -> Option<&'a str> {
-    if disk.has(path) { Some(path) } else { None }
-}
-
-/// Opens the files of a map in a folder, the nodes first.
-fn open_folder<D: Disk>(
-    alloc: Global,
-    disk: &mut D,
-    folder: &str,
-) -> Result<MapFiles<D::Opened>, Fault> {
-    let nodes = path_in(alloc, folder, "nodes.csv")?;
-    let lines = path_in(alloc, folder, "lines.csv")?;
-    let bans = path_in(alloc, folder, "bans.csv")?;
-    let bans = existing(disk, &bans);
-    open_paths(disk, &nodes, &lines, bans)
-}
-
-/// Opens the files of a map, the nodes first.
-fn open_files<D: Disk>(
-    alloc: Global,
-    disk: &mut D,
-    files: &Files<'_>,
-) -> Result<MapFiles<D::Opened>, Fault> {
-    match *files {
-        Files::At { nodes, lines, bans } => open_paths(disk, nodes, lines, bans),
-        Files::Folder(folder) => open_folder(alloc, disk, folder),
-    }
-}
-
-/// What a file of bans holds where a map has none: its header alone.
-const NO_BANS: &[u8] = b"from,to\n";
 
 /// Answers a request, on the map of these files if there are some.
 fn answer_one<D: Disk, O: Sink>(
@@ -185,6 +86,27 @@ fn answer_many<D: Disk, O: Sink>(
     }
 }
 
+/// Writes what is known of faults of a table, and has it passed on.
+pub(crate) fn write_explained<O: Sink>(
+    alloc: Global,
+    table: &[Section],
+    topic: &Topic<'_>,
+    out: &mut O,
+) -> Result<(), Fault>
+    ensures whole { OnOk result
+        (Appends (O.taken out.old) (O.taken out.new) (explained_text table.now topic.now)) }
+    ensures none_failed { OnOk result (O.failed out.new ≡ O.failed out.old) }
+{
+    let text = explained(alloc, table, topic)?;
+    let Ok(()) = put_whole(out, text.as_bytes()) else {
+        return Err(Fault::WriteFailed);
+    };
+    let Ok(()) = out.flush_out() else {
+        return Err(Fault::WriteFailed);
+    };
+    Ok(())
+}
+
 /// Opens the files that are asked for and answers what is asked.
 fn answer<D: Disk, O: Sink>(
     alloc: Global,
@@ -195,11 +117,13 @@ fn answer<D: Disk, O: Sink>(
     match asked {
         Asked::One(request, files) => answer_one(alloc, request, files, disk, out),
         Asked::Many(asked, files, input) => answer_many(alloc, asked, files, *input, disk, out),
+        Asked::Explain(topic) => write_explained(alloc, &faults(), topic, out),
     }
 }
 
 /// Does what the words of a command line ask for, of which the first is the program's name: opens
-/// the files that they name, answers the request or the records, and writes the output.
+/// the files that they name, answers the request or the records, and writes the output; or writes
+/// what is known of faults.
 ///
 /// # Errors
 ///

@@ -1,6 +1,7 @@
 //! The program over the system: the words of its command line, its files and its outputs.
 
-use crate::performing::{Disk, NotOpened, perform};
+use crate::opening::{Disk, NotOpened};
+use crate::performing::perform;
 use olr_app::{Fault, In, Out};
 use olr_words::Rejected;
 use std::io::Input;

@@ -1,18 +1,22 @@
 //! The command of `clap`, as tables: the subcommands, their options, and the texts of help.
 
-use clap::{Arg, ArgAction, Command, Error, value_parser};
+use clap::{Arg, ArgAction, ArgGroup, Command, Error};
 use std::alloc::Global;
 
 /// The version of the program, and of all that is released with it.
-const VERSION: &str = "1.0.0";
+const VERSION: &str = "1.1.0";
+
+/// What the help says about faults.
+const AFTER_HELP: &str =
+    "If a command prints a fault, as 'olr: Header nodes', 'olr explain Header' says what it means.";
 
 /// What an option takes.
 #[derive(Clone, Copy)]
 enum Takes {
     /// The text of a reference, which has no name before it.
     Reference,
-    /// The path of a file of the map, in place of a folder.
-    MapFile,
+    /// The path of a file of the map, in place of a folder. It goes with the one of this name.
+    MapFile(&'static str),
     /// The path of a file.
     File,
     /// The path of a folder of the map, in place of its files.
@@ -26,22 +30,35 @@ enum Takes {
     Cursor,
     /// Nothing more.
     Nothing,
+    /// Any number of words, which have no name before them.
+    Words,
 }
 
 /// An option of a subcommand.
 #[derive(Clone, Copy)]
-struct CommandOption {
-    name: &'static str,
+pub struct CommandOption {
+    /// Its name, without dashes.
+    pub name: &'static str,
     takes: Takes,
-    help: &'static str,
+    /// The text of its help.
+    pub help: &'static str,
+}
+
+impl CommandOption {
+    /// Whether it takes a number.
+    pub fn takes_number(&self) -> bool {
+        matches!(self.takes, Takes::Number)
+    }
 }
 
 /// A subcommand, with the groups of options that it has, in the order of its help.
 #[derive(Clone, Copy)]
-struct Subcommand {
-    name: &'static str,
+pub struct Subcommand {
+    /// Its name.
+    pub name: &'static str,
     about: &'static str,
-    options: &'static [&'static [CommandOption]],
+    /// The groups.
+    pub options: &'static [&'static [CommandOption]],
 }
 
 /// The formats of an output.
@@ -56,24 +73,24 @@ const REFERENCE: &[CommandOption] = &[CommandOption {
 /// The files of a map.
 const FILES: &[CommandOption] = &[
     CommandOption {
+        name: "map",
+        takes: Takes::MapFolder,
+        help: "The folder of the map: nodes.csv, lines.csv and, where it is there, bans.csv",
+    },
+    CommandOption {
         name: "nodes",
-        takes: Takes::MapFile,
+        takes: Takes::MapFile("lines"),
         help: "The nodes of the map, as CSV: id,lon,lat",
     },
     CommandOption {
         name: "lines",
-        takes: Takes::MapFile,
+        takes: Takes::MapFile("nodes"),
         help: "The lines of the map, as CSV: id,from,to,class,form,length,shape",
     },
     CommandOption {
         name: "bans",
         takes: Takes::File,
         help: "The bans on turns from line to line, as CSV: from,to [default: no bans]",
-    },
-    CommandOption {
-        name: "map",
-        takes: Takes::MapFolder,
-        help: "The folder of nodes.csv, lines.csv and, where it is there, bans.csv, in place of these",
     },
 ];
 
@@ -181,6 +198,20 @@ const RECORDS: &[CommandOption] = &[CommandOption {
     help: "The records, one a line: the text of a reference, or a key, a tab and the text [default: standard input]",
 }];
 
+/// The fault that is explained.
+const FAULT: &[CommandOption] = &[CommandOption {
+    name: "NAME",
+    takes: Takes::Words,
+    help: "The name of a fault, or the line that names it [default: list all faults]",
+}];
+
+/// The subcommand for faults.
+pub const EXPLAIN: Subcommand = Subcommand {
+    name: "explain",
+    about: "Print what a fault means, what usually causes it, and what to do about it",
+    options: &[FAULT],
+};
+
 /// The subcommands that answer one reference.
 const SUBCOMMANDS: &[Subcommand] = &[
     Subcommand {
@@ -256,17 +287,13 @@ fn argument<'a>(alloc: Global, option: &CommandOption) -> Result<Arg<'a>, Error>
                 .help(option.help)
                 .required(true),
         ),
-        Takes::MapFile => Ok(
-            named(alloc, option)
-                .value_name("FILE")
-                .required_unless_present("map")?,
-        ),
+        Takes::MapFile(other) => Ok(named(alloc, option).value_name("FILE").requires_arg(other)?),
         Takes::File => Ok(named(alloc, option).value_name("FILE")),
         Takes::MapFolder => folder(named(alloc, option).value_name("FOLDER")),
         Takes::Number => Ok(
             named(alloc, option)
                 .value_name("N")
-                .value_parser(value_parser!(u32)),
+                .allow_negative_numbers(true),
         ),
         Takes::Format => Ok(
             named(alloc, option)
@@ -275,7 +302,23 @@ fn argument<'a>(alloc: Global, option: &CommandOption) -> Result<Arg<'a>, Error>
         ),
         Takes::Cursor => Ok(named(alloc, option).value_name("CURSOR")),
         Takes::Nothing => Ok(named(alloc, option).action(ArgAction::SetTrue)),
+        Takes::Words => Ok(Arg::new(alloc, option.name).help(option.help).num_args(0..)),
     }
+}
+
+/// The same command with an option. A map is required, by its folder or by its files.
+fn with_option<'a>(
+    alloc: Global,
+    command: Command<'a>,
+    option: &CommandOption,
+) -> Result<Command<'a>, Error> {
+    let command = command.arg(argument(alloc, option)?)?;
+    if !matches!(option.takes, Takes::MapFolder) {
+        return Ok(command);
+    }
+    let group = ArgGroup::new(alloc, "map or files");
+    let group = group.arg("map")?.arg("nodes")?;
+    Ok(command.group(group.required(true))?)
 }
 
 /// The same command with these options.
@@ -285,13 +328,17 @@ fn with_options<'a>(
     options: &[CommandOption],
 ) -> Result<Command<'a>, Error> {
     for option in options {
-        command = command.arg(argument(alloc, option)?)?;
+        command = with_option(alloc, command, option)?;
     }
     Ok(command)
 }
 
 /// The command of `clap` for a subcommand.
-fn command_of<'a>(alloc: Global, subcommand: &Subcommand) -> Result<Command<'a>, Error> {
+///
+/// # Errors
+///
+/// Only where the allocator refused memory.
+pub fn command_of<'a>(alloc: Global, subcommand: &Subcommand) -> Result<Command<'a>, Error> {
     let mut command = Command::new(alloc, subcommand.name).about(subcommand.about);
     for &options in subcommand.options {
         command = with_options(alloc, command, options)?;
@@ -316,9 +363,11 @@ fn with_subcommands<'a>(
 
 /// The subcommand for many references.
 fn batch_command<'a>(alloc: Global) -> Result<Command<'a>, Error> {
-    let command = Command::new(alloc, "batch").about(
-        "Answer many references on one map, by one line of JSON for each record, as they come",
-    );
+    let command = Command::new(alloc, "batch")
+        .about(
+            "Answer many references on one map, by one line of JSON for each record, as they come",
+        )
+        .after_help(AFTER_HELP);
     with_subcommands(alloc, command, BATCH_SUBCOMMANDS)
 }
 
@@ -326,7 +375,8 @@ fn batch_command<'a>(alloc: Global) -> Result<Command<'a>, Error> {
 fn main_command<'a>(alloc: Global) -> Result<Command<'a>, Error> {
     let command = Command::new(alloc, "olr")
         .about("Read OpenLR location references, and find them on a road map")
-        .version(VERSION);
+        .version(VERSION)
+        .after_help(AFTER_HELP);
     with_subcommands(alloc, command, SUBCOMMANDS)
 }
 
@@ -337,5 +387,24 @@ fn main_command<'a>(alloc: Global) -> Result<Command<'a>, Error> {
 /// Only where the allocator refused memory.
 pub fn whole_command<'a>(alloc: Global) -> Result<Command<'a>, Error> {
     let batch = batch_command(alloc)?;
-    Ok(main_command(alloc)?.subcommand(batch)?)
+    let explain = command_of(alloc, &EXPLAIN)?;
+    Ok(main_command(alloc)?.subcommand(batch)?.subcommand(explain)?)
+}
+
+/// The subcommand of this name among these, if there is one.
+fn named_in(subcommands: &[Subcommand], name: &str) -> Option<Subcommand> {
+    subcommands
+        .iter()
+        .find(|subcommand| subcommand.name == name)
+        .copied()
+}
+
+/// The subcommand of this name, if there is one, but for `batch` and `explain`.
+pub fn subcommand_named(name: &str) -> Option<Subcommand> {
+    named_in(SUBCOMMANDS, name)
+}
+
+/// The subcommand of `batch` of this name, if there is one.
+pub fn batch_subcommand_named(name: &str) -> Option<Subcommand> {
+    named_in(BATCH_SUBCOMMANDS, name)
 }

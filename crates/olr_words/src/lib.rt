@@ -1,11 +1,15 @@
 //! The words of a command line: what they ask for.
 //!
 //! - [`command`]: the subcommands, options and texts of help, as `clap` takes them.
-//! - [`words`]: what the words ask for: a request or many records, and the files that they read.
+//! - [`words`]: what the words ask for: a request or many records, and the files that they read; or
+//!   what a fault means.
+//! - [`hints`]: what words that aren't understood are rejected with, where it can be said what to
+//!   write instead.
 //! - [`rejected`]: why nothing was written, the status for it, and the text that is printed.
 #![tactic(auto)]
 
 mod command;
+mod hints;
 mod rejected;
 mod words;
 

@@ -9,6 +9,7 @@ ghost use Rattle.olr_words.specs.declared.rejected.Rejected.TheVariants as rejec
 
 use clap::Error;
 use clap::error::ErrorKind;
+use olr_base::NoMemory;
 use olr_request::Fault;
 use std::alloc::AllocError;
 use std::fmt;
@@ -18,6 +19,19 @@ const FAILED: u8 = 1;
 
 /// The status after words that weren't understood.
 const NOT_UNDERSTOOD: u8 = 2;
+
+/// The last line about a mistake in the words.
+const EXPLAIN: &str = "'olr explain NAME' says what a fault means.\n";
+
+/// Whether an error is a mistake in the words: it isn't help, which says more.
+fn is_mistake(kind: ErrorKind) -> bool {
+    !matches!(
+        kind,
+        ErrorKind::DisplayHelp
+            | ErrorKind::DisplayVersion
+            | ErrorKind::DisplayHelpOnMissingArgumentOrSubcommand
+    )
+}
 
 /// Why a command line wasn't answered. Displayed, it is the text that the program prints.
 #[derive(Debug, Drop)]
@@ -64,6 +78,7 @@ impl fmt::Display for Rejected {
 
     fn fmt<W: fmt::Write>(&self, f: &mut fmt::Formatter<W>) -> fmt::Result {
         match self {
+            Rejected::Words(error) if is_mistake(error.kind()) => write!(f, "{error}{EXPLAIN}"),
             Rejected::Words(error) => write!(f, "{error}"),
             Rejected::NotText => write!(f, "olr: the command line isn't UTF-8 text\n"),
             Rejected::Fault(fault) => write!(f, "olr: {fault}\n"),
@@ -79,6 +94,14 @@ impl From<Error> for Rejected {
             return Rejected::Fault(Fault::NoMemory);
         }
         Rejected::Words(error)
+    }
+}
+
+impl From<NoMemory> for Rejected {
+    ghost from_gives = { λ _ given. given ≡ rejected.Fault fault.NoMemory };
+
+    fn from(_failure: NoMemory) -> Rejected {
+        Rejected::Fault(Fault::NoMemory)
     }
 }
 

@@ -10,10 +10,12 @@ ghost use Rattle.olr_words.specs.Words.{IsRefusedQuestion, IsRefusedTolerance, I
 ghost use Rattle.olr_words.specs.Words.{IsSize, IsWhat, nearest_of, pages_of, size_of};
 
 use crate::command::whole_command;
+use crate::hints::{check_values, not_understood, topic_in};
 use crate::rejected::Rejected;
 use clap::error::ErrorKind;
 use clap::{ArgMatches, Command};
 use olr_candidates::{Tolerance, Tolerances};
+use olr_explain::Topic;
 use olr_keys::PageSize;
 use olr_places::PlaceLimits;
 use olr_request::{Fault, Format, Pages, Question, QuestionKind, Request};
@@ -50,6 +52,8 @@ pub enum Asked<'a> {
     One(Request<'a>, Option<Files<'a>>),
     /// The answers to many records, on the map of these files.
     Many(Question, Files<'a>, Input<'a>),
+    /// What these faults mean.
+    Explain(Topic<'a>),
 }
 
 /// Where the records of a batch come from.
@@ -342,6 +346,9 @@ fn asked_in<'a>(matches: &ArgMatches<'a>) -> Option<Result<Asked<'a>, Fault>> {
     if name == "batch" {
         return many_in(found);
     }
+    if name == "explain" {
+        return Some(Ok(Asked::Explain(topic_in(found))));
+    }
     let given = Given::read(found, found.get_str("REF")?);
     if name == "show" {
         return Some(Ok(given.show()));
@@ -361,7 +368,8 @@ fn nothing_asked(command: &mut Command<'_>) -> Result<Rejected, AllocError> {
 /// # Errors
 ///
 /// [`Rejected::Words`] where the words name no subcommand, give it something that it doesn't take,
-/// lack something that it requires, or ask for help; else [`Rejected::Fault`]: with
+/// lack something that it requires, ask for help, give a number that isn't a whole one of 32 bits, or
+/// name a fault that there isn't; else [`Rejected::Fault`]: with
 /// [`Fault::AfterWithAll`] where both a cursor and all pages are asked for; else with
 /// [`Fault::BadTolerance`] and the first tolerance that is out of its range; else with
 /// [`Fault::BadPage`] and a page size that is out of its range, [`Fault::BadNumber`] and the first
@@ -369,7 +377,11 @@ fn nothing_asked(command: &mut Command<'_>) -> Result<Rejected, AllocError> {
 /// refused memory.
 pub fn asked_of<'a>(alloc: Global, words: &'a [String]) -> Result<Asked<'a>, Rejected> {
     let mut command = whole_command(alloc)?;
-    let matches = command.try_get_matches_from_mut(words)?;
+    let matches = match command.try_get_matches_from_mut(words) {
+        Ok(matches) => matches,
+        Err(error) => return Err(not_understood(alloc, &mut command, words, error)?),
+    };
+    check_values(alloc, &matches)?;
     match asked_in(&matches) {
         Some(Ok(asked)) => Ok(asked),
         Some(Err(fault)) => Err(Rejected::from(fault)),
