@@ -1,10 +1,18 @@
-//! From words and files to the status, the output and the text of a rejection.
+//! From files to a map that is kept, and from words to the status, the output and the text of a
+//! rejection.
 
+ghost use Rattle.std.specs.Prelude.{◌≡◌, IsSome, None};
+
+use crate::kept::KeptMap;
 use crate::packed::PackedFiles;
-use olr_app::Out;
-use olr_command_line::{Rejected, perform};
+use olr_app::{Fault, Out};
+use olr_command_line::{Files, MapOfFolder, Rejected, perform, perform_on_map, read_map_of};
+use olr_road::Map;
 use std::alloc::{AllocError, Global};
 use std::io::{Cursor, Write};
+
+/// The folder of the map, as words name it.
+const FOLDER: &str = "map";
 
 /// How the program ended.
 #[repr(C)]
@@ -27,46 +35,115 @@ fn words_of(alloc: Global, text: &str) -> Result<Vec<String>, AllocError> {
     Ok(words)
 }
 
-/// Does what the words ask for, over files in memory, and writes the output into a room.
+/// Reads the map of packed files onto the heap.
+fn read_map(alloc: Global, files: &[u8]) -> Result<Box<Map>, Fault> {
+    let mut disk = PackedFiles::new(files, &[]);
+    let map = read_map_of(alloc, &Files::Folder(FOLDER), &mut disk)?;
+    let Ok(boxed) = Box::new(alloc, map) else {
+        return Err(Fault::NoMemory);
+    };
+    Ok(boxed)
+}
+
+/// Does what the words ask for, on a map if there is one, and writes the output into a room.
 fn perform_in<'a>(
     alloc: Global,
     words: &[u8],
-    disk: &mut PackedFiles<'a>,
+    map: Option<&Map>,
+    input: &'a [u8],
     out: &mut Out<Cursor<&mut [u8]>>,
 ) -> Result<(), Rejected> {
     let Ok(text) = str::from_utf8(words) else {
         return Err(Rejected::NotText);
     };
     let words = words_of(alloc, text)?;
-    perform(alloc, words.as_slice(), disk, out)
+    let mut disk = PackedFiles::new(&[], input);
+    let Some(map) = map else {
+        return perform(alloc, words.as_slice(), &mut disk, out);
+    };
+    let known = MapOfFolder {
+        map,
+        folder: FOLDER,
+    };
+    perform_on_map(alloc, words.as_slice(), known, &mut disk, out)
 }
 
-/// Does what the words ask for, as the program does it: `words` has each word with a zero byte
-/// behind it, the program's name first; `files` is packed as [`packed`](mod@crate::packed) says.
-/// The room of a text is full where the text didn't fit: call again with more room then.
+/// Writes the text of a rejection into the room of errors: how many bytes stand there.
+fn write_errors(rejected: &Rejected, errors: &mut [u8]) -> u64 {
+    let mut errors = Cursor::new(&mut *errors);
+    let _ = write!(errors, "{rejected}");
+    errors.position()
+}
+
+/// Reads the map of files, and keeps it in place of the one that is kept, if there is one. `files`
+/// is packed as [`packed`](mod@crate::packed) says: `map/nodes.csv`, `map/lines.csv`, and
+/// `map/bans.csv` if the map has bans. Where the map is refused none is kept, and the status and
+/// the text of the rejection are those of a question on these files. A room that is full has not all
+/// of the text.
 #[unsafe(no_mangle)]
-pub extern "C" fn olr_page_answer<'a>(
+pub extern "C" fn olr_page_open(
+    alloc: Global,
+    files: &[u8],
+    kept: &mut KeptMap,
+    errors: &mut [u8],
+    given: &mut Answer,
+)
+    ensures { given.new.status ≡ 0 → IsSome kept.new.pointer.map }
+{
+    let _ = kept.take(alloc);
+    given.status = 0;
+    given.output = 0;
+    given.errors = 0;
+    match read_map(alloc, files) {
+        Ok(map) => *kept = KeptMap::of(map),
+        Err(fault) => {
+            let rejected = Rejected::from(fault);
+            given.status = rejected.status();
+            given.errors = write_errors(&rejected, errors);
+        }
+    }
+}
+
+/// Does what the words ask for, as the program does it where the folder `map` has the files of the
+/// map that is kept; any other file isn't there. `words` has each word with a zero byte behind it,
+/// the program's name first. The room of a text is full where the text didn't fit: ask again with
+/// more room then. The map stays the same.
+#[unsafe(no_mangle)]
+pub extern "C" fn olr_page_ask<'a>(
     alloc: Global,
     words: &[u8],
-    files: &'a [u8],
     input: &'a [u8],
+    kept: &mut KeptMap,
     output: &mut [u8],
     errors: &mut [u8],
     given: &mut Answer,
-) {
+)
+    ensures { kept.new.pointer.map ≡ kept.old.pointer.map }
+{
+    let map = kept.take(alloc);
     let mut out = Out::new(Cursor::new(&mut *output));
-    let answered = perform_in(alloc, words, &mut PackedFiles::new(files, input), &mut out);
+    let ended = perform_in(alloc, words, map.as_deref(), input, &mut out);
     let mut output = out.into_writer();
-    let mut errors = Cursor::new(&mut *errors);
     given.status = 0;
-    if let Err(rejected) = answered {
+    given.errors = 0;
+    if let Err(rejected) = ended {
         given.status = rejected.status();
-        let _ = if rejected.is_help() {
-            write!(output, "{rejected}")
+        if rejected.is_help() {
+            let _ = write!(output, "{rejected}");
         } else {
-            write!(errors, "{rejected}")
-        };
+            given.errors = write_errors(&rejected, errors);
+        }
     }
     given.output = output.position();
-    given.errors = errors.position();
+    if let Some(map) = map {
+        *kept = KeptMap::of(map);
+    }
+}
+
+/// Gives the memory of the map that is kept back, if there is one.
+#[unsafe(no_mangle)]
+pub extern "C" fn olr_page_close(alloc: Global, kept: &mut KeptMap)
+    ensures { kept.new.pointer.map ≡ None }
+{
+    let _ = kept.take(alloc);
 }

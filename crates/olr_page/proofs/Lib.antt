@@ -1,0 +1,2 @@
+mod GlobalHeap
+mod Pointers
