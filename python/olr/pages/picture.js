@@ -235,13 +235,15 @@ function pictureOf({ map: place, panel, tiles = null, onChoose = () => {} }) {
     if (point.leg) item.append(made("div", `then ${point.leg}`, "small"));
     return item;
   };
+  // A line may end between two words, but not behind the dashes of an option.
+  const wordsOfCommand = (command) => command.split(/( )/).map((word) => (word.startsWith("-") ? made("span", word, "option") : word));
   const fillPanel = () => {
     find("verdict").textContent = scene.verdict.word === "none" ? "nothing fits" : scene.verdict.word;
     find("verdict-text").textContent = scene.verdict.text;
     find("looking").textContent = scene.looking;
     fill("probability", items(scene.probability));
     find("reference").textContent = scene.reference;
-    find("command").textContent = scene.command;
+    find("command").replaceChildren(...wordsOfCommand(scene.command));
     find("same").hidden = !scene.command;
     fill("notes", items(scene.notes || []));
     const labels = scene.entries.map(labelOf);

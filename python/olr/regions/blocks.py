@@ -13,6 +13,7 @@ from collections.abc import Iterator, Sequence
 from typing import NamedTuple
 
 from olr.arrays import Booleans, Integers, Integers32
+from olr.model.box import Box
 from olr.regions.records import Records
 
 LINES = 256
@@ -146,6 +147,13 @@ class Blocks:
     def count(self) -> int:
         """How many there are."""
         return len(self._digests)
+
+    def extent(self) -> Box | None:
+        """The box around all lines, if there are any."""
+        west, south, east, north = self._levels[0]
+        if not self.count():
+            return None
+        return Box(int(west.min()), int(south.min()), int(east.max()), int(north.max()))
 
     def wider_than(self, width: int) -> list[int]:
         """The numbers of blocks whose box is wider than so many microdegrees of longitude."""

@@ -7,7 +7,7 @@ What others build on is `Store.open`, `Store.lines_meeting`, `Store.sizes_of` an
         if store.sizes_of(lines).within_limits():
             store.write_map(lines, folder)
 
-`Store.lines_within_limits` does the first two steps, and stops where there are too many lines.
+`Store.lines_within_limits` does the first two steps, and stops where there are too many lines. Both take a `Box` too, for what reaches into it.
 Lines are named by their ids, in sorted arrays without repeats: `numpy.union1d` joins those of two references. On a map of these
 lines, or of more lines of the store, the reference has the answer that it has on the whole map. For many references hand over the discs
 of all of them at once, as `region.discs_of_each` has them: places that they share are looked up once. `olr.model.reference.read_reference` reads
@@ -26,6 +26,7 @@ from typing import NamedTuple
 
 from olr.arrays import Floats, Integers, Integers32
 from olr.errors import ToolError
+from olr.model.box import Box
 from olr.model.map_folder import BANS, BANS_HEADER, LINES, LINES_HEADER, NODES, NODES_HEADER, STORE
 from olr.model.road_map import GREATEST_LON, within_limits
 from olr.model.sources import Sources
@@ -163,7 +164,8 @@ class Store:
             connection = sqlite3.connect(uri, uri=True, check_same_thread=False)
             (version,) = connection.execute("SELECT version FROM olr_store").fetchone()
         except (sqlite3.Error, *NONSENSE) as error:
-            raise ToolError(f"{file} isn't a store of olr-tools regions: {error}") from error
+            about = f"{file} isn't a store of olr-tools regions: {error}"
+            raise ToolError(f"{about}: name one, or the folder of a map") from error
         if version != VERSION:
             raise ToolError(
                 f"{file} is a store of version {version}, not {VERSION}: make it again by olr-tools regions"
@@ -184,6 +186,10 @@ class Store:
     def blocks(self) -> int:
         """How many blocks it has."""
         return self._blocks.count()
+
+    def extent(self) -> Box | None:
+        """The box around all lines, if there are any."""
+        return self._blocks.extent()
 
     def lines_of_block(self, number: int) -> Integers:
         """The ids of the lines of a block, from 0, sorted. Raises `ToolError` if it isn't what was written there."""
@@ -207,20 +213,20 @@ class Store:
         """
         return sources_in(self.file, self._connection)
 
-    def lines_meeting(self, discs: Discs | Iterable[Disc]) -> Integers:
-        """The ids, sorted, of all lines that meet one of the discs, which may be those of many references. Some lines that only come
-        near may be among them, none is left out: what counts are boxes around lines and discs. Raises `ToolError` if the file
-        can't be read, or doesn't have what was written there."""
+    def lines_meeting(self, place: Discs | Iterable[Disc] | Box) -> Integers:
+        """The ids, sorted, of all lines that meet one of the discs, which may be those of many references, or that reach into a box. Some
+        lines that only come near may be among them, none is left out: what counts are boxes around lines and discs. Raises `ToolError` if
+        the file can't be read, or doesn't have what was written there."""
         with _reading(self.file):
-            self._last = self._part(self._meeting(discs))
+            self._last = self._part(self._meeting(place))
         return self._last.lines.ids
 
-    def lines_within_limits(self, discs: Discs) -> Integers | None:
+    def lines_within_limits(self, place: Discs | Box) -> Integers | None:
         """The same if the program reads the map of these lines, and else None. No more blocks are read than it takes to know that there
         are too many lines. Raises `ToolError` as `lines_meeting`."""
         try:
             with _reading(self.file):
-                self._last = self._part(_not_too_many(self._meeting(discs)))
+                self._last = self._part(_not_too_many(self._meeting(place)))
         except _TooMany:
             return None
         return self._last.lines.ids if self._last.sizes().within_limits() else None
@@ -260,10 +266,9 @@ class Store:
         except OSError as error:
             raise ToolError(f"{folder} can't be written: {error.strerror}") from error
 
-    def _meeting(self, discs: Discs | Iterable[Disc]) -> Iterator[_Met]:
-        """The lines that meet one of some discs."""
-        given = discs if isinstance(discs, Discs) else Discs.of(discs)
-        for number, boxes in self._blocks.meeting(_whole(given.boxes())):
+    def _meeting(self, place: Discs | Iterable[Disc] | Box) -> Iterator[_Met]:
+        """The lines that meet one of some discs, or a box."""
+        for number, boxes in self._blocks.meeting(_boxes_of(place)):
             block = self._blocks.read(number)
             yield number, block, block.meeting(boxes)
 
@@ -333,6 +338,14 @@ def _between(lines: Integers, bans: Integers) -> Integers:
     kept = bans[:, (np.append(lines, -1)[places] == bans).all(axis=0)]
     result: Integers = kept[:, np.lexsort(kept[::-1])]
     return result
+
+
+def _boxes_of(place: Discs | Iterable[Disc] | Box) -> Integers32:
+    """The boxes around discs, or a box, as those of a block."""
+    if isinstance(place, Box):
+        return np.array([place], dtype=np.int32).T
+    given = place if isinstance(place, Discs) else Discs.of(place)
+    return _whole(given.boxes())
 
 
 def _whole(boxes: Boxes) -> Integers32:

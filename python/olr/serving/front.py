@@ -130,6 +130,13 @@ def request_id_of(scope: Scope) -> str:
 
 
 def path_below(root_path: str, path: str) -> str:
-    """The path of an address, below the one with which all of them begin, as a server in front may pass it on, or may not."""
-    is_within = root_path and path.startswith(f"{root_path}/")
-    return path.removeprefix(root_path) if is_within else path
+    """The path of an address, below the one with which all of them begin, as a server in front may pass it on, or may not. Of slashes
+    at a beginning one counts: the URL that is printed ends in one."""
+    whole = _with_one_slash(path)
+    is_within = root_path and whole.startswith(f"{root_path}/")
+    return _with_one_slash(whole.removeprefix(root_path)) if is_within else whole
+
+
+def _with_one_slash(path: str) -> str:
+    """A path without the slashes before the last one of its beginning."""
+    return f"/{path.lstrip('/')}" if path.startswith("//") else path

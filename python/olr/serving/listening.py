@@ -62,7 +62,8 @@ def listen(host: str, port: int, backlog: int) -> socket.socket:
             (host, port), family=family, backlog=backlog, dualstack_ipv6=is_both
         )
     except OSError as error:
-        raise ToolError(f"{host} port {port} can't be listened to: {error.strerror}") from error
+        about = f"{host} port {port} can't be listened to: {error.strerror}"
+        raise ToolError(f"{about}: give another --port, or a --host of this machine") from error
 
 
 def url_of(host: str, port: int) -> str:

@@ -5,79 +5,106 @@
   const packed = document.getElementById("packed").textContent;
   const data = JSON.parse(document.getElementById("data").textContent);
   const source = document.getElementById("worker").textContent;
-  // A question that isn't dropped after so many milliseconds is at work: the worker is ended, and begun again.
+  // How many milliseconds the worker has to let a question go that was dropped.
   const PATIENCE = 300;
   const asked = new Map();
   let worker = null;
+  // The question that the worker is at.
+  let current = null;
   let count = 0;
 
+  const tellState = (state) => { document.body.dataset.program = state; };
   const begin = () => {
+    tellState("starting");
+    current = null;
     const address = URL.createObjectURL(new Blob([source], { type: "text/javascript" }));
-    worker = new Worker(address);
+    const begun = new Worker(address);
     URL.revokeObjectURL(address);
-    worker.addEventListener("message", ({ data: told }) => take(told));
-    worker.addEventListener("error", (event) => fail(event.message));
-    worker.postMessage({ kind: "start", packed, data });
+    begun.addEventListener("message", ({ data: told }) => begun === worker && take(told));
+    begun.addEventListener("error", ({ message }) => begun === worker && fail(message));
+    begun.postMessage({ kind: "start", packed, data });
+    worker = begun;
   };
 
-  // All that is asked is answered with a problem, and the worker begun again.
+  // The worker's script failed: all that is asked is answered with a problem, and the worker is begun again once something is asked.
   const fail = (text) => {
     const others = [...asked.values()];
     asked.clear();
     worker.terminate();
-    begin();
-    const detail = `the program ended: ${text}`;
-    others.forEach((one) => one.answer(new Response(JSON.stringify({ title: "ProgramFailed", status: 503, detail }), { status: 503 })));
+    worker = null;
+    const problem = JSON.stringify({ title: "ProgramFailed", status: 503, detail: `the program ended: ${text}` });
+    for (const one of others) {
+      if (one.isDropped) continue;
+      if (one.controller) one.controller.error(broken(text));
+      else one.answer(new Response(problem, { status: 503, headers: { "Content-Type": "application/problem+json" } }));
+    }
+  };
+  const broken = (text) => new DOMException(text, "NetworkError");
+
+  const take = ({ id, kind, ...more }) => {
+    if (kind === "state") tellState(more.status);
+    if (kind === "at") current = id;
+    const one = asked.get(id);
+    if (!one) return;
+    if (kind === "head") headed(one, more);
+    if (kind === "piece") added(one, more.piece);
+    if (["end", "dropped", "broken"].includes(kind)) ended(id, one, kind, more.text);
   };
 
-  const take = ({ id, kind, status, type, piece }) => {
-    const one = asked.get(id);
-    if (kind === "state") document.body.dataset.program = status;
-    if (!one) return;
-    if (kind === "head") {
-      const stream = new ReadableStream({ start: (controller) => { one.controller = controller; } });
-      one.answer(new Response(stream, { status, headers: { "Content-Type": type } }));
-    } else if (kind === "piece") {
-      one.controller.enqueue(piece);
-    } else {
-      asked.delete(id);
-      if (kind === "end") one.controller.close();
-    }
+  // (a list that goes on in another worker has its stream already)
+  const headed = (one, { status, type }) => {
+    if (one.controller) return;
+    const stream = new ReadableStream({ start: (controller) => { one.controller = controller; } });
+    one.answer(new Response(stream, { status, headers: { "Content-Type": type } }));
+  };
+  const added = (one, piece) => {
+    one.question.from += 1;
+    if (!one.isDropped) one.controller.enqueue(piece);
+  };
+  const ended = (id, one, kind, text) => {
+    asked.delete(id);
+    if (one.isDropped) return;
+    if (kind === "end") one.controller.close();
+    else one.controller.error(broken(text));
   };
 
   const drop = (id, reason) => {
     const one = asked.get(id);
     if (!one) return;
+    one.isDropped = true;
     one.refuse(reason);
     if (one.controller) one.controller.error(reason);
-    worker.postMessage({ kind: "drop", id });
-    setTimeout(() => asked.has(id) && restart(id), PATIENCE);
+    if (worker) worker.postMessage({ kind: "drop", id });
+    setTimeout(() => look(id), PATIENCE);
   };
 
-  // The worker is at a question that was dropped: another one goes on with all others.
-  const restart = (dropped) => {
+  // Where the worker is still at a question that was dropped, it is begun again. Where it is at another one, it lets the dropped one go later.
+  const look = (id) => {
+    if (!asked.has(id)) return;
+    if (current === id) restart();
+    else setTimeout(() => look(id), PATIENCE);
+  };
+
+  // Another worker goes on with all that isn't dropped, behind the pieces that are there.
+  const restart = () => {
     worker.terminate();
-    asked.delete(dropped);
     begin();
     for (const [id, one] of asked) {
-      if (one.controller) {
-        asked.delete(id);
-        one.controller.error(new DOMException("the program was begun again", "NetworkError"));
-      } else {
-        worker.postMessage(one.question);
-      }
+      if (one.isDropped) asked.delete(id);
+      else worker.postMessage(one.question);
     }
   };
 
-  window.fetch = (address, { method = "GET", body = null, headers = {}, signal = null } = {}) => new Promise((answer, refuse) => {
+  window.fetch = (address, { body = null, headers = {}, signal = null } = {}) => new Promise((answer, refuse) => {
     if (signal && signal.aborted) {
       refuse(signal.reason);
       return;
     }
     count += 1;
     const id = count;
-    const question = { kind: "ask", id, address, method, body, accept: headers.Accept || "" };
-    asked.set(id, { question, answer, refuse, controller: null });
+    const question = { kind: "ask", id, address, body, accept: headers.Accept || "", from: 0 };
+    asked.set(id, { question, answer, refuse, controller: null, isDropped: false });
+    if (worker === null) begin();
     worker.postMessage(question);
     if (signal) signal.addEventListener("abort", () => drop(id, signal.reason), { once: true });
   });

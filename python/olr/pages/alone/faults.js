@@ -31,6 +31,6 @@ const isInCapitals = (word) => /^[A-Z]+$/.test(word);
 
 // A text of the table with values in place of its capital letters, and without its marks for code.
 function filledFault(text, values) {
-  const plain = text.replaceAll("`", "").replaceAll(" (see below)", "");
+  const plain = text.replaceAll("`", "");
   return values.reduce((filled, [place, word]) => filled.replace(new RegExp(`\\b${place}\\b`, "g"), () => word), plain);
 }

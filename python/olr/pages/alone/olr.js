@@ -1,5 +1,5 @@
-// The program `olr` as a WebAssembly module: words, files and standard input as bytes, and the status, the output and
-// the text of a fault as bytes. It serves Node and browsers alike.
+// The program `olr` as a WebAssembly module. It reads the files of a map once, and then takes words and standard input as
+// bytes, and gives the status, the output and the text of a fault as bytes. It serves Node and browsers alike.
 const encoder = new TextEncoder()
 
 // The bytes of the words of a command line: each with a zero byte behind it, the program's name first.
@@ -28,20 +28,82 @@ class NoMemory extends Error {}
 class Stopped extends Error {}
 
 const ANSWER = 24
+const KEPT = 16
 const FIRST_ROOM = 1 << 20
 const ERROR_ROOM = 1 << 16
 
 class Olr {
   #exports
+  #kept
   #isStopped = false
 
   constructor(instance) {
     this.#exports = instance.exports
+    this.#kept = this.#take(KEPT)
+    this.#bytes(this.#kept, KEPT).fill(0)
   }
 
-  // An instance of a compiled module.
+  // An instance of a compiled module, with no map.
   static async of(module) {
     return new Olr(await WebAssembly.instantiate(module, {}))
+  }
+
+  // Reads a map, whose files have the paths `map/nodes.csv`, `map/lines.csv` and perhaps `map/bans.csv`, in place of the
+  // one before: the status, and the bytes of its errors. A map that is refused leaves none.
+  open(files) {
+    return this.#during((take) => {
+      const rooms = this.#rooms(take)
+      this.#run('olr_page_open', ...this.#given(take, packed(files)), this.#kept, ...rooms)
+      const { status, errors } = this.#told(rooms)
+      return { status, errors }
+    })
+  }
+
+  // What the program does with words, in which `--map map` is the map that was read, and a standard input: its status,
+  // and the bytes of its output and of its errors.
+  ask(words, input = new Uint8Array()) {
+    return this.#during((take) => {
+      const inputs = [wordBytes(words), input].flatMap((bytes) => this.#given(take, bytes))
+      const rooms = this.#rooms(take)
+      for (let size = FIRST_ROOM; ; size *= 8) {
+        const told = this.#asked(inputs, size, rooms)
+        if (told !== null) return told
+      }
+    })
+  }
+
+  // Gives the memory of the map back.
+  close() {
+    this.#run('olr_page_close', this.#kept)
+  }
+
+  // The same with room for an output of fewer bytes than this; null where it has as many.
+  #asked(inputs, size, rooms) {
+    return this.#during((take) => {
+      const room = take(size)
+      this.#run('olr_page_ask', ...inputs, this.#kept, room, BigInt(size), ...rooms)
+      const { status, output, errors } = this.#told(rooms)
+      return output < size ? { status, output: this.#bytes(room, output).slice(), errors } : null
+    })
+  }
+
+  // Rooms for errors and for how a call ended.
+  #rooms(take) {
+    return [take(ERROR_ROOM), BigInt(ERROR_ROOM), take(ANSWER)]
+  }
+
+  // How a call ended: the status, how many bytes the output has, and the bytes of the errors.
+  #told([errorRoom, , answer]) {
+    const view = new DataView(this.#exports.memory.buffer, Number(answer), ANSWER)
+    const [output, errors] = [8, 16].map((at) => Number(view.getBigUint64(at, true)))
+    return { status: view.getUint8(0), output, errors: this.#bytes(errorRoom, errors).slice() }
+  }
+
+  // Bytes in the memory of the module: where, and how many.
+  #given(take, bytes) {
+    const at = take(bytes.length)
+    this.#bytes(at, bytes.length).set(bytes)
+    return [at, BigInt(bytes.length)]
   }
 
   #bytes(at, length) {
@@ -54,43 +116,20 @@ class Olr {
     return at
   }
 
-  // What the program does with words, files by their paths, and a standard input: its status, and the bytes of its
-  // output and of its errors.
-  answer(words, files = {}, input = new Uint8Array()) {
+  // What work gives that takes memory, which is given back behind it.
+  #during(work) {
     if (this.#isStopped) throw new Stopped('olr: this instance was stopped by a trap')
-    const given = [wordBytes(words), packed(files), input]
     const taken = []
-    const take = (length) => taken[taken.push(this.#take(length)) - 1]
     try {
-      const inputs = given.flatMap((bytes) => {
-        const at = take(bytes.length)
-        this.#bytes(at, bytes.length).set(bytes)
-        return [at, BigInt(bytes.length)]
-      })
-      const answer = take(ANSWER)
-      const errorRoom = take(ERROR_ROOM)
-      for (let size = FIRST_ROOM; ; size *= 8) {
-        const room = take(size)
-        this.#run(inputs, room, BigInt(size), errorRoom, BigInt(ERROR_ROOM), answer)
-        const view = new DataView(this.#exports.memory.buffer, Number(answer), ANSWER)
-        const [status, output, errors] = [view.getUint8(0), view.getBigUint64(8, true), view.getBigUint64(16, true)]
-        if (output < BigInt(size)) {
-          return {
-            status,
-            output: this.#bytes(room, Number(output)).slice(),
-            errors: this.#bytes(errorRoom, Number(errors)).slice()
-          }
-        }
-        this.#exports.olr_page_give(taken.pop())
-      }
+      return work((length) => taken[taken.push(this.#take(length)) - 1])
     } finally {
       if (!this.#isStopped) taken.forEach((at) => this.#exports.olr_page_give(at))
     }
   }
 
-  #run(inputs, ...rooms) {
+  #run(name, ...given) {
     try {
-      this.#exports.olr_page_answer(...inputs, ...rooms)
+      this.#exports[name](...given)
     } catch (error) {
       this.#isStopped = true
       throw new Stopped(`olr: ${error.message}`, { cause: error })

@@ -1,49 +1,59 @@
 "use strict";
 // The worker of the page that answers by itself: it unpacks the program and the map, and answers addresses as the server does.
 //
-// It is told { kind: "start", packed, data } first, then { kind: "ask", id, address, body, accept } and { kind: "drop", id }. It tells
-// { kind: "head", id, status, type }, { kind: "piece", id, piece }, and { kind: "end", id } or { kind: "dropped", id }; and
-// { kind: "state", status } once it is ready, or can't be.
+// It is told { kind: "start", packed, data } first, then { kind: "ask", id, address, body, accept, from } and { kind: "drop", id }, where
+// `from` counts the pieces that are there already. It tells { kind: "at", id } when it begins with a piece, { kind: "head", id, status, type },
+// { kind: "piece", id, piece }, and { kind: "end", id }, { kind: "dropped", id } or { kind: "broken", id, text }; and { kind: "state", status }
+// once it is ready, or can't be.
 
 const JSON_TYPE = "application/json";
 const LINES_TYPE = "application/x-ndjson";
 const FEATURES_TYPE = "application/geo+json-seq";
-// Records that are answered before others get a turn.
-const RECORDS_OF_LOT = 16;
+// Records of a piece: they are answered before others get a turn.
+const RECORDS_OF_PIECE = 100;
 const QUESTIONS_OF_PROGRAM = ["candidates", "match", "places", "why"];
+// Addresses whose answers may have more than one piece.
+const LISTS = ["rows", "batch/places"];
 
-// What questions are answered by: { program, network, streets, questions, tables, confidence, map, tiles }.
+// What questions are answered by: { program, network, streets, sources, questions, tables, confidence, map, tiles }.
 let known = null;
+// Why there are none, if the start failed.
+let broken = null;
 const dropped = new Set();
 
 // ---- the start
 async function begun({ packed, data }) {
   const files = await unpacked(packed);
   const text = (name) => (files[name] ? new TextDecoder().decode(files[name]) : null);
-  const { "olr.wasm": module, ...ofMap } = files;
-  const program = await Program.of(module, ofMap);
+  const { "olr.wasm": module, "sources.json": roads = null, ...ofMap } = files;
+  const program = onPart(await Program.of(module, ofMap), data.map.points);
   const network = Network.of({ nodes: text("nodes.csv"), lines: text("lines.csv"), bans: text("bans.csv") });
   const { questions, tables, confidence, map, tiles } = data;
-  return { program, network, streets: Streets.of(network), questions, tables, confidence, map, tiles };
+  const sources = sourcesOf(roads, network);
+  return { program, network, streets: Streets.of(network), sources, questions, tables, confidence, map, tiles };
 }
 
 // ---- addresses
-// What an address answers: { status, type, pieces }, whose pieces are texts, and may come one after the other.
-function answerOf({ address, body, accept }) {
+// What an address answers: { status, type, pieces }, whose pieces are texts, and may come one after the other. The first ones are left out.
+function answerOf({ address, body, accept, from }) {
+  if (broken !== null) throw broken;
   const [path, query = ""] = address.split(/\?(.*)/s);
+  if (from > 0 && !LISTS.includes(path)) return texted();
   const options = optionsOf(query);
-  if (path === "health") return said({ map: known.map.name, digest: known.map.digest });
+  if (path === "health") return said({ map: known.map.shown, digest: known.map.digest });
   if (path === "messages") return lined(LINES_TYPE, messagesOf(body, options));
   if (path === "scene") return said(sceneAt(options));
-  if (path === "rows") return lined(LINES_TYPE, rowsOf(body, numbersOf("places", options, known.questions)));
-  if (path === "batch/places" && accept.includes(FEATURES_TYPE)) return lined(FEATURES_TYPE, featuresOf(body, numbersOf("places", options, known.questions)));
+  if (path === "rows") return lined(LINES_TYPE, rowsOf(body, numbersOf("places", options, known.questions), from));
+  if (path === "batch/places" && accept.includes(FEATURES_TYPE)) {
+    return lined(FEATURES_TYPE, featuresOf(body, numbersOf("places", options, known.questions), from));
+  }
   if (path === "show") return texted(shown(options));
   if (QUESTIONS_OF_PROGRAM.includes(path)) return texted(ownAnswer(questionOf(path, options, known.questions)));
   throw new Problem(404, "NotFound", "there is no such address");
 }
 
 const said = (value) => texted(JSON.stringify(value));
-const texted = (text) => lined(JSON_TYPE, [text]);
+const texted = (...texts) => lined(JSON_TYPE, texts);
 const lined = (type, pieces) => ({ status: 200, type, pieces });
 
 // The program's own answer to a question, as it writes it.
@@ -83,7 +93,7 @@ function sceneAt(options) {
   const judgement = typeof places === "string" ? null : judged(places, readReference(text), network, judging);
   return sceneOf({
     reference: ref, show, candidates, places, page, why, network, streets, judgement, confidence: judging.confidence, note, numbers,
-    mapName: map.name, tiles, tables,
+    mapName: map.folder, tiles, tables,
   });
 }
 
@@ -96,24 +106,26 @@ async function recordsOf(body) {
   return lines.map((line) => line.split(/\t(.*)/s).slice(0, 2));
 }
 
-// The lines of the program about records, some at a time, and the reference of each.
-async function* answered(body, numbers) {
+// The lines of the program about records, a piece at a time, and the reference of each.
+async function* answered(body, numbers, from) {
   const records = await recordsOf(body);
-  for (let begin = 0; begin < records.length; begin += RECORDS_OF_LOT) {
-    const lot = records.slice(begin, begin + RECORDS_OF_LOT);
+  for (let begin = from * RECORDS_OF_PIECE; begin < records.length; begin += RECORDS_OF_PIECE) {
+    const lot = records.slice(begin, begin + RECORDS_OF_PIECE);
     const lines = known.program.lines("places", listing(numbers), lot);
     yield lines.map((line, at) => [line, lot[at][1]]);
   }
 }
 
-async function* rowsOf(body, numbers) {
+async function* rowsOf(body, numbers, from) {
   const chosen = judgingBy(known.confidence, numbers);
-  for await (const lot of answered(body, numbers)) yield lot.map(([line, ref]) => `${rowText(rowOf(line, ref, known.network, chosen))}\n`).join("");
+  for await (const lot of answered(body, numbers, from)) yield lot.map(([line, ref]) => `${rowText(rowOf(line, ref, known.network, chosen))}\n`).join("");
 }
 
-async function* featuresOf(body, numbers) {
+async function* featuresOf(body, numbers, from) {
   const { judging } = judgingBy(known.confidence, numbers);
-  for await (const lot of answered(body, numbers)) yield lot.map(([line, ref]) => featureLine(line, ref, known.network, judging)).join("");
+  for await (const lot of answered(body, numbers, from)) {
+    yield lot.map(([line, ref]) => featureLine(line, ref, known.network, judging, known.sources)).join("");
+  }
 }
 
 async function* messagesOf(body, options) {
@@ -143,46 +155,56 @@ const turn = () => new Promise((done) => {
 function problemOf(error) {
   if (error instanceof Problem) return error;
   if (error instanceof ToolError) return new Problem(503, "MapRefused", error.message);
-  return new Problem(503, "ProgramFailed", error.message);
+  // What the program says before any record, as that there is no memory for its map.
+  const fault = faultOf(error.message.replace(/^olr: /, ""), known === null ? {} : known.tables.faults);
+  return new Problem(503, fault.meaning ? fault.text.split(" ")[0] : "ProgramFailed", faultText(fault));
 }
 
 async function answer(question) {
   const { id } = question;
+  const tell = (kind, more = {}) => postMessage({ kind, id, ...more });
   const encoder = new TextEncoder();
-  let isBegun = false;
+  let isHeaded = false;
   const head = (status, type) => {
-    isBegun = true;
-    postMessage({ kind: "head", id, status, type });
+    if (!isHeaded) tell("head", { status, type });
+    isHeaded = true;
   };
   try {
+    if (dropped.delete(id)) return tell("dropped");
+    tell("at");
     const { status, type, pieces } = answerOf(question);
     for await (const piece of pieces) {
-      if (!isBegun) head(status, type);
-      postMessage({ kind: "piece", id, piece: encoder.encode(piece) });
+      head(status, type);
+      tell("piece", { piece: encoder.encode(piece) });
       await turn();
-      if (dropped.delete(id)) return postMessage({ kind: "dropped", id });
+      if (dropped.delete(id)) return tell("dropped");
+      tell("at");
     }
-    if (!isBegun) head(status, type);
+    head(status, type);
   } catch (error) {
-    if (isBegun) return postMessage({ kind: "dropped", id });
+    if (isHeaded) return tell("broken", { text: error.message });
     const problem = problemOf(error);
     head(problem.status, "application/problem+json");
-    postMessage({ kind: "piece", id, piece: encoder.encode(JSON.stringify(problem.document())) });
+    tell("piece", { piece: encoder.encode(JSON.stringify(problem.document())) });
   }
-  return postMessage({ kind: "end", id });
+  return tell("end");
 }
 
-// Questions are answered one after the other: the program has one thread.
-let last = null;
-addEventListener("message", ({ data: told }) => {
-  if (told.kind === "start") {
-    last = begun(told).then((all) => { known = all; }).then(() => postMessage({ kind: "state", status: "ready" }), (error) => {
-      postMessage({ kind: "state", status: "failed" });
-      throw error;
-    });
-  } else if (told.kind === "drop") {
-    dropped.add(told.id);
-  } else {
-    last = last.then(() => (dropped.delete(told.id) ? postMessage({ kind: "dropped", id: told.id }) : answer(told)));
+// Begins, and tells whether it could.
+async function start(told) {
+  try {
+    known = await begun(told);
+    postMessage({ kind: "state", status: "ready" });
+  } catch (error) {
+    broken = error;
+    postMessage({ kind: "state", status: "failed" });
   }
+}
+
+// A list is answered piece by piece, and other questions get their turn in between.
+let started = null;
+addEventListener("message", ({ data: told }) => {
+  if (told.kind === "start") started = start(told);
+  else if (told.kind === "drop") dropped.add(told.id);
+  else started.then(() => answer(told));
 });

@@ -39,6 +39,10 @@
     section.tables.forEach((table) => tableOfBars({ place: add(tables, "div", ""), ...table }));
   }
   find("left-out").textContent = data.left_out;
+  if (data.again) {
+    find("again").querySelector("a").href = data.again;
+    find("again").hidden = false;
+  }
   find("cut").textContent = data.cut
     ? `Behind them are the ${data.lines.length.toLocaleString("en")} most important lines of the map near them; ${data.cut.toLocaleString("en")} others aren't drawn.`
     : "Behind them are the lines of the map near them.";
@@ -71,7 +75,12 @@
     };
     return data.view.replace(/@(POLICY|TITLE|LEAFLET_CSS|LEAFLET_JS|DATA)@/g, (_, name) => values[name]);
   };
+  // A row with an address has a page that answers, in this file.
   const open = (index) => {
+    if (data.rows[index].live) {
+      window.open(data.rows[index].live, "_blank", "noopener");
+      return;
+    }
     if (!data.scenes[index]) return;
     const page = new Blob([pageOf(index)], { type: "text/html;charset=utf-8" });
     window.open(URL.createObjectURL(page), "_blank");
@@ -121,7 +130,7 @@
     { title: "length, m", number: true, value: (row) => row.length, text: (value) => value.toLocaleString("en", { minimumFractionDigits: 1 }) },
     { title: "fault or reason", value: (row) => row.reason, mark: () => "reason" },
     ...data.kept.map((name, at) => ({ title: name, value: (row) => row.kept[at], mark: () => "kept" })),
-    { title: "page", value: (row) => (row.scene ? "open" : null), act: open, label: (row) => `open the page of ${named(row)}` },
+    { title: "page", value: (row) => (row.scene || row.live ? "open" : null), act: open, label: (row) => `open the page of ${named(row)}` },
   ];
   const table = sortedTable({
     place: find("rows"),

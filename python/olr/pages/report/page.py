@@ -27,6 +27,12 @@ class About(NamedTuple):
     """What the summary says first, as sentences."""
     probabilities: str
     """What probabilities are of, or why there are none."""
+    again: str = ""
+    """The address at which all references of the table can be asked again, if there is one."""
+
+    def title(self) -> str:
+        """What the page is called."""
+        return f"Report: {self.messages} on {self.map}"
 
 
 def page_of(
@@ -43,6 +49,7 @@ def page_of(
         "summary": summary(counted, about.first),
         "facts": _facts(about),
         "sections": [section.content() for section in sections(counted, about.probabilities)],
+        "again": about.again,
         "left_out": left_out(counted.places.verdicts, shown),
         "kept": kept,
         "rows": rows.rows,
@@ -52,7 +59,7 @@ def page_of(
         "cut": rows.cut,
         "view": unfilled(VIEW),
     }
-    return html_of(TEMPLATE, f"Report: {data['title']}", data, tiles)
+    return html_of(TEMPLATE, about.title(), data, tiles)
 
 
 def _facts(about: About) -> Mapping[str, str]:

@@ -6,9 +6,9 @@
 // `place` is its section, and `fields` are those of options.js. `list.read(body, reading, isWanted)` reads a text or file, of which `reading`
 // says { format, ref, key, base64 }, and throws a Trouble if it isn't understood; if it isn't wanted any more then, all stays as it is.
 // `list.ask(options)` asks for the likeliest places of all rows, some at a time, `list.rowOf(state)` finds the row of a state, and
-// `list.choose(row)` marks one. `list.restore(options)` shows what the tab has kept, and asks for what isn't answered, or was with other
-// options; `list.isOf(map)` says which map is served, so that answers of another one are asked for anew. `say(text)` is told what has
-// begun and ended.
+// `list.choose(row)` marks one. `list.restore(options, first)` shows what the tab has kept, or `first` if that is a list as it is kept, and
+// asks for what isn't answered, or was with other options; `list.isOf(map)` says which map is served, so that answers of another one are
+// asked for anew. `say(text)` is told what has begun and ended.
 // References that are asked at once. The server gives others a turn between two lots.
 const AT_ONCE = 500;
 
@@ -213,8 +213,8 @@ function listOf({ place, data, fields, say, onChoose }) {
     return JSON.stringify({ map, options, state, note, names, rows: rows.map((row) => names.map((name) => row[name])) });
   };
   addEventListener("pagehide", () => keep(textWith([...GIVEN, ...Object.keys(UNASKED)]), textWith(GIVEN)));
-  const restore = (given) => {
-    const found = kept();
+  const restore = (given, first) => {
+    const found = kept() || first;
     if (!found) return;
     ({ map, options, note } = found);
     const named = (values) => Object.fromEntries(values.map((value, at) => [found.names[at], value]));

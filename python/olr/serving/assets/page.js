@@ -234,7 +234,8 @@
     list.isOf(JSON.stringify(digest));
   }).catch(() => {});
   go(stateOf(location.search, fields.names), "replace");
-  list.restore(state.options);
+  list.restore(state.options, state.ref ? null : data.list);
+  if (data.list && list.isThere() && !state.ref) follow(list.first(), "replace");
   list.choose(list.rowOf(state));
   find("ref").focus();
   document.body.dataset.ready = "yes";
