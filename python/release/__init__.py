@@ -4,8 +4,11 @@
 |---|---|
 | `state` | the tree that is released: its commit, version, program and files |
 | `files` | files with fixed dates, order and owners, and folders made of them |
-| `help` | the numbers that the program takes, as its help lists them |
-| `program_files` | the man page, completion, examples and documents that go with the program |
+| `words` | the words that the program takes, as its help lists them |
+| `filling` | texts with values for the names in them |
+| `completion` | the completion of both commands, for bash, zsh and fish |
+| `links` | pages without links to files that aren't given out |
+| `program_files` | what goes with the program and the tools: man pages, completion, examples and documents |
 | `archive` | `olr-VERSION-linux-x86_64.tar.gz` |
 | `debian` | what all Debian packages have |
 | `debian_packages` | `olr_VERSION_amd64.deb` and `olr-tools_VERSION_all.deb` |

@@ -20,6 +20,7 @@ SUFFIXES = (".deb", ".gz", ".whl")
 def make(folder: Path) -> None:
     """Makes all files in a folder, in place of those of an earlier release. Raises `ToolError`."""
     state = State()
+    state.check_number()
     print(f"olr {state.version} of commit {state.commit}", flush=True)
     print(f"the program is {state.program.relative_to(state.top)}", flush=True)
     made: dict[str, bytes] = {}

@@ -4,11 +4,10 @@ import io
 import tarfile
 from collections.abc import Sequence
 
+from release.completion import of_program
 from release.files import RUN, Entry, compressed
-from release.program_files import completion, documents, manual, program_entry
+from release.program_files import documents, manual, program_entry
 from release.state import State
-
-PAGES = ("CHANGELOG.md", "LICENSE", "NOTICE", "README.md", "SECURITY.md")
 
 
 def archive_name(state: State) -> str:
@@ -19,12 +18,11 @@ def archive_name(state: State) -> str:
 def archive(state: State) -> bytes:
     """The archive, as tar and gzip pack it. Raises `ToolError` where a file is missing."""
     entries = [
+        *documents(state, "LICENSE", "NOTICE"),
         program_entry(state),
         Entry("COMMIT", f"{state.commit}\n".encode()),
         Entry("olr.1", manual(state, state.program)),
-        Entry("olr.bash", completion(state.program)),
-        *(Entry(name, state.read(name)) for name in PAGES),
-        *documents(state),
+        *(Entry(f"olr.{shell}", text) for shell, text in of_program(state.program).items()),
     ]
     return compressed(_tar(archive_name(state), sorted(entries), state.seconds))
 

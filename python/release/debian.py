@@ -30,7 +30,7 @@ class Package:
 
     def file_name(self, state: State) -> str:
         """The name of its file."""
-        return f"{self.name}_{state.version}_{self.architecture}.deb"
+        return f"{self.name}_{state.debian_version}_{self.architecture}.deb"
 
 
 def packed(package: Package, state: State) -> bytes:
@@ -66,7 +66,13 @@ def _pack(folder: Path, file: Path, seconds: int) -> None:
 
 def _documents(package: Package, state: State) -> list[Entry]:
     """What each package says of its licence and of its changes."""
-    changes = filled(state, "changelog", NAME=package.name, MAINTAINER=MAINTAINER)
+    changes = filled(
+        state,
+        "changelog",
+        NAME=package.name,
+        MAINTAINER=MAINTAINER,
+        DEBIAN_VERSION=state.debian_version,
+    )
     folder = f"usr/share/doc/{package.name}"
     return [
         Entry(f"{folder}/changelog.gz", compressed(changes)),
@@ -81,7 +87,7 @@ def _control(package: Package, state: State, entries: Sequence[Entry]) -> bytes:
     kibibytes = sum(-(-len(entry.content) // 1024) for entry in entries)
     return f"""\
 Package: {package.name}
-Version: {state.version}
+Version: {state.debian_version}
 Architecture: {package.architecture}
 Maintainer: {MAINTAINER}
 Installed-Size: {kibibytes}

@@ -5,12 +5,12 @@ from collections.abc import Sequence
 
 from olr.setup import FILES, MODULES
 from release.debian import Package
-from release.files import Entry, compressed
-from release.program_files import TEXTS, completion, documents, filled, manual, program_entry
+from release.files import Entry
+from release.filling import TEXTS
+from release.program_files import program_entry, shared_of_program, shared_of_tools
 from release.state import State
 from release.wheel import package_files
 
-PAGES = ("CHANGELOG.md", "README.md", "SECURITY.md")
 PROGRAM_DESCRIPTION = """\
 lists all ways in which an OpenLR reference fits a road map
  OpenLR location references are short texts by which traffic messages say
@@ -28,10 +28,6 @@ tools around olr, a program that finds OpenLR references on maps
 def program_package(state: State) -> Package:
     """The package `olr`."""
     program = program_entry(state)
-    documentation = [
-        *(Entry(name, state.read(name)) for name in PAGES),
-        *documents(state),
-    ]
     return Package(
         name="olr",
         architecture="amd64",
@@ -40,10 +36,8 @@ def program_package(state: State) -> Package:
         description=PROGRAM_DESCRIPTION,
         entries=[
             program.below("usr/bin"),
-            Entry("usr/share/man/man1/olr.1.gz", compressed(manual(state, state.program))),
-            Entry("usr/share/bash-completion/completions/olr", completion(state.program)),
             Entry("usr/share/lintian/overrides/olr", (TEXTS / "lintian").read_bytes()),
-            *(entry.below("usr/share/doc/olr") for entry in documentation),
+            *(entry.below("usr") for entry in shared_of_program(state)),
         ],
     )
 
@@ -57,14 +51,14 @@ def tools_package(state: State, metadata: Sequence[Entry]) -> Package:
         architecture="all",
         section="science",
         depends=[
-            f"olr (= {state.version})",
+            f"olr (= {state.debian_version})",
             "python3 (>= 3.11)",
             *sorted({*MODULES.values(), *FILES.values()}),
         ],
         description=TOOLS_DESCRIPTION,
         entries=[
             Entry("usr/bin/olr-tools", (TEXTS / "olr-tools").read_bytes(), is_run=True),
-            Entry("usr/share/man/man1/olr-tools.1.gz", compressed(filled(state, "olr-tools.1"))),
+            *(entry.below("usr") for entry in shared_of_tools(state)),
             *(entry.below("usr/lib/python3/dist-packages") for entry in modules),
         ],
         scripts=scripts,

@@ -1,15 +1,19 @@
 """What goes with the program: its man page, its completion, examples and documents."""
 
 import time
-from collections.abc import Iterable, Mapping
+from collections.abc import Iterable
 from pathlib import Path
 
-from release.files import Entry
-from release.help import Number, numbers_of, tolerances
+from release import completion
+from release.files import Entry, compressed
+from release.filling import text_of
+from release.links import with_living_links
 from release.state import State
+from release.words import Option, commands_of, numbers_of
 
-TEXTS = Path(__file__).with_name("texts")
-"""Texts in which names between @ stand for values."""
+PAGES = ("CHANGELOG.md", "CONTRIBUTING.md", "README.md", "SECURITY.md")
+FOLDERS = ("docs", "examples", "python/examples")
+"""What is given out for reading."""
 
 
 def program_entry(state: State) -> Entry:
@@ -19,42 +23,49 @@ def program_entry(state: State) -> Entry:
 
 def manual(state: State, program: Path) -> bytes:
     """The man page of a program: its numbers are those of its help."""
-    values = {"TOLERANCES": _items(tolerances(program))}
+    options = {" ".join(it.words): numbers_of(it) for it in commands_of(program)}
+    tolerances = options["candidates"]
+    values = {"TOLERANCES": _items(tolerances)}
     for question in ("match", "places", "why"):
-        values[f"NUMBERS_OF_{question.upper()}"] = _items(numbers_of(program, question))
+        own = (number for number in options[question] if number not in tolerances)
+        values[f"NUMBERS_OF_{question.upper()}"] = _items(own)
     return filled(state, "olr.1", **values)
 
 
-def completion(program: Path) -> bytes:
-    """Completion of a program's words, for bash."""
-    names = " ".join(f"--{number.name}" for number in tolerances(program))
-    return _replaced(TEXTS / "olr.bash", {"TOLERANCES": names})
-
-
-def _items(numbers: Iterable[Number]) -> str:
+def _items(numbers: Iterable[Option]) -> str:
     """What the man page says of some numbers."""
     return "\n".join(
-        f'.TP\n.BI \\-\\-{number.name} " N"\n{number.purpose}. By default {number.default}.'
+        f'.TP\n.BI \\-\\-{number.name.lstrip("-")} " N"\n{number.purpose}. By default {number.default}.'
         for number in numbers
     )
 
 
-def documents(state: State) -> list[Entry]:
-    """The examples, and the pages to which README leads."""
-    return [Entry(name, state.read(name)) for name in state.names("docs", "examples")]
+def documents(state: State, *more: str) -> list[Entry]:
+    """The pages, the examples, and other files of the repository. Their links lead to one another."""
+    names = (*PAGES, *more, *state.names(*FOLDERS))
+    return with_living_links(Entry(name, state.read(name)) for name in names)
+
+
+def shared_of_program(state: State) -> list[Entry]:
+    """What goes with the program, where Debian has it below `/usr`: man page, completion, documents and examples."""
+    return [
+        Entry("share/man/man1/olr.1.gz", compressed(manual(state, state.program))),
+        *completion.entries("olr", completion.of_program(state.program)),
+        *(entry.below("share/doc/olr") for entry in documents(state)),
+    ]
+
+
+def shared_of_tools(state: State) -> list[Entry]:
+    """What goes with the tools, where Debian has it below `/usr`: man page and completion."""
+    return [
+        Entry("share/man/man1/olr-tools.1.gz", compressed(filled(state, "olr-tools.1"))),
+        *completion.entries("olr-tools", completion.of_tools()),
+    ]
 
 
 def filled(state: State, name: str, **values: str) -> bytes:
-    """A text, in which names between @ stand for values."""
+    """A text, in which names between @ stand for values, those of the release among them."""
     date = time.strftime("%Y-%m-%d", time.gmtime(state.seconds))
     mail_date = time.strftime("%a, %d %b %Y %H:%M:%S +0000", time.gmtime(state.seconds))
-    values |= {"DATE": date, "MAIL_DATE": mail_date, "VERSION": state.version}
-    return _replaced(TEXTS / name, values)
-
-
-def _replaced(file: Path, values: Mapping[str, str]) -> bytes:
-    """The text of a file with values for their names."""
-    text = file.read_text(encoding="utf-8")
-    for key, value in values.items():
-        text = text.replace(f"@{key}@", value)
-    return text.encode()
+    given = {"DATE": date, "MAIL_DATE": mail_date, "VERSION": state.version}
+    return text_of(name, **given, **values)

@@ -7,7 +7,7 @@ from functools import cached_property
 from pathlib import Path
 
 from olr.errors import ToolError
-from olr.version import version
+from olr.version import Section, sections
 
 TOP = Path(__file__).resolve().parents[2]
 
@@ -20,17 +20,54 @@ class State:
 
     @cached_property
     def version(self) -> str:
-        """The version of all that is released."""
-        found = version()
-        if not found:
-            raise ToolError("the sources of the program name no version")
-        return found
+        """The version of all that is released, as PEP 440 has it.
+
+        It is the number of the newest section of CHANGELOG.md. If that has no date, it is a development version before that
+        number, `1.1.0.dev2301+ga3c4ddc6`: with the number of commits, so that later ones are greater, and the name of the last
+        one. Where files were changed since the commit, a digest of the changes is added: other files have another version.
+        """
+        number, is_released = self._section
+        if is_released:
+            local = []
+        else:
+            number = f"{number}.dev{self._commits}"
+            local = [f"g{self._git('rev-parse', 'HEAD')[:8]}"]
+        if self._changes:
+            digest = hashlib.sha256(self._changes.encode(errors="surrogateescape")).hexdigest()
+            local.append(f"changed.{digest[:8]}")
+        return "+".join([number, ".".join(local)] if local else [number])
+
+    @property
+    def debian_version(self) -> str:
+        """The version as Debian's packages have it, by which dpkg sorts it as pip does."""
+        return self.version.replace(".dev", "~dev")
+
+    @cached_property
+    def _section(self) -> Section:
+        """The newest section of CHANGELOG.md. Raises `ToolError` if there is none."""
+        try:
+            return sections(self.read("CHANGELOG.md").decode())[0]
+        except (ValueError, IndexError) as error:
+            raise ToolError(f"CHANGELOG.md names no version: {error}") from error
+
+    @cached_property
+    def _commits(self) -> int:
+        """How many commits there are up to this one. Raises `ToolError` where git has only the last ones."""
+        if self._git("rev-parse", "--is-shallow-repository") == "true":
+            raise ToolError(
+                "this clone lacks earlier commits, by whose number the version is known: run git fetch --unshallow"
+            )
+        return int(self._git("rev-list", "--count", "HEAD"))
+
+    @cached_property
+    def _changes(self) -> str:
+        """What was changed since the commit, in files that are part of the repository. An empty text, if nothing was."""
+        return self._git("diff", "--binary", "--no-ext-diff", "--no-color", "HEAD")
 
     @cached_property
     def commit(self) -> str:
         """The commit, in hexadecimal digits, and a remark if files were changed since."""
-        changed = self._git("status", "--porcelain", "--untracked-files=no")
-        return self._git("rev-parse", "HEAD") + (", with changes" if changed else "")
+        return self._git("rev-parse", "HEAD") + (", with changes" if self._changes else "")
 
     @cached_property
     def seconds(self) -> int:
@@ -39,6 +76,15 @@ class State:
         if not given.isdecimal():
             raise ToolError(f"SOURCE_DATE_EPOCH is {given}: it has to be a number of seconds")
         return int(given)
+
+    def check_number(self) -> None:
+        """Raises `ToolError` if the newest section of CHANGELOG.md has a date, and the program another number."""
+        number, is_released = self._section
+        said = self._run(str(self.program), "--version").removeprefix("olr ")
+        if is_released and said != number:
+            raise ToolError(
+                f"CHANGELOG.md says that {number} is released, and the program is {said}"
+            )
 
     @cached_property
     def program(self) -> Path:
@@ -81,7 +127,9 @@ class State:
     def _run(self, *command: str) -> str:
         """What a command prints, without the end of its last line."""
         try:
-            ended = subprocess.run(command, capture_output=True, text=True, check=True)
+            ended = subprocess.run(
+                command, capture_output=True, text=True, errors="surrogateescape", check=True
+            )
         except FileNotFoundError as error:
             raise ToolError(f"there is no command {command[0]}") from error
         except subprocess.CalledProcessError as error:

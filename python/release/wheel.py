@@ -1,20 +1,22 @@
 """The wheel: the package, the program in it and beside it, and Leaflet with its licence."""
 
+import json
 import os
 import subprocess
 import sys
 import tempfile
 import zipfile
+from collections.abc import Sequence
 from pathlib import Path
 
 from olr.errors import ToolError
 from release.files import Entry, write_folder
-from release.program_files import program_entry
+from release.links import living
+from release.program_files import program_entry, shared_of_program, shared_of_tools
 from release.state import State
 
 LEAFLET = Path("/usr/share/javascript/leaflet")
 LEAFLET_LICENCE = Path("/usr/share/doc/libjs-leaflet/copyright")
-VERSION_SOURCE = "crates/olr_words/src/command.rt"
 
 
 def wheel_name(state: State) -> str:
@@ -47,15 +49,42 @@ def package_files(state: State) -> list[Entry]:
 
 def _sources(state: State) -> list[Entry]:
     """A tree like that of the repository, of what setuptools read, with the program and Leaflet in the package."""
-    project = ("pyproject.toml", "README.md")
+    shared = [*shared_of_program(state), *shared_of_tools(state)]
     return [
-        Entry(VERSION_SOURCE, state.read(VERSION_SOURCE)),
-        *(Entry(f"python/{name}", state.read(f"python/{name}")) for name in project),
+        Entry("python/pyproject.toml", _project(state, shared)),
+        Entry("python/README.md", description(state)),
+        *(entry.below("python") for entry in shared),
         *(Entry(f"python/{name}", state.read(name)) for name in ("LICENSE", "NOTICE")),
         *(entry.below("python") for entry in package_files(state)),
         program_entry(state).below("python/olr/bin"),
         *(entry.below("python/olr/pages/leaflet") for entry in _leaflet()),
     ]
+
+
+def _project(state: State, shared: Sequence[Entry]) -> bytes:
+    """What setuptools read of the package, with the version of the release and the files below `share`. Raises `ToolError` if
+    pyproject.toml has another form."""
+    text = state.read("python/pyproject.toml").decode()
+    of_version = (
+        'dynamic = ["version"]',
+        '[tool.setuptools.dynamic]\nversion = { attr = "olr.version.VERSION" }',
+    )
+    of_data = '[tool.setuptools.data-files]\nbin = ["olr/bin/olr"]'
+    for part in (*of_version, of_data):
+        if text.count(part) != 1:
+            raise ToolError(f"python/pyproject.toml lacks {part!r}")
+    folders: dict[str, list[str]] = {}
+    for entry in shared:
+        folders.setdefault(entry.path.rpartition("/")[0], []).append(entry.path)
+    rows = [f"{json.dumps(folder)} = {json.dumps(paths)}" for folder, paths in folders.items()]
+    text = text.replace(of_version[0], f'version = "{state.version}"').replace(of_version[1], "")
+    return text.replace(of_data, "\n".join([of_data, *rows])).encode()
+
+
+def description(state: State) -> bytes:
+    """What the wheel says of itself: what the package's page has of its use. No other page can be reached from there."""
+    page = state.read("python/README.md").decode()
+    return living("python/README.md", page.partition("\n## In the repository\n")[0], ()).encode()
 
 
 def _leaflet() -> list[Entry]:

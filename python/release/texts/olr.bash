@@ -1,57 +1,35 @@
-# Completion of the words of olr, for bash: commands, options and files. `source` this file, or install it as
+# Completion of the words of olr, for bash. `source` this file, or install it as
 # /usr/share/bash-completion/completions/olr.
 
-# The options that all questions have, each with a number.
-_olr_tolerances='@TOLERANCES@'
-
-# The options of a command: _olr_options COMMAND QUESTION
-_olr_options() {
-    local map='--nodes --lines --bans --map' format='--format'
-    local tolerances=$_olr_tolerances
-    if [ "$1" = batch ]; then
-        [ -n "$2" ] || return
-        format='--input'
-        set -- "$2" batch
-    fi
-    case $1 in
-        show) map='' tolerances='' ;;
-        match) format+=' --page' && [ "$2" = batch ] || format+=' --after --all' ;;
-        places) format+=' --apart --within --look --most' ;;
-        why) format+=' --nearest' ;;
-    esac
-    echo "$map $tolerances $format --help"
+# Prints what may follow each command: the command, a word, what the word takes, and what it is for.
+_olr_table() {
+    cat <<'TABLE'
+@TABLE@
+TABLE
 }
 
 _olr() {
     local current=${COMP_WORDS[COMP_CWORD]} before=${COMP_WORDS[COMP_CWORD - 1]}
-    local command=${COMP_WORDS[1]} question='' words=''
+    local table of word takes at=1 command='' value='' words=''
+    table=$'\n'$(_olr_table)
     COMPREPLY=()
-    case " $_olr_tolerances " in *" $before "*) return ;; esac
-    [ "$command" != batch ] || [ "$COMP_CWORD" -lt 3 ] || question=${COMP_WORDS[2]}
-    case $before in
-        --nodes | --lines | --bans | --input)
+    while [ "$at" -lt "$COMP_CWORD" ] && [[ $table == *$'\n'"${command:+$command }${COMP_WORDS[at]}|"* ]]; do
+        command+=${command:+ }${COMP_WORDS[at++]}
+    done
+    while IFS='|' read -r of word takes _; do
+        [ "$of" = "$command" ] || continue
+        words+=" $word"
+        [ "$word" != "$before" ] || value=$takes
+    done <<<"$table"
+    case $value in
+        file | folder)
             compopt -o filenames 2>/dev/null
-            mapfile -t COMPREPLY < <(compgen -f -- "$current")
+            [ "$value" = folder ] && words=-d || words=-f
+            mapfile -t COMPREPLY < <(compgen "$words" -- "$current")
             return
             ;;
-        --map)
-            compopt -o filenames 2>/dev/null
-            mapfile -t COMPREPLY < <(compgen -d -- "$current")
-            return
-            ;;
-        --format) words='text json' ;;
-        --page | --after | --apart | --within | --look | --most | --nearest) return ;;
-        *)
-            if [ "$COMP_CWORD" -eq 1 ]; then
-                words='show candidates match places why batch help --help --version'
-            elif [ "$command" = batch ] && [ "$COMP_CWORD" -eq 2 ]; then
-                words='candidates match places why help --help'
-            elif [ "$command" = help ]; then
-                [ "$COMP_CWORD" -ne 2 ] || words='show candidates match places why batch'
-            else
-                words=$(_olr_options "$command" "$question")
-            fi
-            ;;
+        text) return ;;
+        =*) words=${value#=} ;;
     esac
     mapfile -t COMPREPLY < <(compgen -W "$words" -- "$current")
 }
