@@ -1,7 +1,7 @@
 """Where OpenLR references lie on a road map: the program `olr` from Python, and tools around it.
 
-To begin, install the modules of others by `olr-tools setup` on Debian, or `pip install olr[geo]` with a wheel. A map is a folder, which
-`olr-tools import` makes; `examples` of the repository is one. Then
+To begin, install the modules of others: on Debian by `olr-tools setup`, elsewhere as the extra `geo` of the wheel. A map is a folder, which
+`olr-tools import` makes; `examples` is one, which lies in `share/doc/olr` below `sys.prefix`. Then
 
 >>> import olr
 >>> with olr.Map("examples") as town:

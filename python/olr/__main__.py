@@ -12,11 +12,12 @@ The module click is missing, so only one command works:
 
     olr-tools setup    install what is missing on Debian, by apt-get
 
-With pip the extras of the wheel bring it: olr[maps], olr[geo] or olr[scale]."""
+Elsewhere the extras of the wheel bring it, such as olr[maps], in a virtual environment."""
 
 
 def main() -> None:
-    """Runs the command line. Ends the process: status 0, 1 for a failure, 2 for words that weren't understood."""
+    """Runs the command line. Ends the process: status 0, 1 for a failure, 2 for words that weren't understood, 3 where a limit was
+    passed that the words set."""
     open_missing()
     try:
         from olr.tools import run

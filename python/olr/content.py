@@ -50,9 +50,9 @@ class Stamp(NamedTuple):
     """When its bytes, its name or its permissions were last changed, by the clock of its file system."""
 
     @classmethod
-    def of(cls, file: Path) -> "Stamp":
-        """The stamp of a file. Raises `ToolError` if it can't be read."""
-        with readable(file):
+    def of(cls, file: Path, remedy: str = "") -> "Stamp":
+        """The stamp of a file. Raises `ToolError`, with the remedy of `readable`, if it can't be read."""
+        with readable(file, remedy):
             status = file.stat()
         return cls(
             status.st_dev, status.st_ino, status.st_size, status.st_mtime_ns, status.st_ctime_ns

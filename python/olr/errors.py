@@ -1,7 +1,11 @@
 """The errors that a user sees."""
 
+import errno
 from collections.abc import Iterator
 from contextlib import contextmanager
+
+NOT_THERE = (errno.ENOENT, errno.ENOTDIR, errno.EISDIR)
+"""Why a path can't be read that isn't the one that was meant."""
 
 
 class ToolError(Exception):
@@ -13,7 +17,7 @@ class ToolError(Exception):
     >>> import olr
     >>> olr.Network.read("nowhere")
     Traceback (most recent call last):
-    olr.errors.ToolError: nowhere/nodes.csv can't be read: No such file or directory
+    olr.errors.ToolError: nowhere/nodes.csv can't be read: No such file or directory: name a folder with nodes.csv and lines.csv
     """
 
 
@@ -83,14 +87,17 @@ def reason_of(error: OSError) -> str:
 
 
 @contextmanager
-def readable(path: object) -> Iterator[None]:
-    """Raises `ToolError` for a path with a NUL, and for each `OSError`: what is there can't be read."""
+def readable(path: object, remedy: str = "") -> Iterator[None]:
+    """Raises `ToolError` for a path with a NUL, and for each `OSError`: what is there can't be read. The remedy says what to name where
+    nothing is there, or a folder in place of a file."""
     if "\0" in str(path):
         raise ToolError(f"{str(path)!r} can't be read: no path has a NUL")
     try:
         yield
     except OSError as error:
-        raise ToolError(f"{path} can't be read: {error.strerror or error}") from error
+        what_to_do = f": {remedy}" if remedy and error.errno in NOT_THERE else ""
+        reason = f"{error.strerror or error}{what_to_do}"
+        raise ToolError(f"{path} can't be read: {reason}") from error
 
 
 ANOTHER_MAP = ": make another Map"

@@ -10,7 +10,9 @@ import shlex
 import shutil
 import subprocess
 import sys
+from importlib import metadata
 from itertools import chain
+from pathlib import Path
 
 ALWAYS = ("click", "rich")
 """Modules that each command needs, so that each extra brings them."""
@@ -49,14 +51,17 @@ TEST_MODULES = {
     "mypy": "mypy",
     "osmnx": "python3-osmnx",
     "pytest": "python3-pytest",
+    "sphinx": "python3-sphinx",
 }
 """Modules that the tests need besides."""
 
 TEST_FILES = {
     "/usr/bin/chromium-headless-shell": "chromium-headless-shell",
+    "/usr/bin/fish": "fish",
     "/usr/bin/ogrinfo": "gdal-bin",
     "/usr/bin/pyflakes3": "pyflakes3",
     "/usr/bin/jq": "jq",
+    "/usr/bin/zsh": "zsh",
     "/usr/sbin/nginx": "nginx-light",
     "/usr/share/doc/python-osmnx-doc": "python-osmnx-doc",
     "/usr/lib/python3/dist-packages/libpysal": "python3-libpysal",
@@ -68,8 +73,14 @@ TEST_FILES = {
 def missing_packages(tests: bool = False) -> list[str]:
     """Debian's packages of what this interpreter lacks, in the order of their names."""
     files = FILES | TEST_FILES if tests else FILES
-    missing = {name for file, name in files.items() if not os.path.exists(file)}
+    missing = {name for file, name in files.items() if not _is_there(file)}
     return sorted(missing.union(_missing_modules(MODULES | TEST_MODULES if tests else MODULES)))
+
+
+def _is_there(file: str) -> bool:
+    """Whether a file is there. A wheel brings its own Leaflet."""
+    own = Path(__file__).with_name("pages") / "leaflet" / Path(file).name
+    return os.path.exists(file) or (file in FILES and own.exists())
 
 
 def _missing_modules(wanted: dict[str, str]) -> list[str]:
@@ -78,16 +89,30 @@ def _missing_modules(wanted: dict[str, str]) -> list[str]:
 
 
 def set_up(tests: bool = False) -> int:
-    """Installs what is missing, and prints the commands for it first. Without the right to install it prints them alone.
+    """Installs what is missing, and prints the commands for it first. Without the right to install it prints them alone, and in a
+    virtual environment the command of pip: Debian's packages belong to Debian's own Python.
 
     Answers the status: 0 if nothing is missing any more, else 1.
     """
+    if sys.prefix != sys.base_prefix and _missing_modules(MODULES):
+        print(shlex.join(_with_pip()), flush=True)
+        print(
+            "olr-tools: this Python is a virtual environment, in which pip installs what is missing, by this line",
+            file=sys.stderr,
+        )
+        return 1
     packages = missing_packages(tests)
     if not packages:
         print("olr-tools: nothing is missing")
         return 0
     install = ["apt-get", "install", "-y", "--no-install-recommends", *packages]
-    if shutil.which("apt-get") is None or os.geteuid() != 0:
+    if shutil.which("apt-get") is None:
+        print(
+            "olr-tools: there is no apt-get, so this isn't Debian: install the wheel and its extras in a virtual environment",
+            file=sys.stderr,
+        )
+        return 1
+    if os.geteuid() != 0:
         print(shlex.join(install), flush=True)
         print("olr-tools: this line is for root on Debian: put sudo before it", file=sys.stderr)
         return 1
@@ -104,6 +129,23 @@ def set_up(tests: bool = False) -> int:
         )
         return 1
     return 0
+
+
+def _with_pip() -> list[str]:
+    """The command by which pip installs what this interpreter lacks: the extras, of the package that is installed, or of the one
+    that lies in a repository."""
+    lacking = (name for name, brought in EXTRAS.items() if _lacks(*ALWAYS, *brought))
+    try:
+        metadata.version("olr")
+        package = "olr"
+    except metadata.PackageNotFoundError:
+        package = str(Path(__file__).resolve().parents[1])
+    return [sys.executable, "-m", "pip", "install", f"{package}[{','.join(sorted(lacking))}]"]
+
+
+def _lacks(*modules: str) -> bool:
+    """Whether this interpreter lacks one of these modules."""
+    return any(importlib.util.find_spec(module) is None for module in modules)
 
 
 def _succeeds(command: list[str]) -> bool:

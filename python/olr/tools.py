@@ -9,6 +9,7 @@ import importlib
 from functools import partial
 from typing import Any
 
+from olr.commands.usage import no_such_command, usage_line
 from olr.errors import MissingModule, ToolError, reason_of
 from olr.extras import COMMANDS, lacking
 from olr.streams import complain, ended
@@ -43,6 +44,15 @@ class LateGroup(click.Group):
             raise lacking(_words(ctx, cmd_name), missing) from missing
         assert isinstance(command, click.Command)
         return command
+
+    def resolve_command(
+        self, ctx: click.Context, args: list[str]
+    ) -> tuple[str | None, click.Command | None, list[str]]:
+        """The command that words begin with. Raises `UsageError` if there is none, with what may have been meant."""
+        known = self.list_commands(ctx)
+        if args[0] not in known and not args[0].startswith("-"):
+            ctx.fail(no_such_command(args[0], known))
+        return super().resolve_command(ctx, args)
 
     def invoke(self, ctx: click.Context) -> Any:
         """Runs a command. Raises `MissingModule` also if a module isn't installed that the command needs only then."""
@@ -95,7 +105,7 @@ def setup(tests: bool) -> None:
 
 def run(words: list[str] | None = None) -> int:
     """Runs the command line on `words`, by default those of the process. Answers the status: 0, 1 for a failure, 2 for words
-    that weren't understood."""
+    that weren't understood, 3 where a limit was passed that they set."""
     return ended(partial(_run, words))
 
 
@@ -106,7 +116,10 @@ def _run(words: list[str] | None) -> int:
     except click.Abort:
         return complain("interrupted")
     except click.ClickException as error:
-        error.show()
+        if isinstance(error, click.UsageError):
+            complain(usage_line(error))
+        else:
+            error.show()
         return error.exit_code
     except click.exceptions.Exit as left:
         return left.exit_code

@@ -28,7 +28,7 @@ if TYPE_CHECKING:
 # The processes that tests start keep what they compile.
 os.environ.pop("PYTHONDONTWRITEBYTECODE", None)
 TOP = Path(__file__).resolve().parents[2]
-pytest_plugins = ("page_of_server",)
+pytest_plugins = ("page_of_server", "page_of_file")
 """Modules with fixtures of their own."""
 REFERENCE = "CwVF/yN2yRpnBAFUAAgbpwYBAf9kK0Fa"
 """Some reference: to ask whether a map can be read."""

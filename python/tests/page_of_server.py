@@ -64,9 +64,22 @@ class Page:
     def __init__(self, browser: Browser, server: Server) -> None:
         self.browser, self.server = browser, server
 
+    def address(self) -> str:
+        """Where it is, without a query."""
+        return self.server.url
+
+    def answer(self, link: str) -> Any:
+        """The JSON that one of its links leads to."""
+        return json.loads(self.server.get(f"/{link.removeprefix(self.address())}").body)
+
+    def times_asked(self, path: str) -> Any:
+        """How often it asked an address for something since it was read."""
+        entries = "performance.getEntriesByType('resource')"
+        return self.value(f"{entries}.filter(entry => entry.name.includes('/{path}?')).length")
+
     def open(self, query: str = "", width: int = 1280, height: int = 800) -> None:
         """Opens it, and waits until it shows what its address says."""
-        self.browser.visit(f"{self.server.url}{query}", width, height)
+        self.browser.visit(f"{self.address()}{query}", width, height)
         self.wait("document.body.dataset.ready === 'yes'")
         self.settle()
 
@@ -158,9 +171,22 @@ def server(
 
 
 @pytest.fixture
-def page(browser: Browser, server: Server, request: pytest.FixtureRequest) -> Page:
-    """Its page, without a reference, unless a test is `opened` otherwise, and without the list of the test before."""
-    found = Page(browser, server)
+def served(browser: Browser, server: Server) -> Page:
+    """Its page, which isn't opened yet."""
+    return Page(browser, server)
+
+
+@pytest.fixture
+def kind(request: pytest.FixtureRequest) -> str:
+    """The fixture that a test has its page from."""
+    return str(getattr(request, "param", "served"))
+
+
+@pytest.fixture
+def page(kind: str, request: pytest.FixtureRequest) -> Page:
+    """Its page, without a reference, unless a test is `opened` otherwise, and without the list of the test before. A test that is
+    `also_of_a_file` has it once more as a file."""
+    found: Page = request.getfixturevalue(kind)
     found.open(getattr(request, "param", ""))
     found.value("document.querySelector('#close').click()")
     return found
@@ -169,3 +195,7 @@ def page(browser: Browser, server: Server, request: pytest.FixtureRequest) -> Pa
 def opened(query: str) -> pytest.MarkDecorator:
     """What a test is marked with whose page is opened by an address with a query."""
     return pytest.mark.parametrize("page", [query], indirect=True)
+
+
+also_of_a_file = pytest.mark.parametrize("kind", ["served", "alone"], indirect=True)
+"""What a test is marked with that holds for the page of a server and for the one that answers by itself (`page_of_file.py`)."""

@@ -346,7 +346,7 @@ def test_two_messages_with_a_checked_key(messages: Path, tmp_path: Path) -> None
         (["--ref", "code"], 2, "--format, --ref, --key and --base64 are for --for"),
         (["--checked", "none"], 2, "--checked is for --for"),
         (["--for", "none"], 1, "none can't be read"),
-        (["--pair", "none"], 1, "none"),
+        (["--pair", "none"], 1, "none/nodes.csv can't be read: No such file"),
         (["--differ", 1, "--pair", "none"], 2, "give one of them"),
         (["--differ", 1.6], 2, "1.6 is not in the range"),
         (["--references", 0], 2, "0 is not in the range"),

@@ -203,8 +203,8 @@ def test_settings_that_contradict(
     if command == "import vector":
         words += ["--class", "5", "--form", "3"]
     assert run(words) == 2
-    expected = f"Error: --dead-ends ban is for --u-turns dead-ends, not for {u_turns}\n"
-    assert capsys.readouterr().err.endswith(expected)
+    said = f"--dead-ends ban is for --u-turns dead-ends, not for {u_turns}"
+    assert capsys.readouterr().err == f"olr-tools: {said} (see olr-tools {command} --help)\n"
     assert run(["allow" if word == "ban" else word for word in words]) == 1
     assert f"{tmp_path}/none" in capsys.readouterr().err
 

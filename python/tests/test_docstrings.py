@@ -4,6 +4,7 @@ import doctest
 import inspect
 import os
 import pytest
+import re
 from collections.abc import Iterator
 from pathlib import Path
 from typing import Any
@@ -42,6 +43,13 @@ def test_the_example_of(
     shown: list[str] = []
     runner.run(example, out=shown.append)
     assert runner.failures == 0, "".join(shown)
+
+
+def test_the_api_reference_has_all_names() -> None:
+    """Those of the package, each once. That it can be made is tried beside these tests."""
+    text = (TOP / "docs/api/index.rst").read_text()
+    names = re.findall(r"^\.\. auto\w+:: olr\.(\w+)$", text, re.MULTILINE)
+    assert sorted(names) == sorted(olr.__all__)
 
 
 def test_help_begins_with_what_to_do_first() -> None:

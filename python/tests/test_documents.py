@@ -37,12 +37,10 @@ COMMAND_PAGES = {
 
 NOT_RUN = {
     "./olr-tools setup": "it installs Debian packages, as root",
-    "sudo apt install ": "it installs the packages of a release, as root",
-    "pip install ": "it needs a release, and a network for what the extras bring",
     "./preview ": "it needs the toolchain",
     "./olr --how": "what it says depends on what is built",
     "./olr --prove": "it needs the toolchain, and half an hour",
-    ".ci/run": "it needs the toolchain, and an hour; this test is a part of it",
+    "./test": "it takes a quarter of an hour and more; this test is a part of it",
 }
 """Commands on the pages that no test runs, by their beginnings, with the reason. The pages show no output of them."""
 
@@ -204,8 +202,8 @@ def test_the_picture_is_of_the_readmes_page(
     program: Program, tmp_path: Path, monkeypatch: pytest.MonkeyPatch
 ) -> None:
     """It is shown, is small, and can be drawn again. Pixels aren't compared: fonts differ."""
-    assert "](docs/view.png)" in read("README.md")
-    assert picture.PICTURE.stat().st_size < 200_000
+    assert "](docs/page.png)" in read("README.md")
+    assert picture.PICTURE.stat().st_size < 150_000
     monkeypatch.setenv("OLR_PROGRAM", os.fspath(program.path))
     picture.draw(tmp_path / "drawn.png")
     for file in (picture.PICTURE, tmp_path / "drawn.png"):
@@ -231,8 +229,13 @@ def read(name: str) -> str:
 
 
 def anchors(name: str) -> set[str]:
-    """The anchors of a page's headings."""
-    text = re.sub(r"(?ms)^```.*?^```$", "", read(name))
+    """The anchors of the headings of a page in the repository."""
+    return anchors_of(read(name))
+
+
+def anchors_of(page: str) -> set[str]:
+    """The anchors of the headings of a page."""
+    text = re.sub(r"(?ms)^```.*?^```$", "", page)
     found: dict[str, int] = {}
     for title in re.findall(r"(?m)^#+ (.+)$", text):
         plain = re.sub(r"\[([^]]*)\]\([^)]*\)", r"\1", title).lower()

@@ -121,6 +121,10 @@ def test_how_it_ended() -> None:
     assert [how_ended(-9), how_ended(3)] == ["was ended by signal 9", "ended with status 3"]
 
 
-def test_the_words_of_a_process() -> None:
-    words = Asked(PROGRAM, "match", ["--page", "1"]).words(MapFiles("n", "l", None))
-    assert words == ["batch", "match", "--nodes", "n", "--lines", "l", "--page", "1"]
+def test_the_words_of_a_process(tmp_path: Path) -> None:
+    nodes, lines = tmp_path / "n", tmp_path / "l"
+    nodes.touch()
+    lines.touch()
+    words = Asked(PROGRAM, "match", ["--page", "1"]).words(MapFiles(nodes, lines, None))
+    files = ["--nodes", str(nodes), "--lines", str(lines)]
+    assert words == ["batch", "match", *files, "--page", "1"]

@@ -280,7 +280,8 @@ def test_words_that_are_refused(feed: Feed) -> None:
         leave = "leave out --ref, --key and --keep"
         assert said == f"olr-tools: {lines} has no names of columns or members: {leave}"
     said = feed.refused("match", lines, "--keep", "all", "--keep", "speed")
-    assert said == "Error: --keep all keeps all: leave out the others"
+    leave = "leave out the others (see olr-tools match --help)"
+    assert said == f"olr-tools: --keep all keeps all: {leave}"
 
 
 def test_compare(feed: Feed, browser: Browser, tools: Tools) -> None:

@@ -14,6 +14,8 @@ from olr.pages.alone import module
 
 DAMAGED = ["", "xx", "CwVF", REFERENCE[:-4], "A" * 400, "=" + REFERENCE, "-" + REFERENCE]
 QUESTIONS = ("candidates", "match", "places", "why")
+LONG = "radius=1000&bearing=16&percent=100&slack=10000&lowest=7&look=1000000&within=14620"
+"""Options with which the program is at a list of the examples for a second and more."""
 
 
 @pytest.fixture(scope="module")
@@ -138,6 +140,44 @@ def test_a_question_is_stopped(opened: Browser) -> None:
     assert asked(opened, f"match?ref={REFERENCE}")[0] == 200
 
 
+def test_a_list_keeps_nothing_waiting(opened: Browser) -> None:
+    """Questions are answered while a list is. One that is dropped, also where the program is at it, leaves the list as it is."""
+    records = "".join(f"{at}\t{REFERENCE}\n" for at in range(1_000))
+    asking = """(async () => {
+      const list = await fetch('rows', { body: BODY });
+      const match = await fetch('match?ref=REF');
+      const dropped = async (address, more) => {
+        const it = new AbortController();
+        setTimeout(() => it.abort(), 20);
+        return fetch(address, { ...more, signal: it.signal }).then(() => 'answered', (error) => error.name);
+      };
+      const both = [await dropped('scene?ref=REF'), await dropped('rows?LONG', { body: BODY })];
+      const begun = performance.now();
+      while (document.body.dataset.program === 'ready' && performance.now() < begun + 2000) await new Promise((done) => setTimeout(done, 20));
+      return [match.status, both, document.body.dataset.program, await list.text()];
+    })()"""
+    values = {"BODY": json.dumps(records), "REF": REFERENCE, "LONG": LONG}
+    for name, value in values.items():
+        asking = asking.replace(name, value)
+    status, dropped, state, text = opened.value(asking)
+    assert (status, dropped, state) == (200, ["AbortError", "AbortError"], "starting")
+    rows = [json.loads(line) for line in text.splitlines()]
+    assert [row["key"] for row in rows] == [str(at) for at in range(1_000)]
+
+
+def test_a_page_that_cannot_begin_says_so(browser: Browser, page: Path, tmp_path: Path) -> None:
+    text = page.read_text()
+    begin, _, behind = text.partition('<script id="packed" type="text/plain">')
+    broken = tmp_path / "broken.html"
+    broken.write_text(
+        f'{begin}<script id="packed" type="text/plain">AAAA</script>{behind.partition("</script>")[2]}'
+    )
+    browser.open(broken)
+    browser.value(READY.replace("'ready'", "'failed'"))
+    status, said = asked(browser, f"match?ref={REFERENCE}")
+    assert status == 503 and json.loads(said)["title"] == "ProgramFailed"
+
+
 def test_two_pages(opened: Browser, page: Path) -> None:
     with opened.tab(page.as_uri()) as other:
         other.value(READY)
@@ -165,7 +205,7 @@ def test_what_the_command_refuses(
             "page.txt has no suffix that is known: name a file .html",
         ),
         (["--map", os.fspath(tmp_path), "--out", "page.html"], "OpenFailed nodes"),
-        (["--map", os.fspath(tmp_path / "x.gpkg"), "--out", "page.html"], "x.gpkg is a store"),
+        (["--map", os.fspath(tmp_path / "x.gpkg"), "--out", "page.html"], "there is no store"),
     ):
         ended = tools.run("page", *words)
         assert ended.returncode == 1 and said in ended.stderr, ended

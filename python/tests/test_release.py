@@ -9,64 +9,21 @@ import pytest
 import re
 import shutil
 import subprocess
+from itertools import pairwise
+from packaging.version import Version
 from pathlib import Path
 
 import olr
 from conftest import TOP, Program, Tools
+from helps import every_help, names_in, options_in
 from olr.__main__ import _without_click
 from olr.errors import ToolError
+from olr.extras import COMMANDS
 from release.archive import archive
 from release.files import Entry, write_folder
-from release.program_files import completion, manual
+from release.program_files import filled, manual
+from olr.version import Section, _installed, sections, version
 from release.state import State
-
-QUESTIONS = ("candidates", "match", "places", "why")
-COMMANDS = (
-    (),
-    ("show",),
-    *((name,) for name in QUESTIONS),
-    ("batch",),
-    *(("batch", name) for name in QUESTIONS),
-)
-
-
-def offered(program: Program, folder: Path, *words: str) -> set[str]:
-    """What completion offers in a folder for the last of some words."""
-    script = """eval "$1"; shift; COMP_WORDS=("$@"); COMP_CWORD=$(($# - 1)); _olr
-    printf '%s\\n' "${COMPREPLY[@]}" """
-    functions = completion(program.path).decode()
-    command = ["bash", "-c", script, "bash", functions, "olr", *words]
-    ended = subprocess.run(command, cwd=folder, capture_output=True, text=True, timeout=60)
-    assert (ended.returncode, ended.stderr) == (0, "")
-    return set(ended.stdout.split())
-
-
-def section(text: str, title: str) -> str:
-    """A section of a help."""
-    return f"{text}\n\n".partition(f"\n{title}:\n")[2].partition("\n\n")[0]
-
-
-@pytest.mark.parametrize("command", COMMANDS, ids=" ".join)
-def test_completion_offers_what_help_has(
-    program: Program, tmp_path: Path, command: tuple[str, ...]
-) -> None:
-    text = program.run(*command, "--help").stdout
-    options = set(re.findall(r"(?m)^ +(?:-\w, )?(--[a-z-]+)", section(text, "Options")))
-    names = set(re.findall(r"(?m)^  ([a-z]+)", section(text, "Commands")))
-    assert "--help" in options
-    assert offered(program, tmp_path, *command, "") == options | names
-    assert offered(program, tmp_path, *command, "--h") == {"--help"}
-
-
-def test_completion_of_values(program: Program, tmp_path: Path) -> None:
-    (tmp_path / "town").mkdir()
-    (tmp_path / "nodes.csv").touch()
-    assert offered(program, tmp_path, "match", "REF", "--nodes", "") == {"town", "nodes.csv"}
-    assert offered(program, tmp_path, "match", "REF", "--map", "") == {"town"}
-    assert offered(program, tmp_path, "match", "REF", "--format", "j") == {"json"}
-    assert offered(program, tmp_path, "match", "REF", "--radius", "") == set()
-    assert offered(program, tmp_path, "batch", "why", "--input", "n") == {"nodes.csv"}
-    assert offered(program, tmp_path, "help", "wh") == {"why"}
 
 
 def test_the_man_page_has_all_of_the_help(program: Program) -> None:
@@ -75,11 +32,10 @@ def test_the_man_page_has_all_of_the_help(program: Program) -> None:
     assert f'.TP\n.BI --radius " N"\n{radius}\n.TP\n.BI --bearing " N"\n' in page
     assert "@" not in page
     told = 0
-    for command in COMMANDS:
-        text = program.run(*command, "--help").stdout
-        for option in re.findall(r"--[a-z]+", section(text, "Options")):
+    for _, text in every_help(program):
+        for option in options_in(text):
             assert re.search(rf"(?m)^\.BR?I? .*{option}\b", page), option
-        for name in re.findall(r"(?m)^  ([a-z]+)", section(text, "Commands")):
+        for name in names_in(text):
             assert f"\n.B {name}\n" in page
         whole = " ".join(text.split())
         assert not re.search("[a-z][A-Z][a-z]", whole), "a name of the code in a help"
@@ -89,11 +45,18 @@ def test_the_man_page_has_all_of_the_help(program: Program) -> None:
     assert told >= 6 * 8 + 2 * (1 + 4 + 1)
 
 
+def test_the_man_page_of_the_tools_has_each_command() -> None:
+    page = filled(State(), "olr-tools.1").decode().replace("\\", "")
+    assert [name for name in (*COMMANDS, "setup") if f".TP\n.B {name}\n" not in page] == []
+
+
 def test_one_version(program: Program, tools: Tools) -> None:
-    assert re.fullmatch(r"[0-9]+\.[0-9]+\.[0-9]+", olr.__version__)
-    assert program.run("--version").stdout == f"olr {olr.__version__}\n"
+    """The program has the number of the newest section, or of the one before until that is released."""
+    newest, before = sections((TOP / "CHANGELOG.md").read_text(encoding="utf-8"))[:2]
+    assert olr.__version__ == newest.version
     assert tools.start("--version").stdout == f"olr-tools, version {olr.__version__}\n"
-    assert State().version == olr.__version__
+    numbers = [newest.number] if newest.is_released else [newest.number, before.number]
+    assert program.run("--version").stdout in [f"olr {number}\n" for number in numbers]
 
 
 def test_the_version_needs_no_modules(tools: Tools, capsys: pytest.CaptureFixture[str]) -> None:
@@ -154,23 +117,112 @@ def test_a_date_that_is_none(tree: Path, monkeypatch: pytest.MonkeyPatch) -> Non
     assert State(tree).seconds == 86400
 
 
-def test_the_commit_and_its_changes(tree: Path) -> None:
-    def git(*words: str) -> str:
-        who = ["-c", "user.name=One", "-c", "user.email=one@example.org"]
-        command = ["git", "-C", str(tree), *who, *words]
-        return subprocess.run(command, capture_output=True, text=True, check=True).stdout.strip()
+def git(tree: Path, *words: str) -> str:
+    """What git prints in a tree."""
+    who = ["-c", "user.name=One", "-c", "user.email=one@example.org"]
+    command = ["git", "-C", str(tree), *who, *words]
+    return subprocess.run(command, capture_output=True, text=True, check=True).stdout.strip()
 
-    with pytest.raises(ToolError, match="git -C .* rev-parse|git -C .* status"):
+
+def test_the_commit_and_its_changes(tree: Path) -> None:
+    with pytest.raises(ToolError, match="git -C .* rev-parse|git -C .* diff"):
         State(tree).commit
-    git("init", "--quiet")
-    git("add", "crates.txt")
-    git("commit", "--quiet", "--date=@86400", "-m", "one")
-    assert State(tree).commit == git("rev-parse", "HEAD")
+    git(tree, "init", "--quiet")
+    git(tree, "add", "crates.txt")
+    git(tree, "commit", "--quiet", "--date=@86400", "-m", "one")
+    assert State(tree).commit == git(tree, "rev-parse", "HEAD")
     assert State(tree).names("crates", "crates.txt") == ["crates.txt"]
     (tree / "crates.txt").write_text("olr: olr\n")
-    assert State(tree).commit == git("rev-parse", "HEAD") + ", with changes"
+    assert State(tree).commit == git(tree, "rev-parse", "HEAD") + ", with changes"
     with pytest.raises(ToolError, match="there is no .* to release: No such file"):
         archive(State(tree))
+
+
+def committed(tree: Path, changes: str) -> str:
+    """Commits a tree with a CHANGELOG.md. Answers the first digits of the commit."""
+    (tree / "CHANGELOG.md").write_text(changes)
+    git(tree, "init", "--quiet")
+    git(tree, "add", "CHANGELOG.md", "crates.txt")
+    git(tree, "commit", "--quiet", "--allow-empty", "-m", "one")
+    return git(tree, "rev-parse", "HEAD")[:8]
+
+
+UNRELEASED = "# Changelog\n\n## 1.1.0, unreleased\n\n- One.\n\n## 1.0.0, 2026-11-27\n"
+
+
+def test_an_unreleased_section_gives_a_development_version(tree: Path) -> None:
+    """It has another one for each commit, and for changes that aren't committed."""
+    first = committed(tree, UNRELEASED)
+    assert State(tree).version == f"1.1.0.dev1+g{first}"
+    assert State(tree).debian_version == f"1.1.0~dev1+g{first}"
+    second = committed(tree, UNRELEASED)
+    assert State(tree).version == f"1.1.0.dev2+g{second}"
+    found = set()
+    for content in (b"olr: olr\n", b"olr: \xff\n"):
+        (tree / "crates.txt").write_bytes(content)
+        found.add(State(tree).version)
+        assert State(tree).version == State(tree).version
+    assert len(found) == 2
+    for one in found:
+        assert re.fullmatch(rf"1\.1\.0\.dev2\+g{second}\.changed\.[0-9a-f]{{8}}", one)
+
+
+def test_a_date_makes_it_a_release(tree: Path) -> None:
+    released = UNRELEASED.replace("unreleased", "2026-12-24")
+    committed(tree, released)
+    assert State(tree).version == State(tree).debian_version == "1.1.0"
+    (tree / "crates.txt").write_text("olr: olr\n")
+    assert re.fullmatch(r"1\.1\.0\+changed\.[0-9a-f]{8}", State(tree).version)
+
+
+def test_versions_rise(tree: Path) -> None:
+    """By the rules of dpkg and of pip."""
+    rising = ["1.0.0"]
+    for _ in range(11):
+        committed(tree, UNRELEASED)
+        rising.append(State(tree).debian_version)
+    rising.append("1.1.0")
+    for earlier, later in pairwise(rising):
+        subprocess.run(["dpkg", "--compare-versions", earlier, "lt", later], check=True)
+    versions = [Version(one.replace("~", ".")) for one in rising]
+    assert sorted(set(versions)) == versions
+
+
+def test_a_clone_without_earlier_commits_is_refused(tree: Path, tmp_path: Path) -> None:
+    committed(tree, UNRELEASED)
+    committed(tree, UNRELEASED)
+    git(tree, "clone", "--quiet", "--depth=1", f"file://{tree}", str(tmp_path / "shallow"))
+    with pytest.raises(ToolError, match="run git fetch --unshallow"):
+        State(tmp_path / "shallow").version
+
+
+@pytest.mark.parametrize("title", ["", "## Unreleased", "## 1.1, unreleased", "## 1.1.0, soon"])
+def test_changes_that_name_no_version(tree: Path, title: str) -> None:
+    """An older section isn't taken for the newest one."""
+    committed(tree, f"# Changelog\n\n{title}\n" + ("\n## 1.0.0, 2026-11-27\n" if title else ""))
+    with pytest.raises(ToolError, match="CHANGELOG.md names no version: "):
+        State(tree).version
+
+
+def test_a_release_is_of_a_program_with_its_number(tree: Path) -> None:
+    """While it isn't one, the program may have the number before."""
+    committed(tree, UNRELEASED)
+    State(tree).check_number()
+    committed(tree, UNRELEASED.replace("unreleased", "2026-12-24"))
+    with pytest.raises(ToolError, match="1.1.0 is released, and the program is released"):
+        State(tree).check_number()
+
+
+def test_the_version_of_a_repository_and_of_an_installed_package(tmp_path: Path) -> None:
+    """A CHANGELOG.md of another project isn't read."""
+    (tmp_path / "CHANGELOG.md").write_text(UNRELEASED)
+    assert version(tmp_path) == _installed()
+    (tmp_path / "crates/olr_words").mkdir(parents=True)
+    assert version(tmp_path) == "1.1.0.dev0"
+    for broken in ("", "# Changelog\n", "## Unreleased\n\n## 1.0.0, 2026-11-27\n"):
+        (tmp_path / "CHANGELOG.md").write_text(broken)
+        assert version(tmp_path) == ""
+    assert Section("1.1.0", True).version == "1.1.0"
 
 
 def test_files_have_one_date_and_fixed_rights(tmp_path: Path) -> None:

@@ -269,5 +269,5 @@ def test_words_that_arent_understood(runs: Runs, capfd: pytest.CaptureFixture[st
     rows = ["--join", f"{runs.folder}/rows.CSV"]
     for words in (["--nearest", "3"], ["--places", "--page", "3"], ["--force"], both, rows):
         assert run(runs.words(*words)[1:]) == 2
-        assert "Error: --" in capfd.readouterr().err
+        assert capfd.readouterr().err.startswith("olr-tools: --")
     assert not runs.out.exists()

@@ -209,7 +209,10 @@ def test_maps_that_are_refused(runs: Runs, tmp_path: Path) -> None:
     wrong = draw_map(tmp_path / "wrong")
     (wrong / "nodes.csv").write_text("a,b\n")
     for folder, said in (
-        (tmp_path / "nowhere", f"{tmp_path}/nowhere/nodes.csv can't be read: No such file"),
+        (
+            tmp_path / "nowhere",
+            f"{tmp_path}/nowhere/nodes.csv can't be read: No such file or directory: name a folder",
+        ),
         (wrong, "olr refuses the map: Header nodes"),
     ):
         ended = runs.run_here("--map", folder)

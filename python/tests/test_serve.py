@@ -304,14 +304,15 @@ def test_what_isnt_there(server: Server) -> None:
     assert (head.status, head.body) == (200, b"") and int(head.headers["content-length"]) > 0
 
 
-def test_health(server: Server, drawn: Path) -> None:
+def test_health(program: Program, server: Server, drawn: Path) -> None:
     reply = server.get("/health")
     about = json.loads(reply.body)
     assert reply.status == 200 and about["able"] and about["map"] == drawn.name
     assert not about["changed"] and about["refused"] is None
     with olr.Map(drawn) as asked:
         assert about["digest"]["network"] == asked.network().digest
-    assert about["versions"] == {"olr": olr.__version__, "olr-tools": olr.__version__}
+    said = program.run("--version").stdout.strip()
+    assert about["versions"] == {"olr": said.removeprefix("olr "), "olr-tools": olr.__version__}
     ready = server.get("/ready")
     assert (ready.status, ready.body) == (200, reply.body)
     assert server.figure('olr_requests_total{address="/ready",status="200"}') > 0

@@ -4,7 +4,7 @@ import pytest
 from collections.abc import Iterator
 from typing import Any
 
-from page_of_server import AS_PROGRAM, MESSAGES, ROADWORKS, UNMATCHED, Page
+from page_of_server import AS_PROGRAM, MESSAGES, ROADWORKS, UNMATCHED, Page, also_of_a_file
 
 LUMINANCE = """
 const parsed = (text) => text.match(/[0-9.]+/g).map(Number);
@@ -80,6 +80,7 @@ def scheme(request: pytest.FixtureRequest, page: Page) -> Iterator[str]:
     page.browser.call("Emulation.setEmulatedMedia", features=[])
 
 
+@also_of_a_file
 def test_contrasts(page: Page, scheme: str) -> None:
     """Of all texts with what is behind them, and of lines and marks: of a place, a list, options, and an error."""
     style = "getComputedStyle(document.documentElement).colorScheme"
@@ -153,6 +154,7 @@ SEEN = (
 )
 
 
+@also_of_a_file
 def test_the_focus_is_seen(page: Page, scheme: str) -> None:
     """Of all that the tabulator reaches, also after a click on the map, where Leaflet takes the outline away."""
     page.read(MESSAGES)
@@ -185,6 +187,7 @@ def test_the_focus_is_seen(page: Page, scheme: str) -> None:
     assert page.is_quiet("status of 422")
 
 
+@also_of_a_file
 def test_letters_that_are_turned_off(page: Page) -> None:
     """They don't act then, on this page and on the next one, but arrows do; nor do they while a field has the focus."""
     page.open(AS_PROGRAM)
@@ -254,6 +257,7 @@ def tree(page: Page) -> list[tuple[str, str, dict[str, Any]]]:
     ]
 
 
+@also_of_a_file
 def test_what_a_screen_reader_is_given(page: Page) -> None:
     """Each control has a name, the table its headings and how many rows it has, and one polite region tells what changes."""
     page.browser.call("Accessibility.enable")

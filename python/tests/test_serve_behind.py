@@ -187,6 +187,33 @@ def test_paths(path: str, below: str) -> None:
     assert path_below("/olr", path) == below and path_below("", path) == path
 
 
+@pytest.mark.parametrize(
+    "root, path, below",
+    [
+        ("", "//match", "/match"),
+        ("", "///", "/"),
+        ("", "/match//", "/match//"),
+        ("/olr", "//match", "/match"),
+        ("/olr", "/olr//match", "/match"),
+        ("/olr", "//olr/match", "/match"),
+    ],
+)
+def test_slashes_at_a_beginning(root: str, path: str, below: str) -> None:
+    """Who appends an address to the URL that is printed has two."""
+    assert path_below(root, path) == below
+
+
+def test_an_address_behind_the_url_that_is_printed(behind: Behind) -> None:
+    """It answers, and what a server in front refuses is refused."""
+    address = f"/show?ref={REFERENCE}"
+    for url in (behind.server.url, f"{behind.server.url}olr/"):
+        found = urlsplit(url + address)
+        assert found.path.endswith("//show")
+        reply = behind.server.get(f"{found.path}?{found.query}")
+        assert (reply.status, reply.body) == (200, behind.get(f"/olr{address}").body)
+    assert behind.get("/olr//metrics").status == 403
+
+
 def test_clients_are_told_apart(behind: Behind) -> None:
     """Each has a part of what the server does at once, by the address that nginx says, whatever it says itself."""
     for address in ("127.0.0.2", "127.0.0.3"):

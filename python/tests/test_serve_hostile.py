@@ -73,7 +73,7 @@ def is_well(server: Server) -> bool:
         ("GET /assets/..%2fcommand.py HTTP/1.1", {404}),
         ("GET /assets//etc/passwd HTTP/1.1", {404}),
         ("GET /assets/docs.css%00.html HTTP/1.1", {404}),
-        ("GET //match?ref=x HTTP/1.1", {400, 404}),
+        ("GET //match?ref=x HTTP/1.1", {422}),
         ("GET /match%3Fref=x HTTP/1.1", {404}),
         ("GET /match;ref=x HTTP/1.1", {404}),
         ("GET /MATCH?ref=x HTTP/1.1", {404}),

@@ -9,7 +9,16 @@ from typing import Any
 
 from browser import Browser
 from conftest import TOP, Program, Tools
-from page_of_server import KEY, MESSAGES, REASONS, REFERENCE, ROADWORKS, VERDICT, Page
+from page_of_server import (
+    KEY,
+    MESSAGES,
+    REASONS,
+    REFERENCE,
+    ROADWORKS,
+    VERDICT,
+    Page,
+    also_of_a_file,
+)
 from servers import Server, serving, wait_until
 
 DONE = "document.querySelector('#list').dataset.state === 'done'"
@@ -23,12 +32,7 @@ def reload(page: Page) -> None:
     page.settle()
 
 
-def times_asked(page: Page) -> Any:
-    """How often it asked for rows since it was read."""
-    entries = "performance.getEntriesByType('resource')"
-    return page.value(f"{entries}.filter(entry => entry.name.includes('/rows?')).length")
-
-
+@also_of_a_file
 def test_a_list_is_there_after_a_reload(page: Page) -> None:
     """With its answers, and the row that was chosen; another tab has none, and closing it ends it."""
     page.read(MESSAGES)
@@ -39,12 +43,12 @@ def test_a_list_is_there_after_a_reload(page: Page) -> None:
     reload(page)
     assert page.rows() == before and page.chosen(KEY) == "m2"
     assert "5 of 5 answered" in page.text("#progress")
-    assert times_asked(page) == 0
+    assert page.times_asked("rows") == 0
     # Other options ask anew, from an address too.
     page.open("?profile=program&lowest=2")
     page.wait(DONE)
-    assert times_asked(page) == 1 and page.column(VERDICT)[3] == "unique"
-    with page.browser.tab(f"{page.server.url}"):
+    assert page.times_asked("rows") == 1 and page.column(VERDICT)[3] == "unique"
+    with page.browser.tab(page.address()):
         page.wait("document.body.dataset.ready === 'yes'")
         assert page.count("#list") == 0
     page.browser.click("#close")
@@ -61,7 +65,7 @@ def test_a_list_that_there_is_no_room_for(page: Page) -> None:
     page.value(small % 450)
     reload(page)
     page.wait(DONE)
-    assert page.rows() == before and times_asked(page) == 1
+    assert page.rows() == before and page.times_asked("rows") == 1
     page.value(small % 10)
     reload(page)
     assert page.count("#list") == 0
@@ -137,6 +141,7 @@ def test_rows_as_csv(page: Page, server: Server, tmp_path: Path) -> None:
     assert page.is_quiet("status of 422")
 
 
+@also_of_a_file
 def test_places_as_geojson(page: Page, tools: Tools, folder: Path, tmp_path: Path) -> None:
     """A feature for each row that is shown, in their order: that of the likeliest place in the file of `olr-tools match`, or one without a geometry."""
     page.read(MESSAGES)
@@ -174,6 +179,7 @@ def test_geojson_that_is_stopped(page: Page) -> None:
     assert page.is_quiet("status of 422")
 
 
+@also_of_a_file
 def test_faults_of_messages_themselves(page: Page, tmp_path: Path) -> None:
     """What can't be written in binary is said in the row, by that name, and in all that goes out; after a reload and with other options too."""
     faults = ["Empty", "PoiWithAccess"]
@@ -185,10 +191,10 @@ def test_faults_of_messages_themselves(page: Page, tmp_path: Path) -> None:
     made = json.loads(saved(page, tmp_path, "#save-geojson", "places.geojson"))["features"]
     assert [one["properties"]["fault"] for one in made] == [None, None, *faults]
     reload(page)
-    assert page.column(REASONS)[2:] == faults and times_asked(page) == 0
+    assert page.column(REASONS)[2:] == faults and page.times_asked("rows") == 0
     page.open("?lowest=2")
     page.wait(DONE)
-    assert page.column(REASONS)[2:] == faults and times_asked(page) == 1
+    assert page.column(REASONS)[2:] == faults and page.times_asked("rows") == 1
     assert page.is_quiet("status of 422")
 
 

@@ -31,6 +31,7 @@ from page_of_server import (
     UNMATCHED,
     VERDICT,
     Page,
+    also_of_a_file,
     opened,
 )
 from servers import Server, serving, wait_until
@@ -48,6 +49,7 @@ def answers(
     return batch_of(program, "places", records, ["--map", folder, *words])
 
 
+@also_of_a_file
 @opened(AS_PROGRAM)
 def test_a_list(page: Page, program: Program, tools: Tools, folder: Path, tmp_path: Path) -> None:
     """A list that is pasted, its table, keys, and the picture that follows."""
@@ -99,6 +101,7 @@ def test_a_list(page: Page, program: Program, tools: Tools, folder: Path, tmp_pa
     assert page.is_quiet("status of 422")
 
 
+@also_of_a_file
 @opened(AS_PROGRAM)
 def test_options_ask_a_list_anew(page: Page) -> None:
     page.read(MESSAGES)
@@ -142,6 +145,7 @@ def test_a_list_is_sorted_and_filtered_by_probability(page: Page) -> None:
     assert page.is_quiet()
 
 
+@also_of_a_file
 @opened(f"{AS_PROGRAM}&look=1")
 def test_a_list_that_is_looked_at_in_part(
     page: Page, tools: Tools, folder: Path, tmp_path: Path
@@ -166,6 +170,7 @@ def drop(page: Page, name: str, text: str) -> None:
     )
 
 
+@also_of_a_file
 @opened(AS_PROGRAM)
 def test_files_that_are_dropped(page: Page) -> None:
     """Tables and JSON, with keys that look like markup."""
@@ -184,6 +189,7 @@ def test_files_that_are_dropped(page: Page) -> None:
     assert page.is_quiet("status of 422")
 
 
+@also_of_a_file
 def test_a_list_that_is_not_understood(page: Page) -> None:
     drop(page, "feed.csv", f"id,code\nx,{ROADWORKS}\n")
     page.wait("document.body.dataset.list === 'failed'")

@@ -20,10 +20,20 @@ from olr.pages.view.scene import scene_of
 from olr.pages.view.surroundings import Surroundings, box_of
 from olr.serving import ground
 from olr.serving.tasks import MapVersion
-from page_of_server import AS_PROGRAM, MESSAGES, OF_FEED, ROADWORKS, UNMATCHED, Page, opened
+from page_of_server import (
+    AS_PROGRAM,
+    MESSAGES,
+    OF_FEED,
+    ROADWORKS,
+    UNMATCHED,
+    Page,
+    also_of_a_file,
+    opened,
+)
 from servers import Server, serving, wait_until
 
 
+@also_of_a_file
 def test_a_reference(page: Page, program: Program, folder: Path) -> None:
     assert page.value("document.activeElement.id") == "ref"
     assert page.ask(f" {ROADWORKS} ") == "ready"
@@ -39,11 +49,11 @@ def test_a_reference(page: Page, program: Program, folder: Path) -> None:
             f"[...document.querySelectorAll('#answers a')].find(a => a.textContent === '{what}').href"
         )
         words = [] if what == "show" else ["--map", folder, *OF_FEED]
-        shown = json.loads(page.server.get(link.removeprefix(page.server.url[:-1])).body)
-        assert shown == said(program, what, ROADWORKS, *words, "--format", "json")
+        assert page.answer(link) == said(program, what, ROADWORKS, *words, "--format", "json")
     assert page.is_quiet()
 
 
+@also_of_a_file
 def test_texts_that_are_no_references(page: Page) -> None:
     for text, said_of_it in (
         ("CwVG", "BadLength 3: 3 bytes are no size of a reference."),
@@ -59,6 +69,7 @@ def test_texts_that_are_no_references(page: Page) -> None:
     assert page.is_quiet("status of 422")
 
 
+@also_of_a_file
 @opened(AS_PROGRAM)
 def test_one_scene_after_the_other(page: Page) -> None:
     """What was drawn is gone: as many elements are there as if it had been the first one."""
@@ -76,6 +87,7 @@ def test_one_scene_after_the_other(page: Page) -> None:
     assert page.is_quiet()
 
 
+@also_of_a_file
 def test_options(page: Page) -> None:
     page.ask(ROADWORKS)
     page.browser.click("#options-button")
@@ -114,6 +126,7 @@ def values_of(page: Page) -> dict[str, int]:
     return {name: value for name, value in page.value(fields) if name in TOLERANCES}
 
 
+@also_of_a_file
 def test_profiles(page: Page, program: Program, folder: Path) -> None:
     """The fields are those of the profile, but for one that was changed. Addresses, and the program's own answers, say which it is."""
     query = f"?ref={quote(ROADWORKS, safe='/')}"
@@ -134,9 +147,8 @@ def test_profiles(page: Page, program: Program, folder: Path) -> None:
     command = f"olr places {ROADWORKS} --map {folder.name} --radius 80 --within 14620 --most 100"
     assert page.text("#command") == command
     link = page.value("document.querySelector('#answers a:nth-of-type(2)').href")
-    shown = json.loads(page.server.get(link.removeprefix(page.server.url[:-1])).body)
     given = ("--map", folder, "--radius", 80, "--format", "json")
-    assert shown == said(program, "places", ROADWORKS, *given)
+    assert page.answer(link) == said(program, "places", ROADWORKS, *given)
     page.open(f"{query}&profile=program&radius=80")
     assert values_of(page) == {**tolerances_of("program"), "radius": 80}
     page.value("[...document.querySelectorAll('#options button')].at(-1).click()")
@@ -147,6 +159,7 @@ def test_profiles(page: Page, program: Program, folder: Path) -> None:
     assert page.is_quiet("status of 400")
 
 
+@also_of_a_file
 @opened(f"?ref={quote(ROADWORKS, safe='/')}&radius=1001")
 def test_an_option_of_an_address_that_is_out_of_its_range(page: Page) -> None:
     """Its field comes into sight when something else is asked for, and is named."""
@@ -159,6 +172,7 @@ def test_an_option_of_an_address_that_is_out_of_its_range(page: Page) -> None:
     assert page.is_quiet("status of 400")
 
 
+@also_of_a_file
 @opened(AS_PROGRAM)
 def test_an_address_has_all(page: Page) -> None:
     """A tab that is opened anew shows the same; and so does going back."""
@@ -190,6 +204,7 @@ def test_an_address_has_all(page: Page) -> None:
     assert page.is_quiet()
 
 
+@also_of_a_file
 def test_keys_alone(page: Page) -> None:
     """All can be reached by the tabulator, and what has the focus is seen."""
     page.read(MESSAGES)
@@ -212,6 +227,7 @@ def test_keys_alone(page: Page) -> None:
     assert page.is_quiet()
 
 
+@also_of_a_file
 def test_a_narrow_window(page: Page) -> None:
     page.open(f"?ref={ROADWORKS}", 500)
     assert page.value("document.documentElement.scrollWidth") <= 500
@@ -221,6 +237,19 @@ def test_a_narrow_window(page: Page) -> None:
     printed = page.browser.call("Page.printToPDF")["data"]
     assert len(printed) > 10_000
     assert page.is_quiet()
+
+
+def test_a_narrow_window_without_a_picture(page: Page) -> None:
+    """The map has little room, so that what is said is in sight; but a list stays where it is."""
+    height = "document.querySelector('#place').clientHeight"
+    page.open("?ref=Hello", 500)
+    assert page.value(height) < 150 and "NotBase64" in page.text("#problem")
+    assert page.ask(ROADWORKS) == "ready"
+    usual = page.value(height)
+    assert usual >= 400
+    page.read(MESSAGES)
+    assert page.ask("Hello") == "failed"
+    assert page.value(height) == usual
 
 
 def test_what_takes_too_long(

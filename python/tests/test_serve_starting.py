@@ -24,7 +24,8 @@ def test_a_map_that_is_refused_at_the_start(program: Program, drawn: Path, tmp_p
     (folder / "nodes.csv").write_text("id,lon,lat\nx,1,2\n")
     log = tmp_path / "log"
     assert refusal_of(program, folder, log).startswith("olr-tools: olr refuses the map: ")
-    assert "OpenFailed" in refusal_of(program, tmp_path / "none", log)
+    said = refusal_of(program, tmp_path / "none", log)
+    assert f"OpenFailed nodes: {tmp_path}/none/nodes.csv can't be read: No such file" in said
     with socket.create_server(("127.0.0.1", 0)) as taken:
         said = refusal_of(program, drawn, log, taken.getsockname()[1])
     assert "can't be listened to" in said

@@ -7,6 +7,7 @@ import os
 import pytest
 import subprocess
 from collections.abc import Iterator
+from importlib.metadata import PackageNotFoundError
 from pathlib import Path
 
 from conftest import TOP, Tools
@@ -262,9 +263,6 @@ def test_python_alone_has_setup_and_help() -> None:
 def test_setup_without_the_right_prints_the_line_alone(
     monkeypatch: pytest.MonkeyPatch, capsys: pytest.CaptureFixture[str]
 ) -> None:
-    def never(*_: object, **__: object) -> None:
-        raise AssertionError("setup ran a command")
-
     monkeypatch.setattr(setup, "missing_packages", lambda tests: ["python3-click", "python3-rich"])
     monkeypatch.setattr("olr.setup.os.geteuid", lambda: 1000)
     monkeypatch.setattr("olr.setup.shutil.which", lambda name: f"/usr/bin/{name}")
@@ -273,6 +271,62 @@ def test_setup_without_the_right_prints_the_line_alone(
     printed = capsys.readouterr()
     assert printed.out == "apt-get install -y --no-install-recommends python3-click python3-rich\n"
     assert printed.err == "olr-tools: this line is for root on Debian: put sudo before it\n"
+
+
+def test_a_wheel_brings_its_own_leaflet(monkeypatch: pytest.MonkeyPatch, tmp_path: Path) -> None:
+    monkeypatch.setattr(setup, "__file__", str(tmp_path / "setup.py"))
+    monkeypatch.setattr("olr.setup.os.path.exists", lambda file: False)
+    assert "libjs-leaflet" in setup.missing_packages()
+    (tmp_path / "pages/leaflet").mkdir(parents=True)
+    (tmp_path / "pages/leaflet/leaflet.min.js").touch()
+    assert "libjs-leaflet" not in setup.missing_packages()
+
+
+def test_setup_elsewhere_names_a_virtual_environment(
+    monkeypatch: pytest.MonkeyPatch, capsys: pytest.CaptureFixture[str]
+) -> None:
+    monkeypatch.setattr(setup, "missing_packages", lambda tests: ["python3-click"])
+    monkeypatch.setattr("olr.setup.shutil.which", lambda name: None)
+    assert setup.set_up() == 1
+    printed = capsys.readouterr()
+    assert printed.out == ""
+    assert printed.err == (
+        "olr-tools: there is no apt-get, so this isn't Debian: install the wheel and its extras in a virtual environment\n"
+    )
+
+
+def never(*_: object, **__: object) -> None:
+    raise AssertionError("setup ran a command")
+
+
+@pytest.mark.parametrize("is_installed", [False, True])
+def test_setup_in_a_virtual_environment_names_pip(
+    is_installed: bool, monkeypatch: pytest.MonkeyPatch, capsys: pytest.CaptureFixture[str]
+) -> None:
+    """Also for root: Debian's packages would be of no use there, and pip may not install without being asked."""
+
+    def version(name: str) -> str:
+        if not is_installed:
+            raise PackageNotFoundError(name)
+        return "1.1.0"
+
+    def found(module: str) -> object:
+        return None if module in ("osmium", "uvicorn") else module
+
+    monkeypatch.setattr("olr.setup.sys.prefix", "environment")
+    monkeypatch.setattr("olr.setup.sys.executable", "environment/bin/python")
+    monkeypatch.setattr("olr.setup.os.geteuid", lambda: 0)
+    monkeypatch.setattr("olr.setup.metadata.version", version)
+    monkeypatch.setattr("olr.setup.importlib.util.find_spec", found)
+    monkeypatch.setattr("olr.setup.subprocess.run", never)
+    assert setup.set_up() == 1
+    printed = capsys.readouterr()
+    package = "olr" if is_installed else TOP / "python"
+    command = f"environment/bin/python -m pip install '{package}[maps,serve]'\n"
+    assert printed.out == command
+    assert printed.err == (
+        "olr-tools: this Python is a virtual environment, in which pip installs what is missing, by this line\n"
+    )
 
 
 def test_setup_prints_before_it_installs(

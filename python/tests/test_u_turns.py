@@ -304,7 +304,8 @@ def test_the_command_without_a_map(tools: Tools, tmp_path: Path) -> None:
     ended = tools.run("u-turns", tmp_path)
     assert ended.returncode == 1
     assert ended.stderr == (
-        f"olr-tools: {tmp_path}/nodes.csv can't be read: No such file or directory\n"
+        f"olr-tools: {tmp_path}/nodes.csv can't be read: No such file or directory: name a folder with "
+        "nodes.csv and lines.csv\n"
     )
 
 

@@ -7,7 +7,7 @@ from collections.abc import Callable
 from pathlib import Path
 
 import olr
-from conftest import REFERENCE, Program
+from conftest import REFERENCE, TOP, Program
 
 
 def asked(path: Path) -> None:
@@ -63,8 +63,52 @@ def test_a_path_that_cant_be_read(
         read(path)
     said = str(raised.value)
     assert "\n" not in said and "\0" not in said
-    if not said.startswith("olr refuses the map: OpenFailed "):
-        assert path.name.replace("\0", r"\x00") in said
+    assert path.name.replace("\0", r"\x00") in said
+
+
+@pytest.mark.parametrize("lacks", ["nodes", "lines", "bans"])
+@pytest.mark.parametrize("fault", ["OpenFailed", "ReadFailed"])
+def test_a_file_of_a_map(
+    lacks: str, fault: str, program: Program, tmp_path: Path, monkeypatch: pytest.MonkeyPatch
+) -> None:
+    """Each question names the file that isn't there, or is a folder."""
+    monkeypatch.setenv("OLR_PROGRAM", os.fspath(program.path))
+    files = {name: TOP / "examples" / f"{name}.csv" for name in ("nodes", "lines", "bans")}
+    files[lacks] = tmp_path / "other"
+    reason = "No such file or directory"
+    if fault == "ReadFailed":
+        (tmp_path / "other").mkdir()
+        reason = "Is a directory"
+    reason += ": name a folder with nodes.csv and lines.csv"
+    said = f"olr refuses the map: {fault} {lacks}: {tmp_path}/other can't be read: {reason}"
+    with olr.Map(files["nodes"], files["lines"], files["bans"]) as asked:
+        questions: list[Callable[[], object]] = [
+            lambda: asked.match(REFERENCE),
+            lambda: asked.match(REFERENCE, after="8:1.1.1"),
+            lambda: asked.raw_answer("why", REFERENCE),
+            lambda: list(asked.answers("places", [REFERENCE])),
+        ]
+        for ask in questions:
+            with pytest.raises(olr.MapRefused) as raised:
+                ask()
+            assert str(raised.value) == said
+
+
+def test_a_file_of_a_map_without_rights(
+    program: Program, tmp_path: Path, monkeypatch: pytest.MonkeyPatch
+) -> None:
+    """Root may read each file, so the answer of the system is set here."""
+    monkeypatch.setenv("OLR_PROGRAM", os.fspath(program.path))
+    for name in ("nodes.csv", "lines.csv"):
+        (tmp_path / name).write_bytes((TOP / "examples" / name).read_bytes())
+    lines = tmp_path / "lines.csv"
+    access = os.access
+    monkeypatch.setattr(os, "access", lambda path, mode: path != lines and access(path, mode))
+    with olr.Map(tmp_path) as asked, pytest.raises(olr.MapRefused) as raised:
+        asked.match(REFERENCE)
+    assert str(raised.value).endswith(
+        f" OpenFailed lines: {lines} can't be read: Permission denied"
+    )
 
 
 def test_a_program_whose_name_is_too_long(monkeypatch: pytest.MonkeyPatch) -> None:

@@ -166,6 +166,13 @@ def test_a_narrow_window_shows_all_of_it(tools: Tools, browser: Browser, folder:
         inner = browser.value(box.replace("{}", kind))
         assert left <= inner[0] and top <= inner[1] and inner[2] <= right and inner[3] <= bottom
     assert browser.value("document.documentElement.scrollWidth") <= 500
+    # An option of the command that is shown isn't broken behind its dashes.
+    for width in range(300, 400, 10):
+        browser.value(
+            f"document.querySelector('#command').style = 'display: block; width: {width}px'"
+        )
+        options = "[...document.querySelectorAll('#command .option')].map((one) => one.getClientRects().length)"
+        assert {*browser.value(options)} == {1}
 
 
 def test_numbers_of_places(folder: Path, capsys: pytest.CaptureFixture[str]) -> None:

@@ -1,5 +1,7 @@
 """The files of a map, and the version of them that its answers are of."""
 
+import errno
+import os
 import threading
 from collections.abc import Iterator
 from contextlib import contextmanager
@@ -8,8 +10,11 @@ from typing import NamedTuple
 
 from olr.asking.program import PathLike
 from olr.content import digest_of
-from olr.errors import MapRefused, map_changed
-from olr.model.map_folder import BANS, LINES, NODES, files_read
+from olr.errors import MapRefused, ToolError, map_changed, readable
+from olr.model.map_folder import BANS, LINES, NODES, WANTED, files_read
+
+FLAGS = ("--nodes", "--lines", "--bans")
+"""The words before the files of a map."""
 
 
 class Version(NamedTuple):
@@ -43,9 +48,11 @@ class MapFiles:
         return [self.nodes, self.lines, *([] if self.bans is None else [self.bans])]
 
     def words(self) -> list[str]:
-        """The words that name them to the program."""
-        pairs = zip(("--nodes", "--lines", "--bans"), map(str, self.paths()))
-        return [word for pair in pairs for word in pair]
+        """The words that name them to the program. Raises `MapRefused`, with its path, for the first one that the program couldn't open."""
+        pairs = list(zip(FLAGS, self.paths()))
+        for flag, path in pairs:
+            _require_opened(flag.removeprefix("--"), path)
+        return [word for flag, path in pairs for word in (flag, str(path))]
 
     def found(self) -> Version:
         """The version that is there. Raises `MapRefused` if another one was read before."""
@@ -90,3 +97,18 @@ class PartFiles(MapFiles):
 
     def keep(self, version: Version) -> None:
         """Nothing has to be noted."""
+
+
+def _require_opened(name: str, path: Path) -> None:
+    """Raises `MapRefused` for a file of nodes, lines or bans that can't be opened: it has the fault of the program, and the path."""
+    fault = "OpenFailed"
+    try:
+        with readable(path, WANTED):
+            if path.is_dir():
+                fault = "ReadFailed"
+                raise IsADirectoryError(errno.EISDIR, os.strerror(errno.EISDIR))
+            path.stat()
+            if not os.access(path, os.R_OK):
+                raise PermissionError(errno.EACCES, os.strerror(errno.EACCES))
+    except ToolError as error:
+        raise MapRefused(f"olr refuses the map: {fault} {name}: {error}") from error

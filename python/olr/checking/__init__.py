@@ -11,4 +11,5 @@
 | `stores` | the same of a store |
 | `sources` | whether the sources of a map are those of its lines |
 | `report` | what is printed |
+| `remarks` | what of it a job can fail for, by names |
 """

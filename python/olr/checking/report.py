@@ -9,6 +9,7 @@ from olr.checking.files import LIMITS
 from olr.checking.lengths import FAR_DECIMETRES, FAR_SHARE, Lengths, Shorter, likely_unit
 from olr.checking.map_arrays import MapArrays
 from olr.checking.network import NEAR_METRES, Component, Connectivity
+from olr.checking.remarks import Remark
 from olr.checking.tables import Tables
 
 ROLES = {
@@ -32,7 +33,9 @@ def fault_lines(faults: Faults) -> Iterator[str]:
 def count_lines(tables: Tables) -> Iterator[str]:
     """How much of each limit is used."""
     for file, count in tables.counts.items():
-        yield f"{file} {count:,} of at most {LIMITS[file]:,}{_use(count, LIMITS[file])}"
+        use = _use(count, LIMITS[file])
+        text = f"{file} {count:,} of at most {LIMITS[file]:,}{use}"
+        yield Remark(text, "close-to-the-limit", int(bool(use)))
 
 
 def _use(count: int, limit: int) -> str:
@@ -54,7 +57,8 @@ def box_lines(road_map: MapArrays) -> Iterator[str]:
 
 def round_lines(ids: Integers, most: int) -> Iterator[str]:
     """How many lines go more than half round the earth, by the ids of all of them, of which some are named."""
-    yield f"lines that go more than half round the earth {len(ids):,}{named(ids, np.arange(len(ids)), most)}"
+    text = f"lines that go more than half round the earth {len(ids):,}{named(ids, np.arange(len(ids)), most)}"
+    yield Remark(text, "round-the-earth", len(ids))
 
 
 def kind_lines(road_map: MapArrays) -> Iterator[str]:
@@ -72,7 +76,8 @@ def length_lines(road_map: MapArrays, lengths: Lengths, most: int) -> Iterator[s
     if lengths.ratio is None:
         return
     limits = f"{100 * FAR_SHARE:.0f} % and {FAR_DECIMETRES / 10:.0f} m"
-    yield f"lengths far from the shape: {_lines(len(lengths.far))} differ by more than {limits}"
+    text = f"lengths far from the shape: {_lines(len(lengths.far))} differ by more than {limits}"
+    yield Remark(text, "lengths", len(lengths.far))
     for line in lengths.far[:most].tolist():
         length, measured = road_map.length[line], lengths.measured[line]
         yield f"    line {road_map.line_id[line]}: length {length}, shape {measured:.0f} dm"
@@ -80,7 +85,7 @@ def length_lines(road_map: MapArrays, lengths: Lengths, most: int) -> Iterator[s
     yield f"length by shape: median {lengths.ratio:.4f}"
     unit = likely_unit(lengths.ratio, float(np.median(road_map.lat)) / 1e6)
     if unit is not None:
-        yield f"    are the lengths {unit}? They have to be decimetres"
+        yield Remark(f"    are the lengths {unit}? They have to be decimetres", "unit", 1)
     yield from _shorter_lines(road_map, lengths, lengths.shorter, "")
     yield from _shorter_lines(road_map, lengths, lengths.shorter_long, " of 10 m or more")
 
@@ -103,18 +108,23 @@ def network_lines(road_map: MapArrays, network: Connectivity, most: int) -> Iter
     lines = len(road_map.line_id)
     if network.networks:
         share = 100 * network.largest_network / lines
-        yield f"networks {network.networks:,}: the largest has {share:.1f} % of the lines"
+        text = f"networks {network.networks:,}: the largest has {share:.1f} % of the lines"
+        yield Remark(text, "networks", network.networks)
     if network.parts:
         yield from _part_lines(road_map, network, most)
     if not network.bans_counted:
         yield "    bans aren't looked at here: too many turns are at nodes with bans"
-    yield f"dead ends {len(network.dead_ends):,}"
-    yield f"dead ends within {NEAR_METRES:.0f} m of a node that they aren't joined to: {len(network.near):,}"
+    dead_ends, near = len(network.dead_ends), len(network.near)
+    yield Remark(f"dead ends {dead_ends:,}", "dead-ends", dead_ends)
+    text = f"dead ends within {NEAR_METRES:.0f} m of a node that they aren't joined to: {near:,}"
+    yield Remark(text, "near-dead-ends", near)
     for node, other, metres in network.near[:most]:
         ids = road_map.node_id
         yield f"    node {ids[node]}: {metres:.1f} m to node {ids[other]}"
     yield from _more(len(network.near) - most)
-    yield f"nodes without a line {len(network.unused_nodes):,}{named(road_map.node_id, network.unused_nodes, most)}"
+    unused = network.unused_nodes
+    text = f"nodes without a line {len(unused):,}{named(road_map.node_id, unused, most)}"
+    yield Remark(text, "nodes-without-a-line", len(unused))
 
 
 def _part_lines(road_map: MapArrays, network: Connectivity, most: int) -> Iterator[str]:
@@ -122,14 +132,16 @@ def _part_lines(road_map: MapArrays, network: Connectivity, most: int) -> Iterat
     whole = max(int(road_map.length.sum()), 1)
     largest, others = network.parts[0], network.parts[1:]
     share = f"{100 * largest.length / whole:.1f} % of the length"
-    yield f"strongly connected parts {len(network.parts):,}: the largest has {share}"
+    text = f"strongly connected parts {len(network.parts):,}: the largest has {share}"
+    yield Remark(text, "parts", len(network.parts))
     for role, meaning in ROLES.items():
         of_role = [part for part in others if part.role == role]
         if not of_role:
             continue
         length = sum(part.length for part in of_role)
         count = _lines(sum(len(part.lines) for part in of_role))
-        yield f"{role}s {len(of_role):,} ({meaning}): {count}, {_km(length)}"
+        text = f"{role}s {len(of_role):,} ({meaning}): {count}, {_km(length)}"
+        yield Remark(text, f"{role}s", len(of_role))
         for part in of_role[:most]:
             yield f"    {_part(road_map, part)}"
         yield from _more(len(of_role) - most)

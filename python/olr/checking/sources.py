@@ -5,6 +5,7 @@ from collections.abc import Iterator
 from pathlib import Path
 
 from olr.arrays import Integers
+from olr.checking.remarks import Remark
 from olr.checking.report import named
 from olr.checking.stores import all_lines
 from olr.errors import ToolError
@@ -19,7 +20,7 @@ def lines_of_folder(folder: Path, lines: Integers, most: int) -> Iterator[str]:
     try:
         sources = Sources.of_folder(folder)
     except ToolError as error:
-        yield f"{IDS} can't be used: {error}"
+        yield Remark(f"{IDS} can't be used: {error}", "ids", 1)
         return
     yield from _compared(IDS, sources, lines, most)
 
@@ -38,4 +39,5 @@ def _compared(where: str, sources: Sources, lines: Integers, most: int) -> Itera
         (f"lines without a record in {where}", np.setdiff1d(lines, known)),
         (f"records of {where} without a line", np.setdiff1d(known, lines)),
     ):
-        yield f"{what} {len(ids):,}{named(ids, np.arange(len(ids)), most)}"
+        text = f"{what} {len(ids):,}{named(ids, np.arange(len(ids)), most)}"
+        yield Remark(text, "ids", len(ids))

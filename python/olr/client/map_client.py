@@ -27,6 +27,7 @@ from olr.model.questions import (
     cursor_of,
     many,
     record_text,
+    with_empty_texts,
     with_tolerances,
 )
 
@@ -221,7 +222,7 @@ class Map:
         Kind.of("match", {"page": page})
         return self._pages(ref, page, None if after is None else cursor_of(after))
 
-    def matches(self, refs: Iterable[str], *, page: int = 10) -> Iterator[Page | Fault]:
+    def matches(self, refs: Iterable[str | None], *, page: int = 10) -> Iterator[Page | Fault]:
         """The first pages of many references, in their order: see `answers`. Raises as `answers`.
 
         >>> import olr
@@ -275,7 +276,7 @@ class Map:
 
     @overload
     def answers(
-        self, what: Literal["match"], refs: Iterable[str], *, page: int = ...
+        self, what: Literal["match"], refs: Iterable[str | None], *, page: int = ...
     ) -> Iterator[Page | Fault]:
         ...
 
@@ -283,7 +284,7 @@ class Map:
     def answers(
         self,
         what: Literal["places"],
-        refs: Iterable[str],
+        refs: Iterable[str | None],
         *,
         apart: int = ...,
         within: int = ...,
@@ -294,25 +295,27 @@ class Map:
 
     @overload
     def answers(
-        self, what: Literal["why"], refs: Iterable[str], *, nearest: int = ...
+        self, what: Literal["why"], refs: Iterable[str | None], *, nearest: int = ...
     ) -> Iterator[Why | Fault]:
         ...
 
     @overload
     def answers(
-        self, what: Literal["candidates"], refs: Iterable[str]
+        self, what: Literal["candidates"], refs: Iterable[str | None]
     ) -> Iterator[Candidates | Fault]:
         ...
 
     @overload
-    def answers(self, what: What, refs: Iterable[str], **numbers: int) -> Iterator[AnswerOrFault]:
+    def answers(
+        self, what: What, refs: Iterable[str | None], **numbers: int
+    ) -> Iterator[AnswerOrFault]:
         ...
 
-    def answers(self, what: What, refs: Iterable[str], **numbers: int) -> Iterator[Any]:
+    def answers(self, what: What, refs: Iterable[str | None], **numbers: int) -> Iterator[Any]:
         """The answers to one question about many references, in their order: what the method of that question gives, and where it
-        would raise `Fault`, that fault in place of an answer. The numbers are those of that method. Raises `ValueError` for another
-        question, `TypeError` for a number that the question doesn't have or for one text in place of many, and `Fault` for a number
-        out of its range.
+        would raise `Fault`, that fault in place of an answer. None and NaN, as in a column of a table, have the fault `Empty`. The numbers are those of that method. Raises `ValueError` for another
+        question, `TypeError` for a number that the question doesn't have, for one text or a table in place of many, and for what is no
+        text, and `Fault` for a number out of its range. `olr.locate` takes a table as it is.
 
         The process is kept busy: up to 256 references are taken from `refs` before the first answer is given. Other questions may
         be asked meanwhile. If the generator isn't gone through, the answers to what was handed over are passed over. Where the process
@@ -333,7 +336,7 @@ class Map:
         """
         question = Kind.of(what, numbers)
         texts = many("answers takes many references", refs, f"ask {what} about one")
-        asked, again = tee(texts)
+        asked, again = tee(with_empty_texts(texts))
         return _known(self._source.answers(question, asked), again)
 
     def raw_answer(

@@ -4,28 +4,7 @@ import click
 
 from olr.commands import options
 from olr.commands.u_turns import dead_ends_option, u_turns_option
-from olr.model.box import Box
 from olr.model.sources import require_columns
-
-
-class BoxParameter(click.ParamType):
-    """A box `W,S,E,N` in degrees."""
-
-    name = "box"
-
-    def convert(
-        self, value: object, param: click.Parameter | None, ctx: click.Context | None
-    ) -> Box:
-        """The box of a text. Ends with a usage error if it isn't one."""
-        if isinstance(value, Box):
-            return value
-        try:
-            west, south, east, north = (float(edge) for edge in str(value).split(","))
-        except ValueError:
-            self.fail("four numbers are needed, in degrees: W,S,E,N, such as 6.0,49.5,6.2,49.7")
-        if not (-180 <= west < east <= 180 and -90 <= south < north <= 90):
-            self.fail("W has to be less than E, S less than N, and all within 180 and 90 degrees")
-        return Box(*(round(edge * 1e6) for edge in (west, south, east, north)))
 
 
 def _kept_fields(
@@ -41,14 +20,7 @@ import_options = options.in_order(
     options.force_option(
         "the map in the folder of --out. Its other files stay", "a folder that isn't empty"
     ),
-    click.option(
-        "--bbox",
-        "box",
-        metavar="W,S,E,N",
-        type=BoxParameter(),
-        help="Take only what reaches into a box, by its west, south, east and north edge in degrees: W and E from -180 to 180, "
-        "S and N from -90 to 90, such as 6.0,49.5,6.2,49.7. By default the whole file is taken.",
-    ),
+    options.box_option("Take only what reaches into a box", "the whole file is taken"),
     u_turns_option,
     dead_ends_option,
     click.option(

@@ -1,5 +1,5 @@
-"""The options that commands share: files and counts, the map, the tolerances with their profile, the numbers of questions, files of
-messages, pages."""
+"""The options that commands share: files and counts, the map and a box in it, the tolerances with their profile, the numbers of questions,
+files of messages, pages."""
 
 import click
 import functools
@@ -10,6 +10,7 @@ from typing import Any
 from olr.asking.patience import PATIENCE, require_patience
 from olr.messages.message import ALL, BASE64, FORMATS, KEY, REF, Base64, Format, Reading
 from olr.model.asked_with import Asking
+from olr.model.box import Box
 from olr.model.profiles import FEED, PROFILE, PROFILES, about_text
 from olr.model.questions import NUMBERS, TOLERANCES, Number, What, argument
 
@@ -69,6 +70,38 @@ def map_option(metavar: str, text: str, name: str = "folder", flag: str = "--map
 
 
 MAP = map_option("DIR|STORE", f"The map: {OR_STORE}.")
+
+
+class BoxParameter(click.ParamType):
+    """A box `W,S,E,N` in degrees."""
+
+    name = "box"
+
+    def convert(
+        self, value: object, param: click.Parameter | None, ctx: click.Context | None
+    ) -> Box:
+        """The box of a text. Ends with a usage error if it isn't one."""
+        if isinstance(value, Box):
+            return value
+        try:
+            west, south, east, north = (float(edge) for edge in str(value).split(","))
+        except ValueError:
+            self.fail("four numbers are needed, in degrees: W,S,E,N, such as 6.0,49.5,6.2,49.7")
+        if not (-180 <= west < east <= 180 and -90 <= south < north <= 90):
+            self.fail("W has to be less than E, S less than N, and all within 180 and 90 degrees")
+        return Box(*(round(edge * 1e6) for edge in (west, south, east, north)))
+
+
+def box_option(done: str, otherwise: str) -> Option:
+    """The option `--bbox`, a `box` or None. Its help says what is `done`, and what is so by default."""
+    return click.option(
+        "--bbox",
+        "box",
+        metavar="W,S,E,N",
+        type=BoxParameter(),
+        help=f"{done}, by its west, south, east and north edge in degrees: W and E from -180 to 180, S and N from -90 to 90, such as "
+        f"6.0,49.5,6.2,49.7. By default {otherwise}.",
+    )
 
 
 def out_option(metavar: str, text: str, name: str = "file") -> Option:
@@ -237,6 +270,15 @@ page_options = in_order(
     tiles_option(),
 )
 """The page to write, `file` and `force`, and `tiles`."""
+
+
+def live_option(what: str, instead: str) -> Option:
+    """The flag `--live`: `what` can be asked again on the page, which is without it `instead`."""
+    return flag_option(
+        "--live",
+        f"Write a page that answers by itself: it has the program and what it needs of the map, so that {what} can be asked again with other "
+        f"tolerances, without a network. By default {instead}.",
+    )
 
 
 def of_question(question: What, options: Mapping[str, Any]) -> Asking:

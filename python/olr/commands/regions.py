@@ -6,7 +6,7 @@ from pathlib import Path
 from olr.commands import options
 from olr.counts import Counts
 from olr.errors import ToolError
-from olr.model.map_folder import NODES, files_read
+from olr.model.map_folder import NODES, WANTED, files_read
 from olr.outputs import require_free_file
 from olr.regions.making import make_store_of_folder, make_store_of_map
 from olr.regions.store import Sizes, Store
@@ -34,7 +34,7 @@ def command(source: Path, file: Path, force: bool) -> None:
         sizes = make_store_of_folder(source, file, force)
         _hint_of_lines_round_the_earth(file)
     else:
-        raise ToolError(f"there is no map in {source}: name a folder with {NODES} and lines.csv")
+        raise ToolError(f"there is no map in {source}: {WANTED}")
     click.echo(f"{file}: {sizes.nodes:,} nodes, {sizes.lines:,} lines, {sizes.bans:,} bans")
 
 

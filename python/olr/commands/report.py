@@ -18,6 +18,8 @@ from olr.messages.opening import name_of
 from olr.model.asked_with import name_for_program
 from olr.model.map_folder import inputs_of
 from olr.outputs import write_whole
+from olr.pages.alone.live import Making, add_addresses, address_of, page_for_list, two_pages
+from olr.pages.alone.module import find_module
 from olr.pages.html import html_of, require_page
 from olr.pages.kept import cells_of
 from olr.pages.report.asking import count
@@ -36,6 +38,7 @@ from olr.pages.view.scene import add_command
 @options.keep_option
 @options.confidence_option
 @options.rows_option("the table and the map have")
+@options.live_option("its references", "the page shows these answers alone")
 @options.page_options
 def command(
     messages: Path,
@@ -44,6 +47,7 @@ def command(
     reading: Reading,
     confidence: Path | None,
     rows: int,
+    live: bool,
     tiles: str | None,
     file: Path,
     force: bool,
@@ -60,6 +64,8 @@ def command(
     require_page(file, force, inputs)
     sure = judging_for(confidence, asking.tolerances, asking.numbers)
     html_of(TEMPLATE, "", {}, tiles)  # What is missing is said before anything is asked.
+    if live:
+        find_module()
     with ExitStack() as stack:
         asked = stack.enter_context(Map.of_folder(folder, **asking.tolerances, patience=patience))
         lacking = stack.enter_context(Lacking(asked, Other.of(asking, folder, patience)))
@@ -67,9 +73,14 @@ def command(
         questions = Asked(asked, given, within=Shown.of(asking.numbers).within)
         counted = count(questions, asked, asking.numbers, rows, sure.judging, lacking)
         found = rows_of(counted.sample, asked, asking.numbers, sure.judging)
+        drawn = [one.message for one in counted.sample]
+        made = Making(folder, confidence, tiles)
+        answering = page_for_list(asked, made, drawn) if live else None
     kept = kept_columns(given.kept, ANSWERS)
-    for row, drawn in zip(found.rows, counted.sample, strict=True):
-        row["kept"] = cells_of(drawn.message, kept)
+    for row, message in zip(found.rows, drawn, strict=True):
+        row["kept"] = cells_of(message, kept)
+    if answering:
+        add_addresses(found.rows, drawn, asking, answering)
     for scene in found.scenes:
         if scene is not None:
             add_command(scene, name_for_program(folder), asking.all_numbers())
@@ -80,11 +91,16 @@ def command(
         asking.text(),
         [sentence(text) for text in expected or [sure.note] if text],
         about_probabilities(sure, confidence),
+        address_of(asking, None) if answering else "",
     )
     page = page_of(about, counted, found, tiles, list(kept))
-    write_whole(file, page.encode(), force, inputs)
+    if answering:
+        page = two_pages(about.title(), page, answering, tiles)
+    content = page.encode()
+    write_whole(file, content, force, inputs)
     click.echo(f"{file}: {len(found.rows):,} rows of {counted.places.references():,} references")
-    more = (asking.line(), lacking.line(), *remarks(counted.places), sure.note)
+    of_live = answering.line(len(content), len(drawn)) if answering else ""
+    more = (asking.line(), of_live, lacking.line(), *remarks(counted.places), sure.note)
     for line in (*expected, *questions.summary(), *more):
         if line:
             click.echo(line)

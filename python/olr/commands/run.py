@@ -19,7 +19,7 @@ from olr.likely.long_list import LIST
 from olr.messages.message import KEY, REF, Reading
 from olr.messages.message_file import MessageFile
 from olr.messages.opening import as_file, name_of
-from olr.messages.reading import format_in
+from olr.messages.reading import WANTED, format_in
 from olr.model.asked_with import Asking
 from olr.model.map_folder import LINES, LINES_HEADER, NODES, NODES_HEADER, write_rows
 from olr.model.questions import NUMBERS, What
@@ -179,7 +179,7 @@ def command(
             "--within and --most are for --geometries and --pieces: the lines of --places have all places"
         )
     copy, name = click.get_current_context().with_resource(as_file(messages)), name_of(messages)
-    stamp, kind = Stamp.of(copy), format_in(copy, reading, name)
+    stamp, kind = Stamp.of(copy, WANTED), format_in(copy, reading, name)
     if rows is not None and geometries is not None and (reading.keep or kind == "xml"):
         # What lines have no room for: members that are kept, and own faults, which messages of XML may have.
         file = MessageFile(copy, reading, name, stamp)
@@ -239,6 +239,7 @@ def _map_of(path: Path | None, store: Path | None, scheduler: str | None) -> Ask
         raise click.UsageError(
             "--scheduler is for a store, of which each worker reads what it needs: make one by olr-tools regions"
         )
+    named.require_there(path)
     return named
 
 

@@ -16,7 +16,7 @@ from olr.importing.u_turns import (
     effective_dead_ends,
     u_turn_bans,
 )
-from olr.model.map_folder import read_about, read_map, store_of, write_bans
+from olr.model.map_folder import STORE_SUFFIX, WANTED, read_about, read_map, store_of, write_bans
 from olr.model.road_map import require_within_limits
 
 
@@ -57,6 +57,8 @@ def command(folder: Path, u_turns: UTurns, dead_ends: DeadEnds) -> None:
     """
     counts = Counts()
     store = store_of(folder)
+    if store == folder and folder.suffix.lower() != STORE_SUFFIX:
+        raise ToolError(f"{folder} isn't the folder of a map: {WANTED}")
     if store is not None:
         too = " --dead-ends ban" if dead_ends == "ban" else ""
         raise ToolError(

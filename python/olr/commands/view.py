@@ -7,11 +7,13 @@ from olr.client.map_client import Map
 from olr.commands import options
 from olr.confidence.choosing import cut_off_line, judging_for
 from olr.messages.finding import message_of_key, message_of_record
-from olr.messages.message import Reading
+from olr.messages.message import Message, Reading
 from olr.model.asked_with import name_for_program
 from olr.model.fault import Fault
 from olr.model.map_folder import inputs_of
 from olr.outputs import write_whole
+from olr.pages.alone.live import Making, page_for_reference
+from olr.pages.alone.module import find_module
 from olr.pages.html import require_page
 from olr.pages.view.page import html_of
 from olr.pages.view.scene import add_command, scene_of
@@ -33,6 +35,7 @@ from olr.pages.view.scene import add_command, scene_of
     "The number of a message in the file of --messages: 1 or more. By default the message is found by its key, REF.",
 )
 @options.reading_options
+@options.live_option("the reference", "the page shows this answer alone")
 @options.page_options
 def command(
     reference: str | None,
@@ -42,6 +45,7 @@ def command(
     messages: Path | None,
     record: int | None,
     reading: Reading,
+    live: bool,
     file: Path,
     force: bool,
     tiles: str | None,
@@ -54,17 +58,25 @@ def command(
     """
     asking = options.of_question("places", chosen)
     text = _text(reference, messages, record, reading)
+    if live:
+        find_module()  # What is missing is said before anything is asked.
     inputs = [*inputs_of(folder), *(one for one in (messages, confidence) if one is not None)]
     require_page(file, force, inputs)
     sure = judging_for(confidence, asking.tolerances, asking.numbers)
     with Map.of_folder(folder, **asking.tolerances, patience=patience) as asked:
         scene = scene_of(text, asked, sure.judging.confidence, **asking.numbers)
+        made = Making(folder, confidence, tiles)
+        message = Message(record or 0, reference if messages else None, text)
+        answering = page_for_reference(asked, made, asking, message) if live else None
     add_command(scene, name_for_program(folder), asking.all_numbers())
-    page = html_of(scene, tiles)
-    write_whole(file, page.encode(), force, inputs)
+    page = answering.page if answering else html_of(scene, tiles)
+    content = page.encode()
+    write_whole(file, content, force, inputs)
     click.echo(f"{file}: {scene['verdict']['word']}")
     click.echo(asking.line())
-    for more in (cut_off_line(int(bool(scene["looking"]))), scene["entries"] and sure.note):
+    of_live = answering.line(len(content), 1) if answering else ""
+    looking = cut_off_line(int(bool(scene["looking"])))
+    for more in (of_live, looking, scene["entries"] and sure.note):
         if more:
             click.echo(more)
 

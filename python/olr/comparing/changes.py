@@ -21,6 +21,7 @@ is `unique`. If it is `ambiguous` there is a second place, and if it is `open` t
 | `ambiguous` | more | same | same |
 """
 
+from collections.abc import Mapping
 from typing import Literal, NamedTuple
 
 from olr.comparing.places import Answer, Difference, Limits, Shape, difference
@@ -31,6 +32,13 @@ from olr.model.fault import Fault
 
 Change = Literal["same", "moved", "lost", "found", "none", "refused"]
 Certainty = Literal["same", "less", "more"]
+Refusing = Literal["both", "new", "old"]
+REFUSING: Mapping[Refusing, str] = {
+    "both": "both maps",
+    "new": "the new map alone",
+    "old": "the old map alone",
+}
+"""Which map refuses a reference, as it is said."""
 
 
 class Side(NamedTuple):
@@ -80,17 +88,28 @@ class Compared(NamedTuple):
     def is_changed(self) -> bool:
         """Whether something is otherwise with the new map: the place, how certain it is, or whether the reference is refused."""
         if self.change == "refused":
-            return self._refusing() != "both maps"
+            return self.refusing() != "both"
         return self.change in ("moved", "lost", "found") or self.certainty in ("less", "more")
 
     def words(self) -> str:
         """The change, and of a reference that is refused by which map. A fault of the text itself is one of both."""
-        return f"refused by {self._refusing()}" if self.change == "refused" else self.change
+        return (
+            f"refused by {REFUSING[self.refusing()]}" if self.change == "refused" else self.change
+        )
 
-    def _refusing(self) -> str:
-        """Which map refuses the reference."""
+    def has_no_place_any_more(self) -> bool:
+        """Whether it has a place on the old map and none on the new one: it is lost, or refused there."""
+        return self.old.shape is not None and self.new.shape is None
+
+    def refusing(self) -> Refusing:
+        """Which map refuses a reference that is refused."""
         old, new = (isinstance(side.answer, Fault) for side in (self.old, self.new))
-        return "both maps" if old and new else f"the {'old' if old else 'new'} map alone"
+        return "both" if old and new else "old" if old else "new"
+
+    def faults(self) -> list[str]:
+        """The names of the faults with which it is refused: one of both maps once."""
+        answers = (self.old.answer, self.new.answer)
+        return list(dict.fromkeys(it.name for it in answers if isinstance(it, Fault)))
 
 
 def compared(message: Message, old: Side, new: Side, limits: Limits) -> Compared:

@@ -2,13 +2,12 @@
 
 from bisect import bisect_right
 from collections import Counter
-from collections.abc import Iterable, Iterator
+from collections.abc import Iterable, Iterator, Mapping
 from itertools import accumulate
-from typing import NamedTuple
+from typing import NamedTuple, get_args
 
-from olr.comparing.changes import Compared
+from olr.comparing.changes import Certainty, Change, Compared, Refusing
 from olr.geometry.agreement import AGREE
-from olr.model.fault import Fault
 
 
 class Agreeing(NamedTuple):
@@ -37,6 +36,11 @@ class Summary:
         self.references = 0
         self._changes: Counter[str] = Counter()
         self._certainties: Counter[str] = Counter()
+        self._kinds: Counter[str] = Counter()
+        self._refused: Counter[tuple[Refusing, str]] = Counter()
+        """Which map refuses how many references, with which faults."""
+        self.no_place_any_more = 0
+        """How many have a place on the old map and none on the new one."""
         self._moved: Counter[int] = Counter()
         """How many places moved by how many decimetres."""
         self._agreeing = Agreeing(0, 0)
@@ -48,7 +52,11 @@ class Summary:
         for one in references:
             self.references += 1
             self.cut_off += one.is_cut_off()
+            self.no_place_any_more += one.has_no_place_any_more()
             self._changes[_counted(one)] += 1
+            self._kinds[one.change] += 1
+            if one.change == "refused":
+                self._refused[one.refusing(), " and ".join(one.faults())] += 1
             if one.certainty is not None:
                 self._certainties[one.certainty] += 1
             if one.agreement is not None:
@@ -64,6 +72,21 @@ class Summary:
     def certainties(self) -> list[tuple[str, int]]:
         """Likewise how certain places are."""
         return _by_count(self._certainties)
+
+    def counts(self) -> dict[str, int]:
+        """How many references have each change, also where none has it."""
+        return {change: self._kinds[change] for change in get_args(Change)}
+
+    def counts_of_certainty(self) -> dict[str, int]:
+        """Likewise how certain places are."""
+        return {certainty: self._certainties[certainty] for certainty in get_args(Certainty)}
+
+    def refused(self) -> Mapping[str, Mapping[str, int]]:
+        """How many references are refused with which faults, by the map that does so."""
+        found: dict[str, dict[str, int]] = {which: {} for which in get_args(Refusing)}
+        for (which, faults), count in self._refused.items():
+            found[which][faults] = count
+        return found
 
     def agreeing(self) -> Agreeing | None:
         """On how many references both maps agree: None if they place none."""
@@ -91,9 +114,7 @@ class Summary:
 
 def _counted(reference: Compared) -> str:
     """What a reference is counted as. Of one that is refused the faults are told apart."""
-    sides = (reference.old, reference.new)
-    names = [side.answer.name for side in sides if isinstance(side.answer, Fault)]
-    return ", ".join(filter(None, [reference.words(), " and ".join(dict.fromkeys(names))]))
+    return ", ".join(filter(None, [reference.words(), " and ".join(reference.faults())]))
 
 
 def _by_count(counts: Counter[str]) -> list[tuple[str, int]]:

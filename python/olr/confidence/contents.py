@@ -38,7 +38,7 @@ def text_of(confidence: Confidence) -> str:
 
 def read_confidence(file: Path) -> Confidence:
     """What a file says. Raises `ToolError` if it can't be read, or is no such file."""
-    with readable(file):
+    with readable(file, "olr-tools calibrate makes one"):
         content = file.read_bytes()
     try:
         return _confidence(json.loads(content, parse_constant=_no_number))

@@ -8,6 +8,7 @@ from collections.abc import Iterable, Sequence
 from pathlib import Path
 from typing import TYPE_CHECKING, NamedTuple, Protocol
 
+from olr.asking.program import PathLike
 from olr.content import digest_of
 from olr.errors import MapRefused, ToolError
 from olr.extras import needed_by
@@ -66,30 +67,38 @@ class Network:
     'LineString'
     """
 
-    def __init__(self, nodes_file: Path, lines_file: Path) -> None:
+    def __init__(self, nodes: PathLike, lines: PathLike) -> None:
         """Reads the files of nodes and of lines. Raises `ToolError` if they can't be read, or are changed meanwhile."""
+        nodes_file, lines_file = Path(nodes), Path(lines)
         self.folder = lines_file.parent
         self.digest = digest_of(nodes_file, lines_file)
         """Of both files: None if they can't be read twice."""
-        nodes = joined_columns(read_columns("nodes", nodes_file), "nodes")
-        lines = joined_columns(read_columns("lines", lines_file), "lines")
+        of_nodes = joined_columns(read_columns("nodes", nodes_file), "nodes")
+        of_lines = joined_columns(read_columns("lines", lines_file), "lines")
         if digest_of(nodes_file, lines_file) != self.digest:
             raise ToolError(
                 f"the map in {self.folder} was changed while it was read: read it again"
             )
-        node_id, lon, lat = nodes.numbers
+        node_id, lon, lat = of_nodes.numbers
         by_id = np.argsort(node_id)
         self.node_id: Integers = node_id[by_id]
         self.node_points: Floats = np.stack([lon[by_id], lat[by_id]], axis=1) / 1e6
-        self.line_id, self.start, self.end, self.road_class, self.form, self.length = lines.numbers
-        self.sizes: Integers = lines.sizes + 2
+        (
+            self.line_id,
+            self.start,
+            self.end,
+            self.road_class,
+            self.form,
+            self.length,
+        ) = of_lines.numbers
+        self.sizes: Integers = of_lines.sizes + 2
         """How many points each line has."""
         self.first: Integers = np.cumsum(self.sizes) - self.sizes
         """Where the points of each line begin in `points`."""
         self.points: Floats = np.zeros((int(self.sizes.sum()), 2))
         ends = np.zeros(len(self.points), dtype=bool)
         ends[self.first] = ends[self.first + self.sizes - 1] = True
-        self.points[~ends] = lines.points / 1e6
+        self.points[~ends] = of_lines.points / 1e6
         self.points[self.first] = self._points_of_nodes(self.start)
         self.points[self.first + self.sizes - 1] = self._points_of_nodes(self.end)
         self.arcs = _arcs(self.points, self.first, self.sizes)

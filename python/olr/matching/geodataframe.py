@@ -63,6 +63,7 @@ def to_geodataframe(
     if there are more keys than answers or fewer, or the part is another one, and `TypeError` for one answer or one key in place of many.
     """
     require_extent(part)
+    _require_network("to_geodataframe", network)
     answered = _answered("to_geodataframe", answers, keys, references, candidates)
     chunks = chunks_of(answered, network, Judging(confidence, _shown(within, most)))
     return _table(((one.items, one.rows(part)) for one in chunks), ANSWERS, keys is None)
@@ -92,8 +93,16 @@ def to_pieces(
     >>> pieces[["part", "line", "from_m", "to_m"]].values.tolist()[0]
     ['outer', 104, 87.9, 243.5]
     """
+    _require_network("to_pieces", network)
     chunks = chunks_of(_answered("to_pieces", answers, keys), network)
     return _table(((one.items, one.pieces()) for one in chunks), PIECES, keys is None)
+
+
+def _require_network(call: str, network: object) -> None:
+    """Raises `TypeError` for another thing than a network."""
+    if not isinstance(network, Network):
+        name = type(network).__name__
+        raise TypeError(f"{call} takes the network of a map, such as town.network(), not {name}")
 
 
 def _answered(

@@ -107,6 +107,10 @@ def _table_of(data: Any, ref: Hashable) -> "tuple[pandas.DataFrame, pandas.Serie
         )
     if ref is None:
         raise TypeError("locate needs the name of the column of references")
+    if ref not in data.columns:
+        raise KeyError(
+            f"the table has no column {ref!r}: it has {', '.join(map(str, data.columns))}"
+        )
     cells = data[ref]
     if not isinstance(cells, pandas.Series):
         raise ValueError(f"the table has more than one column {ref!r}: rename them")

@@ -35,6 +35,8 @@ from olr.messages.pieces import stream_of
 from olr.messages.tables import messages_of_table
 from olr.messages.texts import plain_base64, require_base64
 
+WANTED = "name a file of messages, or ask olr about one reference"
+"""What to do where there is no file."""
 Errors = Literal["strict", "surrogateescape"]
 
 
@@ -123,7 +125,7 @@ def format_in(file: Path, reading: Reading, name: str | None = None) -> Format:
 def _of_file(name: str) -> Iterator[None]:
     """Raises `ToolError`, with the name of a file, for what reading it raises."""
     try:
-        with readable(name):
+        with readable(name, WANTED):
             yield
     except Unpackable as error:
         raise ToolError(f"{name} {error}") from error

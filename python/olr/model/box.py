@@ -1,4 +1,4 @@
-"""The part of a file that an import takes."""
+"""A part of the earth: what an import takes of a file, and what a page carries of a map."""
 
 from typing import NamedTuple
 
@@ -17,3 +17,7 @@ class Box(NamedTuple):
         """Whether a position is in the box."""
         lon, lat = position
         return self.west <= lon <= self.east and self.south <= lat <= self.north
+
+    def text(self) -> str:
+        """Its edges in degrees, as `--bbox` takes them."""
+        return ",".join(f"{edge / 1e6:.6f}".rstrip("0").rstrip(".") for edge in self)

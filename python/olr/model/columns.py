@@ -13,7 +13,14 @@ from typing import Literal, NamedTuple
 
 from olr.arrays import Booleans, Integers
 from olr.errors import ToolError, readable
-from olr.model.map_folder import BANS_HEADER, LINES_HEADER, NODES_HEADER, ROWS, read_batches
+from olr.model.map_folder import (
+    BANS_HEADER,
+    LINES_HEADER,
+    NODES_HEADER,
+    ROWS,
+    WANTED,
+    read_batches,
+)
 from olr.model.road_map import (
     GREATEST_ID,
     GREATEST_LAT,
@@ -99,7 +106,7 @@ def read_columns(what: What, file: Path, advance: Advance = lambda _: None) -> I
     were read. Raises `ToolError` if they can't be read, or for the first one that isn't one of a map.
     """
     number = 0
-    with readable(file), file.open("rb") as stream:
+    with readable(file, WANTED), file.open("rb") as stream:
         is_usual = stream.readline().rstrip(b"\r\n") == ",".join(_FILES[what].header).encode()
         while is_usual and (text := stream.read(PIECE) + stream.readline()):
             columns = _usual_columns(what, text.replace(b"\r\n", b"\n"), number)

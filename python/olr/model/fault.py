@@ -80,7 +80,7 @@ def _meaning(text: str) -> tuple[str, str]:
 
 def _filled(text: str, values: Mapping[str, str]) -> str:
     """A text of the table with values in place of its capital letters, and without its marks for code."""
-    plain = text.replace("`", "").replace(" (see below)", "")
+    plain = text.replace("`", "")
     for place, word in values.items():
         plain = re.sub(rf"\b{place}\b", word, plain)
     return plain

@@ -1,4 +1,4 @@
-"""What each fault means and what to do about it: the rows of docs/FAULTS.md.
+"""What each fault means and what to do about it: the rows of docs/FAULTS.md, and what `olr explain` prints.
 
 Words in capital letters stand for what the program puts in their places.
 """
@@ -30,7 +30,7 @@ ROWS: dict[str, tuple[str, str]] = {
     ),
     "NotBase64": (
         "the text isn't standard base64",
-        "replace `-` by `+` and `_` by `/`, and add `=` until the number of letters is a multiple of 4 (see below)",
+        "replace `-` by `+` and `_` by `/`, and add `=` until the number of letters is a multiple of 4",
     ),
     "Empty": (
         "there is no text but blanks",
@@ -144,6 +144,10 @@ ROWS: dict[str, tuple[str, str]] = {
         "on a store: the part of the map that the reference needs has more than 100,000 nodes, 200,000 lines or 200,000 bans",
         "lower `--radius`, `--percent` and `--slack`; ask `--places` in place of `--why`",
     ),
+    "NotOnPage": (
+        "of a page of `--live`: it has only the part of the map that other references need",
+        "ask on the whole map; `olr-tools page` writes a page that has all of it",
+    ),
     "ProgramFailed": (
         "of `olr-tools run`: the program ended at the record, or wrote something else than its line, when it was asked about this record alone",
         "delete the part with the record, and go on by `--resume`; if it fails again, report the record and the map",
@@ -174,7 +178,7 @@ ROWS: dict[str, tuple[str, str]] = {
     ),
     "WriteFailed": (
         "the output couldn't be written completely",
-        "what was written is a beginning of the output: don't use it",
+        "what was written is a beginning of the output: don't use it, unless its reader wanted no more of it, as `head`: `2>/dev/null` hides the line then",
     ),
 }
 """The line that `olr` prints, with its meaning and what to do."""

@@ -23,11 +23,15 @@ from olr.progress import Advance, watched
 
 NODES, LINES, BANS, IMPORT = "nodes.csv", "lines.csv", "bans.csv", "import.json"
 STORE = "map.gpkg"
+STORE_SUFFIX = ".gpkg"
 FILES = (LINES, BANS, IDS, IMPORT, STORE, NODES)
 """Of a map's folder. The nodes come last."""
 NODES_HEADER = ("id", "lon", "lat")
 LINES_HEADER = ("id", "from", "to", "class", "form", "length", "shape")
 BANS_HEADER = ("from", "to")
+
+WANTED = f"name a folder with {NODES} and {LINES}"
+"""What to do where a file of a map isn't there."""
 
 ROWS = 10_000
 """So many records are read at a time."""
@@ -54,7 +58,7 @@ def store_of(path: Path) -> Path | None:
         if path.is_dir():
             there = (path / STORE).is_file() and not (path / NODES).exists()
             return path / STORE if there else None
-        return path if path.is_file() or path.suffix.lower() == ".gpkg" else None
+        return path if path.is_file() or path.suffix.lower() == STORE_SUFFIX else None
 
 
 def require_free(folder: Path, force: bool, inputs: Iterable[Path] = ()) -> None:
@@ -216,7 +220,7 @@ def read_batches(
     of bytes that were read. Raises `ToolError` if they can't be read, or one hasn't as many fields as the header.
     """
     number = 0
-    with readable(file), file.open("rb") as stream:
+    with readable(file, WANTED), file.open("rb") as stream:
         records = (fields for _, fields in read_records(stream, advance))
         if next(records, None) != list(header):
             raise ToolError(f"{file} doesn't begin with the header {','.join(header)}")

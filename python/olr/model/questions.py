@@ -3,8 +3,9 @@
 import inspect
 import re
 from collections import ChainMap
-from collections.abc import Callable, Iterable, Mapping
+from collections.abc import Callable, Iterable, Iterator, Mapping
 from keyword import iskeyword
+from math import isnan
 from numbers import Integral
 from typing import Any, Literal, NamedTuple, TypeVar
 
@@ -113,6 +114,8 @@ MOST_CURSOR = 166
 """Letters of the longest one."""
 MOST_BYTES = 344
 """Of a reference without the blanks at its ends."""
+OF_PANDAS = ("NAType", "NaTType")
+"""The types of cells of pandas that have nothing."""
 NO_LETTER = b"!"
 """Stands for what no record and no word of a command can have: it is no letter of base64 either."""
 
@@ -130,7 +133,7 @@ def record_text(reference: str) -> bytes:
         )
     if not isinstance(reference, str):
         raise TypeError(
-            f"a reference is a text, not {type(reference).__name__}: give an empty text where there is none"
+            f"a reference is a text, not {type(reference).__name__}: of a column with other cells olr.locate gives each a fault"
         )
     return text_of_record(reference.encode("utf-8", errors="replace"))
 
@@ -144,10 +147,25 @@ def text_of_record(reference: bytes) -> bytes:
 
 
 def many(call: str, items: Iterable[Item], instead: str) -> Iterable[Item]:
-    """What a call takes many of. Raises `TypeError` for a text, whose items would be its letters."""
+    """What a call takes many of. Raises `TypeError` for a text, whose items would be its letters, and for a table, whose items would be the
+    names of its columns."""
     if isinstance(items, (str, bytes, bytearray)):
         raise TypeError(f"{call}, not one text: {instead}")
+    if hasattr(items, "columns"):
+        raise TypeError(f"{call}, not a table: give one of its columns")
     return items
+
+
+def with_empty_texts(cells: Iterable[object]) -> Iterator[Any]:
+    """Cells of a table, with an empty text for each that has nothing: None, NaN, or what pandas has for it."""
+    return ("" if _is_missing(cell) else cell for cell in cells)
+
+
+def _is_missing(cell: object) -> bool:
+    """Whether a cell of a table has nothing. No module of others is needed to know its own."""
+    if cell is None or type(cell).__name__ in OF_PANDAS:
+        return True
+    return isinstance(cell, float) and isnan(cell)
 
 
 def number_words(name: str, value: int) -> list[str]:

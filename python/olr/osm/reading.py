@@ -13,7 +13,7 @@ from olr.importing.roads import GREATEST_ROAD_ID, Road, Source
 from olr.model.box import Box
 from olr.model.road_map import GREATEST_ID, GREATEST_LAT, Position
 from olr.model.sources import NAME
-from olr.osm.format import PBF, format_of, named_for_osmium
+from olr.osm.format import PBF, UNKNOWN, format_of, named_for_osmium
 from olr.osm.tags import NoRoad, Tags, TagTable, first_of, folded, several, value_of
 from olr.osm.versions import Deleted, Versions, deleted_in_josm, require_one_time
 from olr.progress import progress
@@ -85,7 +85,7 @@ def read_osm(file: Path, wanted: Wanted, counts: Counts) -> OsmRoads:
     time, or if its ids aren't those of OpenStreetMap's own data.
     """
     if not file.is_file():
-        raise ToolError(f"{file} isn't a file")
+        raise ToolError(f"{file} isn't a file: name one of OpenStreetMap, such as town.osm.pbf")
     format = format_of(file)
     deleted = deleted_in_josm(file, format)
     try:
@@ -104,7 +104,10 @@ def read_osm(file: Path, wanted: Wanted, counts: Counts) -> OsmRoads:
                 ways.apply_file(name, locations=True)
     except UNREADABLE as error:
         words = " ".join(str(error).split())
-        raise ToolError(f"{file} can't be read as OpenStreetMap data: {words}") from error
+        about = f"{file} can't be read as OpenStreetMap data: {words.removesuffix('.')}"
+        if format == UNKNOWN:
+            about += ": of other files olr-tools import vector makes a map"
+        raise ToolError(about) from error
     ways.values.hand_on(counts.leave_out)
     return OsmRoads(ways.roads, ways.positions, named.found, ways.targets)
 

@@ -6,8 +6,8 @@ from typing import TYPE_CHECKING
 
 from olr.asking.files import MapFiles
 from olr.content import require_digest_of
-from olr.errors import map_changed
-from olr.model.map_folder import store_of
+from olr.errors import map_changed, readable
+from olr.model.map_folder import WANTED, store_of
 from olr.regions.store import Store
 
 if TYPE_CHECKING:
@@ -27,6 +27,13 @@ class AskedMap:
         """The map of a folder, or a store. Raises `ToolError` if it can't be looked for."""
         store = store_of(path)
         return cls((path if store is None else store).absolute(), store is not None)
+
+    def require_there(self, named: Path) -> None:
+        """Raises `ToolError` if a file of a folder isn't there, by the path as it was `named`."""
+        if not self.is_store:
+            for file in MapFiles.of_folder(named).paths():
+                with readable(file, WANTED):
+                    file.stat()
 
     def files(self) -> MapFiles:
         """The files of a folder."""

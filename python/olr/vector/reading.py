@@ -67,7 +67,8 @@ def read_layer(file: Path, options: Options, table: ValueTable, counts: Counts) 
     """
     logging.getLogger("fiona").setLevel(logging.CRITICAL)
     if not file.exists():
-        raise ToolError(f"{file} can't be opened: there is no such file")
+        about = f"{file} can't be opened: there is no such file"
+        raise ToolError(f"{about}: name a GeoPackage, a Shapefile or a file of GeoJSON")
     strays = Strays()
     try:
         with opened_by_gdal(file) as place:

@@ -1,0 +1,63 @@
+"""docs/INSTALL.md: its blocks are for a shell, and what it says of extras and versions is what the wheel has."""
+
+import pytest
+import re
+import subprocess
+import tomllib
+
+from conftest import TOP
+from olr.setup import EXTRAS
+
+PAGE = (TOP / "docs/INSTALL.md").read_text(encoding="utf-8")
+PROJECT = tomllib.loads((TOP / "python/pyproject.toml").read_text(encoding="utf-8"))["project"]
+WAYS = ("apt", "pipx", "A virtual environment", "The archive", "The repository")
+
+
+def block(title: str) -> str:
+    """The block of a section, as the scripts that run it have it."""
+    command = [str(TOP / ".ci/install-block"), title]
+    return subprocess.run(command, capture_output=True, text=True, check=True).stdout
+
+
+@pytest.mark.parametrize("way", WAYS)
+def test_a_block_can_be_copied_whole(way: str) -> None:
+    text = block(way)
+    assert text and text in PAGE
+    assert not re.search(r"(?m)^\$ |sudo", text)
+    ended = subprocess.run(["bash", "-n"], input=text, capture_output=True, text=True)
+    assert (ended.returncode, ended.stderr) == (0, "")
+
+
+def test_each_section_with_a_block_is_a_way_that_is_tried() -> None:
+    assert PAGE.count("```sh\n") == len(WAYS)
+    script = (TOP / ".ci/try-install").read_text(encoding="utf-8")
+    for way in WAYS:
+        assert re.search(rf'\$\(block "?{way}\b', script), way
+
+
+def test_no_page_asks_an_index_for_olr() -> None:
+    """There the name may be somebody else's."""
+    for page in (TOP / "README.md", *TOP.glob("docs/*.md"), *TOP.glob("python/*.md")):
+        text = page.read_text(encoding="utf-8").replace("no page says `pip install olr`", "")
+        assert not re.search(r"pipx? install ['\"]?olr\b", text), page
+
+
+def test_the_extras() -> None:
+    listed = re.findall(r"(?m)^\| `(\w+)` \| ", PAGE.partition("| extra |")[2])
+    assert sorted(listed[: len(EXTRAS)]) == sorted(EXTRAS)
+    for way in ("pipx", "A virtual environment"):
+        assert f".whl)[{','.join(sorted(EXTRAS))}]" in block(way)
+
+
+def test_each_upper_limit_has_its_reason() -> None:
+    needs = {need for extra in PROJECT["optional-dependencies"].values() for need in extra}
+    limited = {re.sub(r"[>=]+[\d.]+,(?=<)", "", need) for need in needs if "<" in need}
+    given = dict(re.findall(r"(?m)^\| `([\w.<]+)` \| (.+) \|$", PAGE))
+    assert limited == {name for name in given if "<" in name}
+
+
+def test_what_wasnt_tried_isnt_promised() -> None:
+    """The classifiers name the Python of Debian 12 alone."""
+    named = [one for one in PROJECT["classifiers"] if re.search(r":: 3\.\d", one)]
+    assert named == ["Programming Language :: Python :: 3.11"]
+    assert "urls" not in PROJECT
