@@ -136,6 +136,8 @@ class Browser:
 
     def visit(self, address: str, width: int = 1280, height: int = 800) -> None:
         """Opens an address, and waits until the script of its page has run. What is asked of its own server isn't kept."""
+        # What was shown before ends first: it may say something until then.
+        self._go("about:blank")
         self.errors, self.loaded = [], []
         parts = urlsplit(address)
         self._origin = f"{parts.scheme}://{parts.netloc}/"

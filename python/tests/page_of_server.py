@@ -148,6 +148,7 @@ class Page:
     def is_quiet(self, *expected: str) -> bool:
         """Whether its console says nothing but what is expected, and nothing was asked of others."""
         others = [text for text in self.browser.errors if not any(one in text for one in expected)]
+        print("said:", others, "loaded:", self.browser.loaded)
         return (others, self.browser.loaded) == ([], [])
 
 

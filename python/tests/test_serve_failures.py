@@ -461,8 +461,9 @@ def test_it_is_killed(program: Program, drawn: Path, tmp_path: Path, texts: list
             asking = threading.Thread(target=ask)
             asking.start()
             wait_until(lambda: server.figure('olr_processes{state="working"}') == 1)
+            # (a stream is counted before its process is begun)
+            wait_until(lambda: len(server.programs()) == 3)
             programs = server.programs()
-            assert len(programs) == 3
             server.process.kill()
             server.process.wait()
             wait_until(lambda: not any(map(is_running, programs)))

@@ -1,5 +1,6 @@
 """`olr-tools serve` that doesn't start, or is told something while it starts."""
 
+import asyncio
 import os
 import pytest
 import shutil
@@ -7,7 +8,7 @@ import socket
 from pathlib import Path
 
 from asking import draw_map
-from conftest import Program
+from conftest import Program, Tools
 from servers import forked, path_of, serving
 
 GOOD = "CwVF/yN2yRpnBAFUAAgbpwYBAf9kK0Fa"
@@ -44,6 +45,12 @@ exec {program.path} "$@"
     with serving(file, drawn, tmp_path / "log") as server:
         assert (tmp_path / "program.told").exists()
         assert server.get(path_of("match", GOOD)).status in (200, 422)
+
+
+def test_it_leaves_the_event_loops_of_its_process_alone(tools: Tools, tmp_path: Path) -> None:
+    before = asyncio.get_event_loop_policy()
+    assert tools.run("serve", "--map", tmp_path / "none").returncode == 1
+    assert asyncio.get_event_loop_policy() is before
 
 
 def refusal_of(program: Program, folder: Path, log: Path, port: int = 0) -> str:

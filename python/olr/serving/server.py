@@ -84,8 +84,8 @@ class _Server(uvicorn.Server):  # type: ignore[misc]
 
 def serve(settings: Settings) -> None:
     """Serves until SIGTERM or SIGINT comes. Raises `ToolError` if the map can't be read, or the address can't be listened to."""
-    uvloop.install()
-    asyncio.run(_serve(settings))
+    with asyncio.Runner(loop_factory=uvloop.new_event_loop) as runner:
+        runner.run(_serve(settings))
 
 
 async def _serve(settings: Settings) -> None:
