@@ -10,6 +10,7 @@ from olr.outputs import write_whole
 from release.archive import archive, archive_name
 from release.debian import packed
 from release.debian_packages import program_package, tools_package
+from release.machines import MACHINES
 from release.state import State
 from release.wheel import metadata, wheel, wheel_name
 
@@ -22,7 +23,8 @@ def make(folder: Path) -> None:
     state = State()
     state.check_number()
     print(f"olr {state.version} of commit {state.commit}", flush=True)
-    print(f"the program is {state.program.relative_to(state.top)}", flush=True)
+    for program in (state.program, *map(state.static_program, MACHINES)):
+        print(f"a program is {program.relative_to(state.top)}", flush=True)
     made: dict[str, bytes] = {}
 
     def keep(name: str, content: bytes) -> Path:
@@ -31,10 +33,13 @@ def make(folder: Path) -> None:
         print(f"{folder / name}: {len(content):,} bytes", flush=True)
         return folder / name
 
-    keep(f"{archive_name(state)}.tar.gz", archive(state))
-    kept = keep(wheel_name(state), wheel(state))
-    for package in (program_package(state), tools_package(state, metadata(kept))):
+    for machine in MACHINES:
+        keep(f"{archive_name(state, machine)}.tar.gz", archive(state, machine))
+        kept = keep(wheel_name(state, machine), wheel(state, machine))
+        package = program_package(state, machine)
         keep(package.file_name(state), packed(package, state))
+    tools = tools_package(state, metadata(kept))
+    keep(tools.file_name(state), packed(tools, state))
     sums = (f"{hashlib.sha256(made[name]).hexdigest()}  {name}\n" for name in sorted(made))
     keep("SHA256SUMS", "".join(sums).encode())
     for earlier in folder.glob("olr[-_]*"):

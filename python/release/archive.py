@@ -6,25 +6,27 @@ from collections.abc import Sequence
 
 from release.completion import of_program
 from release.files import RUN, Entry, compressed
-from release.program_files import documents, manual, program_entry
+from release.machines import Machine
+from release.program_files import documents, linking_entries, manual, program_entry
 from release.state import State
 
 
-def archive_name(state: State) -> str:
+def archive_name(state: State, machine: Machine) -> str:
     """The name of its folder."""
-    return f"olr-{state.version}-linux-x86_64"
+    return f"olr-{state.version}-linux-{machine.name}"
 
 
-def archive(state: State) -> bytes:
-    """The archive, as tar and gzip pack it. Raises `ToolError` where a file is missing."""
+def archive(state: State, machine: Machine) -> bytes:
+    """The archive for a machine, as tar and gzip pack it. Raises `ToolError` where a file is missing."""
     entries = [
         *documents(state, "LICENSE", "NOTICE"),
-        program_entry(state),
+        program_entry(state.static_program(machine)),
+        *linking_entries(state, machine),
         Entry("COMMIT", f"{state.commit}\n".encode()),
         Entry("olr.1", manual(state, state.program)),
         *(Entry(f"olr.{shell}", text) for shell, text in of_program(state.program).items()),
     ]
-    return compressed(_tar(archive_name(state), sorted(entries), state.seconds))
+    return compressed(_tar(archive_name(state, machine), sorted(entries), state.seconds))
 
 
 def _tar(name: str, entries: Sequence[Entry], seconds: int) -> bytes:

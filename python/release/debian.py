@@ -85,14 +85,14 @@ def _documents(package: Package, state: State) -> list[Entry]:
 def _control(package: Package, state: State, entries: Sequence[Entry]) -> bytes:
     """The control file."""
     kibibytes = sum(-(-len(entry.content) // 1024) for entry in entries)
+    depends = f"Depends: {', '.join(package.depends)}\n" if package.depends else ""
     return f"""\
 Package: {package.name}
 Version: {state.debian_version}
 Architecture: {package.architecture}
 Maintainer: {MAINTAINER}
 Installed-Size: {kibibytes}
-Depends: {", ".join(package.depends)}
-Section: {package.section}
+{depends}Section: {package.section}
 Priority: optional
 Description: {package.description}
 """.encode()

@@ -7,6 +7,7 @@ from olr.setup import FILES, MODULES
 from release.debian import Package
 from release.files import Entry
 from release.filling import TEXTS
+from release.machines import X86_64, Machine
 from release.program_files import program_entry, shared_of_program, shared_of_tools
 from release.state import State
 from release.wheel import package_files
@@ -25,14 +26,15 @@ tools around olr, a program that finds OpenLR references on maps
  olr as objects."""
 
 
-def program_package(state: State) -> Package:
-    """The package `olr`."""
-    program = program_entry(state)
+def program_package(state: State, machine: Machine) -> Package:
+    """The package `olr` for a machine. That for x86-64 has the program that is linked with the C library of the system, whose fixes reach it."""
+    is_static = machine != X86_64
+    program = program_entry(state.static_program(machine) if is_static else state.program)
     return Package(
         name="olr",
-        architecture="amd64",
+        architecture=machine.debian,
         section="science",
-        depends=[f"libc6 (>= {_glibc(program.content)})"],
+        depends=[] if is_static else [f"libc6 (>= {_glibc(program.content)})"],
         description=PROGRAM_DESCRIPTION,
         entries=[
             program.below("usr/bin"),

@@ -4,21 +4,45 @@ import time
 from collections.abc import Iterable
 from pathlib import Path
 
+from olr.errors import ToolError
 from release import completion
 from release.files import Entry, compressed
 from release.filling import text_of
 from release.links import with_living_links
+from release.machines import Machine
 from release.state import State
 from release.words import Option, commands_of, numbers_of
 
 PAGES = ("CHANGELOG.md", "CONTRIBUTING.md", "README.md", "SECURITY.md")
 FOLDERS = ("docs", "examples", "python/examples")
 """What is given out for reading."""
+LIBRARY_LICENCE = Path("/usr/share/common-licenses/LGPL-2.1")
 
 
-def program_entry(state: State) -> Entry:
-    """The program."""
-    return Entry("olr", state.program.read_bytes(), is_run=True)
+def program_entry(program: Path) -> Entry:
+    """A program."""
+    return Entry("olr", program.read_bytes(), is_run=True)
+
+
+def linking_entries(state: State, machine: Machine) -> list[Entry]:
+    """What links the program of a machine anew: its object, what is linked with it, and what is said of that. Raises `ToolError`."""
+    names = {"link": True, "runtime.c": False}
+    of_machines = (Entry(it, state.read(f"machines/{it}"), run) for it, run in names.items())
+    program = state.static_program(machine)
+    return [
+        *(entry.below("relink") for entry in of_machines),
+        Entry("relink/README.md", text_of("relink.md", LINKED=state.linked_by)),
+        Entry("relink/LGPL-2.1", _licence_of_library()),
+        Entry("relink/olr.o", program.with_name(f"{program.name}.o").read_bytes()),
+    ]
+
+
+def _licence_of_library() -> bytes:
+    """The licence of the C library, as Debian has it. Raises `ToolError`."""
+    try:
+        return LIBRARY_LICENCE.read_bytes()
+    except OSError as error:
+        raise ToolError(f"{LIBRARY_LICENCE} is missing: Debian's base-files has it") from error
 
 
 def manual(state: State, program: Path) -> bytes:

@@ -8,6 +8,7 @@ from pathlib import Path
 
 from olr.errors import ToolError
 from olr.version import Section, sections
+from release.machines import X86_64, Machine
 
 TOP = Path(__file__).resolve().parents[2]
 
@@ -98,16 +99,43 @@ class State:
 
     def _is_released(self) -> bool:
         """Whether the released program is of the sources of this tree."""
-        try:
-            lines = (self.top / "released/RELEASE").read_text(encoding="utf-8").split("\n")
-            content = (self.top / "released/olr").read_bytes()
-        except OSError:
-            return False
-        said = dict(line.partition(" ")[::2] for line in lines)
+        said = self._said_of("released")
         return (said.get("program"), said.get("sources")) == (
-            hashlib.sha256(content).hexdigest(),
+            _digest(self.top / "released/olr"),
             self._run(str(self.top / ".ci/digest")),
         )
+
+    def static_program(self, machine: Machine) -> Path:
+        """The program that is linked statically for a machine: the released one, if it is of these sources, else the one that was made here. Its object
+        lies beside it, with `.o` behind its name."""
+        for folder in ("released", "machines/out"):
+            said = self._said_of(folder)
+            program = self.top / folder / f"olr-{machine.name}"
+            digests = f"{_digest(program)} {_digest(Path(f'{program}.o'))}"
+            if (said.get("machines"), said.get(machine.name)) == (self._of_machines, digests):
+                return program
+        raise ToolError(
+            f"no program for {machine.name} was made of these sources: run .ci/machines first"
+        )
+
+    @cached_property
+    def linked_by(self) -> str:
+        """The packages that linked these programs, with their versions."""
+        folder = self.static_program(X86_64).parent.relative_to(self.top)
+        return self._said_of(str(folder))["linked"]
+
+    @cached_property
+    def _of_machines(self) -> str:
+        """The digest of what these programs come from."""
+        return self._run(str(self.top / ".ci/machines"), "--sources")
+
+    def _said_of(self, folder: str) -> dict[str, str]:
+        """What a folder says of its programs, by names. Nothing if there is none."""
+        try:
+            lines = (self.top / folder / "RELEASE").read_text(encoding="utf-8").split("\n")
+        except OSError:
+            return {}
+        return dict(line.partition(" ")[::2] for line in lines)
 
     def read(self, name: str) -> bytes:
         """The content of a file of the repository."""
@@ -135,3 +163,11 @@ class State:
         except subprocess.CalledProcessError as error:
             raise ToolError(f"{' '.join(command)}: {error.stderr.strip()}") from error
         return ended.stdout.rstrip("\n")
+
+
+def _digest(file: Path) -> str:
+    """The SHA-256 of a file. An empty text if it can't be read."""
+    try:
+        return hashlib.sha256(file.read_bytes()).hexdigest()
+    except OSError:
+        return ""

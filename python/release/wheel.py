@@ -12,6 +12,7 @@ from pathlib import Path
 from olr.errors import ToolError
 from release.files import Entry, write_folder
 from release.links import living
+from release.machines import Machine
 from release.program_files import program_entry, shared_of_program, shared_of_tools
 from release.state import State
 
@@ -19,17 +20,17 @@ LEAFLET = Path("/usr/share/javascript/leaflet")
 LEAFLET_LICENCE = Path("/usr/share/doc/libjs-leaflet/copyright")
 
 
-def wheel_name(state: State) -> str:
+def wheel_name(state: State, machine: Machine) -> str:
     """The name of its file."""
-    return f"olr-{state.version}-py3-none-linux_x86_64.whl"
+    return f"olr-{state.version}-py3-none-{machine.tag}.whl"
 
 
-def wheel(state: State) -> bytes:
-    """The wheel, as setuptools make it. Raises `ToolError` where they or Leaflet aren't installed."""
+def wheel(state: State, machine: Machine) -> bytes:
+    """The wheel for a machine, as setuptools make it. Raises `ToolError` where they or Leaflet aren't installed."""
     with tempfile.TemporaryDirectory() as place:
-        write_folder(Path(place), _sources(state), state.seconds)
-        _build(Path(place, "python"), state.seconds)
-        return Path(place, "python/dist", wheel_name(state)).read_bytes()
+        write_folder(Path(place), _sources(state, machine), state.seconds)
+        _build(Path(place, "python"), machine, state.seconds)
+        return Path(place, "python/dist", wheel_name(state, machine)).read_bytes()
 
 
 def metadata(packed: Path) -> list[Entry]:
@@ -47,7 +48,7 @@ def package_files(state: State) -> list[Entry]:
     return [*(Entry(name.removeprefix("python/"), state.read(name)) for name in names), module]
 
 
-def _sources(state: State) -> list[Entry]:
+def _sources(state: State, machine: Machine) -> list[Entry]:
     """A tree like that of the repository, of what setuptools read, with the program and Leaflet in the package."""
     shared = [*shared_of_program(state), *shared_of_tools(state)]
     return [
@@ -56,7 +57,7 @@ def _sources(state: State) -> list[Entry]:
         *(entry.below("python") for entry in shared),
         *(Entry(f"python/{name}", state.read(name)) for name in ("LICENSE", "NOTICE")),
         *(entry.below("python") for entry in package_files(state)),
-        program_entry(state).below("python/olr/bin"),
+        program_entry(state.static_program(machine)).below("python/olr/bin"),
         *(entry.below("python/olr/pages/leaflet") for entry in _leaflet()),
     ]
 
@@ -98,9 +99,9 @@ def _leaflet() -> list[Entry]:
         ) from error
 
 
-def _build(project: Path, seconds: int) -> None:
+def _build(project: Path, machine: Machine, seconds: int) -> None:
     """Makes the wheel of a project in its folder `dist`."""
-    words = ["bdist_wheel", "--quiet", "--plat-name", "linux_x86_64", "--dist-dir", "dist"]
+    words = ["bdist_wheel", "--quiet", "--plat-name", machine.tag, "--dist-dir", "dist"]
     command = [sys.executable, "-c", "from setuptools import setup; setup()", *words]
     environment = os.environ | {"SOURCE_DATE_EPOCH": str(seconds), "PYTHONPATH": ""}
     ended = subprocess.run(

@@ -21,6 +21,7 @@ from olr.errors import ToolError
 from olr.extras import COMMANDS
 from release.archive import archive
 from release.files import Entry, write_folder
+from release.machines import MACHINES, X86_64
 from release.program_files import filled, manual
 from olr.version import Section, _installed, sections, version
 from release.state import State
@@ -109,6 +110,46 @@ def test_none_of_other_sources(tree: Path) -> None:
         State(tree).program
 
 
+def keep_static_programs(tree: Path, folder: str) -> None:
+    """Puts programs for machines into a folder of a tree, which says that they are of its sources."""
+    (tree / folder).mkdir(parents=True, exist_ok=True)
+    for name in ("link", "runtime.c"):
+        shutil.copy(TOP / "machines" / name, tree / "machines")
+    asked = [str(tree / ".ci/machines"), "--sources"]
+    sources = subprocess.run(asked, capture_output=True, text=True, check=True).stdout
+    said = [f"machines {sources.strip()}", "linked gcc 12"]
+    for machine in MACHINES:
+        files = [tree / folder / f"olr-{machine.name}{suffix}" for suffix in ("", ".o")]
+        for file in files:
+            file.write_text(f"{folder} {file.name}")
+        digests = (hashlib.sha256(file.read_bytes()).hexdigest() for file in files)
+        said.append(" ".join([machine.name, *digests]))
+    with (tree / folder / "RELEASE").open("a") as release:
+        release.writelines(f"{line}\n" for line in said)
+
+
+def test_programs_for_machines(tree: Path) -> None:
+    """The released ones, else those that were made here of these sources."""
+    (tree / "machines").mkdir()
+    keep_static_programs(tree, "machines/out")
+    for machine in MACHINES:
+        assert State(tree).static_program(machine) == tree / f"machines/out/olr-{machine.name}"
+    keep_static_programs(tree, "released")
+    for machine in MACHINES:
+        assert State(tree).static_program(machine) == tree / f"released/olr-{machine.name}"
+    assert State(tree).program == tree / "released/olr" and State(tree).linked_by == "gcc 12"
+    for suffix in ("", ".o"):
+        file = tree / f"released/olr-x86_64{suffix}"
+        file.write_text(f"other {file.name}")
+        assert State(tree).static_program(X86_64).parent == tree / "machines/out"
+        file.write_text(f"released {file.name}")
+        assert State(tree).static_program(X86_64).parent == tree / "released"
+    with (tree / "machines/runtime.c").open("a") as source:
+        source.write("//\n")
+    with pytest.raises(ToolError, match="x86_64 was made of these sources: run .ci/machines first"):
+        State(tree).static_program(X86_64)
+
+
 def test_a_date_that_is_none(tree: Path, monkeypatch: pytest.MonkeyPatch) -> None:
     monkeypatch.setenv("SOURCE_DATE_EPOCH", "today")
     with pytest.raises(ToolError, match="SOURCE_DATE_EPOCH is today: it has to be a number of sec"):
@@ -135,7 +176,7 @@ def test_the_commit_and_its_changes(tree: Path) -> None:
     (tree / "crates.txt").write_text("olr: olr\n")
     assert State(tree).commit == git(tree, "rev-parse", "HEAD") + ", with changes"
     with pytest.raises(ToolError, match="there is no .* to release: No such file"):
-        archive(State(tree))
+        archive(State(tree), X86_64)
 
 
 def committed(tree: Path, changes: str) -> str:
