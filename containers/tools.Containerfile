@@ -12,7 +12,7 @@ COPY olr_*_amd64.deb olr-tools_*_all.deb /packages/
 # Without a network apt-get update only warns.
 RUN apt-get update \
     && DEBIAN_FRONTEND=noninteractive apt-get install -y --no-install-recommends /packages/*.deb \
-    && rm -rf /packages /var/lib/apt/lists/* \
+    && apt-get clean && rm -rf /packages /var/lib/apt/lists/* \
     && useradd --uid 10001 --user-group --no-create-home --home-dir /nonexistent --shell /usr/sbin/nologin olr
 
 # By its number, so that Kubernetes can tell that it isn't root.

@@ -14,7 +14,7 @@ from release.state import State
 from release.words import Option, commands_of, numbers_of
 
 PAGES = ("CHANGELOG.md", "CONTRIBUTING.md", "README.md", "SECURITY.md")
-FOLDERS = ("docs", "examples", "python/examples")
+FOLDERS = ("containers", "docs", "examples", "python/examples")
 """What is given out for reading."""
 LIBRARY_LICENCE = Path("/usr/share/common-licenses/LGPL-2.1")
 
