@@ -10,7 +10,15 @@ from olr.setup import EXTRAS
 
 PAGE = (TOP / "docs/INSTALL.md").read_text(encoding="utf-8")
 PROJECT = tomllib.loads((TOP / "python/pyproject.toml").read_text(encoding="utf-8"))["project"]
-WAYS = ("apt", "pipx", "A virtual environment", "The archive", "The repository")
+SCRIPTS = {
+    "apt": "try-install",
+    "pipx": "try-install",
+    "A virtual environment": "try-install",
+    "The archive": "try-install",
+    "A container": "try-containers",
+    "The repository": "try-install",
+}
+"""The ways, each with the script of .ci/ that tries it."""
 
 
 def block(title: str) -> str:
@@ -19,7 +27,7 @@ def block(title: str) -> str:
     return subprocess.run(command, capture_output=True, text=True, check=True).stdout
 
 
-@pytest.mark.parametrize("way", WAYS)
+@pytest.mark.parametrize("way", SCRIPTS)
 def test_a_block_can_be_copied_whole(way: str) -> None:
     text = block(way)
     assert text and text in PAGE
@@ -29,10 +37,10 @@ def test_a_block_can_be_copied_whole(way: str) -> None:
 
 
 def test_each_section_with_a_block_is_a_way_that_is_tried() -> None:
-    assert PAGE.count("```sh\n") == len(WAYS)
-    script = (TOP / ".ci/try-install").read_text(encoding="utf-8")
-    for way in WAYS:
-        assert re.search(rf'\$\(block "?{way}\b', script), way
+    assert PAGE.count("```sh\n") == len(SCRIPTS)
+    for way, name in SCRIPTS.items():
+        script = (TOP / ".ci" / name).read_text(encoding="utf-8")
+        assert re.search(rf'block"? "?{way}\b', script), way
 
 
 def test_no_page_asks_an_index_for_olr() -> None:
