@@ -8,10 +8,11 @@
 ARG BASE=docker.io/library/debian:12
 FROM $BASE
 
-COPY olr_*_amd64.deb olr-tools_*_all.deb /packages/
+COPY olr_*.deb olr-tools_*_all.deb /packages/
 # Without a network apt-get update only warns.
 RUN apt-get update \
-    && DEBIAN_FRONTEND=noninteractive apt-get install -y --no-install-recommends /packages/*.deb \
+    && DEBIAN_FRONTEND=noninteractive apt-get install -y --no-install-recommends \
+        /packages/olr_*_"$(dpkg --print-architecture)".deb /packages/olr-tools_*_all.deb \
     && apt-get clean && rm -rf /packages /var/lib/apt/lists/* \
     && useradd --uid 10001 --user-group --no-create-home --home-dir /nonexistent --shell /usr/sbin/nologin olr
 

@@ -32,12 +32,12 @@ def linking_entries(state: State, machine: Machine) -> list[Entry]:
     return [
         *(entry.below("relink") for entry in of_machines),
         Entry("relink/README.md", text_of("relink.md", LINKED=state.linked_by)),
-        Entry("relink/LGPL-2.1", _licence_of_library()),
+        Entry("relink/LGPL-2.1", licence_of_library()),
         Entry("relink/olr.o", program.with_name(f"{program.name}.o").read_bytes()),
     ]
 
 
-def _licence_of_library() -> bytes:
+def licence_of_library() -> bytes:
     """The licence of the C library, as Debian has it. Raises `ToolError`."""
     try:
         return LIBRARY_LICENCE.read_bytes()

@@ -13,7 +13,12 @@ from olr.errors import ToolError
 from release.files import Entry, write_folder
 from release.links import living
 from release.machines import Machine
-from release.program_files import program_entry, shared_of_program, shared_of_tools
+from release.program_files import (
+    licence_of_library,
+    program_entry,
+    shared_of_program,
+    shared_of_tools,
+)
 from release.state import State
 
 LEAFLET = Path("/usr/share/javascript/leaflet")
@@ -56,6 +61,7 @@ def _sources(state: State, machine: Machine) -> list[Entry]:
         Entry("python/README.md", description(state)),
         *(entry.below("python") for entry in shared),
         *(Entry(f"python/{name}", state.read(name)) for name in ("LICENSE", "NOTICE")),
+        Entry("python/LGPL-2.1", licence_of_library()),
         *(entry.below("python") for entry in package_files(state)),
         program_entry(state.static_program(machine)).below("python/olr/bin"),
         *(entry.below("python/olr/pages/leaflet") for entry in _leaflet()),

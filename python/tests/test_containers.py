@@ -16,6 +16,7 @@ from olr.commands.serve import command as serve
 from olr.serving import openapi
 from olr.serving.limits import Limits
 from release.debian import Package
+from release.machines import MACHINES
 from release.program_files import documents
 from release.state import State
 
@@ -68,15 +69,13 @@ def test_the_user_isnt_root(name: str) -> None:
 
 def test_the_packages_are_those_of_a_release() -> None:
     *patterns, _ = words_of("tools.Containerfile", "COPY").split()
-    named = {"olr": "amd64", "olr-tools": "all"}
+    named = [("olr", machine.debian) for machine in MACHINES] + [("olr-tools", "all")]
     made = [
         Package(name, architecture, "science", [], "", []).file_name(State())
-        for name, architecture in named.items()
+        for name, architecture in named
     ]
-    assert [[fnmatch(file, pattern) for pattern in patterns] for file in made] == [
-        [True, False],
-        [False, True],
-    ]
+    found = [[fnmatch(file, pattern) for pattern in patterns] for file in made]
+    assert found == [[True, False], [True, False], [False, True]]
 
 
 def test_the_archive_has_what_the_image_of_olr_takes() -> None:

@@ -35,11 +35,11 @@ def test_each_library_is_named() -> None:
         assert text in notice
 
 
-def test_the_wheel_takes_both() -> None:
+def test_the_wheel_takes_them() -> None:
     """By the names that they have beside pyproject.toml where a wheel is made."""
     project = tomllib.loads((TOP / "python/pyproject.toml").read_text(encoding="utf-8"))
     assert project["project"]["license"] == {"text": "Apache-2.0"}
-    assert project["tool"]["setuptools"]["license-files"] == ["LICENSE", "NOTICE"]
+    assert project["tool"]["setuptools"]["license-files"] == ["LICENSE", "NOTICE", "LGPL-2.1"]
 
 
 def test_a_page_has_the_licence_of_leaflet() -> None:
