@@ -1,4 +1,4 @@
-"""The two Debian packages: the program, and the tools, which depend on it."""
+"""The Debian packages: the program, one for each machine, and the tools, which depend on it."""
 
 import re
 from collections.abc import Sequence

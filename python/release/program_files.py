@@ -29,9 +29,10 @@ def linking_entries(state: State, machine: Machine) -> list[Entry]:
     names = {"link": True, "runtime.c": False}
     of_machines = (Entry(it, state.read(f"machines/{it}"), run) for it, run in names.items())
     program = state.static_program(machine)
+    linked = "\n    ".join(state.linked_by(machine))
     return [
         *(entry.below("relink") for entry in of_machines),
-        Entry("relink/README.md", text_of("relink.md", LINKED=state.linked_by)),
+        Entry("relink/README.md", text_of("relink.md", LINKED=linked)),
         Entry("relink/LGPL-2.1", licence_of_library()),
         Entry("relink/olr.o", program.with_name(f"{program.name}.o").read_bytes()),
     ]

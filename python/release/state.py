@@ -8,7 +8,7 @@ from pathlib import Path
 
 from olr.errors import ToolError
 from olr.version import Section, sections
-from release.machines import X86_64, Machine
+from release.machines import Machine
 
 TOP = Path(__file__).resolve().parents[2]
 
@@ -106,8 +106,9 @@ class State:
         )
 
     def static_program(self, machine: Machine) -> Path:
-        """The program that is linked statically for a machine: the released one, if it is of these sources, else the one that was made here. Its object
-        lies beside it, with `.o` behind its name."""
+        """The program that is linked statically for a machine: the released one, if it is of these sources, else the one that was
+        made here. Its object lies beside it, with `.o` behind its name. Raises `ToolError` if there is neither.
+        """
         for folder in ("released", "machines/out"):
             said = self._said_of(folder)
             program = self.top / folder / f"olr-{machine.name}"
@@ -118,11 +119,13 @@ class State:
             f"no program for {machine.name} was made of these sources: run .ci/machines first"
         )
 
-    @cached_property
-    def linked_by(self) -> str:
-        """The packages that linked these programs, with their versions."""
-        folder = self.static_program(X86_64).parent.relative_to(self.top)
-        return self._said_of(str(folder))["linked"]
+    def linked_by(self, machine: Machine) -> list[str]:
+        """The packages that linked the program for a machine, each with its version. Raises `ToolError` if nothing says which."""
+        folder = self.static_program(machine).parent.relative_to(self.top)
+        said = self._said_of(str(folder)).get("linked")
+        if not said:
+            raise ToolError(f"{folder}/RELEASE doesn't say what linked its programs")
+        return said.split(", ")
 
     @cached_property
     def _of_machines(self) -> str:

@@ -18,6 +18,7 @@ from olr.asking.program import find_program
 from olr.asking.starting import command_of
 from olr.errors import MapRefused, ProgramEnded, ProgramNotFound
 from olr.model.fault import Fault
+from release.machines import MACHINES, Machine
 from servers import is_running, wait_until
 from stores import folder_of
 
@@ -132,6 +133,13 @@ def test_which_program(tmp_path: Path, monkeypatch: pytest.MonkeyPatch) -> None:
     for given in (places["path"], tmp_path):
         with pytest.raises(ProgramNotFound, match="there is no program .*: name the program"):
             find_program(given)
+
+
+@pytest.mark.parametrize("machine", MACHINES)
+def test_the_released_program_of_a_machine(machine: Machine) -> None:
+    """By the number of the machine in its bytes."""
+    program = (TOP / finding.released_name(machine.name)).read_bytes()
+    assert program[18:20] == {"x86_64": b"\x3e\0", "aarch64": b"\xb7\0"}[machine.name]
 
 
 def test_programs_that_cant_be_started(tmp_path: Path) -> None:

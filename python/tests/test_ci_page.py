@@ -1,5 +1,6 @@
 """docs/CI.md: its workflows do what the page says, and its table of the summary is what is written."""
 
+import fnmatch
 import importlib
 import json
 import os
@@ -14,10 +15,15 @@ from typing import Any
 from conftest import TOP, Program
 from olr.commands.limits import PASSED
 from olr.tools import run
+from release.debian import Package
+from release.machines import MACHINES
+from release.state import State
 
 PAGE = (TOP / "docs/CI.md").read_text(encoding="utf-8")
 WORKFLOWS = re.findall(r"(?ms)^```yaml\n(.*?)^```$", PAGE)
 LIMITS = "--fail-lost 10 --fail-moved 25"
+PACKAGES = [("olr-tools", "all"), *(("olr", machine.debian) for machine in MACHINES)]
+"""What packages a release has: their names and architectures."""
 
 
 @pytest.fixture(autouse=True)
@@ -36,13 +42,18 @@ def repository(program: Program, tmp_path: Path, monkeypatch: pytest.MonkeyPatch
     shutil.copy(TOP / "examples/messages.tsv", "references.tsv")
 
 
-def commands(workflow: str) -> list[str]:
-    """The commands of a workflow behind those that install."""
+def all_commands(workflow: str) -> list[str]:
+    """The commands of a workflow."""
     content: Any = importlib.import_module("yaml").safe_load(workflow)
     (job,) = content["jobs"].values() if "jobs" in content else content.values()
     texts = job.get("script") or [step["run"] for step in job["steps"] if "run" in step]
     lines = "\n".join(texts).replace("\\\n", " ").splitlines()
-    return [line for line in lines if line.strip() and not line.startswith("apt-get ")]
+    return [line for line in lines if line.strip()]
+
+
+def commands(workflow: str) -> list[str]:
+    """The commands of a workflow behind those that install."""
+    return [line for line in all_commands(workflow) if not line.startswith("apt-get ")]
 
 
 def ended(command: str) -> int:
@@ -82,6 +93,21 @@ def test_a_map_that_came_apart_and_a_file_without_references() -> None:
 def test_both_workflows_run_the_same() -> None:
     one, other = (list(map(shlex.split, commands(it))) for it in WORKFLOWS)
     assert one == other
+
+
+@pytest.mark.parametrize("workflow", WORKFLOWS, ids=["GitHub", "GitLab"])
+def test_what_is_installed(workflow: str) -> None:
+    """Of a release's packages the one of the tools, and the program's for one machine: apt refuses two of them."""
+    made = {
+        f"./packages/{Package(name, architecture, 'science', [], '', []).file_name(State())}"
+        for name, architecture in PACKAGES
+    }
+    (line,) = [it for it in all_commands(workflow) if it.startswith("apt-get install ")]
+    installed = {file for word in shlex.split(line) for file in fnmatch.filter(made, word)}
+    assert sorted(re.sub("_.*_", "_", Path(file).name) for file in installed) == [
+        "olr-tools_all.deb",
+        "olr_amd64.deb",
+    ]
 
 
 def test_members_of_the_summary() -> None:

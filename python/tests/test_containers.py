@@ -16,8 +16,8 @@ from olr.commands.serve import command as serve
 from olr.serving import openapi
 from olr.serving.limits import Limits
 from release.debian import Package
-from release.machines import MACHINES
-from release.program_files import documents
+from release.machines import MACHINES, X86_64
+from release.program_files import documents, linking_entries
 from release.state import State
 
 NAMES = sorted(path.name for path in (TOP / "containers").glob("*.Containerfile"))
@@ -80,8 +80,10 @@ def test_the_packages_are_those_of_a_release() -> None:
 
 def test_the_archive_has_what_the_image_of_olr_takes() -> None:
     """And both files, for whoever has no repository."""
-    given = {entry.path for entry in documents(State(), "LICENSE", "NOTICE")} | {"olr"}
+    linking = linking_entries(State(), X86_64)
+    given = {it.path for it in (*documents(State(), "LICENSE", "NOTICE"), *linking)} | {"olr"}
     *taken, _ = words_of("olr.Containerfile", "COPY").split()
+    assert {"LICENSE", "NOTICE", "relink/LGPL-2.1"} < {*taken}
     assert {*taken, *(f"containers/{name}" for name in NAMES)} <= given
     assert json.loads(words_of("olr.Containerfile", "ENTRYPOINT")) == ["/olr"]
 

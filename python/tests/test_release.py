@@ -14,6 +14,7 @@ from packaging.version import Version
 from pathlib import Path
 
 import olr
+import release
 from conftest import TOP, Program, Tools
 from helps import every_help, names_in, options_in
 from olr.__main__ import _without_click
@@ -110,6 +111,10 @@ def test_none_of_other_sources(tree: Path) -> None:
         State(tree).program
 
 
+LINKERS = {"machines/out": "gcc 11, libc 1", "released": "gcc 12, libc 2"}
+"""What linked the programs of a folder."""
+
+
 def keep_static_programs(tree: Path, folder: str) -> None:
     """Puts programs for machines into a folder of a tree, which says that they are of its sources."""
     (tree / folder).mkdir(parents=True, exist_ok=True)
@@ -117,7 +122,7 @@ def keep_static_programs(tree: Path, folder: str) -> None:
         shutil.copy(TOP / "machines" / name, tree / "machines")
     asked = [str(tree / ".ci/machines"), "--sources"]
     sources = subprocess.run(asked, capture_output=True, text=True, check=True).stdout
-    said = [f"machines {sources.strip()}", "linked gcc 12"]
+    said = [f"machines {sources.strip()}", f"linked {LINKERS[folder]}"]
     for machine in MACHINES:
         files = [tree / folder / f"olr-{machine.name}{suffix}" for suffix in ("", ".o")]
         for file in files:
@@ -137,17 +142,31 @@ def test_programs_for_machines(tree: Path) -> None:
     keep_static_programs(tree, "released")
     for machine in MACHINES:
         assert State(tree).static_program(machine) == tree / f"released/olr-{machine.name}"
-    assert State(tree).program == tree / "released/olr" and State(tree).linked_by == "gcc 12"
+    assert State(tree).program == tree / "released/olr"
     for suffix in ("", ".o"):
         file = tree / f"released/olr-x86_64{suffix}"
         file.write_text(f"other {file.name}")
         assert State(tree).static_program(X86_64).parent == tree / "machines/out"
+        linkers = [State(tree).linked_by(machine) for machine in MACHINES]
+        assert linkers == [["gcc 11", "libc 1"], ["gcc 12", "libc 2"]]
         file.write_text(f"released {file.name}")
         assert State(tree).static_program(X86_64).parent == tree / "released"
+    said = tree / "released/RELEASE"
+    said.write_text(said.read_text().replace("linked ", "other "))
+    with pytest.raises(ToolError, match="released/RELEASE doesn't say what linked its programs"):
+        State(tree).linked_by(X86_64)
     with (tree / "machines/runtime.c").open("a") as source:
         source.write("//\n")
     with pytest.raises(ToolError, match="x86_64 was made of these sources: run .ci/machines first"):
         State(tree).static_program(X86_64)
+
+
+def test_the_table_of_modules() -> None:
+    """Its page names each module, and each kind of file, for all machines."""
+    page = release.__doc__ or ""
+    modules = {path.stem for path in Path(release.__path__[0]).glob("[!_]*.py")}
+    assert set(re.findall(r"(?m)^\| `(\w+)` \|", page)) == modules
+    assert not any(word in page for machine in MACHINES for word in machine)
 
 
 def test_a_date_that_is_none(tree: Path, monkeypatch: pytest.MonkeyPatch) -> None:

@@ -1,6 +1,7 @@
 """Where the program `olr` is."""
 
 import os
+import platform
 import shutil
 from pathlib import Path
 
@@ -10,10 +11,18 @@ VARIABLE = "OLR_PROGRAM"
 PACKAGE = Path(__file__).resolve().parents[1]
 OWN = PACKAGE / "bin/olr"
 """The program that came with this package, as in a wheel, if one did."""
-OF_REPOSITORY = tuple(PACKAGE.parents[1] / name for name in ("crates/olr/out/olr", "released/olr"))
-"""The built and the released program of the repository that this package lies in, if it lies in one."""
-
 PathLike = str | os.PathLike[str]
+
+
+def released_name(machine: str) -> str:
+    """The released program for a machine, in the repository. That for another one than x86-64 is linked statically."""
+    return "released/olr" if machine == "x86_64" else f"released/olr-{machine}"
+
+
+OF_REPOSITORY = tuple(
+    PACKAGE.parents[1] / name for name in ("crates/olr/out/olr", released_name(platform.machine()))
+)
+"""The built and the released program of the repository that this package lies in, if it lies in one."""
 
 
 def find_program(given: PathLike | None = None) -> Path:
