@@ -1,5 +1,5 @@
 // What the program calls beyond the C library, where it is linked without the toolchain's own objects: memory, the error
-// number, and the words and variables that it was started with. No proof covers this file, as none covers the C library.
+// number, and the words that it was started with. No proof covers this file, as none covers the C library.
 
 #include <errno.h>
 #include <stdbool.h>
@@ -7,8 +7,6 @@
 #include <stdint.h>
 #include <stdlib.h>
 #include <sys/types.h>
-
-extern char **environ;
 
 // ---- memory
 
@@ -48,7 +46,7 @@ void rattle_set_errno(int32_t number) {
     errno = number;
 }
 
-// ---- words and variables
+// ---- words
 
 static size_t word_count;
 static char **words;
@@ -71,23 +69,6 @@ static ssize_t copied(const char *text, uint8_t *buffer, size_t size) {
     return (ssize_t)length;
 }
 
-size_t rattle_arg_count(void) {
-    return word_count;
-}
-
 ssize_t rattle_arg(size_t index, uint8_t *buffer, size_t size) {
     return copied(index < word_count ? words[index] : NULL, buffer, size);
-}
-
-ssize_t rattle_env(const char *name, uint8_t *buffer, size_t size) {
-    return copied(getenv(name), buffer, size);
-}
-
-ssize_t rattle_env_at(size_t index, uint8_t *buffer, size_t size) {
-    char **entry = environ;
-    while (entry && *entry && index) {
-        entry++;
-        index--;
-    }
-    return copied(entry ? *entry : NULL, buffer, size);
 }

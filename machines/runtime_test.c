@@ -1,8 +1,7 @@
 // Tests runtime.c by what the toolchain's contracts ask of its functions: .ci/release-check runs it on both machines, as
 //
-//     env -i X=yz runtime_test ab ''
+//     runtime_test ab ''
 
-#define _POSIX_C_SOURCE 200112L
 #include <stdio.h>
 #include <stdlib.h>
 #include <string.h>
@@ -49,7 +48,6 @@ static int is_aligned(struct tried block) {
 
 static void test_words(void) {
     has("");
-    REQUIRE(rattle_arg_count() == 3);
     REQUIRE(rattle_arg(1, buffer, sizeof buffer) == 2 && has("ab"));
     REQUIRE(rattle_arg(1, buffer, 2) == 2 && has("ab"));
     REQUIRE(rattle_arg(1, buffer, 1) == -2 && has("a"));
@@ -58,18 +56,6 @@ static void test_words(void) {
     REQUIRE(rattle_arg(2, buffer, 0) == 0 && has(""));
     REQUIRE(rattle_arg(3, buffer, 1) == -1 && has(""));
     REQUIRE(rattle_arg(SIZE_MAX, buffer, 1) == -1 && has(""));
-}
-
-static void test_variables(void) {
-    setenv("E", "", 1);
-    REQUIRE(rattle_env("X", buffer, 2) == 2 && has("yz"));
-    REQUIRE(rattle_env("X", buffer, 1) == -2 && has("y"));
-    REQUIRE(rattle_env("E", buffer, 0) == 0 && has(""));
-    REQUIRE(rattle_env("NONE", buffer, 1) == -1 && has(""));
-    REQUIRE(rattle_env_at(0, buffer, 4) == 4 && has("X=yz"));
-    REQUIRE(rattle_env_at(1, buffer, 4) == 2 && has("E="));
-    REQUIRE(rattle_env_at(2, buffer, 4) == -1 && has(""));
-    REQUIRE(rattle_env_at(SIZE_MAX, buffer, 4) == -1 && has(""));
 }
 
 static void test_error_number(void) {
@@ -99,7 +85,6 @@ static void test_memory(void) {
 
 int main(void) {
     test_words();
-    test_variables();
     test_error_number();
     test_memory();
     return failures != 0;
