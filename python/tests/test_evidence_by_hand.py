@@ -64,11 +64,11 @@ def evidence(
         (evidence(distance=(19.9, 0, 0), sectors=(0, 1, 0), from_end=(0, 19.9, 0)), ""),
         (evidence(distance=(0, 20, 0)), "point 2 lies 20 m beside its line"),
         (evidence(sectors=(0, 0, 2)), "the direction at point 3 differs by about 22 degrees"),
-        (evidence(from_end=(20, 0, 0)), "point 1 lies 20 m behind the start of its line"),
-        (evidence(from_end=(0, 20, 0)), "point 2 lies 20 m behind the start of its line"),
+        (evidence(from_end=(20, 0, 0)), "point 1 lies 20 m after the start of its line"),
+        (evidence(from_end=(0, 20, 0)), "point 2 lies 20 m after the start of its line"),
         (evidence(from_end=(0, 0, 20)), "point 3 lies 20 m before the end of its line"),
-        (evidence(length=(500, 559.5)), "leg 2 is 10 percent longer than told"),
-        (evidence(length=(399.2, 500)), "leg 1 is 10 percent shorter than told"),
+        (evidence(length=(500, 559.5)), "leg 2 is 10 percent longer than the reference says"),
+        (evidence(length=(399.2, 500)), "leg 1 is 10 percent shorter than the reference says"),
         (evidence(length=(500, 518)), ""),
         (evidence(lines=15), "15 lines, any of which may be missing"),
         (evidence(turns_back=True), "it turns back"),
@@ -84,7 +84,7 @@ def test_the_weightiest_reasons() -> None:
     """Four are said, those that weigh most first."""
     found = evidence((0, 60, 0), (90, 0, 0), (0, 3, 0), (500, 750), True, 20)
     assert reasons_of(found) == [
-        "it turns back; leg 2 is 47 percent longer than told; point 1 lies 90 m beside its line; "
+        "it turns back; leg 2 is 47 percent longer than the reference says; point 1 lies 90 m beside its line; "
         "the direction at point 2 differs by about 34 degrees"
     ]
 

@@ -117,9 +117,9 @@ def test_other_highways_are_counted_by_value(imported: Import) -> None:
     for id, value in enumerate(("footway", "Track", "footway ", "x" * 60), 2):
         drawing.way(id, [1, 2], value)
     assert imported(drawing).counts.left_out == {
-        "ways that are no roads: highway=footway": 2,
-        "ways that are no roads: highway=track": 1,
-        f"ways that are no roads: highway={'x' * 37}...": 1,
+        "ways that are not roads: highway=footway": 2,
+        "ways that are not roads: highway=track": 1,
+        f"ways that are not roads: highway={'x' * 37}...": 1,
     }
 
 
@@ -132,7 +132,7 @@ def test_many_other_highways(imported: Import) -> None:
     for id in range(27, 30):
         drawing.way(id, [1, 2], "footway")
     left_out = imported(drawing).counts.left_out
-    reason = "ways that are no roads"
+    reason = "ways that are not roads"
     assert len(left_out) == 21
     assert left_out[f"{reason}: highway=footway"] == 3
     assert left_out[f"{reason}: other values"] == 6

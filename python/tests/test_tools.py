@@ -118,7 +118,7 @@ def test_no_progress_bar_in_a_pipe(tools: Tools, top: Path, tmp_path: Path) -> N
     assert ended.stderr == (
         "left out: service roads (--service takes them in): 1\n"
         "left out: ways that are closed to motor vehicles: 1\n"
-        "left out: ways that are no roads: highway=footway: 1\n"
+        "left out: ways that are not roads: highway=footway: 1\n"
     )
 
 

@@ -67,7 +67,7 @@ def test_what_is_said_of_the_import(tools: Tools, top: Path, tmp_path: Path) -> 
         "left_out": {
             "service roads (--service takes them in)": 1,
             "ways that are closed to motor vehicles": 1,
-            "ways that are no roads: highway=footway": 1,
+            "ways that are not roads: highway=footway": 1,
         },
         "kept": {},
         "lines": 39,

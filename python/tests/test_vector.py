@@ -108,7 +108,7 @@ def test_values(tmp_path: Path, table: Path, out: Path, capsys: pytest.CaptureFi
         "roads that the table leaves out by their class": 1,
         "roads that are closed in both directions": 1,
         "records without a geometry": 1,
-        "records that are no lines, but of type Point": 1,
+        "records that are not lines, but of type Point": 1,
     }
     assert about(out)["changed"] == {
         'forms that aren\'t known, taken as 0 (unknown): "5"': 1,

@@ -244,7 +244,7 @@ def test_how_probable_it_is(
     titles = browser.value("[...document.querySelectorAll('.entry b')].map(e => e.textContent)")
     assert titles == ["Place 1probability 0.38", "Place 2probability 0.38"]
     reasons = browser.value("[...document.querySelectorAll('.reasons')].map(e => e.innerText)")
-    assert reasons[0] == "leg 1 is 9 percent longer than told."
+    assert reasons[0] == "leg 1 is 9 percent longer than the reference says."
     assert "the direction at point 2 differs by about 34 degrees" in reasons[1]
     texts = browser.value("[...document.querySelectorAll('#probability li')].map(e => e.innerText)")
     assert texts[0] == "None of these: probability 0.23."
@@ -298,7 +298,7 @@ def test_turning_back_at_a_dead_end(tools: Tools, browser: Browser, folder: Path
     assert "points 50.0 m from the ends of their lines, turns back" in entry
     reasons = browser.value("document.querySelector('.reasons').innerText")
     assert reasons.startswith("it turns back; ")
-    assert "point 1 lies 56 m behind the start of its line" in reasons
+    assert "point 1 lies 56 m after the start of its line" in reasons
 
 
 def test_looking_was_cut_off(

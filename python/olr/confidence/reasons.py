@@ -58,14 +58,16 @@ def _of_legs(longer: list[float]) -> Iterator[_Reason]:
         if abs(share) >= OFF:
             word = "longer" if share > 0 else "shorter"
             percent = 100 * abs(share)
-            yield _Reason(2 * percent, f"leg {number} is {percent:.0f} percent {word} than told")
+            yield _Reason(
+                2 * percent, f"leg {number} is {percent:.0f} percent {word} than the reference says"
+            )
 
 
 def _of_ends(from_end: list[float]) -> Iterator[_Reason]:
     for number, metres in enumerate(from_end, 1):
         if metres >= FAR_END:
             is_last = number == len(from_end)
-            where = "before the end" if is_last else "behind the start"
+            where = "before the end" if is_last else "after the start"
             weight = min(metres, 50.0) / 3
             yield _Reason(weight, f"point {number} lies {metres:.0f} m {where} of its line")
 

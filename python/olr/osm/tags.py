@@ -75,7 +75,7 @@ class TagTable:
         value = value_of(tags, "highway")
         highway = self.highways.get(value)
         if highway is None:
-            return NoRoad("ways that are no roads", f"highway={short(value)}")
+            return NoRoad("ways that are not roads", f"highway={short(value)}")
         if value_of(tags, "area") == "yes":
             return NoRoad("areas")
         junction = self.junctions.get(value_of(tags, "junction"))

@@ -151,7 +151,7 @@ def _line_strings(geometry: Mapping[str, Any] | None, counts: Counts) -> Sequenc
         return [geometry["coordinates"]]
     if kind == "MultiLineString":
         return list(geometry["coordinates"])
-    counts.leave_out(f"records that are no lines, but of type {kind}")
+    counts.leave_out(f"records that are not lines, but of type {kind}")
     return []
 
 

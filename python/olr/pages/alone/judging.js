@@ -118,12 +118,12 @@ function reasonsOfRoute({ turnsBack: isBack, lines }) {
 function reasonsOfLeg(share, place) {
   if (Math.abs(share) < OFF) return [];
   const percent = 100 * Math.abs(share);
-  return [{ weight: 2 * percent, text: `leg ${place + 1} is ${fixed(percent, 0)} percent ${share > 0 ? "longer" : "shorter"} than told` }];
+  return [{ weight: 2 * percent, text: `leg ${place + 1} is ${fixed(percent, 0)} percent ${share > 0 ? "longer" : "shorter"} than the reference says` }];
 }
 
 function reasonsOfEnd(metres, number, isLast) {
   if (metres < FAR_END) return [];
-  const where = isLast ? "before the end" : "behind the start";
+  const where = isLast ? "before the end" : "after the start";
   return [{ weight: Math.min(metres, 50) / 3, text: `point ${number} lies ${fixed(metres, 0)} m ${where} of its line` }];
 }
 
