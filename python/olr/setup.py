@@ -52,6 +52,7 @@ TEST_MODULES = {
     "osmnx": "python3-osmnx",
     "pytest": "python3-pytest",
     "sphinx": "python3-sphinx",
+    "xdist": "python3-pytest-xdist",
 }
 """Modules that the tests need besides."""
 
