@@ -4,6 +4,7 @@ import base64
 import fcntl
 import json
 import os
+import select
 import subprocess
 import tempfile
 import time
@@ -25,8 +26,13 @@ WORDS += ["--num-raster-threads=1", "--js-flags=--single-threaded"]
 WORDS += ["--process-per-site", "--disable-site-isolation-trials", "--renderer-process-limit=1"]
 ONE_THREAD = "--disable-threaded-compositing"
 """One thread draws, which takes less, and there are no frames but those that something new needs. No screenshot is made then."""
-WAIT = "new Promise(done => document.readyState === 'complete' ? done(1) : addEventListener('load', () => done(1)))"
-"""An expression that waits until the script of a page has run."""
+WAIT = """new Promise((done) => {
+  const painted = () => { requestAnimationFrame(() => requestAnimationFrame(done)); setTimeout(done, 1000); };
+  if (document.readyState === "complete") painted(); else addEventListener("load", painted);
+}).then(() => 1)"""
+"""An expression that waits until the script of a page has run, and the page was painted if it is seen: what is clicked before is lost."""
+SECONDS_SILENT = 180
+"""So long it may say nothing."""
 
 
 def _pipe() -> tuple[int, int]:
@@ -109,6 +115,7 @@ class Browser:
     def _next(self) -> Any:
         """The next message."""
         while b"\0" not in self._data:
+            assert select.select([self._from], [], [], SECONDS_SILENT)[0], "the browser is silent"
             data = os.read(self._from, 1 << 16)
             assert data, "the browser ended"
             self._data += data
