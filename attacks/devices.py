@@ -5,11 +5,11 @@
 
 runs `show`, `candidates`, `match`, `places` and `why`, these but the first two as text and as JSON, `match` with a page and all pages, with two files
 and with three; and `batch` on the records of a file and of the standard input. In each case every read fails in turn, a whole one or one of 64 bytes,
-once or from then on, with an error or as an interruption: the answer has to be ReadFailed with the name of the file that was read, and nothing
-written, but the lines of the records of a batch that ended before (an interrupted read may be repeated, for the same bytes). A read may also give no
-byte too early, as a shorter file: what is answered then has to be what the program answers to that shorter file. Every write fails in turn or takes
-no byte, a whole one or one of 7 bytes, once or from then on: WriteFailed, and what was written is a beginning of the output. Reads and writes of 1
-and of 7 bytes give the same output. It needs `cc`, Linux and glibc.
+once or from then on: the answer has to be ReadFailed with the name of the file that was read, and nothing written, but the lines of the records of a
+batch that ended before. A read may also give no byte too early, as a shorter file: what is answered then has to be what the program answers to that
+shorter file. Every write fails in turn or takes no byte, a whole one or one of 7 bytes, once or from then on: WriteFailed, and what was written is a
+beginning of the output. A read or a write that a signal interrupts is made again: the output is the same. So it is with reads and writes of 1 and of
+7 bytes. It needs `cc`, Linux and glibc.
 
 The system has no call that flushes the standard output; crates/olr_tests has sinks whose flush fails.
 """
@@ -54,7 +54,7 @@ WIDTH = 64
 FAILING_READS = [
     (0, errno.EIO, 0),
     (0, errno.EAGAIN, 1),
-    (0, errno.EINTR, 0),  # a program may repeat it, so it doesn't stay
+    (0, errno.EINTR, 0),  # the program makes it again, so it doesn't stay
     (WIDTH, errno.EIO, 1),
     (WIDTH, errno.EAGAIN, 0),
     (WIDTH, errno.EINTR, 0),
@@ -102,7 +102,7 @@ def fail_reads(trial, library, words, wanted):
             name = NAMES.get(descriptor, "what is no input")
             written = lines_before(wanted, name, notes.count(str(descriptor)), width)
             refused = (1, written, f"olr: ReadFailed {name}\n".encode())
-            holds = found == refused or (error == errno.EINTR and found == wanted)
+            holds = found == (wanted if error == errno.EINTR else refused)
             trial.expect(holds, f"{' '.join(words)}: read {call}, of {name}, {how(width, error)}", found)
     return reads
 
@@ -117,7 +117,7 @@ def fail_writes(trial, library, words, wanted):
                 break
             writes = max(writes, call)
             refused = found[0] == 1 and found[2] == b"olr: WriteFailed\n" and wanted[1].startswith(found[1]) and found[1] != wanted[1]
-            holds = refused or (error == errno.EINTR and found == wanted)
+            holds = found == wanted if error == errno.EINTR else refused
             trial.expect(holds, f"{' '.join(words)}: write {call} {how(width, error)}", found)
     return writes
 

@@ -1,6 +1,6 @@
 //! Where output goes.
 
-ghost use Rattle.std.specs.Prelude.{◌≡◌, ℕ, ◌≤◌, List, Option, Result, length, IfOk, OnErr, IsErr};
+ghost use Rattle.std.specs.Prelude.{◌≡◌, ℕ, ◌≤◌, List, Option, Result, length, IfOk, OnErr, IsErr, IsTrue};
 ghost use Rattle.std.specs.Prelude.{Ok};
 ghost use Rattle.std.specs.Io.KnownBytes.{Keeps, WriteAppends};
 ghost use Rattle.olr_base.specs.declared.failure.Failed.{Failed};
@@ -9,7 +9,7 @@ ghost use Rattle.olr_app.specs.Out.{writer_of, failures_of};
 
 use olr_base::Failed;
 use std::io;
-use std::io::Write;
+use std::io::{ErrorKind, Write};
 
 /// A device that takes bytes.
 ///
@@ -55,7 +55,8 @@ pub trait Sink {
         ensures { result ≡ failed self.now };
 }
 
-/// A sink over any writer. Each error of the writer, of whatever kind, is a failure.
+/// A sink over any writer. An interrupted call of the writer is made again; each other error of it,
+/// of whatever kind, is a failure.
 #[derive(Drop)]
 pub struct Out<W> {
     writer: W,
@@ -101,6 +102,40 @@ impl<W> Out<W> {
     }
 }
 
+/// Whether a signal interrupted a call, which did nothing then.
+fn is_interrupted<T>(answer: &io::Result<T>) -> bool
+    ensures { IsTrue result → IsErr answer.now }
+{
+    matches!(answer, Err(error) if error.kind() == ErrorKind::Interrupted)
+}
+
+/// What a writer answers where no signal interrupts it.
+fn write_uninterrupted<W: Write>(writer: &mut W, bytes: &[u8]) -> io::Result<usize>
+    ensures most { IfOk result (λ n. n ≤ length bytes.now) }
+    ensures takes { WriteAppends (W.contents writer.old) (W.contents writer.new) result bytes.now }
+{
+    for _ in 0..u64::MAX {
+        let answer = writer.write(bytes);
+        if !is_interrupted(&answer) {
+            return answer;
+        }
+    }
+    writer.write(bytes)
+}
+
+/// What a writer answers to a flush where no signal interrupts it.
+fn flush_uninterrupted<W: Write>(writer: &mut W) -> io::Result<()>
+    ensures { Keeps (W.contents writer.old) (W.contents writer.new) }
+{
+    for _ in 0..u64::MAX {
+        let answer = writer.flush();
+        if !is_interrupted(&answer) {
+            return answer;
+        }
+    }
+    writer.flush()
+}
+
 impl<W: Write> Sink for Out<W> {
     ghost taken = { λ out. W.contents (writer_of out) };
 
@@ -113,12 +148,12 @@ impl<W: Write> Sink for Out<W> {
         Keeps (W.contents (writer_of old)) (W.contents (writer_of new)) };
 
     fn put(&mut self, bytes: &[u8]) -> Result<usize, Failed> {
-        let answer = self.writer.write(bytes);
+        let answer = write_uninterrupted(&mut self.writer, bytes);
         self.counted(answer)
     }
 
     fn flush_out(&mut self) -> Result<(), Failed> {
-        let answer = self.writer.flush();
+        let answer = flush_uninterrupted(&mut self.writer);
         self.counted(answer)
     }
 

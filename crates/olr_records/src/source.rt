@@ -1,13 +1,14 @@
 //! Where the bytes of a file come from.
 
-ghost use Rattle.std.specs.Prelude.{◌≡◌, ℕ, List, Option};
+ghost use Rattle.std.specs.Prelude.{◌≡◌, ℕ, List, Option, IsErr, IsTrue};
 ghost use Rattle.std.specs.Io.{ReadsAtMost};
 ghost use Rattle.std.specs.Io.KnownBytes.{ReadConsumes};
 ghost use Rattle.olr_base.specs.Counting.{Counts};
 ghost use Rattle.olr_records.specs.In.{reader_of, failures_of};
 
 use olr_base::Failed;
-use std::io::Read;
+use std::io;
+use std::io::{ErrorKind, Read};
 
 /// A device that gives bytes.
 ///
@@ -35,7 +36,8 @@ pub trait Source {
         ensures { result ≡ failed self.now };
 }
 
-/// A source over any reader. Each error of the reader, of whatever kind, is a failure.
+/// A source over any reader. An interrupted call of the reader is made again; each other error of
+/// it, of whatever kind, is a failure.
 #[derive(Drop)]
 pub struct In<R> {
     reader: R,
@@ -55,13 +57,34 @@ impl<R> In<R> {
     }
 }
 
+/// Whether a signal interrupted a call, which did nothing then.
+fn is_interrupted(answer: &io::Result<usize>) -> bool
+    ensures { IsTrue result → IsErr answer.now }
+{
+    matches!(answer, Err(error) if error.kind() == ErrorKind::Interrupted)
+}
+
+/// What a reader answers where no signal interrupts it.
+fn read_uninterrupted<R: Read>(reader: &mut R, buffer: &mut [u8]) -> io::Result<usize>
+    ensures at_most { ReadsAtMost result buffer.new }
+    ensures gives { ReadConsumes (R.remaining reader.old) (R.remaining reader.new) result buffer.new }
+{
+    for _ in 0..u64::MAX {
+        let answer = reader.read(buffer);
+        if !is_interrupted(&answer) {
+            return answer;
+        }
+    }
+    reader.read(buffer)
+}
+
 impl<R: Read> Source for In<R> {
     ghost left = { λ source. R.remaining (reader_of source) };
 
     ghost failed = { failures_of };
 
     fn pull(&mut self, buffer: &mut [u8]) -> Result<usize, Failed> {
-        let Ok(count) = self.reader.read(buffer) else {
+        let Ok(count) = read_uninterrupted(&mut self.reader, buffer) else {
             self.failures = self.failures.saturating_add(1);
             return Err(Failed);
         };
