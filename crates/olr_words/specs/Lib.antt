@@ -1,2 +1,3 @@
+pub mod Profile
 pub mod Words
 pub mod Rejected

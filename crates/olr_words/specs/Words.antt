@@ -8,7 +8,7 @@ use Rattle.olr_request.specs.declared.question.QuestionKind.{QuestionKind}
 use Rattle.olr_request.specs.declared.question.QuestionKind.TheVariants.{Candidates, Match, Places, Why}
 use Rattle.olr_request.specs.declared.request.Pages.{Pages}
 use Rattle.olr_request.specs.declared.request.Pages.TheVariants as pages
-use Rattle.olr_candidates.specs.Tolerances.{IsFirstOutOfRange, default_of, order_of}
+use Rattle.olr_candidates.specs.Tolerances.{IsFirstOutOfRange, order_of}
 use Rattle.olr_candidates.specs.Values as tolerance
 use Rattle.olr_candidates.specs.declared.tolerances.Tolerance.{Tolerance}
 use Rattle.olr_candidates.specs.declared.tolerances.Tolerances.{Tolerances}
@@ -16,6 +16,7 @@ use Rattle.olr_places.specs.Limits.{IsFirstOutOfRange as IsFirstNumberOutOfRange
 use Rattle.olr_places.specs.declared.limits.PlaceLimit.{PlaceLimit}
 use Rattle.olr_places.specs.declared.limits.PlaceLimit.TheVariants.{Apart, Look, Most, Within}
 use Rattle.olr_places.specs.declared.limits.PlaceLimits.{PlaceLimits}
+use Rattle.olr_words.specs.Profile.{profile_value}
 use Rattle.olr_words.specs.declared.words.Asked.{Asked}
 use Rattle.olr_words.specs.declared.words.Asked.TheVariants.{Many, One}
 use Rattle.olr_words.specs.declared.words.Files.{Files}
@@ -27,10 +28,10 @@ use Rattle.olr_words.specs.declared.words.MapSubcommand.TheVariants as each
 
 -- ---- tolerances
 
--- the value of each tolerance, in its unit: the given one, else its default
+-- the value of each tolerance, in its unit: the given one, else that of the profile
 abbrev pub value_of : Given → Tolerance → ℕ
 value_of given name =
-    unwrap_or (get_or given.tolerances (order_of name) None) (default_of name)
+    unwrap_or (get_or given.tolerances (order_of name) None) (profile_value given.profile name)
 
 -- tolerances with these values
 pub record AreTolerances (given : Given) (tolerances : Tolerances) : Type 0 where

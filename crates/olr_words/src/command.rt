@@ -1,10 +1,11 @@
 //! The command of `clap`, as tables: the subcommands, their options, and the texts of help.
 
+use crate::profile::Profile;
 use clap::{Arg, ArgAction, ArgGroup, Command, Error};
 use std::alloc::Global;
 
 /// The version of the program, and of all that is released with it.
-const VERSION: &str = "1.1.0";
+const VERSION: &str = "2.0.0.dev";
 
 /// What the help says about faults.
 const AFTER_HELP: &str =
@@ -21,11 +22,11 @@ enum Takes {
     File,
     /// The path of a folder of the map, in place of its files.
     MapFolder,
-    /// A number. It has no default here: that of [`Tolerances`](olr_candidates::Tolerances) or of
+    /// A number. It has no default here: that of [`Profile`] or of
     /// [`PlaceLimits`](olr_places::PlaceLimits) is used where it is left out.
     Number,
-    /// One of the formats.
-    Format,
+    /// One of these words, which stand for this name.
+    OneOf(&'static str, &'static [&'static str]),
     /// The text of a cursor.
     Cursor,
     /// Nothing more.
@@ -62,7 +63,7 @@ pub struct Subcommand {
 }
 
 /// The formats of an output.
-const FORMATS: &[&str] = &["text", "json"];
+const FORMATS: Takes = Takes::OneOf("FORMAT", &["text", "json"]);
 
 const REFERENCE: &[CommandOption] = &[CommandOption {
     name: "REF",
@@ -95,6 +96,11 @@ const FILES: &[CommandOption] = &[
 ];
 
 const TOLERANCES: &[CommandOption] = &[
+    CommandOption {
+        name: "profile",
+        takes: Takes::OneOf("PROFILE", Profile::NAMES),
+        help: "What stands for tolerances that aren't given: 'feed' is for messages made on another map [default: program]",
+    },
     CommandOption {
         name: "radius",
         takes: Takes::Number,
@@ -154,7 +160,7 @@ const LIMITS: &[CommandOption] = &[
 /// The format of an output that is one object.
 const FORMAT: &[CommandOption] = &[CommandOption {
     name: "format",
-    takes: Takes::Format,
+    takes: FORMATS,
     help: "Print text, or JSON: one object on a line [default: text]",
 }];
 
@@ -179,7 +185,7 @@ const PAGES: &[CommandOption] = &[
     },
     CommandOption {
         name: "format",
-        takes: Takes::Format,
+        takes: FORMATS,
         help: "Print each page as text, or as JSON: one object on a line [default: text]",
     },
 ];
@@ -295,11 +301,7 @@ fn argument<'a>(alloc: Global, option: &CommandOption) -> Result<Arg<'a>, Error>
                 .value_name("N")
                 .allow_negative_numbers(true),
         ),
-        Takes::Format => Ok(
-            named(alloc, option)
-                .value_name("FORMAT")
-                .value_parser(FORMATS),
-        ),
+        Takes::OneOf(name, words) => Ok(named(alloc, option).value_name(name).value_parser(words)),
         Takes::Cursor => Ok(named(alloc, option).value_name("CURSOR")),
         Takes::Nothing => Ok(named(alloc, option).action(ArgAction::SetTrue)),
         Takes::Words => Ok(Arg::new(alloc, option.name).help(option.help).num_args(0..)),

@@ -5,11 +5,13 @@
 //!   what a fault means.
 //! - [`hints`]: what words that aren't understood are rejected with, where it can be said what to
 //!   write instead.
+//! - [`profile`]: the tolerances that stand for those which the words don't give.
 //! - [`rejected`]: why nothing was written, the status for it, and the text that is printed.
 #![tactic(auto)]
 
 mod command;
 mod hints;
+mod profile;
 mod rejected;
 mod words;
 

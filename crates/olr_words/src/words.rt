@@ -11,6 +11,7 @@ ghost use Rattle.olr_words.specs.Words.{IsSize, IsWhat, nearest_of, pages_of, si
 
 use crate::command::whole_command;
 use crate::hints::{check_values, not_understood, topic_in};
+use crate::profile::Profile;
 use crate::rejected::Rejected;
 use clap::error::ErrorKind;
 use clap::{ArgMatches, Command};
@@ -130,13 +131,14 @@ impl GivenNumbers {
     }
 }
 
-/// What the words give to a subcommand, in range or not: the tolerances in the order of
+/// What the words give to a subcommand, in range or not: the profile, the tolerances in the order of
 /// [`Tolerance::ALL`] and the units of [`Tolerance::least`], how many matchings a page has, the
 /// numbers for places, and how many lines near a point are printed. `None` where an option is left
 /// out, or where the subcommand has no such option.
 #[derive(Clone, Copy)]
 struct Given<'a> {
     text: &'a str,
+    profile: Profile,
     tolerances: [Option<u32>; Tolerance::COUNT],
     page: Option<u32>,
     numbers: GivenNumbers,
@@ -155,6 +157,7 @@ impl<'a> Given<'a> {
         }
         Given {
             text,
+            profile: Profile::named(found.get_str("profile")),
             tolerances,
             page: found.get_one("page"),
             numbers: GivenNumbers::read(found),
@@ -188,7 +191,7 @@ impl<'a> Given<'a> {
         Ok(Pages::All)
     }
 
-    /// The tolerances that are given, and the default for each that isn't.
+    /// The tolerances that are given, and that of the profile for each that isn't.
     ///
     /// # Errors
     ///
@@ -198,7 +201,7 @@ impl<'a> Given<'a> {
         ensures accepted { IfOk result (AreTolerances self.now) }
         ensures refused { IfErr result (IsRefusedTolerance self.now) }
     {
-        let mut tolerances = Tolerances::default();
+        let mut tolerances = self.profile.tolerances();
         for name in Tolerance::ALL {
             let Some(value) = self.tolerances[name.order()] else {
                 continue;

@@ -1,4 +1,4 @@
-use Rattle.olr_words.proofs.Common.{◌≡◌, ℕ, ◌<◌, get_or, length, ap, subst, arith, Option, None, Some, unwrap_or, in_range, order_at, IsFirstOutOfRange, IsTolerance, default_of, names, order_of, Radius, Tolerances, value_of, Given}
+use Rattle.olr_words.proofs.Common.{◌≡◌, ℕ, ◌<◌, get_or, length, ap, subst, arith, Option, None, Some, unwrap_or, in_range, order_at, IsFirstOutOfRange, IsTolerance, names, order_of, Radius, Tolerances, profile_value, value_of, Given}
 use Rattle.olr_words.proofs.GivenTolerances.{AreUpTo, one_given}
 use Rattle.olr_words.proofs.words.Given.tolerances.Goals as goal
 
@@ -14,7 +14,7 @@ first_out : {given : Given} {k value : ℕ} {tolerances : Tolerances} → k < le
     → IsFirstOutOfRange (value_of given) (get_or names k Radius)
 first_out {given} {k} {value} {tolerances} inside are found beyond = record {
   beyond = λ is. beyond (subst (IsTolerance (get_or names k Radius))
-      (ap (λ (o : Option ℕ). unwrap_or o (default_of (get_or names k Radius))) found) is);
+      (ap (λ (o : Option ℕ). unwrap_or o (profile_value given.profile (get_or names k Radius))) found) is);
   before = λ other less. subst (IsTolerance other)
       (are.before other (omega (arith, less, order_at k Radius inside))) (in_range tolerances other);
 }
