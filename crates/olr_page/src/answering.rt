@@ -1,7 +1,7 @@
 //! From files to a map that is kept, and from words to the status, the output and the text of a
 //! rejection.
 
-ghost use Rattle.std.specs.Prelude.{◌≡◌, IsSome, None};
+ghost use Rattle.std.specs.Prelude.{◌≡◌, ◌≢◌, ◌≤◌, IsNone, IsSome, None, length};
 
 use crate::kept::KeptMap;
 use crate::packed::PackedFiles;
@@ -68,11 +68,21 @@ fn perform_in<'a>(
     perform_on_map(alloc, words.as_slice(), known, &mut disk, out)
 }
 
+/// How many bytes stand in a room of which so many were written, in order.
+fn bytes_in(room: &[u8], written: u64) -> u64
+    ensures { result ≤ length room.now }
+{
+    written.min(room.len() as u64)
+}
+
 /// Writes the text of a rejection into the room of errors: how many bytes stand there.
-fn write_errors(rejected: &Rejected, errors: &mut [u8]) -> u64 {
-    let mut errors = Cursor::new(&mut *errors);
-    let _ = write!(errors, "{rejected}");
-    errors.position()
+fn write_errors(rejected: &Rejected, errors: &mut [u8]) -> u64
+    ensures { result ≤ length errors.new }
+{
+    let mut room = Cursor::new(&mut *errors);
+    let _ = write!(room, "{rejected}");
+    let written = room.position();
+    bytes_in(errors, written)
 }
 
 /// Reads the map of files, and keeps it in place of the one that is kept, if there is one. `files`
@@ -88,14 +98,17 @@ pub extern "C" fn olr_page_open(
     errors: &mut [u8],
     given: &mut Answer,
 )
-    ensures { given.new.status ≡ 0 → IsSome kept.new.pointer.map }
+    ensures map { given.new.status ≡ 0 → IsSome kept.new.pointer.map }
+    ensures no_map { given.new.status ≢ 0 → IsNone kept.new.pointer.map }
+    ensures output { given.new.output ≡ 0 }
+    ensures errors { given.new.errors ≤ length errors.new }
 {
     let _ = kept.take(alloc);
     given.status = 0;
     given.output = 0;
     given.errors = 0;
     match read_map(alloc, files) {
-        Ok(map) => *kept = KeptMap::of(map),
+        Ok(map) => kept.put(map),
         Err(fault) => {
             let rejected = Rejected::from(fault);
             given.status = rejected.status();
@@ -118,25 +131,28 @@ pub extern "C" fn olr_page_ask<'a>(
     errors: &mut [u8],
     given: &mut Answer,
 )
-    ensures { kept.new.pointer.map ≡ kept.old.pointer.map }
+    ensures map { kept.new.pointer.map ≡ kept.old.pointer.map }
+    ensures output { given.new.output ≤ length output.new }
+    ensures errors { given.new.errors ≤ length errors.new }
 {
     let map = kept.take(alloc);
     let mut out = Out::new(Cursor::new(&mut *output));
     let ended = perform_in(alloc, words, map.as_deref(), input, &mut out);
-    let mut output = out.into_writer();
+    let mut room = out.into_writer();
     given.status = 0;
     given.errors = 0;
     if let Err(rejected) = ended {
         given.status = rejected.status();
         if rejected.is_help() {
-            let _ = write!(output, "{rejected}");
+            let _ = write!(room, "{rejected}");
         } else {
             given.errors = write_errors(&rejected, errors);
         }
     }
-    given.output = output.position();
+    let written = room.position();
+    given.output = bytes_in(output, written);
     if let Some(map) = map {
-        *kept = KeptMap::of(map);
+        kept.put(map);
     }
 }
 

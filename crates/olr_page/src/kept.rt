@@ -12,9 +12,9 @@ use std::marker::Model;
 use std::{mem, ptr};
 
 /// A pointer that owns a map on the heap, or owns nothing. The type that it points to isn't named,
-/// since a caller in another language can't look into a map.
+/// since a caller in another language can't look into a map. It can't be dropped: a map is taken
+/// out, or there is none.
 #[repr(C)]
-#[derive(Drop)]
 pub(crate) struct MapPointer {
     at: *mut u8,
     pub ghost heap: { Global },
@@ -58,12 +58,18 @@ impl MapPointer {
         let MapPointer { at } = self;
         HeapPointer { at: at as *mut Map }
     }
+
+    /// Ends a pointer that owns nothing.
+    fn end(self)
+        requires { self.map ≡ None }
+    {
+        let MapPointer { at: _ } = self;
+    }
 }
 
 /// A map that was read, or none: the caller of the exported functions has memory for it, which
-/// holds zeros before the first call, and hands it to each call again.
+/// holds zeros before the first call, and hands it to each call again. It can't be dropped.
 #[repr(C)]
-#[derive(Drop)]
 pub struct KeptMap {
     is_there: bool,
     pub(crate) pointer: MapPointer,
@@ -82,13 +88,25 @@ impl KeptMap {
     }
 
     /// This map.
-    pub(crate) fn of(map: Box<Map>) -> KeptMap
+    fn of(map: Box<Map>) -> KeptMap
         ensures { result.pointer.map ≡ Some map.value }
     {
         KeptMap {
             is_there: true,
             pointer: MapPointer::of(HeapPointer::of(map)),
         }
+    }
+
+    /// Keeps a map where there is none.
+    pub(crate) fn put(&mut self, map: Box<Map>)
+        requires { self.old.pointer.map ≡ None }
+        ensures { self.new.pointer.map ≡ Some map.value }
+    {
+        let KeptMap {
+            is_there: _,
+            pointer,
+        } = mem::replace(self, KeptMap::of(map));
+        pointer.end();
     }
 
     /// Takes the map out, if there is one.
@@ -100,6 +118,7 @@ impl KeptMap {
         if is_there {
             Some(pointer.into_heap_pointer().into_box(alloc))
         } else {
+            pointer.end();
             None
         }
     }
