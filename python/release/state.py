@@ -24,7 +24,7 @@ class State:
         """The version of all that is released, as PEP 440 has it.
 
         It is the number of the newest section of CHANGELOG.md. If that has no date, it is a development version before that
-        number, `1.1.0.dev2301+ga3c4ddc6`: with the number of commits, so that later ones are greater, and the name of the last
+        number, `2.0.0.dev2301+ga3c4ddc6`: with the number of commits, so that later ones are greater, and the name of the last
         one. Where files were changed since the commit, a digest of the changes is added: other files have another version.
         """
         number, is_released = self._section
