@@ -21,10 +21,12 @@ SUFFIXES = (".deb", ".gz", ".whl")
 def make(folder: Path) -> None:
     """Makes all files in a folder, in place of those of an earlier release. Raises `ToolError`."""
     state = State()
+    state.check_released()
     state.check_number()
     print(f"olr {state.version} of commit {state.commit}", flush=True)
     for program in (state.program, *map(state.static_program, MACHINES)):
         print(f"a program is {program.relative_to(state.top)}", flush=True)
+    print(f"the module is {state.module.relative_to(state.top)}", flush=True)
     made: dict[str, bytes] = {}
 
     def keep(name: str, content: bytes) -> Path:

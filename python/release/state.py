@@ -1,4 +1,4 @@
-"""The tree that is released: its commit, its version, its program and its files."""
+"""The tree that is released: its commit, its version, its programs and its files."""
 
 import hashlib
 import os
@@ -8,7 +8,7 @@ from pathlib import Path
 
 from olr.errors import ToolError
 from olr.version import Section, sections
-from release.machines import Machine
+from release.machines import MACHINES, Machine
 
 TOP = Path(__file__).resolve().parents[2]
 
@@ -87,15 +87,33 @@ class State:
                 f"CHANGELOG.md says that {number} is released, and the program is {said}"
             )
 
+    def check_released(self) -> None:
+        """Raises `ToolError` if a file of `released/` has other bytes than RELEASE or MODULE says there."""
+        release = self._said_of("released")
+        said = [("olr", release.get("program", ""), "keep-released")]
+        for machine in MACHINES:
+            for suffix, digest in zip(("", ".o"), release.get(machine.name, "").split()):
+                said.append((f"olr-{machine.name}{suffix}", digest, "machines --keep"))
+        said.append(
+            ("olr.wasm", self._said_of("released", "MODULE").get("module", ""), "wasm --keep")
+        )
+        for name, digest, script in said:
+            if digest and digest != _digest(self.top / "released" / name):
+                raise ToolError(
+                    f"released/{name} has other bytes than is said of it there: run git checkout released, or .ci/{script} to make it anew"
+                )
+
     @cached_property
     def program(self) -> Path:
-        """The proved program: the released one, if it is of these sources, else the built one, if no source is newer."""
+        """The proved program: the released one, if it is of these sources, else the built one, if that is. Raises `ToolError`."""
         if self._is_released():
             return self.top / "released/olr"
         built = self.top / "crates/olr/out/olr"
-        if self._run(str(self.top / "olr"), "--how").split("\n")[0] == f"program: {built}":
+        if self._may_be_made_here and (
+            self._run(str(self.top / "olr"), "--how").split("\n")[0] == f"program: {built}"
+        ):
             return built
-        raise ToolError("no program was proved of these sources: run ./olr --prove first")
+        raise self._lack("program", "proved", "./olr --prove", ".ci/keep-released")
 
     def _is_released(self) -> bool:
         """Whether the released program is of the sources of this tree."""
@@ -109,14 +127,44 @@ class State:
         """The program that is linked statically for a machine: the released one, if it is of these sources, else the one that was
         made here. Its object lies beside it, with `.o` behind its name. Raises `ToolError` if there is neither.
         """
-        for folder in ("released", "machines/out"):
+        for folder in self._folders("machines/out"):
             said = self._said_of(folder)
             program = self.top / folder / f"olr-{machine.name}"
             digests = f"{_digest(program)} {_digest(Path(f'{program}.o'))}"
             if (said.get("machines"), said.get(machine.name)) == (self._of_machines, digests):
                 return program
-        raise ToolError(
-            f"no program for {machine.name} was made of these sources: run .ci/machines first"
+        what = f"program for {machine.name}"
+        raise self._lack(what, "made", ".ci/machines", ".ci/machines --keep")
+
+    @cached_property
+    def module(self) -> Path:
+        """The program as a module for pages: the released one, if it is of these sources, else the one that was made here. Raises
+        `ToolError` if there is neither.
+        """
+        sources = self._run(str(self.top / ".ci/wasm"), "--sources")
+        for folder in self._folders("web/out"):
+            said = self._said_of(folder, "MODULE")
+            module = self.top / folder / "olr.wasm"
+            if (said.get("sources"), said.get("module")) == (sources, _digest(module)):
+                return module
+        raise self._lack("module for pages", "made", ".ci/wasm", ".ci/wasm --keep")
+
+    @property
+    def _may_be_made_here(self) -> bool:
+        """Whether programs may be given out that aren't in `released/`: while the newest section of CHANGELOG.md has no date."""
+        return not self._section.is_released
+
+    def _folders(self, made: str) -> tuple[str, ...]:
+        """Where programs may be, those that come first being better: `released/`, and where they are made."""
+        return ("released", made) if self._may_be_made_here else ("released",)
+
+    def _lack(self, what: str, done: str, made_by: str, kept_by: str) -> ToolError:
+        """That there is none of these sources to give out, and what to run."""
+        if self._may_be_made_here:
+            return ToolError(f"no {what} was {done} of these sources: run {made_by} first")
+        released = f"CHANGELOG.md says that {self._section.number} is released"
+        return ToolError(
+            f"{released}, and released/ has no {what} of these sources: run {kept_by} first"
         )
 
     def linked_by(self, machine: Machine) -> list[str]:
@@ -132,10 +180,10 @@ class State:
         """The digest of what these programs come from."""
         return self._run(str(self.top / ".ci/machines"), "--sources")
 
-    def _said_of(self, folder: str) -> dict[str, str]:
+    def _said_of(self, folder: str, file: str = "RELEASE") -> dict[str, str]:
         """What a folder says of its programs, by names. Nothing if there is none."""
         try:
-            lines = (self.top / folder / "RELEASE").read_text(encoding="utf-8").split("\n")
+            lines = (self.top / folder / file).read_text(encoding="utf-8").split("\n")
         except OSError:
             return {}
         return dict(line.partition(" ")[::2] for line in lines)

@@ -49,7 +49,7 @@ def metadata(packed: Path) -> list[Entry]:
 def package_files(state: State) -> list[Entry]:
     """The files of the package `olr`, below the folder `olr`, and the module of the program for pages."""
     names = state.names("python/olr")
-    module = Entry("olr/bin/olr.wasm", state.read("released/olr.wasm"))
+    module = Entry("olr/bin/olr.wasm", state.module.read_bytes())
     return [*(Entry(name.removeprefix("python/"), state.read(name)) for name in names), module]
 
 

@@ -74,15 +74,29 @@ def tree(tmp_path: Path) -> Path:
     (tmp_path / "released").mkdir()
     (tmp_path / "crates.txt").write_text("olr:\n")
     (tmp_path / "crates/olr/src/main.rt").write_text("//\n")
+    (tmp_path / "CHANGELOG.md").write_text(UNRELEASED)
     shutil.copytree(TOP / ".ci", tmp_path / ".ci")
     shutil.copy(TOP / "olr", tmp_path)
     for name in ("released", "crates/olr/out"):
         (tmp_path / name / "olr").write_text(f"#!/bin/sh\necho {name}\n")
         (tmp_path / name / "olr").chmod(0o755)
-    digest = subprocess.run([tmp_path / ".ci/digest"], capture_output=True, text=True, check=True)
-    program = hashlib.sha256((tmp_path / "released/olr").read_bytes()).hexdigest()
-    (tmp_path / "released/RELEASE").write_text(f"# x\nprogram {program}\nsources {digest.stdout}")
+    digest = printed(tmp_path, ".ci/digest")
+    programs = {name: sha256(tmp_path / name / "olr") for name in ("released", "crates/olr/out")}
+    (tmp_path / "crates/olr/out/sources").write_text(f"{digest} {programs['crates/olr/out']}\n")
+    said = f"# x\nprogram {programs['released']}\nsources {digest}\n"
+    (tmp_path / "released/RELEASE").write_text(said)
     return tmp_path
+
+
+def printed(tree: Path, *words: str) -> str:
+    """What a script of a tree prints, without the end of its last line."""
+    command = [str(tree / words[0]), *words[1:]]
+    return subprocess.run(command, capture_output=True, text=True, check=True).stdout.rstrip("\n")
+
+
+def sha256(file: Path) -> str:
+    """The SHA-256 of a file."""
+    return hashlib.sha256(file.read_bytes()).hexdigest()
 
 
 def test_the_released_program_is_given_out(tree: Path) -> None:
@@ -106,7 +120,7 @@ def test_else_the_built_one(tree: Path) -> None:
 def test_none_of_other_sources(tree: Path) -> None:
     source = tree / "crates/olr/src/main.rt"
     source.write_text("// another\n")
-    os.utime(source, (2**32, 2**32))
+    os.utime(source, (0, 0))
     with pytest.raises(ToolError, match="no program was proved of these sources: run ./olr --prov"):
         State(tree).program
 
@@ -120,15 +134,12 @@ def keep_static_programs(tree: Path, folder: str) -> None:
     (tree / folder).mkdir(parents=True, exist_ok=True)
     for name in ("link", "runtime.c"):
         shutil.copy(TOP / "machines" / name, tree / "machines")
-    asked = [str(tree / ".ci/machines"), "--sources"]
-    sources = subprocess.run(asked, capture_output=True, text=True, check=True).stdout
-    said = [f"machines {sources.strip()}", f"linked {LINKERS[folder]}"]
+    said = [f"machines {printed(tree, '.ci/machines', '--sources')}", f"linked {LINKERS[folder]}"]
     for machine in MACHINES:
         files = [tree / folder / f"olr-{machine.name}{suffix}" for suffix in ("", ".o")]
         for file in files:
             file.write_text(f"{folder} {file.name}")
-        digests = (hashlib.sha256(file.read_bytes()).hexdigest() for file in files)
-        said.append(" ".join([machine.name, *digests]))
+        said.append(" ".join([machine.name, *map(sha256, files)]))
     with (tree / folder / "RELEASE").open("a") as release:
         release.writelines(f"{line}\n" for line in said)
 
@@ -159,6 +170,97 @@ def test_programs_for_machines(tree: Path) -> None:
         source.write("//\n")
     with pytest.raises(ToolError, match="x86_64 was made of these sources: run .ci/machines first"):
         State(tree).static_program(X86_64)
+
+
+def keep_module(tree: Path, folder: str) -> Path:
+    """Puts a module for pages into a folder of a tree, which says that it is of its sources. Answers the module."""
+    for name in ("olr_page/src/lib.rt", "../web/heap.c", f"../{folder}/olr.wasm"):
+        file = tree / "crates" / name
+        file.parent.mkdir(parents=True, exist_ok=True)
+        file.write_text(f"// {name}\n")
+    (tree / "crates.txt").write_text("olr:\nolr_page staticlib:\n")
+    module = tree / folder / "olr.wasm"
+    sources = printed(tree, ".ci/wasm", "--sources")
+    (tree / folder / "MODULE").write_text(f"module {sha256(module)}\nsources {sources}\n")
+    return module
+
+
+OF_PAGE = ["crates/olr_page/src/lib.rt", "crates/olr_page/proofs/Lib.antt", "web/heap.c"]
+"""Some of what the module is made from."""
+
+
+@pytest.mark.parametrize("source", OF_PAGE)
+def test_the_module(tree: Path, source: str) -> None:
+    """The released one, else the one that was made here of these sources."""
+    with pytest.raises(ToolError, match="no module for pages was made|no crate olr_page"):
+        State(tree).module
+    made = keep_module(tree, "web/out")
+    assert State(tree).module == made
+    released = keep_module(tree, "released")
+    assert State(tree).module == released
+    for module in (released, made):
+        module.write_text("another\n")
+    with pytest.raises(ToolError, match="no module for pages was made .*: run .ci/wasm first"):
+        State(tree).module
+    keep_module(tree, "released")
+    (tree / source).parent.mkdir(exist_ok=True)
+    (tree / source).write_text("// another\n")
+    with pytest.raises(ToolError, match="no module for pages was made .*: run .ci/wasm first"):
+        State(tree).module
+
+
+def keep_all(tree: Path) -> None:
+    """Puts all that is given out into the folder `released` of a tree, and into those where it is made."""
+    for made in ("web/out", "released"):
+        keep_module(tree, made)
+    said = tree / "released/RELEASE"
+    text = re.sub("(?m)^sources .*", f"sources {printed(tree, '.ci/digest')}", said.read_text())
+    said.write_text(text)
+    (tree / "machines").mkdir()
+    for made in ("machines/out", "released"):
+        keep_static_programs(tree, made)
+
+
+RELEASED = ["olr", "olr-x86_64", "olr-x86_64.o", "olr-aarch64", "olr-aarch64.o", "olr.wasm"]
+
+
+@pytest.mark.parametrize("name", RELEASED)
+def test_other_bytes_than_said_are_refused(tree: Path, name: str) -> None:
+    """Whether something else could be given out or not."""
+    State(tree).check_released()
+    keep_all(tree)
+    State(tree).check_released()
+    content = bytearray((tree / "released" / name).read_bytes())
+    content[3] ^= 1
+    (tree / "released" / name).write_bytes(content)
+    with pytest.raises(ToolError, match=f"released/{name} has other bytes .*git checkout released"):
+        State(tree).check_released()
+    (tree / "released" / name).unlink()
+    with pytest.raises(ToolError, match=f"released/{name} has other bytes"):
+        State(tree).check_released()
+
+
+def test_a_release_is_of_what_is_kept(tree: Path) -> None:
+    """What was made here is given out until the newest section has a date."""
+    keep_all(tree)
+    (tree / "CHANGELOG.md").write_text(UNRELEASED.replace("unreleased", "2026-12-24"))
+    state = State(tree)
+    given = [state.program, state.module, *map(state.static_program, MACHINES)]
+    assert {path.parent for path in given} == {tree / "released"}
+    for file in ("RELEASE", "MODULE"):
+        said = tree / "released" / file
+        said.write_text(re.sub("(?m)^(sources|machines) .", r"\1 x", said.read_text()))
+    state.check_released()
+    refusal = "CHANGELOG.md says that 1.1.0 is released, and released/ has no .* run .ci/"
+    with pytest.raises(ToolError, match=f"{refusal}keep-released first"):
+        State(tree).program
+    with pytest.raises(ToolError, match=f"{refusal}wasm --keep first"):
+        State(tree).module
+    with pytest.raises(ToolError, match=f"{refusal}machines --keep first"):
+        State(tree).static_program(X86_64)
+    (tree / "CHANGELOG.md").write_text(UNRELEASED)
+    made = [State(tree).module, *map(State(tree).static_program, MACHINES)]
+    assert {path.parent.name for path in made} == {"out"}
 
 
 def test_the_table_of_modules() -> None:
