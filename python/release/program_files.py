@@ -24,6 +24,16 @@ def program_entry(program: Path) -> Entry:
     return Entry("olr", program.read_bytes(), is_run=True)
 
 
+def static_program(state: State, machine: Machine) -> dict[str, bytes]:
+    """The program for a machine that is linked statically, by its name in `released`."""
+    return {f"olr-{machine.name}": state.static_program(machine).read_bytes()}
+
+
+def module_of_pages(state: State) -> dict[str, bytes]:
+    """The program of pages, by its name in `released`."""
+    return {"olr.wasm": state.read("released/olr.wasm")}
+
+
 def linking_entries(state: State, machine: Machine) -> list[Entry]:
     """What links the program of a machine anew: its object, what is linked with it, and what is said of that. Raises `ToolError`."""
     names = {"link": True, "runtime.c": False}
