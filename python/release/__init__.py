@@ -14,6 +14,8 @@
 | `debian` | what all Debian packages have |
 | `debian_packages` | `olr_VERSION_ARCHITECTURE.deb` and `olr-tools_VERSION_all.deb` |
 | `wheel` | `olr-VERSION-py3-none-TAG.whl` |
+| `notice` | the works of others, as the file NOTICE lists them |
+| `bill` | `olr-VERSION.spdx.json`, the bill of materials, and those within the archive and the wheel |
 
 Nothing of it is installed. The same commit gives the same bytes, on one version of Debian.
 """

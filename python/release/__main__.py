@@ -7,14 +7,14 @@ from pathlib import Path
 
 from olr.errors import ToolError
 from olr.outputs import write_whole
-from release.archive import archive, archive_name
+from release import archive, debian_packages, wheel
+from release.bill import Given, bill
 from release.debian import packed
 from release.debian_packages import program_package, tools_package
 from release.machines import MACHINES
 from release.state import State
-from release.wheel import metadata, wheel, wheel_name
 
-SUFFIXES = (".deb", ".gz", ".whl")
+SUFFIXES = (".deb", ".gz", ".json", ".whl")
 """Of what is given out."""
 
 
@@ -28,6 +28,7 @@ def make(folder: Path) -> None:
         print(f"a program is {program.relative_to(state.top)}", flush=True)
     print(f"the module is {state.module.relative_to(state.top)}", flush=True)
     made: dict[str, bytes] = {}
+    told: list[Given] = []
 
     def keep(name: str, content: bytes) -> Path:
         write_whole(folder / name, content, force=True)
@@ -35,13 +36,20 @@ def make(folder: Path) -> None:
         print(f"{folder / name}: {len(content):,} bytes", flush=True)
         return folder / name
 
+    def keep_given(given: Given, content: bytes) -> Path:
+        told.append(given._replace(content=content))
+        return keep(given.name, content)
+
     for machine in MACHINES:
-        keep(f"{archive_name(state, machine)}.tar.gz", archive(state, machine))
-        kept = keep(wheel_name(state, machine), wheel(state, machine))
+        given = archive.given(state, machine)
+        name = f"{given.name}.tar.gz"
+        keep_given(given._replace(name=name), archive.archive(state, machine))
+        kept = keep_given(wheel.given(state, machine), wheel.wheel(state, machine))
         package = program_package(state, machine)
-        keep(package.file_name(state), packed(package, state))
-    tools = tools_package(state, metadata(kept))
-    keep(tools.file_name(state), packed(tools, state))
+        keep_given(debian_packages.given(state, package, machine), packed(package, state))
+    tools = tools_package(state, wheel.metadata(kept))
+    keep_given(debian_packages.given(state, tools, None), packed(tools, state))
+    keep(f"olr-{state.version}.spdx.json", bill(state, f"olr-{state.version}", told))
     sums = (f"{hashlib.sha256(made[name]).hexdigest()}  {name}\n" for name in sorted(made))
     keep("SHA256SUMS", "".join(sums).encode())
     for earlier in folder.glob("olr[-_]*"):

@@ -4,10 +4,17 @@ import io
 import tarfile
 from collections.abc import Sequence
 
+from release.bill import Given, bill
 from release.completion import of_program
 from release.files import RUN, Entry, compressed
 from release.machines import Machine
-from release.program_files import documents, linking_entries, manual, program_entry
+from release.program_files import (
+    documents,
+    linking_entries,
+    manual,
+    program_entry,
+    static_program,
+)
 from release.state import State
 
 
@@ -18,15 +25,22 @@ def archive_name(state: State, machine: Machine) -> str:
 
 def archive(state: State, machine: Machine) -> bytes:
     """The archive for a machine, as tar and gzip pack it. Raises `ToolError` where a file is missing."""
+    name = archive_name(state, machine)
     entries = [
         *documents(state, "LICENSE", "NOTICE"),
         program_entry(state.static_program(machine)),
+        Entry("olr.spdx.json", bill(state, name, [given(state, machine)])),
         *linking_entries(state, machine),
         Entry("COMMIT", f"{state.commit}\n".encode()),
         Entry("olr.1", manual(state, state.program)),
         *(Entry(f"olr.{shell}", text) for shell, text in of_program(state.program).items()),
     ]
-    return compressed(_tar(archive_name(state, machine), sorted(entries), state.seconds))
+    return compressed(_tar(name, sorted(entries), state.seconds))
+
+
+def given(state: State, machine: Machine) -> Given:
+    """What the archive for a machine has in it."""
+    return Given(archive_name(state, machine), static_program(state, machine))
 
 
 def _tar(name: str, entries: Sequence[Entry], seconds: int) -> bytes:

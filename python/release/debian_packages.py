@@ -4,11 +4,18 @@ import re
 from collections.abc import Sequence
 
 from olr.setup import FILES, MODULES
+from release.bill import DYNAMIC, Given
 from release.debian import Package
 from release.files import Entry
 from release.filling import TEXTS
 from release.machines import X86_64, Machine
-from release.program_files import program_entry, shared_of_program, shared_of_tools
+from release.program_files import (
+    module_of_pages,
+    program_entry,
+    shared_of_program,
+    shared_of_tools,
+    static_program,
+)
 from release.state import State
 from release.wheel import package_files
 
@@ -42,6 +49,16 @@ def program_package(state: State, machine: Machine) -> Package:
             *(entry.below("usr") for entry in shared_of_program(state)),
         ],
     )
+
+
+def given(state: State, package: Package, machine: Machine | None) -> Given:
+    """What a package has in it, that of the program for a machine, or that of the tools."""
+    name = package.file_name(state)
+    if machine is None:
+        return Given(name, module_of_pages(state), has_tools=True)
+    if machine == X86_64:
+        return Given(name, {DYNAMIC: state.program.read_bytes()})
+    return Given(name, static_program(state, machine))
 
 
 def tools_package(state: State, metadata: Sequence[Entry]) -> Package:

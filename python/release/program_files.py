@@ -16,12 +16,24 @@ from release.words import Option, commands_of, numbers_of
 PAGES = ("CHANGELOG.md", "CONTRIBUTING.md", "README.md", "SECURITY.md")
 FOLDERS = ("containers", "docs", "examples", "python/examples")
 """What is given out for reading."""
+SOURCES = "docs/api/"
+"""What of it isn't: the API reference is made of the modules of the repository."""
 LIBRARY_LICENCE = Path("/usr/share/common-licenses/LGPL-2.1")
 
 
 def program_entry(program: Path) -> Entry:
     """A program."""
     return Entry("olr", program.read_bytes(), is_run=True)
+
+
+def static_program(state: State, machine: Machine) -> dict[str, bytes]:
+    """The program for a machine that is linked statically, by its name in `released`."""
+    return {f"olr-{machine.name}": state.static_program(machine).read_bytes()}
+
+
+def module_of_pages(state: State) -> dict[str, bytes]:
+    """The program of pages, by its name."""
+    return {"olr.wasm": state.module.read_bytes()}
 
 
 def linking_entries(state: State, machine: Machine) -> list[Entry]:
@@ -68,7 +80,17 @@ def _items(numbers: Iterable[Option]) -> str:
 def documents(state: State, *more: str) -> list[Entry]:
     """The pages, the examples, and other files of the repository. Their links lead to one another."""
     names = (*PAGES, *more, *state.names(*FOLDERS))
-    return with_living_links(Entry(name, state.read(name)) for name in names)
+    given = [name for name in names if not name.startswith(SOURCES)]
+    return with_living_links(Entry(name, _read(state, name)) for name in given)
+
+
+def _read(state: State, name: str) -> bytes:
+    """A file of the repository. Its first page says at its top what isn't given out."""
+    content = state.read(name)
+    if name != "README.md":
+        return content
+    title, _, rest = content.partition(b"\n\n")
+    return b"\n\n".join([title, text_of("README.md").strip(), rest])
 
 
 def shared_of_program(state: State) -> list[Entry]:

@@ -176,6 +176,16 @@ class State:
         return said.split(", ")
 
     @cached_property
+    def toolchain(self) -> str:
+        """The toolchain that built the program."""
+        released = self._said_of("released").get("toolchain") if self._is_released() else None
+        return released or self._run("rt", "version")
+
+    def installed(self, package: str) -> str:
+        """The version of a package of Debian. Raises `ToolError` if it isn't installed."""
+        return self._run("dpkg-query", "-W", "-f", "${Version}", package)
+
+    @cached_property
     def _of_machines(self) -> str:
         """The digest of what these programs come from."""
         return self._run(str(self.top / ".ci/machines"), "--sources")

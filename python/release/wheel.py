@@ -10,14 +10,17 @@ from collections.abc import Sequence
 from pathlib import Path
 
 from olr.errors import ToolError
+from release.bill import Given, bill
 from release.files import Entry, write_folder
 from release.links import living
 from release.machines import Machine
 from release.program_files import (
     licence_of_library,
+    module_of_pages,
     program_entry,
     shared_of_program,
     shared_of_tools,
+    static_program,
 )
 from release.state import State
 
@@ -49,19 +52,28 @@ def metadata(packed: Path) -> list[Entry]:
 def package_files(state: State) -> list[Entry]:
     """The files of the package `olr`, below the folder `olr`, and the module of the program for pages."""
     names = state.names("python/olr")
-    module = Entry("olr/bin/olr.wasm", state.module.read_bytes())
-    return [*(Entry(name.removeprefix("python/"), state.read(name)) for name in names), module]
+    modules = (Entry(f"olr/bin/{name}", it) for name, it in module_of_pages(state).items())
+    return [*(Entry(name.removeprefix("python/"), state.read(name)) for name in names), *modules]
+
+
+def given(state: State, machine: Machine) -> Given:
+    """What the wheel for a machine has in it."""
+    programs = static_program(state, machine) | module_of_pages(state)
+    return Given(wheel_name(state, machine), programs, has_tools=True, has_leaflet=True)
 
 
 def _sources(state: State, machine: Machine) -> list[Entry]:
     """A tree like that of the repository, of what setuptools read, with the program and Leaflet in the package."""
     shared = [*shared_of_program(state), *shared_of_tools(state)]
+    materials = bill(state, wheel_name(state, machine), [given(state, machine)])
     return [
         Entry("python/pyproject.toml", _project(state, shared)),
         Entry("python/README.md", description(state)),
         *(entry.below("python") for entry in shared),
         *(Entry(f"python/{name}", state.read(name)) for name in ("LICENSE", "NOTICE")),
         Entry("python/LGPL-2.1", licence_of_library()),
+        # (what lies in this folder comes into the one of the wheel's metadata)
+        Entry("python/olr.egg-info/sboms/olr.spdx.json", materials),
         *(entry.below("python") for entry in package_files(state)),
         program_entry(state.static_program(machine)).below("python/olr/bin"),
         *(entry.below("python/olr/pages/leaflet") for entry in _leaflet()),

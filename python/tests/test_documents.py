@@ -259,6 +259,20 @@ def test_files_that_pages_name_are_there() -> None:
     assert not [one for one in named if not (TOP / one[1]).exists()]
 
 
+def test_security_names_the_files_of_messages() -> None:
+    """Each format, and each command that reads them, as docs/MESSAGES.md has them."""
+    page = (TOP / "docs/MESSAGES.md").read_text(encoding="utf-8")
+    formats = set(re.findall(r"(?m)^\| (\w+)[\w ]* \| .* \| `\w+` \|$", page))
+    commands = set(re.findall(r"`(?:\./olr-tools )?(\w+)`", page.partition(" in Python,")[0]))
+    security = (TOP / "SECURITY.md").read_text(encoding="utf-8")
+    (row,) = re.findall(r"(?m)^\| files of messages.*$", security)
+    assert len(formats) >= 7 and [it for it in formats if it not in row] == []
+    assert (
+        len(commands) >= 6
+        and [it for it in commands if f"`{it}`" not in row.replace("olr-tools ", "")] == []
+    )
+
+
 def test_links_lead_somewhere() -> None:
     checked = 0
     for name in pages_of_the_tree():

@@ -175,6 +175,16 @@ def test_each_command_has_a_module() -> None:
     assert modules == there and len(modules) == len(COMMANDS)
 
 
+def test_the_page_of_the_package_has_the_extras() -> None:
+    """Each, with the commands that need it."""
+    page = (PACKAGE / "README.md").read_text(encoding="utf-8")
+    rows = dict(re.findall(r"(?m)^\| `(\w+)` \| (.*) \|$", page))
+    assert rows.keys() == EXTRAS.keys()
+    words = {command: command.split()[0] for command in COMMANDS}
+    named = {extra: re.findall(r"`(?:olr-tools )?([\w-]+)`", row) for extra, row in rows.items()}
+    assert [it for it, (extra, _) in COMMANDS.items() if words[it] not in named[extra]] == []
+
+
 def test_each_command_has_its_modules_by_its_extra() -> None:
     for name, (module, _) in modules_of(command_line.tools):
         wanted = {COMES_WITH.get(it, it) for it in imported_by(module)}

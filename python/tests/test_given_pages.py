@@ -12,7 +12,8 @@ from release.state import State
 from release.wheel import description
 from test_documents import anchors_of
 
-PACKED = (("archive", ("LICENSE", "NOTICE")), ("package", ()))
+ARCHIVE = ("LICENSE", "NOTICE")
+PACKED = (("archive", ARCHIVE), ("package", ()))
 """What is given out, with its files besides those that all have."""
 
 
@@ -45,6 +46,17 @@ def test_links_lead_to_what_is_given_out(more: tuple[str, ...]) -> None:
     assert "python/examples/first.md" in names
     assert sum(len(links_of(one.content.decode())) for one in given if one.path == "README.md") > 15
     assert [*dead_links(given)] == []
+
+
+def test_the_readme_says_what_a_release_lacks() -> None:
+    """It shows commands of the repository: what isn't in the archive is named at its top."""
+    given = {entry.path: entry.content for entry in documents(State(), *ARCHIVE)}
+    page = given["README.md"].decode()
+    commands = set(re.findall(r"(?m)^\$ \./([\w-]+)", page)) - {"olr"}
+    top = page.partition("\n\n`olr` finds where")[0]
+    assert len(commands) >= 2 and [it for it in commands if f"`./{it}`" not in top] == []
+    assert not any(entry.startswith("docs/api/") for entry in given)
+    assert "(`docs/api/index.rst` of the repository)" in given["docs/README.md"].decode()
 
 
 def test_dead_links_are_found() -> None:

@@ -195,6 +195,19 @@ def test_it_says_what_it_is(page: Path) -> None:
     assert "http" not in text.partition("Content-Security-Policy")[2].partition(">")[0]
 
 
+def test_its_licences_are_shown(opened: Browser) -> None:
+    """Once somebody looks at them."""
+    shown = "document.querySelector('#licences pre').textContent"
+    assert opened.value(shown) == ""
+    opened.value("document.querySelector('#licences').open = true")
+    text = opened.value(
+        f"new Promise(done => {{ const wait = () => {shown} ? done({shown}) : setTimeout(wait, 20); wait(); }})"
+    )
+    for name in ("NOTICE", "LICENSE"):
+        assert (TOP / name).read_text(encoding="utf-8") in text
+    assert opened.errors == []
+
+
 def test_what_the_command_refuses(
     tools: Tools, tmp_path: Path, monkeypatch: pytest.MonkeyPatch
 ) -> None:

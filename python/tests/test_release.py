@@ -18,6 +18,7 @@ import release
 from conftest import TOP, Program, Tools
 from helps import every_help, names_in, options_in
 from olr.__main__ import _without_click
+from olr.commands.limits import PASSED
 from olr.errors import ToolError
 from olr.extras import COMMANDS
 from release.archive import archive
@@ -50,6 +51,8 @@ def test_the_man_page_has_all_of_the_help(program: Program) -> None:
 def test_the_man_page_of_the_tools_has_each_command() -> None:
     page = filled(State(), "olr-tools.1").decode().replace("\\", "")
     assert [name for name in (*COMMANDS, "setup") if f".TP\n.B {name}\n" not in page] == []
+    statuses = page.partition(".SH EXIT STATUS\n")[2].partition(".SH ")[0]
+    assert re.findall(r"\b[0-9]\b", statuses) == ["0", "1", "2", str(PASSED)]
 
 
 def test_one_version(program: Program, tools: Tools) -> None:

@@ -14,7 +14,6 @@ from confidences import FEED, write_confidence
 from conftest import OF_PROGRAM, Program, Tools
 from feeds import MARKUP, Feed, data_of, make_feed
 from olr.confidence.likeness import Range
-from olr.pages.html import Template, html_of
 from olr.tools import run
 
 NUMBERS = ["--within", "200", "--look", "20", *OF_PROGRAM]
@@ -386,10 +385,15 @@ def test_tiles(started: Browser, feed: Feed, tmp_path: Path) -> None:
     assert "img-src data: http://127.0.0.1:9" in text
 
 
-def test_the_licence_is_in_each_page(page: Path) -> None:
-    text = page.read_text(encoding="utf-8")
-    assert text.count("Redistribution and use in source and binary forms") == 2
-    assert "Leaflet" in html_of(Template("olr.pages.report"), "", {})
+def test_the_licences_are_in_a_page_that_it_opens(browser: Browser) -> None:
+    """As in the report itself, which has them once."""
+    browser.value(
+        f"{CATCH}window.open = () => null; document.querySelector('.sorted tbody button').click()"
+    )
+    opened = browser.value("window.made[0].blob.text()")
+    for text in (opened, browser.value("document.documentElement.outerHTML")):
+        assert text.count("Redistribution and use in source and binary forms") == 1
+        assert text.count("Grant of Copyright License") == 1
 
 
 def test_the_map_shows_where_most_are(browser: Browser, data: Any) -> None:

@@ -291,7 +291,7 @@ def test_a_map_that_changes(
 
 
 def test_files_of_the_page(server: Server) -> None:
-    """They are kept by browsers, load nothing from elsewhere, and the licence is there."""
+    """They are kept by browsers, load nothing from elsewhere, and the licences are there."""
     names = ["leaflet.js", "leaflet.css", "picture.js", "picture.css", "shared.css", "table.js"]
     texts = {}
     for path in ["/", *(f"/assets/{name}" for name in [*names, "page.js", "page.css"])]:
@@ -303,7 +303,7 @@ def test_files_of_the_page(server: Server) -> None:
         assert "unsafe" not in reply.headers["content-security-policy"]
         assert reply.headers["content-security-policy"].startswith("default-src 'none';")
         texts[path] = reply.body.decode()
-    assert "Vladimir Agafonkin" in server.get("/assets/leaflet-licence.txt").body.decode()
+    assert "Vladimir Agafonkin" in server.get("/assets/licences.txt").body.decode()
     assert "style=" not in texts["/"] and texts["/"].count("<script ") == 11
     assert "url(" not in "".join(texts[path] for path in texts if path.endswith(".css"))
 

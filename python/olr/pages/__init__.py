@@ -11,13 +11,13 @@
 | `bars.js` | `tableOfBars`: counts with bars |
 | `base.css` | of all pages: colours, light and dark, and what has the focus |
 | `shared.css` | styles of them, of tables with bars, and of what is printed |
-| `leaflet_licence.html` | the licence of Leaflet, as a comment |
+| `licences` | the texts that each page has of what it carries: links to those of the repository |
 
 A page is a package with `page.html`, `page.css` and `page.js`, named in the package data of `pyproject.toml`:
 
     html_of(Template("olr.pages.report", ("bars", "map", "table")), "title", data)
 
-Its `page.html` is a template of jinja2, with the values `policy`, `title`, `licence`, `leaflet_css`, `css`, `leaflet_js`, `data` and `js`, as
+Its `page.html` is a template of jinja2, with the values `policy`, `title`, `licences`, `leaflet_css`, `css`, `leaflet_js`, `data` and `js`, as
 that of `olr.pages.view`. `css` is that of `base.css`, `shared.css` and the page, `js` that of the components and the page. The script finds the data by
 `JSON.parse(document.getElementById("data").textContent)`, and calls what it needs:
 

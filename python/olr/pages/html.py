@@ -19,8 +19,10 @@ LEAFLET = (Path(__file__).with_name("leaflet"), Path("/usr/share/javascript/leaf
 HOST = re.compile(r"([A-Za-z0-9._{}-]+|\[[0-9A-Fa-f:.]+\])(:[0-9]{1,5})?")
 """The host of tiles, with a port: nothing else may stand in the policy of a page."""
 SHARED = "olr.pages"
-FROM_PAGE = ("policy", "title", "leaflet_css", "leaflet_js", "data")
+FROM_PAGE = ("policy", "title", "licences", "leaflet_css", "leaflet_js", "data")
 """What a page that makes others puts into their templates."""
+LICENCES = ("NOTICE", "Apache-2.0")
+"""The files of `licences`."""
 SUFFIXES = (".html", ".htm")
 BASE = "base.css"
 """Styles of all pages: colours, light and dark, and the focus."""
@@ -60,6 +62,7 @@ def html_of(
     values = {
         "policy": policy,
         "title": title,
+        "licences": licences(),
         "leaflet_css": re.sub(r"url\([^)]*\)", "none", leaflet("leaflet.css")),
         "leaflet_js": leaflet("leaflet.min.js").replace("</script", "<\\/script"),
         "data": data_text({**data, "tiles": tiles}),
@@ -74,8 +77,8 @@ def data_text(data: Mapping[str, Any]) -> str:
 
 
 def unfilled(template: Template) -> str:
-    """A page with its own styles and scripts, but with the marks `@POLICY@`, `@TITLE@`, `@LEAFLET_CSS@`, `@LEAFLET_JS@` and `@DATA@`: for a
-    page that makes others."""
+    """A page with its own styles and scripts, but with the marks `@POLICY@`, `@TITLE@`, `@LICENCES@`, `@LEAFLET_CSS@`, `@LEAFLET_JS@` and
+    `@DATA@`: for a page that makes others."""
     return _page(template, {name: f"@{name.upper()}@" for name in FROM_PAGE})
 
 
@@ -84,7 +87,6 @@ def _page(template: Template, values: Mapping[str, str]) -> str:
     styles = dict.fromkeys(STYLES.get(name, "shared.css") for name in template.components)
     scripts = [_file(SHARED, f"{name}.js") for name in template.components]
     own = {
-        "licence": _file(SHARED, "leaflet_licence.html"),
         "css": "".join(
             [
                 *(_file(SHARED, name) for name in (BASE, *styles)),
@@ -117,10 +119,9 @@ def _file(package: str, name: str) -> str:
     return resources.files(package).joinpath(name).read_text(encoding="utf-8")
 
 
-def leaflet_licence() -> str:
-    """The licence of Leaflet, as a text."""
-    lines = _file(SHARED, "leaflet_licence.html").splitlines()
-    return "\n".join(lines[2:-1]) + "\n"
+def licences() -> str:
+    """What says whose all is that a page may carry, and the licences of it: the texts that go along with each release."""
+    return "\n\n".join(_file(SHARED, f"licences/{name}") for name in LICENCES)
 
 
 def leaflet(name: str) -> str:

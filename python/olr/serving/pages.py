@@ -9,7 +9,7 @@ from starlette.responses import Response
 from typing import Any, NamedTuple
 
 from olr.model.fault_table import ROWS
-from olr.pages.html import data_text, filled, leaflet, leaflet_licence, origin_of
+from olr.pages.html import data_text, filled, leaflet, licences, origin_of
 from olr.pages.page_data import page_data
 from olr.serving.limits import Limits
 from olr.serving.listing import MOST_ROWS
@@ -62,7 +62,7 @@ def assets() -> dict[str, Asset]:
         texts[name] = resources.files("olr.pages").joinpath(name).read_text(encoding="utf-8")
     texts["leaflet.css"] = re.sub(r"url\([^)]*\)", "none", leaflet("leaflet.css"))
     texts["leaflet.js"] = leaflet("leaflet.min.js")
-    texts["leaflet-licence.txt"] = leaflet_licence()
+    texts["licences.txt"] = licences()
     return {name: Asset.of_text(name, text) for name, text in texts.items()}
 
 

@@ -10,6 +10,7 @@
 | `opening.js` | in the page: it opens with what it was made for |
 | `choosing.js` | in a file with two pages, a report and the one that answers: which of them it is |
 | `asking.js` | in the page: what it asks of addresses is answered by a worker |
+| `licences.js` | in the page: the licences of what it carries |
 | `worker.js`, `packing.js`, `questions.js` | the worker: the start, addresses, and the query of an address as a question |
 | `program.js`, `part.js` | the program on the map, and on a part of one: of other references it answers nothing |
 

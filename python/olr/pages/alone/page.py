@@ -15,10 +15,10 @@ from olr.model.profiles import PROFILES, tolerances_of
 from olr.model.questions import NUMBERS, TOLERANCES, Number
 from olr.pages.alone.module import MODULE
 from olr.pages.alone.tables import tables
-from olr.pages.html import data_text, filled, leaflet, leaflet_licence, origin_of
+from olr.pages.html import data_text, filled, leaflet, licences, origin_of
 from olr.pages.page_data import page_data
 
-OWN = ("opening.js", "asking.js")
+OWN = ("packing.js", "opening.js", "asking.js", "licences.js")
 """Scripts of the page that come before those of the server's page."""
 SHARED = (
     "packing.js",
@@ -72,7 +72,7 @@ OF_SERVER = {
     "<title>olr-tools serve</title>": "<title>A map that answers</title>",
     '    <a href="docs" class="small">addresses and faults</a>\n': "",
     "a colleague who opens it sees the same.": "a colleague who puts its end, from the ? on, behind that of a copy sees the same.",
-    '<a href="assets/leaflet-licence.txt">its licence</a>': '<a href="#licence">its licence</a>',
+    'href="assets/licences.txt"': 'href="#licences"',
 }
 """What the server's page has that this one can't have, and what stands in its place."""
 ABOUT_SERVER = {
@@ -91,7 +91,7 @@ ABOUT = """      <h2>What this page is</h2>
         Nothing that you enter leaves it, and it needs no network. The program is built from one that is proved:
         what was done to it since is tested, not proved.</p>
       {edge}<p class="small">Module {module}, map {map}.</p>
-      <details id="licence" class="small"><summary>The licence of Leaflet</summary><pre>{licence}</pre></details>
+      <details id="licences" class="small"><summary>Licences of all that this page carries</summary><pre></pre></details>
 """
 EDGE = """<p>The map ends at the edges of that box: near them, and beyond, a reference may have other answers than on the whole map, or
         none.</p>
@@ -153,6 +153,7 @@ def html_of(carried: Carried) -> str:
     scripts = [*map(_own, OWN), *(_replaced(_asset(name), ABOUT_SERVER) for name in names)]
     behind = [
         f'<script id="packed" type="text/plain">{packed(carried.files)}</script>',
+        f'<script id="packed-licences" type="text/plain">{packed({"licences": licences().encode()})}</script>',
         f'<script id="worker" type="text/plain">{_inline("".join(map(_own, WORKER)))}</script>',
         *(f"<script>{_inline(script)}</script>" for script in scripts),
     ]
@@ -199,7 +200,6 @@ def _about(carried: Carried) -> str:
         "cut": cut_text(carried.box),
         "module": module,
         "map": carried.digest["network"] or "",
-        "licence": leaflet_licence(),
     }
     edge = "" if carried.box is None else EDGE
     return ABOUT.format(edge=edge, **{name: html.escape(it) for name, it in values.items()})

@@ -69,11 +69,12 @@
     const values = {
       POLICY: escaped(document.querySelector("meta[http-equiv]").content),
       TITLE: escaped(`${scene.reference}: ${scene.verdict.word}`),
+      LICENCES: find("licences").textContent,
       LEAFLET_CSS: find("leaflet-css").textContent,
       LEAFLET_JS: find("leaflet-js").textContent,
       DATA: JSON.stringify(scene).replace(/</g, "\\u003c"),
     };
-    return data.view.replace(/@(POLICY|TITLE|LEAFLET_CSS|LEAFLET_JS|DATA)@/g, (_, name) => values[name]);
+    return data.view.replace(/@(POLICY|TITLE|LICENCES|LEAFLET_CSS|LEAFLET_JS|DATA)@/g, (_, name) => values[name]);
   };
   // A row with an address has a page that answers, in this file.
   const open = (index) => {
