@@ -3,18 +3,22 @@
 import asyncio
 import pytest
 from collections.abc import Awaitable, Callable
+from inspect import signature
 from typing import Any
 from uvicorn.config import Config
 from uvicorn.server import ServerState
 
 from fake_pool import FakeClock, run_within, turns
-from olr.serving.connections import Connection, Connections
+from olr.serving.connections import Connection, Connections, HttpToolsProtocol
 from olr.serving.peers import Peers
 from olr.serving.problems import Problem
 
 HEAD = b"GET /health HTTP/1.1\r\nHost: localhost\r\n"
 POST = b"POST /x HTTP/1.1\r\nHost: localhost\r\nContent-Length: 100000\r\n\r\n"
 PATIENCE = 20.0
+BEGIN = HttpToolsProtocol.__init__
+GIVEN: dict[str, Any] = {"app_state": {}} if "app_state" in signature(BEGIN).parameters else {}
+"""What the version of uvicorn that is here gives to a connection besides."""
 
 
 class FakeTransport:
@@ -117,10 +121,30 @@ class Clients:
 
     def connect(self, peer: str = "127.0.0.1") -> tuple[Connection, FakeTransport]:
         """A new connection."""
-        connection = Connection(self.all, self._config, self._state)
+        connection = Connection(self.all, config=self._config, server_state=self._state, **GIVEN)
         transport = FakeTransport(peer)
         connection.connection_made(transport)
         return connection, transport
+
+
+def test_what_later_versions_give(monkeypatch: pytest.MonkeyPatch) -> None:
+    """uvicorn 0.32 gives the state of the application too: its own class takes it."""
+    own, state = dict(GIVEN), {"one": 1}
+
+    def begin(
+        self: HttpToolsProtocol, config: Config, server_state: ServerState, app_state: object
+    ) -> None:
+        BEGIN(self, config, server_state, **own)
+        self.taken = app_state
+
+    monkeypatch.setitem(GIVEN, "app_state", state)
+    monkeypatch.setattr(HttpToolsProtocol, "__init__", begin)
+
+    async def run() -> None:
+        connection, _ = Clients().connect()
+        assert connection.taken is state
+
+    run_within(run())
 
 
 @pytest.mark.parametrize("ahead, answers", [(16, 17), (17, 1)])

@@ -9,9 +9,7 @@ from collections import deque
 from collections.abc import Callable
 from httptools import HttpRequestParser
 from typing import Any
-from uvicorn.config import Config
 from uvicorn.protocols.http.httptools_impl import HttpToolsProtocol
-from uvicorn.server import ServerState
 
 from olr.progress import Clock
 from olr.serving.limits import (
@@ -166,8 +164,9 @@ class Connection(HttpToolsProtocol):  # type: ignore[misc]
     client: tuple[str, int]
     server: tuple[str, int] | None
 
-    def __init__(self, connections: Connections, config: Config, server_state: ServerState) -> None:
-        super().__init__(config=config, server_state=server_state)
+    def __init__(self, connections: Connections, **given: Any) -> None:
+        """`given` is what uvicorn's server gives: it differs with the version."""
+        super().__init__(**given)
         self._all = connections
         self.peer: str | None = None
         """The client; None for a proxy, which speaks for many."""

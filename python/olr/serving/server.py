@@ -7,7 +7,8 @@ import socket
 import time
 import uvicorn
 import uvloop
-from collections.abc import Mapping, Sequence
+from collections.abc import Iterator, Mapping, Sequence
+from contextlib import contextmanager
 from functools import partial
 from pathlib import Path
 from typing import TYPE_CHECKING, Any, NamedTuple
@@ -70,6 +71,11 @@ class _Server(uvicorn.Server):  # type: ignore[misc]
 
     def install_signal_handlers(self) -> None:
         """The owner installs them."""
+
+    @contextmanager
+    def capture_signals(self) -> Iterator[None]:
+        """The same, by the name that this has since uvicorn 0.29."""
+        yield
 
     async def shutdown(self, sockets: list[socket.socket] | None = None) -> None:
         """Takes no more requests, and waits until those that run are answered, or time is over."""
