@@ -48,8 +48,9 @@ def test_a_run_without_an_end_is_a_flaw(trials: Any, tmp_path: Path) -> None:
 def test_the_line_of_a_record(trials: Any, tmp_path: Path, text: str, line: bytes) -> None:
     """It comes before more is written, or it never does."""
     records = importlib.import_module("records")
-    pipes = {"stdin": subprocess.PIPE, "stdout": subprocess.PIPE, "bufsize": 0}
-    with subprocess.Popen([script(tmp_path, text)], **pipes) as process:
+    pipe = subprocess.PIPE
+    with subprocess.Popen(script(tmp_path, text), bufsize=0, stdin=pipe, stdout=pipe) as process:
+        assert process.stdin is not None
         process.stdin.write(b"one\n")
         assert records.next_line(process) == line
         process.communicate(b"two\n")
