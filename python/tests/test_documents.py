@@ -93,7 +93,7 @@ class Shell:
             stderr=subprocess.STDOUT,
             text=True,
             check=False,
-            timeout=60,
+            timeout=600,
             env=os.environ | {"OLR_PROGRAM": str(self._program.path)},
         )
         return ended.returncode, ended.stdout
