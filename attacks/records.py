@@ -13,15 +13,18 @@ none. It needs Linux.
 
 import base64
 import collections
+import fcntl
 import json
 import pathlib
 import resource
 import select
 import subprocess
+import sys
 import tempfile
+import termios
 
 from limits import MIB, least_to_answer, least_to_begin
-from trials import SECONDS, main, write_town
+from trials import bound, main, write_town
 
 TOWN = b"CwVGnSN2zhvHCgDX/tIzAw=="
 MAP = ["--nodes", "town.nodes", "--lines", "town.lines", "--bans", "town.bans"]
@@ -31,6 +34,7 @@ LONGEST = 65_536  # bytes of a record
 # By how many bytes glibc's heap grows at once. What is free in it lies otherwise after many records than after few, so it may have to grow once more.
 HEAP_STEP = 132 << 10
 GIVEN = "given.records"
+PAUSE = 0.05  # seconds between two looks at a process that hasn't written a line yet
 
 
 def objects_of(found):
@@ -123,9 +127,18 @@ def lasting(trial, count, words):
 
 
 def next_line(process):
-    """The next line that a process writes, or none where there is none in time."""
-    ready, _, _ = select.select([process.stdout], [], [], SECONDS)
-    return process.stdout.readline() if ready else b""
+    """The next line that a process writes, or none where it waits for more input, or has ended, without having written one."""
+    while not select.select([process.stdout], [], [], PAUSE)[0]:
+        if has_read_all(process) and not select.select([process.stdout], [], [], 0)[0]:
+            return b""
+    return process.stdout.readline()
+
+
+def has_read_all(process):
+    """Whether a process sleeps and has left no byte of its input: what it can sleep for is more of that."""
+    unread = fcntl.ioctl(process.stdin, termios.FIONREAD, bytes(4))
+    state = pathlib.Path(f"/proc/{process.pid}/stat").read_text().rpartition(") ")[2][0]
+    return state == "S" and int.from_bytes(unread, sys.byteorder) == 0
 
 
 def flow(trial, words):
@@ -134,6 +147,7 @@ def flow(trial, words):
     with subprocess.Popen([trial.program, *words], **how) as process:
         number = 0
         try:
+            bound(process)
             for parts in ([TOWN + b"\n"], [b"a key", b"\t" + TOWN[:5], TOWN[5:], b"\n"], [b"*\n*\n"], [b"\n" + TOWN + b"\r\n\n*\n"], [(LONGEST + 1) * b"C", b"\n"]):
                 for part in parts:
                     process.stdin.write(part)
@@ -143,7 +157,7 @@ def flow(trial, words):
                     holds = not record or (line.endswith(b"\n") and json.loads(line)["record"] == number)
                     trial.need(holds, f"the line of record {number}, before more is written", (None, line, b""))
             process.stdin.write(TOWN)
-            rest, errors = process.communicate(timeout=SECONDS)
+            rest, errors = process.communicate()
             trial.expect(json.loads(rest)["record"] == number + 1, "the line of a last record without a line feed", (process.returncode, rest, errors))
         finally:
             process.kill()

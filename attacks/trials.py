@@ -19,7 +19,8 @@ import tempfile
 HERE = pathlib.Path(__file__).resolve().parent
 TOP = HERE.parent
 NO_MEMORY = (1, b"", b"olr: NoMemory\n")
-# A run has this many seconds, and writes at most so many bytes: then it is ended, and that is a flaw.
+# A run has this many seconds of a processor, and writes at most so many bytes: then it is ended, and that is a flaw. What it waits for a processor that
+# others use doesn't count. What waits for ever, and uses none, is ended with the whole script, by whoever runs that (./test).
 SECONDS = 60
 MOST_OUTPUT = 1 << 24
 # The address space of a run that has no other limit, in bytes: a program that goes wrong must not take the machine's memory.
@@ -40,6 +41,11 @@ def lower(which, most):
     soft, hard = resource.getrlimit(which)
     limits = [limit for limit in (most, soft, hard) if limit != resource.RLIM_INFINITY]
     resource.setrlimit(which, (min(limits), hard))
+
+
+def bound(process):
+    """Bounds the time of a processor that a process takes: SIGXCPU ends it then."""
+    resource.prlimit(process.pid, resource.RLIMIT_CPU, (SECONDS, SECONDS + 5))
 
 
 def build(folder, source):
@@ -79,13 +85,14 @@ class Trial:
             try:
                 with subprocess.Popen([self.program, *words], preexec_fn=limit if limits else None, **how) as process:
                     try:
-                        _, errors = process.communicate(timeout=SECONDS)
+                        bound(process)
+                        _, errors = process.communicate()
                     finally:
                         process.kill()
-            except subprocess.TimeoutExpired:
-                raise GivenUp(f"no end after {SECONDS} s: {' '.join(map(str, words))[:200]}")
             except (OSError, subprocess.SubprocessError) as error:
                 return f"none ({str(error)[-80:]})", b"", b""
+            if process.returncode == -signal.SIGXCPU:
+                raise GivenUp(f"no end after {SECONDS} s of a processor: {' '.join(map(str, words))[:200]}")
             taken.seek(0)
             return process.returncode, None if output else taken.read(), errors or b""
 

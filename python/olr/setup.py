@@ -62,6 +62,7 @@ TEST_FILES = {
     "/usr/bin/ogrinfo": "gdal-bin",
     "/usr/bin/pyflakes3": "pyflakes3",
     "/usr/bin/jq": "jq",
+    "/usr/bin/mount": "mount",
     "/usr/bin/zsh": "zsh",
     "/usr/sbin/nginx": "nginx-light",
     "/usr/share/doc/python-osmnx-doc": "python-osmnx-doc",

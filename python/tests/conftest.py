@@ -70,7 +70,7 @@ class Program:
     def run(self, *words: object) -> subprocess.CompletedProcess[str]:
         """Runs it on words, and gives its status and texts."""
         command = [str(self.path), *map(str, words)]
-        return subprocess.run(command, capture_output=True, text=True, check=False, timeout=60)
+        return subprocess.run(command, capture_output=True, text=True, check=False, timeout=600)
 
     def fault(self, folder: Path) -> str:
         """The fault with which it refuses the map of a folder, or an empty text if it reads the map."""
@@ -146,7 +146,7 @@ class Tools:
     def start(self, *words: object) -> subprocess.CompletedProcess[str]:
         """The same, in a process of its own."""
         command = [str(TOP / "olr-tools"), *map(str, words)]
-        return subprocess.run(command, capture_output=True, text=True, check=False, timeout=60)
+        return subprocess.run(command, capture_output=True, text=True, check=False, timeout=600)
 
 
 @pytest.fixture(scope="session")

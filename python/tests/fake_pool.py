@@ -160,6 +160,6 @@ async def turns(count: int = 5) -> None:
         await asyncio.sleep(0)
 
 
-def run_within(work: Coroutine[Any, Any, Made], seconds: float = 20) -> Made:
+def run_within(work: Coroutine[Any, Any, Made], seconds: float = 600) -> Made:
     """Runs something that may take so long at most: what never comes fails, and doesn't hang."""
     return asyncio.run(asyncio.wait_for(work, seconds))

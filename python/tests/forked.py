@@ -57,7 +57,7 @@ class Forked:
             self.returncode = self._wait(self.pid)
         return self.returncode
 
-    def wait(self, seconds: float = 60) -> int:
+    def wait(self, seconds: float = 600) -> int:
         """Its status, once it has ended."""
         end = time.monotonic() + seconds
         while (status := self.poll()) is None:

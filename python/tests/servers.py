@@ -17,8 +17,8 @@ from conftest import TOP, Program
 from forked import Forked
 from olr.__main__ import main
 
-SECONDS = 30.0
-"""So long is waited for what has to come."""
+SECONDS = 600.0
+"""So long is waited for what has to come, also on a busy machine: only what hangs fails by it."""
 
 
 Process = Union[Forked, "subprocess.Popen[str]"]

@@ -168,11 +168,11 @@ def test_too_many_turns_with_bans(tmp_path: Path, monkeypatch: pytest.MonkeyPatc
 def test_the_bar_is_for_terminals(top: Path, tmp_path: Path) -> None:
     """On a terminal check shows how far it is; in a pipe standard error stays empty."""
     command = [str(top / "olr-tools"), "check", str(top / "examples")]
-    piped = subprocess.run(command, capture_output=True, text=True, check=True, timeout=60)
+    piped = subprocess.run(command, capture_output=True, text=True, check=True, timeout=600)
     assert piped.stderr == ""
     terminal, ours = pty.openpty()
     with open(terminal, "rb", buffering=0, closefd=True) as shown:
-        ended = subprocess.run(command, stdout=subprocess.PIPE, stderr=ours, text=True, timeout=60)
+        ended = subprocess.run(command, stdout=subprocess.PIPE, stderr=ours, text=True, timeout=600)
         os.close(ours)
         assert ended.stdout == piped.stdout
         assert b"lines.csv" in shown.read(65536)

@@ -61,7 +61,7 @@ def ended(command: str) -> int:
     words = shlex.split(command)
     if words[0] == "olr-tools":
         return run(words[1:])
-    return subprocess.run(words, stdout=subprocess.DEVNULL, check=False, timeout=60).returncode
+    return subprocess.run(words, stdout=subprocess.DEVNULL, check=False, timeout=600).returncode
 
 
 @pytest.mark.parametrize("workflow", WORKFLOWS, ids=["GitHub", "GitLab"])

@@ -71,7 +71,7 @@ def offered(scripts: Path, shell: str) -> Offered:
             cwd=scripts / "work",
             capture_output=True,
             text=True,
-            timeout=60,
+            timeout=600,
             env=os.environ | {"PATH": path, "HOME": str(scripts)},
         )
         assert (ended.returncode, ended.stderr) == (0, "")

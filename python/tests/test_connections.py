@@ -1,20 +1,31 @@
 """Connections of `olr-tools serve`, without a network: what is sent ahead, and by a clock that the tests set, what doesn't come."""
 
+import ast
 import asyncio
 import pytest
+import re
 from collections.abc import Awaitable, Callable
+from httptools import HttpParserUpgrade
+from inspect import signature
+from pathlib import Path
 from typing import Any
 from uvicorn.config import Config
+from uvicorn.protocols.http.httptools_impl import HttpToolsProtocol
 from uvicorn.server import ServerState
 
 from fake_pool import FakeClock, run_within, turns
+from olr.serving import connections
 from olr.serving.connections import Connection, Connections
 from olr.serving.peers import Peers
 from olr.serving.problems import Problem
+from olr.serving.uvicorn_parts import UvicornConnection
 
 HEAD = b"GET /health HTTP/1.1\r\nHost: localhost\r\n"
 POST = b"POST /x HTTP/1.1\r\nHost: localhost\r\nContent-Length: 100000\r\n\r\n"
 PATIENCE = 20.0
+BEGIN = HttpToolsProtocol.__init__
+GIVEN: dict[str, Any] = {"app_state": {}} if "app_state" in signature(BEGIN).parameters else {}
+"""What the version of uvicorn that is here gives to a connection besides."""
 
 
 class FakeTransport:
@@ -78,7 +89,7 @@ class FakeTransport:
 class Clients:
     """Clients of a server that answers when a test lets it."""
 
-    def __init__(self, most: int = 100, *proxies: str) -> None:
+    def __init__(self, most: int = 100, *proxies: str, root_path: str = "") -> None:
         self.clock = FakeClock()
         self.refused: list[tuple[str, int]] = []
         """Clients whose requests were refused here, with the statuses."""
@@ -100,6 +111,7 @@ class Clients:
             loop="none",
             log_config=None,
             proxy_headers=False,
+            root_path=root_path,
         )
         self._config.load()
 
@@ -117,10 +129,107 @@ class Clients:
 
     def connect(self, peer: str = "127.0.0.1") -> tuple[Connection, FakeTransport]:
         """A new connection."""
-        connection = Connection(self.all, self._config, self._state)
+        connection = Connection(self.all, config=self._config, server_state=self._state, **GIVEN)
         transport = FakeTransport(peer)
         connection.connection_made(transport)
         return connection, transport
+
+
+def test_what_later_versions_give(monkeypatch: pytest.MonkeyPatch) -> None:
+    """uvicorn 0.32 gives the state of the application too: its own class takes it."""
+    own, state = dict(GIVEN), {"one": 1}
+
+    def begin(
+        self: HttpToolsProtocol, config: Config, server_state: ServerState, app_state: object
+    ) -> None:
+        BEGIN(self, config, server_state, **own)
+        self.taken = app_state
+
+    monkeypatch.setitem(GIVEN, "app_state", state)
+    monkeypatch.setattr(HttpToolsProtocol, "__init__", begin)
+
+    async def run() -> None:
+        connection, _ = Clients().connect()
+        assert connection.taken is state
+
+    run_within(run())
+
+
+def test_paths_are_those_of_the_request(monkeypatch: pytest.MonkeyPatch) -> None:
+    """Later versions put what addresses begin with at the server in front before each of them."""
+    complete = HttpToolsProtocol.on_headers_complete
+
+    def complete_later(self: HttpToolsProtocol) -> None:
+        complete(self)
+        self.scope["path"] = self.root_path + self.scope["path"]
+
+    monkeypatch.setattr(HttpToolsProtocol, "on_headers_complete", complete_later)
+
+    async def run() -> None:
+        clients = Clients(root_path="/olr")
+        connection, _ = clients.connect()
+        connection.data_received(HEAD + b"\r\n")
+        await turns()
+        (scope,) = clients.scopes
+        assert (scope["root_path"], scope["path"]) == ("/olr", "/health")
+
+    run_within(run())
+
+
+@pytest.mark.parametrize("protocol, status", [("h2c", b"200 "), ("websocket", b"400 ")])
+def test_other_protocols_in_later_versions(
+    monkeypatch: pytest.MonkeyPatch, protocol: str, status: bytes
+) -> None:
+    """They ask whether a request is to be handled by the protocol that it offers, and call a method of another name then."""
+
+    def receive(self: HttpToolsProtocol, data: bytes) -> None:
+        try:
+            self.parser.feed_data(data)
+        except HttpParserUpgrade:
+            if self._should_upgrade():
+                self.handle_websocket_upgrade()
+
+    monkeypatch.setattr(HttpToolsProtocol, "data_received", receive)
+
+    async def run() -> None:
+        clients = Clients()
+        connection, transport = clients.connect()
+        offer = f"Connection: Upgrade\r\nUpgrade: {protocol}\r\n\r\n"
+        connection.data_received(HEAD + offer.encode())
+        clients.answering.set()
+        await turns(100)
+        assert transport.written.startswith(b"HTTP/1.1 " + status) and transport.is_closed
+
+    run_within(run())
+
+
+def test_what_of_uvicorn_is_used() -> None:
+    """`uvicorn_parts` names all of it: what a connection uses and doesn't have itself, and the only imports of what isn't public."""
+    folder = Path(connections.__file__).parent.parent
+    (of_connection,) = (
+        part
+        for part in ast.parse(Path(connections.__file__).read_text(encoding="utf-8")).body
+        if isinstance(part, ast.ClassDef) and part.name == "Connection"
+    )
+    uses = [
+        node
+        for node in ast.walk(of_connection)
+        if isinstance(node, ast.Attribute)
+        and isinstance(node.value, ast.Name)
+        and node.value.id == "self"
+    ]
+    own = {one.attr for one in uses if isinstance(one.ctx, ast.Store)} | vars(Connection).keys()
+    named = UvicornConnection.__annotations__.keys() | vars(UvicornConnection).keys()
+    assert {one.attr for one in uses} - own <= named
+    private = re.compile(
+        r"(?m)^\s*(?:from|import) (?:uvicorn[.\w]*\.\w+|fiona\._\w+)|\"(?:uvicorn|fiona)\."
+    )
+    found = {
+        file.name
+        for file in folder.rglob("*.py")
+        if private.search(file.read_text(encoding="utf-8"))
+    }
+    assert found == {"uvicorn_parts.py", "fiona_parts.py"}
 
 
 @pytest.mark.parametrize("ahead, answers", [(16, 17), (17, 1)])

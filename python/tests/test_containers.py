@@ -127,6 +127,6 @@ def test_the_health_check(status: int, is_healthy: bool) -> None:
     with answering(status) as (port, asked):
         command = [sys.executable, *words[:-1], words[-1].replace(PORT, port)]
         # (a proxy that isn't there, which podman hands on from whoever runs it)
-        ended = subprocess.run(command, env={"http_proxy": "http://127.0.0.1:9"}, timeout=30)
+        ended = subprocess.run(command, env={"http_proxy": "http://127.0.0.1:9"}, timeout=600)
     assert (ended.returncode == 0, asked) == (is_healthy, ["/ready"])
     assert asked[0] in openapi.document(Limits())["paths"]

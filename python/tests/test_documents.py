@@ -93,7 +93,7 @@ class Shell:
             stderr=subprocess.STDOUT,
             text=True,
             check=False,
-            timeout=60,
+            timeout=600,
             env=os.environ | {"OLR_PROGRAM": str(self._program.path)},
         )
         return ended.returncode, ended.stdout
@@ -144,6 +144,14 @@ def parted(lines: list[str]) -> tuple[str, str]:
     raise AssertionError(f"a command has no end: {lines[0]}")
 
 
+class AsNumpy1(doctest.OutputChecker):
+    """Compares what is printed with a page, which shows 45 where numpy 2 prints np.int64(45)."""
+
+    def check_output(self, want: str, got: str, optionflags: int) -> bool:
+        """Whether it is the same."""
+        return super().check_output(want, re.sub(r"np\.\w+\(([^()]*)\)", r"\1", got), optionflags)
+
+
 @pytest.mark.parametrize("name", PYTHON_PAGES)
 def test_python(
     name: str, program: Program, tmp_path: Path, monkeypatch: pytest.MonkeyPatch
@@ -155,7 +163,7 @@ def test_python(
     text = re.sub(r"(?m)^```.*$", "", page)
     example = doctest.DocTestParser().get_doctest(text, {}, name, name, 0)
     assert len(example.examples) >= PYTHON_PAGES[name]
-    runner = doctest.DocTestRunner()
+    runner = doctest.DocTestRunner(AsNumpy1())
     shown: list[str] = []
     runner.run(example, out=shown.append)
     assert runner.failures == 0, "".join(shown)

@@ -49,7 +49,7 @@ def run_without(refused: str, script: str, *words: object) -> subprocess.Complet
     text = REFUSING.format(refused=refused) + script
     command = ["/usr/bin/python3", "-I", "-c", text, PACKAGE, *words]
     return subprocess.run(
-        list(map(str, command)), capture_output=True, text=True, check=False, timeout=60
+        list(map(str, command)), capture_output=True, text=True, check=False, timeout=600
     )
 
 

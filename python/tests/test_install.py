@@ -57,15 +57,19 @@ def test_the_extras() -> None:
         assert f".whl)[{','.join(sorted(EXTRAS))}]" in block(way)
 
 
-def test_each_upper_limit_has_its_reason() -> None:
+def test_the_least_versions_are_the_first_ones_that_were_tried() -> None:
+    """Those of Debian 12, as the page has them."""
+    tried = dict(re.findall(r"(?m)^\| `(\w+)`.* \| (\d[\d.]*)(?:, [\d.]+)? \| \d.* \|$", PAGE))
     needs = {need for extra in PROJECT["optional-dependencies"].values() for need in extra}
-    limited = {re.sub(r"[>=]+[\d.]+,(?=<)", "", need) for need in needs if "<" in need}
-    given = dict(re.findall(r"(?m)^\| `([\w.<]+)` \| (.+) \|$", PAGE))
-    assert limited == {name for name in given if "<" in name}
+    least = dict(need.split(">=") for need in needs)
+    assert least.keys() == tried.keys() - {"pandas"}
+    for name, version in least.items():
+        assert f"{tried[name]}.".startswith(f"{version}."), name
 
 
 def test_what_wasnt_tried_isnt_promised() -> None:
-    """The classifiers name the Python of Debian 12 alone."""
+    """The classifiers name the Pythons of Debian 12 and 13 alone, and so does the page."""
     named = [one for one in PROJECT["classifiers"] if re.search(r":: 3\.\d", one)]
-    assert named == ["Programming Language :: Python :: 3.11"]
+    assert named == [f"Programming Language :: Python :: {one}" for one in ("3.11", "3.13")]
+    assert re.search(r"(?m)^\| Python \| 3\.11\.\d+ \| 3\.13\.\d+ \|$", PAGE)
     assert "urls" not in PROJECT

@@ -215,7 +215,7 @@ def test_names_that_repeat(file: Path) -> None:
             {"ref": "a[].b", "key": "k"},
             "element 1 has no member k: name it by --key",
         ),
-        ('{\n"a": [1,\n2}', {"ref": "a[].b"}, "isn't JSON: parse error: "),
+        (f'{{\n"a": [{{"b": "{ONE}"}}\n}}', {"ref": "a[].b"}, "isn't JSON: parse error: "),
         (
             '{\n"a": [NaN]',
             {"ref": "a[].b"},

@@ -316,12 +316,12 @@ def test_a_command_that_is_ended(sign: signal.Signals, tmp_path: Path) -> None:
         preexec_fn=partial(signal.signal, sign, signal.SIG_DFL),
     )
     try:
-        until = time.monotonic() + 60
+        until = time.monotonic() + 600
         while not os.listdir(out) and time.monotonic() < until:
             time.sleep(0.02)
         assert os.listdir(out)[0].startswith(PREFIX)
         process.send_signal(sign)
-        said = process.communicate(timeout=60)
+        said = process.communicate(timeout=600)
     finally:
         process.kill()
         process.wait()

@@ -127,7 +127,7 @@ def test_steps_are_waited_for_anew(
         """Waits until the thread has looked at the time."""
         while looks.acquire(blocking=False):
             pass
-        assert all(looks.acquire(timeout=60) for _ in range(2))
+        assert all(looks.acquire(timeout=600) for _ in range(2))
 
     def waiting() -> str:
         said.set()

@@ -32,7 +32,7 @@ def folder(tmp_path_factory: pytest.TempPathFactory, top: Path) -> Path:
         "--out",
         str(file),
     ]
-    subprocess.run(command, check=True, timeout=60)
+    subprocess.run(command, check=True, timeout=600)
     made = import_osm(file, Options(), Counts())
     assert made.about["bans"]["turn_restrictions"] > 10
     write_map(made.road_map, place / "map", made.about)

@@ -56,7 +56,7 @@ class Doomed:
 
     def is_killed(self) -> bool:
         """Waits for its end, and says whether it was killed. It ended well if not."""
-        until = time.monotonic() + 60
+        until = time.monotonic() + 600
         while time.monotonic() < until:
             process, status = os.waitpid(self.process, os.WNOHANG)
             if process:

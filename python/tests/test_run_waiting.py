@@ -33,7 +33,7 @@ def test_all_workers_and_then_the_scheduler_are_killed(runs: Runs) -> None:
     with Scheduler(runs, runs.waiting()) as scheduler:
         scheduler.add_worker(memory="1GB")
         with Client(scheduler.address) as client:
-            client.wait_for_workers(1, timeout=60)
+            client.wait_for_workers(1, timeout=600)
         with asked_run(runs, scheduler, "one") as run:
             scheduler.processes[1].kill()
             (runs.folder / "go").touch()
@@ -66,7 +66,7 @@ def test_what_is_waited_for(runs: Runs, monkeypatch: pytest.MonkeyPatch) -> None
         for _ in range(2):
             scheduler.add_worker()
         with Client(scheduler.address) as client:
-            client.wait_for_workers(2, timeout=60)
+            client.wait_for_workers(2, timeout=600)
             assert limited_workers(client) is None
             event = Event("end", client=client)
             futures = client.map(lambda _: event.wait(), range(2), pure=False)

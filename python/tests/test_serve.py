@@ -111,7 +111,7 @@ def test_streamed(
 def test_a_stream_answers_as_it_goes(server: Server) -> None:
     """Each record is sent when the one before it was answered."""
     head = f"POST /batch/match HTTP/1.1\r\nHost: localhost:{server.port}\r\nContent-Type: text/plain\r\n"
-    with socket.create_connection(("127.0.0.1", server.port), timeout=30) as connection:
+    with socket.create_connection(("127.0.0.1", server.port), timeout=600) as connection:
         stream = connection.makefile("rb")
         connection.sendall(f"{head}Transfer-Encoding: chunked\r\n\r\n".encode())
         for number in range(1, 4):

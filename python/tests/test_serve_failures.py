@@ -74,7 +74,7 @@ def whole(texts: Sequence[str]) -> list[str]:
 
 def stream_of(server: Server, length: int) -> socket.socket:
     """A connection on which the head of a stream was sent."""
-    connection = socket.create_connection(("127.0.0.1", server.port), timeout=30)
+    connection = socket.create_connection(("127.0.0.1", server.port), timeout=600)
     head = STREAM.format(port=server.port) + f"Content-Length: {length}\r\n\r\n"
     connection.sendall(head.encode())
     return connection

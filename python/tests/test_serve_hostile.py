@@ -367,7 +367,7 @@ def test_a_thousand_slow_sockets(kind: str, server: Server) -> None:
         for path in ("/health", "/metrics"):
             assert server.get(path).status == 200
             own = http.client.HTTPConnection(
-                "127.0.0.1", server.port, timeout=10, source_address=("127.0.0.2", 0)
+                "127.0.0.1", server.port, timeout=600, source_address=("127.0.0.2", 0)
             )
             assert reply_on(own, path).status == 200
             own.close()
@@ -428,7 +428,7 @@ def test_all_addresses(
         for address in reached:
             name = f"[{address}]" if ":" in address else address
             for own, statuses in ((name, {200}), ("10.9.8.7", {421}), ("evil.example", {421})):
-                connection = http.client.HTTPConnection(address, server.port, timeout=10)
+                connection = http.client.HTTPConnection(address, server.port, timeout=600)
                 origin = f"http://{own}:{server.port}"
                 reply = reply_on(connection, "/health", Host=f"{own}:{server.port}", Origin=origin)
                 assert reply.status in statuses

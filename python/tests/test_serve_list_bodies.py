@@ -76,7 +76,7 @@ def read_list(body: bytes, format: str | None = None) -> tuple[int, bytes, bytes
     """The status of a process that reads a list, its lines, and what it says."""
     words = [*python_words("olr.serving.listing"), json.dumps([format, None, None])]
     command = [sys.executable, *words]
-    ended = subprocess.run(command, input=body, capture_output=True, check=False, timeout=60)
+    ended = subprocess.run(command, input=body, capture_output=True, check=False, timeout=600)
     return ended.returncode, ended.stdout, ended.stderr
 
 

@@ -4,6 +4,7 @@ import json
 import pytest
 import re
 import shutil
+import yaml
 from collections.abc import Iterator
 from jsonschema import Draft4Validator, RefResolver
 from jsonschema.validators import extend
@@ -22,7 +23,7 @@ from olr.serving.schemas import OF_QUESTION, examples
 from olr.serving.served import Served
 from servers import Reply, Server, path_of, serving, wait_until
 
-OPENAPI = Path("/usr/share/openapi-specification/schemas/v3.0/schema.json")
+OPENAPI = Path("/usr/share/openapi-specification/schemas/v3.0")
 KIOSK, FAR, DAMAGED = "KwVGnCN20HPDBwFCATFjT5Y=", "CwVGnSN2zhtnBgEB/2IjAQ==", "CwVG"
 LINES = "\n".join(f"{one}\t{one}" for one in (REFERENCE, KIOSK, FAR, DAMAGED)).encode()
 OWN = {"/", "/docs", "/openapi.json"}
@@ -95,7 +96,8 @@ def described(server: Server) -> Document:
 
 
 def test_it_is_a_document_of_openapi(described: Document) -> None:
-    schema = json.loads(OPENAPI.read_text())
+    # Debian 12 has schema.json, and Debian 13 the same as schema.yaml.
+    schema = yaml.safe_load(next(OPENAPI.glob("schema.*")).read_text())
     Draft4Validator(schema).validate(described.about)
     operations = [
         one["operationId"]

@@ -123,7 +123,7 @@ def test_what_is_refused(server: Server) -> None:
 def test_rows_come_while_the_body_does(server: Server) -> None:
     """Each record is sent when the one before it was answered."""
     head = f"POST /rows HTTP/1.1\r\nHost: localhost:{server.port}\r\nContent-Type: text/plain\r\n"
-    with socket.create_connection(("127.0.0.1", server.port), timeout=30) as connection:
+    with socket.create_connection(("127.0.0.1", server.port), timeout=600) as connection:
         stream = connection.makefile("rb")
         connection.sendall(f"{head}Transfer-Encoding: chunked\r\n\r\n".encode())
         for number in range(1, 4):
@@ -212,7 +212,7 @@ def test_a_program_that_fails(way: str, failing: Failing, town: Town) -> None:
     """Nothing is sent that isn't right, and the answer has no end."""
     server, body, good = failing.server, failing.bodies[way], failing.good[way]
     head = f"POST /rows HTTP/1.1\r\nHost: localhost:{server.port}\r\nContent-Type: text/plain\r\n"
-    with socket.create_connection(("127.0.0.1", server.port), timeout=30) as connection:
+    with socket.create_connection(("127.0.0.1", server.port), timeout=600) as connection:
         connection.sendall(f"{head}Content-Length: {len(body)}\r\n\r\n".encode() + body)
         said = b"".join(iter(lambda: connection.recv(65_536), b""))
     rows = [json.loads(line) for line in said.splitlines() if line.startswith(b'{"record"')]

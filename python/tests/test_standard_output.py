@@ -279,7 +279,7 @@ def shell(line: str, folder: Path, **streams: int) -> subprocess.CompletedProces
     """Runs a line of a shell, in which `olr-tools` is the command and `examples` the folder of that name."""
     words = line.replace("olr-tools", str(TOP / "olr-tools")).replace("examples", str(EXAMPLES))
     pipes = {"stdout": subprocess.PIPE, "stderr": subprocess.PIPE} | streams
-    return subprocess.run(["sh", "-c", words], cwd=folder, text=True, timeout=60, **pipes)  # type: ignore[call-overload, no-any-return]
+    return subprocess.run(["sh", "-c", words], cwd=folder, text=True, timeout=600, **pipes)  # type: ignore[call-overload, no-any-return]
 
 
 @pytest.mark.parametrize(

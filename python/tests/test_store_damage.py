@@ -207,7 +207,7 @@ def test_a_full_disk(tmp_path: Path, file: Path) -> None:
     whole = draw_map(tmp_path / "map", 300, 600)
     words = [str(TOP / "olr-tools"), "regions", str(whole), "--out", str(file)]
     command = ["bash", "-c", f"ulimit -f 100; exec {shlex.join(words)}"]
-    ended = subprocess.run(command, capture_output=True, text=True, check=False, timeout=60)
+    ended = subprocess.run(command, capture_output=True, text=True, check=False, timeout=600)
     assert ended.returncode == 1
     assert ended.stderr.startswith(f"olr-tools: {file} can't be written: ")
     assert ended.stderr.count("\n") == 1

@@ -16,7 +16,12 @@ from olr.vector.fields import Fields
 from olr.vector.importing import import_vector
 from olr.vector.options import Options
 
-STREETS = Path("/usr/lib/python3/dist-packages/libpysal/examples/geodanet/streets.shp")
+_PLACES = (
+    "/usr/lib/python3/dist-packages/libpysal/examples",
+    "/usr/share/doc/python3-libpysal/examples",
+)
+"""Where Debian 12 and Debian 13 have the examples of python3-libpysal."""
+STREETS = next(filter(Path.exists, (Path(one, "geodanet/streets.shp") for one in _PLACES)))
 """The streets of Tempe, of Debian's python3-libpysal."""
 DRIVERS = {".gpkg": "GPKG", ".geojson": "GeoJSON", ".fgb": "FlatGeobuf", ".shp": "ESRI Shapefile"}
 """What GDAL calls the formats of files with these suffixes."""

@@ -16,9 +16,8 @@ def messages_of_layers(file: Path, reading: Reading, name: str) -> Iterator[Mess
     the file."""
     with needed_by(name, "feeds"):
         import fiona
-        from fiona._err import CPLE_BaseError
-        from fiona.errors import FionaError, UnsupportedGeometryTypeError
 
+        from olr.vector.fiona_parts import READ_ERRORS
         from olr.vector.packed import opened_by_gdal
         from olr.vector.whole import require_whole_shapefile, without_errors
     logging.getLogger("fiona").setLevel(logging.CRITICAL)
@@ -33,7 +32,7 @@ def messages_of_layers(file: Path, reading: Reading, name: str) -> Iterator[Mess
                 features = without_errors(file, collection)
                 rows = (list(feature["properties"].values()) for feature in features)
                 yield from numbered(rows, columns)
-    except (FionaError, UnsupportedGeometryTypeError, CPLE_BaseError, UnicodeDecodeError) as error:
+    except READ_ERRORS as error:
         why = " ".join(str(error).split()) or type(error).__name__
         raise ToolError(f"{name} can't be read: {why}") from error
 

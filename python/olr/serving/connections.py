@@ -9,9 +9,6 @@ from collections import deque
 from collections.abc import Callable
 from httptools import HttpRequestParser
 from typing import Any
-from uvicorn.config import Config
-from uvicorn.protocols.http.httptools_impl import HttpToolsProtocol
-from uvicorn.server import ServerState
 
 from olr.progress import Clock
 from olr.serving.limits import (
@@ -26,6 +23,7 @@ from olr.serving.limits import (
 )
 from olr.serving.peers import Peers, Shares, client_at, plain_address
 from olr.serving.problems import MEDIA_TYPE, Problem, bad_request
+from olr.serving.uvicorn_parts import Cycle, UvicornConnection
 
 log = logging.getLogger("olr.serving")
 OF_UPGRADES = {b"connection", b"http2-settings", b"upgrade"}
@@ -152,7 +150,7 @@ class Connections:
         connection.drop()
 
 
-class Connection(HttpToolsProtocol):  # type: ignore[misc]
+class Connection(UvicornConnection):
     """A connection. A head that is too long, or isn't HTTP, is answered by a problem document.
 
     What a request's scope has besides: `client` is the name of the client, with a port; `left` a future that is done when the client has gone;
@@ -160,15 +158,11 @@ class Connection(HttpToolsProtocol):  # type: ignore[misc]
     connection was closed with that one in place of an answer.
     """
 
-    transport: Any
-    scope: Any
-    url: bytes
-    client: tuple[str, int]
-    server: tuple[str, int] | None
-
-    def __init__(self, connections: Connections, config: Config, server_state: ServerState) -> None:
-        super().__init__(config=config, server_state=server_state)
+    def __init__(self, connections: Connections, **given: Any) -> None:
+        """`given` is what uvicorn's server gives: it differs with the version."""
+        super().__init__(**given)
         self._all = connections
+        self._root_path, self.root_path = self.root_path, ""
         self.peer: str | None = None
         """The client; None for a proxy, which speaks for many."""
         self.is_in_body = False
@@ -179,7 +173,7 @@ class Connection(HttpToolsProtocol):  # type: ignore[misc]
         self._sending = self._taking = Pace(connections.patience)
         self._problem: Problem | None = None
         self._left: asyncio.Future[None] = self.loop.create_future()
-        self._cycles: deque[Any] = deque()
+        self._cycles: deque[Cycle] = deque()
 
     def is_idle(self) -> bool:
         """Whether no request is being answered."""
@@ -293,6 +287,7 @@ class Connection(HttpToolsProtocol):  # type: ignore[misc]
     def on_message_begin(self) -> None:
         """A head begins."""
         super().on_message_begin()
+        self.scope["root_path"] = self._root_path
         self._is_in_head, self._head_since = True, self._all.clock()
         self._bytes_of_head = 0
 
@@ -315,7 +310,7 @@ class Connection(HttpToolsProtocol):  # type: ignore[misc]
         if self.peer is None:
             peers = self._all.peers
             self.scope["client"] = peers.client_behind(self.headers) or self.client[0], 0
-            self.scope["root_path"] = peers.prefix_before(self.headers) or self.root_path
+            self.scope["root_path"] = peers.prefix_before(self.headers) or self._root_path
         if not self.url.startswith(b"/"):
             self._refuse(bad_request("a request names a path"))
         if len(self.pipeline) >= MOST_AHEAD:
@@ -386,7 +381,7 @@ class Connection(HttpToolsProtocol):  # type: ignore[misc]
 
     def _say(self, problem: Problem) -> None:
         """Answers by a problem document, and closes the connection."""
-        body = problem.document(self.scope["root_path"] if self.scope else self.root_path)
+        body = problem.document(self.scope["root_path"] if self.scope else self._root_path)
         fields = [*self.server_state.default_headers, (b"content-type", MEDIA_TYPE.encode())]
         fields += [(b"content-length", b"%d" % len(body)), (b"connection", b"close")]
         head = b"".join(b"%b: %b\r\n" % field for field in fields)

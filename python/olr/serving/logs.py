@@ -9,6 +9,7 @@ from datetime import datetime
 from typing import NamedTuple, TextIO
 
 from olr.progress import Clock
+from olr.serving.uvicorn_parts import LOG
 
 MOST_LINES = 30
 """Lines of one cause in a minute. The others are counted."""
@@ -82,7 +83,7 @@ def start(requests: bool) -> None:
     """Writes what happens to standard error: what fails or changes, and each request if that is asked for."""
     logging.basicConfig(level=logging.WARNING, handlers=[Lines(sys.stderr)])
     # What isn't HTTP is a client's fault, and is told among the requests.
-    logging.getLogger("uvicorn.error").setLevel(logging.ERROR)
+    logging.getLogger(LOG).setLevel(logging.ERROR)
     if requests:
         REQUESTS.setLevel(logging.INFO)
 

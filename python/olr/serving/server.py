@@ -1,7 +1,6 @@
 """The server: its settings, what it listens to, and how it ends."""
 
 import asyncio
-import click
 import signal
 import socket
 import time
@@ -27,6 +26,7 @@ from olr.serving.meters import Meters
 from olr.serving.pages import policy_of
 from olr.serving.peers import Peers
 from olr.serving.served import Living, Served
+from olr.serving.uvicorn_parts import UvicornServer
 
 if TYPE_CHECKING:
     from olr.confidence.confidence import Confidence
@@ -54,32 +54,6 @@ class Settings(NamedTuple):
     """Addresses of proxies that say who asks."""
     root_path: str = ""
     """With which addresses begin at the server in front."""
-
-
-class _Server(uvicorn.Server):  # type: ignore[misc]
-    """uvicorn's server, which prints its URL, doesn't wait for ever for what runs, and leaves signals to its owner."""
-
-    def __init__(self, config: uvicorn.Config, url: str) -> None:
-        super().__init__(config)
-        self._url = url
-
-    async def startup(self, sockets: list[socket.socket] | None = None) -> None:
-        """Listens, and prints where."""
-        await super().startup(sockets)
-        click.echo(self._url)
-
-    def install_signal_handlers(self) -> None:
-        """The owner installs them."""
-
-    async def shutdown(self, sockets: list[socket.socket] | None = None) -> None:
-        """Takes no more requests, and waits until those that run are answered, or time is over."""
-
-        def force() -> None:
-            self.force_exit = True
-
-        timer = asyncio.get_running_loop().call_later(SECONDS_TO_END, force)
-        await super().shutdown(sockets)
-        timer.cancel()
 
 
 def serve(settings: Settings) -> None:
@@ -154,9 +128,8 @@ async def _answer(
         settings.limits.time,
         front.refused,
     )
-    server = _Server(
-        _config(settings, front, connections, sockets.backlog), url_of(settings.host, port)
-    )
+    config = _config(settings, front, connections, sockets.backlog)
+    server = UvicornServer(config, url_of(settings.host, port), SECONDS_TO_END)
     renewing = _handle_signals(server, served)
     watching = [asyncio.create_task(work) for work in (connections.watch(), logs.watch())]
     try:
@@ -168,11 +141,10 @@ async def _answer(
         connections.close()
         await served.close()
         await shared.makers.close()
-        if server.server_state.tasks:
-            await asyncio.wait(server.server_state.tasks, timeout=1)
+        await server.wait_for_left(1)
 
 
-def _handle_signals(server: _Server, served: Living) -> "set[asyncio.Task[None]]":
+def _handle_signals(server: UvicornServer, served: Living) -> "set[asyncio.Task[None]]":
     """Lets SIGTERM and SIGINT end the server, a second one at once, and SIGHUP read the map anew. The answer has the tasks that do so."""
     loop = asyncio.get_running_loop()
     for ending in (signal.SIGINT, signal.SIGTERM):

@@ -4,8 +4,6 @@ import fiona
 import logging
 import numpy as np
 from collections.abc import Iterable, Iterator, Mapping, Sequence
-from fiona._err import CPLE_BaseError
-from fiona.errors import FionaError, UnsupportedGeometryTypeError
 from pathlib import Path
 from typing import Any, NamedTuple
 
@@ -17,13 +15,13 @@ from olr.importing.roads import GREATEST_ROAD_ID, Kind, Source
 from olr.model.box import Box
 from olr.model.measure import position_of
 from olr.vector.fields import Fields, Meanings, list_of, require_fields
+from olr.vector.fiona_parts import READ_ERRORS
 from olr.vector.options import Options
 from olr.vector.packed import opened_by_gdal
 from olr.vector.system import Area, Strays, System, why_not_on_map
 from olr.vector.table import ValueTable
 from olr.vector.whole import require_whole_shapefile, whole_features
 
-READ_ERRORS = (FionaError, UnsupportedGeometryTypeError, CPLE_BaseError, UnicodeDecodeError)
 OUTSIDE = "line strings outside the box"
 
 

@@ -12,6 +12,7 @@ from typing import Any
 
 from olr.errors import ToolError, readable
 from olr.progress import progress
+from olr.vector.fiona_parts import LOG_OF_GDAL
 
 SUFFIXES = (".shp", ".shx", ".dbf")
 """Of the files of a Shapefile. In an archive they aren't looked at."""
@@ -71,7 +72,7 @@ def _errors_of_gdal() -> Iterator[list[str]]:
             if not text.startswith(NO_GEOMETRY):
                 errors.append(text)
 
-    log = logging.getLogger("fiona._env")
+    log = logging.getLogger(LOG_OF_GDAL)
     handler = Collecting(logging.ERROR)
     before = log.level, log.propagate
     log.setLevel(logging.ERROR)
