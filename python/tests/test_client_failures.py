@@ -150,16 +150,15 @@ def test_other_numbers_amid_many(program: Program) -> None:
 
 
 def test_an_interrupted_question(program: Program, monkeypatch: pytest.MonkeyPatch) -> None:
+    """While it waits: its line is passed over, and the process goes on."""
     with town(program) as asked:
         expected = asked.match(ROADWORKS)
-        real = os.read
 
-        def interrupted(descriptor: int, size: int) -> bytes:
-            monkeypatch.setattr("olr.asking.threaded.os.read", real)
+        def interrupted(*_: object) -> NoReturn:
             raise KeyboardInterrupt
 
-        monkeypatch.setattr("olr.asking.threaded.os.read", interrupted)
-        with pytest.raises(KeyboardInterrupt):
+        with monkeypatch.context() as patch, pytest.raises(KeyboardInterrupt):
+            patch.setattr("olr.asking.threaded.Batch._await_data", interrupted)
             asked.match(REFERENCE)
         assert asked.match(ROADWORKS) == expected
         (pair,) = asked._source._processes._batches["match"]  # type: ignore[attr-defined]
