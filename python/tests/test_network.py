@@ -107,6 +107,12 @@ def test_places_of_candidates_are_projections(
     assert seen > 500
 
 
+def test_a_folder_alone() -> None:
+    """As `olr.Map` takes it."""
+    town = olr.Network(TOP / "examples")
+    assert repr(town) == f"<Network of {TOP}/examples: 20 nodes, 41 lines>"
+
+
 def test_pieces_that_arent_there(network: olr.Network, tmp_path: Path) -> None:
     with pytest.raises(ToolError, match="has no line 5: read the map that the answer is of"):
         network.geometry([(5, 0, 10)])

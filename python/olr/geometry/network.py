@@ -67,8 +67,11 @@ class Network:
     'LineString'
     """
 
-    def __init__(self, nodes: PathLike, lines: PathLike) -> None:
-        """Reads the files of nodes and of lines. Raises `ToolError` if they can't be read, or are changed meanwhile."""
+    def __init__(self, nodes: PathLike, lines: PathLike | None = None) -> None:
+        """Reads the files of nodes and of lines; or, of one path alone, those of a folder. Raises `ToolError` if they can't be read, or are
+        changed meanwhile."""
+        if lines is None:
+            nodes, lines = Path(nodes, NODES), Path(nodes, LINES)
         nodes_file, lines_file = Path(nodes), Path(lines)
         self.folder = lines_file.parent
         self.digest = digest_of(nodes_file, lines_file)
@@ -121,7 +124,7 @@ class Network:
             from olr.geometry.store_network import StoreNetwork
 
             return StoreNetwork(Path(folder))
-        return cls(Path(folder, NODES), Path(folder, LINES))
+        return cls(folder)
 
     def __repr__(self) -> str:
         sizes = f"{len(self.node_id):,} nodes, {len(self.line_id):,} lines"
