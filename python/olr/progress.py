@@ -3,8 +3,9 @@
 import sys
 import threading
 import time
-from collections.abc import Callable, Iterable, Iterator
-from contextlib import contextmanager
+from collections.abc import Callable, Generator, Iterable, Iterator
+from contextlib import contextmanager, suppress
+from queue import Empty, SimpleQueue
 from typing import NamedTuple, TypeVar
 
 from olr.signals import kept_signals
@@ -59,7 +60,7 @@ def watched(
     what: str,
     total: int | None = None,
     waiting: Waiting | None = None,
-) -> Iterator[Item]:
+) -> Generator[Item, None, None]:
     """Items, while it is shown how many of them are done."""
     with progress(what, total, waiting=waiting) as advance:
         for item in items:
@@ -106,7 +107,7 @@ class _Pace:
         self._at = self._moved = self._said = clock()
         """When it was last shown how many steps are done; when one ended; when it was said what is waited for, or one ended."""
         self._showing = threading.Lock()
-        self._ended = threading.Event()
+        self._ended: SimpleQueue[None] = SimpleQueue()
         self._thread = threading.Thread(target=self._look, daemon=True)
 
     def __enter__(self) -> Advance:
@@ -114,9 +115,11 @@ class _Pace:
             self._thread.start()
         return self._advance
 
-    def __exit__(self, *_: object) -> None:
-        self._ended.set()
-        self._thread.join()
+    def __exit__(self, kind: type[BaseException] | None, *_: object) -> None:
+        self._ended.put(None)
+        # The garbage collector may close a generator in any thread, this one too: nobody waits then.
+        if kind is not GeneratorExit:
+            self._thread.join()
 
     def _advance(self, steps: int) -> None:
         """Adds steps."""
@@ -129,7 +132,9 @@ class _Pace:
 
     def _look(self) -> None:
         """What the thread does."""
-        while not self._ended.wait(SECONDS_OF_LOOKS):
+        while True:
+            with suppress(Empty):
+                return self._ended.get(timeout=SECONDS_OF_LOOKS)
             with self._showing:
                 now = self._clock()
                 self._show(now)

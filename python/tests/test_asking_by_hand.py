@@ -5,6 +5,7 @@ import pytest
 import shutil
 import subprocess
 from collections.abc import Callable
+from concurrent.futures import ThreadPoolExecutor
 from pathlib import Path
 
 from conftest import TOP
@@ -84,6 +85,19 @@ def test_what_a_program_wrote(
     else:
         with pytest.raises((ProgramEnded, ProgramNotFound), match=said):
             list(found)
+
+
+def test_another_thread_closes_what_is_read(
+    program_that: Callable[[str], Path], tmp_path: Path
+) -> None:
+    """As the garbage collector may: the process ends."""
+    program = program_that(f"echo $$ > {tmp_path}/pid; echo '{LINE.format(answer='{}')}'; sleep 60")
+    files = MapFiles.of_folder(folder_of(tmp_path / "map"))
+    lines = lines_about(Asked(program, "match", []), files, [b"x"], 20, tmp_path)
+    assert next(lines).answer == b"{}"
+    with ThreadPoolExecutor(1) as other:
+        other.submit(lines.close).result()
+    assert not is_running(int((tmp_path / "pid").read_text()))
 
 
 @pytest.mark.parametrize(

@@ -37,8 +37,7 @@ def nothing_left() -> Iterator[None]:
     before, threads = children(), threading.active_count()
     yield
     gc.collect()
-    assert children() <= before
-    assert threading.active_count() == threads
+    wait_until(lambda: children() <= before and threading.active_count() == threads)
 
 
 def town(program: Program) -> olr.Map:
@@ -147,20 +146,19 @@ def test_other_numbers_amid_many(program: Program) -> None:
         assert children() - before and asked.match(REFERENCE, page=8)
         assert next(left) == asked.match(REFERENCE, page=9)
         left.close()  # type: ignore[attr-defined]
-        assert len(children() - before) == 1
+        assert asked.match(REFERENCE, page=9) and len(children() - before) == 1
 
 
 def test_an_interrupted_question(program: Program, monkeypatch: pytest.MonkeyPatch) -> None:
+    """While it waits: its line is passed over, and the process goes on."""
     with town(program) as asked:
         expected = asked.match(ROADWORKS)
-        real = os.read
 
-        def interrupted(descriptor: int, size: int) -> bytes:
-            monkeypatch.setattr("olr.asking.threaded.os.read", real)
+        def interrupted(*_: object) -> NoReturn:
             raise KeyboardInterrupt
 
-        monkeypatch.setattr("olr.asking.threaded.os.read", interrupted)
-        with pytest.raises(KeyboardInterrupt):
+        with monkeypatch.context() as patch, pytest.raises(KeyboardInterrupt):
+            patch.setattr("olr.asking.threaded.Batch._await_data", interrupted)
             asked.match(REFERENCE)
         assert asked.match(ROADWORKS) == expected
         (pair,) = asked._source._processes._batches["match"]  # type: ignore[attr-defined]

@@ -16,6 +16,7 @@ from conftest import REFERENCE, TOP, Program
 from olr.asking.patience import require_patience
 from olr.asking.processes import AHEAD
 from olr.tools import run
+from servers import wait_until
 from test_client_failures import ROADWORKS, children
 
 BAD = "CwVF+yN2yhpnBAFdAAsaFg=="
@@ -29,8 +30,7 @@ def nothing_left() -> Iterator[None]:
     before, threads = children(), threading.active_count()
     yield
     gc.collect()
-    assert children() <= before
-    assert threading.active_count() == threads
+    wait_until(lambda: children() <= before and threading.active_count() == threads)
 
 
 @pytest.fixture

@@ -107,9 +107,20 @@ def test_places_of_candidates_are_projections(
     assert seen > 500
 
 
-def test_lines_that_arent_there(network: olr.Network, tmp_path: Path) -> None:
+def test_a_folder_alone() -> None:
+    """As `olr.Map` takes it."""
+    town = olr.Network(TOP / "examples")
+    assert repr(town) == f"<Network of {TOP}/examples: 20 nodes, 41 lines>"
+
+
+def test_pieces_that_arent_there(network: olr.Network, tmp_path: Path) -> None:
     with pytest.raises(ToolError, match="has no line 5: read the map that the answer is of"):
         network.geometry([(5, 0, 10)])
+    line, length = int(network.line_id[0]), int(network.length[0])
+    for start, end in ((length, 0), (6, 5)):
+        with pytest.raises(ToolError, match=f"line {line} from {start} to {end} runs backwards: g"):
+            network.geometry([(line, 0, 7), (line, start, end)])
+    assert len(network.geometry([(line, 5, 5)]).coords) == 2
     with pytest.raises(ToolError, match="can't be read"):
         olr.Network.read(tmp_path / "none")
     (tmp_path / "nodes.csv").write_text("id,lon,lat\n1,0,0\n")

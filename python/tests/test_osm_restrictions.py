@@ -352,6 +352,16 @@ FROM_4_TO_2: Members = [("from", "way", 4), ("via", "node", 1), ("to", "way", 2)
             {"restriction": "no_left_turn", "hour_on": "7:00"},
             "conditional turn restrictions",
         ),
+        (
+            FROM_4_TO_2,
+            {"restriction": "no_left_turn @ (Mo-Fr 07:00-09:00)"},
+            "conditional turn restrictions",
+        ),
+        (
+            FROM_4_TO_2,
+            {"restriction:motorcar": "only_straight_on@wet", "restriction": "no_left_turn"},
+            "conditional turn restrictions",
+        ),
         (FROM_4_TO_2, {"restriction:hgv": "no_left_turn"}, "turn restrictions for other vehicles"),
         (FROM_4_TO_2, {}, "turn restrictions without a type"),
         (FROM_4_TO_2, {"restriction": "stop"}, "turn restrictions of an unknown kind"),

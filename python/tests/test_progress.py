@@ -5,7 +5,7 @@ import os
 import pytest
 import sys
 import threading
-from collections.abc import Iterator
+from collections.abc import Generator, Iterator
 from pathlib import Path
 
 from conftest import Program
@@ -145,6 +145,31 @@ def test_steps_are_waited_for_anew(
         seconds = 119.5
         assert said.wait(60)
     assert capsys.readouterr().err == "nothing was finished for 60 seconds: for it\n"
+
+
+def test_its_thread_closes_a_generator(monkeypatch: pytest.MonkeyPatch) -> None:
+    """As the garbage collector may: it doesn't wait for itself."""
+    wrong: list[object] = []
+    closed = threading.Event()
+    monkeypatch.setattr(shown, "SECONDS_OF_LOOKS", 0.001)
+    clock = Clock()
+
+    def waiting() -> str:
+        try:
+            steps.pop().close()
+        except RuntimeError as error:
+            wrong.append(error)
+        closed.set()
+        return "for it"
+
+    def shown_steps() -> Generator[None, None, None]:
+        with progress("groups", 32, clock, waiting):
+            yield
+
+    steps = [shown_steps()]
+    next(steps[0])
+    clock.seconds = 60.0
+    assert closed.wait(60) and not wrong
 
 
 def test_items_are_counted(

@@ -58,8 +58,11 @@ def test_all_answers(runs: Runs) -> None:
 def test_a_table_at_standard_input(runs: Runs) -> None:
     """In UTF-16, with semicolons. The answers are those to the lines that it was made of."""
     words = ["--format", "csv", "--ref", "openlr", "--key", "id", "--join", runs.joined]
+    absent = f"olr-tools: {runs.out} isn't there: leave --resume out to begin a run\n"
     rows = runs.town.plain.read_text().replace("\t", ";note;")
     table = ("id;note;openlr\n" + rows).encode("utf-16")
+    ended = runs.run_here(*words, "--resume", messages=Path("-"), given=table)
+    assert ended == (1, "", absent)
     ended = runs.run_here(*words, messages=Path("-"), given=table)
     assert (ended.status, ended.stderr) == (0, "")
     assert runs.joined.read_bytes() == runs.expected(messages=runs.town.plain)

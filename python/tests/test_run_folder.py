@@ -4,6 +4,7 @@ import os
 import pytest
 import shutil
 from collections.abc import Sequence
+from concurrent.futures import ThreadPoolExecutor
 from dataclasses import replace
 from pathlib import Path
 
@@ -134,6 +135,19 @@ def test_bans_that_come(begun: Begun, tmp_path: Path) -> None:
     assert without != begun.question.store
     bans.write_bytes(text)
     assert begun.job.map.digest() == begun.question.store
+
+
+def test_lines_that_arent_all_taken(begun: Begun) -> None:
+    """Their process is of no use to others, and ends with them, whichever thread closes them."""
+    kept, asked, files = Kept(), begun.job.asked(), begun.job.map.files()
+    records = [Record(number, b"a\t" + REFERENCE.encode()) for number in range(1, 5)]
+    left, lines = (kept.lines(asked, files, 60, some) for some in (records[:2], records[2:]))
+    assert next(left).endswith(b',"record":1}\n')
+    assert next(lines).endswith(b',"record":3}\n')
+    with ThreadPoolExecutor(1) as other:
+        other.submit(left.close).result()
+    assert [line[-4:] for line in lines] == [b":4}\n"]
+    kept.end()
 
 
 def test_another_question_is_asked(begun: Begun) -> None:

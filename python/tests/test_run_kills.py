@@ -114,10 +114,10 @@ def test_runs_are_killed(town: Town, program: Program, messages: Path, tmp_path:
     expected = lines_of_batch(program, town.folder, "match", messages)
     out, joined = tmp_path / "run", tmp_path / "joined"
     words = ["run", messages, "--store", town.store, "--out", out, "--per-group", 9]
-    words += OF_PROGRAM
-    again = list(map(str, [*words, "--resume", "--join", joined, "--force"]))
+    words += [*OF_PROGRAM, "--join", joined, "--force"]
     kills = ends = begun = 0
     while kills < KILLS or not ends:
+        again = [*map(str, words), *(["--resume"] if out.exists() else [])]
         if Doomed(lambda: olr_tools(again), draw.randint(1, 400)).is_killed():
             kills += 1
             begun += (out / "run.json").exists()

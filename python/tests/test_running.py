@@ -245,6 +245,10 @@ def test_folders_of_runs(town: Town, program: Program, tmp_path: Path) -> None:
     }
     records = list(read_records(town.plain, Reading()))
     run = RunFolder(tmp_path / "new" / "run")
+    with pytest.raises(ToolError, match="new/run isn't there: leave --resume out to begin a run$"):
+        with run.begun(question, records, True):
+            pass
+    assert not run.path.parent.exists()
     (run.path / "groups").mkdir(parents=True)
     # As if it had been killed before the groups were written.
     (run.path / "groups/records.txt").write_bytes(b"half")

@@ -282,11 +282,12 @@ IN_PYTHON = [
     Slip("olr.Map('town', patience=0)", "not 0", "patience is a number of seconds above 0"),
     Slip("olr.Network.read('nowhere')", "nowhere/nodes.csv", MAP_WANTED),
     Slip("olr.Network('n.csv', 'l.csv')", "n.csv", MAP_WANTED),
+    Slip("olr.Network('nowhere')", "nowhere/nodes.csv", MAP_WANTED),
     Slip("olr.Confidence.of_file('nowhere')", "nowhere", "olr-tools calibrate makes one"),
-    Slip("list(olr.read_messages('nowhere.tsv'))", "nowhere.tsv", "name a file of messages"),
-    Slip(
-        "list(olr.read_messages('feed.tsv', format='tsv'))", "'tsv' is no format", "give tab, csv"
-    ),
+    Slip("olr.read_messages('nowhere.tsv')", "nowhere.tsv", "name a file of messages"),
+    Slip("olr.read_feed('nowhere.tsv')", "nowhere.tsv", "name a file of messages"),
+    Slip("olr.read_messages('feed.tsv', format='tsv')", "'tsv' is no format", "give tab, csv"),
+    Slip("__import__('pickle').dumps(olr.Map('town'))", "can't be pickled", "make one where it is"),
     Slip("list(olr.read_messages('feed.tsv', ref='code'))", "feed.tsv", "leave out --ref"),
     Slip("olr.view(REFERENCE, 'nowhere')", "nowhere/nodes.csv", MAP_WANTED),
     Slip("olr.locate(TABLE, 'ref', 'nowhere')", "nowhere/nodes.csv", MAP_WANTED),

@@ -6,7 +6,7 @@ import sqlite3
 import subprocess
 import tempfile
 import time
-from collections.abc import Iterable, Iterator
+from collections.abc import Generator, Iterable, Iterator
 from contextlib import closing
 from pathlib import Path
 from typing import IO
@@ -27,7 +27,7 @@ class _PatienceOver(Exception):
 
 def lines_about(
     asked: Asked, files: MapFiles, texts: Iterable[bytes], patience: float | None, scratch: Path
-) -> Iterator[RawLine]:
+) -> Generator[RawLine, None, None]:
     """The lines of the program about the texts of references on the map of files, in their order. Each is looked at: it has a fault, or JSON
     in UTF-8. `patience` is how many seconds the program may take for a line, or to end, however long the reader takes between lines; None
     for as long as it takes.
@@ -72,7 +72,7 @@ def _lines(
 ) -> Iterator[RawLine]:
     """The lines that a process writes."""
     assert process.stdout is not None
-    with closing(sqlite3.connect(":memory:")) as reader:
+    with closing(sqlite3.connect(":memory:", check_same_thread=False)) as reader:
         for data in _pieces(process.stdout.fileno(), patience):
             for line in exchange.receive(data):
                 if line.fault is None and not is_json(line.answer, reader):

@@ -32,7 +32,7 @@ class Numbered:
         self._input, self._output = self._process.stdin.fileno(), self._process.stdout.fileno()
         os.set_blocking(self._input, False)
         widen(self._output)
-        self._reader = sqlite3.connect(":memory:")
+        self._reader = sqlite3.connect(":memory:", check_same_thread=False)
         self._answered = 0
         self.last = 0
         """The number of the last record that it was given."""

@@ -1,14 +1,16 @@
 """The processes that answer questions about the map of some files, for all threads that ask."""
 
+import atexit
 import re
 import threading
-import weakref
 from collections import deque
 from collections.abc import Callable, Generator, Iterator, Mapping
-from contextlib import contextmanager
+from contextlib import AbstractContextManager, contextmanager
 from itertools import islice
 from pathlib import Path
+from queue import SimpleQueue
 from typing import NamedTuple, TypeVar
+from weakref import WeakSet, finalize
 
 from olr.asking.exchange import Asked
 from olr.asking.files import MapFiles
@@ -68,14 +70,17 @@ class Processes:
         self.files, self._settings = files, settings
         self._batches: "_Batches" = {}
         self._lock = threading.Lock()
+        self._left: SimpleQueue[Batch] = SimpleQueue()
+        """Those that have one user less. A generator notes it here, since the garbage collector may close it in a thread that has the lock."""
         self._closed = False
-        self._end = weakref.finalize(self, _end_all, self._batches)
+        finalize(self, _abandon_all, self._batches).atexit = False
+        _OPEN.add(self)
 
     def close(self) -> None:
         """Ends the processes: whoever waits for one gets an error."""
         with self._lock:
             self._closed = True
-            self._end()
+            _end_all(self._batches)
 
     def ask(self, question: Kind, text: bytes, read: Callable[[Batch, int], Read]) -> Read:
         """What is read of the line of one reference. Raises `ToolError`."""
@@ -166,7 +171,7 @@ class Processes:
     ) -> Iterator[Read]:
         """Answers to waiting references by a process of their own, each of which is asked when the one before is answered. `before` is
         how many came before them. Raises `TimedOut`, with the reference."""
-        with self._process_alone(question) as batch:
+        with self._used(lambda: self._alone(question)) as batch:
             while waiting:
                 (key,) = batch.ask([waiting[0]])
                 number = None if before is None else before + 1
@@ -178,23 +183,28 @@ class Processes:
                 before = number
                 yield answer
 
+    def _process(self, question: Kind) -> AbstractContextManager[Batch]:
+        """The process for a question, while it is used. One with other numbers is ended when nobody uses it, or at the next question."""
+        return self._used(lambda: self._running(question))
+
     @contextmanager
-    def _process(self, question: Kind) -> Iterator[Batch]:
-        """The process for a question, while it is used. One with other numbers is ended when nobody uses it."""
+    def _used(self, running: Callable[[], Batch]) -> Iterator[Batch]:
+        """A process, while it is used."""
         with self._lock:
-            batch = self._running(question)
+            if self._closed:
+                raise closed_error()
+            batch = running()
             batch.users += 1
+            self._end_idle()
         try:
             yield batch
         finally:
-            with self._lock:
-                batch.users -= 1
-                self._end_idle(question.what)
+            self._left.put(batch)
+        with self._lock:
+            self._end_idle()
 
     def _running(self, question: Kind) -> Batch:
         """The process for a question: the one that runs, or a new one. It is the last of its kind."""
-        if self._closed:
-            raise closed_error()
         there = self._batches.setdefault(question.what, [])
         for pair in there:
             if pair[0] == question and not pair[1].has_failed():
@@ -203,7 +213,6 @@ class Processes:
                 return pair[1]
         batch = self._started(question)
         there.append((question, batch))
-        self._end_idle(question.what)
         return batch
 
     def _started(self, question: Kind) -> Batch:
@@ -212,32 +221,21 @@ class Processes:
         asked = Asked(find_program(self._settings.program), question.what, options)
         return Batch(asked, self.files, self._settings.patience)
 
-    @contextmanager
-    def _process_alone(self, question: Kind) -> Iterator[Batch]:
+    def _alone(self, question: Kind) -> Batch:
         """A new process for a question, which nobody else asks."""
-        with self._lock:
-            if self._closed:
-                raise closed_error()
-            batch = self._started(question)
-            batch.users = 1
-            alone: "tuple[Kind | None, Batch]" = (None, batch)
-            self._batches.setdefault(question.what, []).insert(0, alone)
-        try:
-            yield batch
-        finally:
-            with self._lock:
-                there = self._batches.get(question.what, [])
-                if alone in there:
-                    there.remove(alone)
-                batch.end()
+        batch = self._started(question)
+        self._batches.setdefault(question.what, []).insert(0, (None, batch))
+        return batch
 
-    def _end_idle(self, what: What) -> None:
-        """Ends the processes of a kind that nobody uses, but the last one."""
-        there = self._batches.get(what, [])
-        for pair in there[:-1]:
-            if pair[1].users == 0:
-                there.remove(pair)
-                pair[1].end()
+    def _end_idle(self) -> None:
+        """Ends the processes that nobody uses, but the last one of each kind."""
+        while not self._left.empty():
+            self._left.get().users -= 1
+        for there in self._batches.values():
+            for pair in there[:-1]:
+                if pair[1].users == 0:
+                    there.remove(pair)
+                    pair[1].end()
 
 
 _Batches = dict[What, list[tuple[Kind | None, Batch]]]
@@ -255,9 +253,27 @@ def timed_out(settings: Settings, text: bytes, number: int | None = None) -> Tim
     )
 
 
+_OPEN: WeakSet[Processes] = WeakSet()
+"""Those that Python ends with itself."""
+
+
 def _end_all(batches: _Batches) -> None:
     """Ends the processes of a map."""
     for there in batches.values():
         for _, batch in there:
             batch.end()
     batches.clear()
+
+
+def _abandon_all(batches: _Batches) -> None:
+    """The same where the garbage collector asks for it."""
+    for there in batches.values():
+        for _, batch in there:
+            batch.abandon()
+    batches.clear()
+
+
+@atexit.register
+def _end_open() -> None:
+    for processes in _OPEN:
+        _end_all(processes._batches)

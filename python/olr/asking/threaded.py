@@ -20,6 +20,7 @@ from olr.model.fault import Fault
 from olr.model.objects import RawLine, read_answer
 
 SECONDS_TO_END = 10.0
+INTERRUPTED = "the question was interrupted: ask again"
 
 
 class Batch:
@@ -41,6 +42,8 @@ class Batch:
         self._outbox: queue.SimpleQueue[bytes | None] = queue.SimpleQueue()
         self._asking = threading.Lock()
         self._reading = threading.Lock()
+        self._left: queue.SimpleQueue[Iterable[int]] = queue.SimpleQueue()
+        self._is_abandoned = False
         self._arrived: dict[int, RawLine] = {}
         self._dropped: set[int] = set()
         self._error: ToolError | None = None
@@ -74,8 +77,8 @@ class Batch:
             try:
                 self._outbox.put(self._exchange.ask(texts))
             except BaseException:
-                # Interrupted: it isn't known whether they were handed over.
-                self._fail(ProgramEnded("the question was interrupted: ask again"))
+                # It isn't known whether they were handed over.
+                self._fail(ProgramEnded(INTERRUPTED))
                 raise
             return range(before + 1, self._exchange.asked + 1)
 
@@ -124,11 +127,9 @@ class Batch:
         kill_group(self._process)
 
     def drop(self, keys: Iterable[int]) -> None:
-        """Nobody will wait for the lines of these records any more."""
-        with self._reading:
-            for key in keys:
-                if self._arrived.pop(key, None) is None and key > self._exchange.answered:
-                    self._dropped.add(key)
+        """Nobody will wait for the lines of these records any more. It waits for nothing: the garbage collector may close a generator in the
+        midst of `raw`."""
+        self._left.put(keys)
 
     def unanswered(self) -> int:
         """How many records were handed over and aren't answered, whether or not somebody waits for them."""
@@ -137,6 +138,15 @@ class Batch:
     def has_failed(self) -> bool:
         """Whether each further question would raise an error."""
         return self._error is not None
+
+    def abandon(self) -> None:
+        """As `end`, of a process that nobody uses. It waits for nothing, since the garbage collector may call it at any moment: the thread that
+        writes does the rest."""
+        if os.getpid() != self._owner:
+            return
+        self._is_abandoned = True
+        kill_group(self._process)
+        self._outbox.put(None)
 
     def end(self) -> None:
         """Ends the process, and waits until it has ended. Whoever waits for a line gets an error."""
@@ -176,6 +186,8 @@ class Batch:
                 stream.write(records)
                 stream.flush()
         process.wait()
+        if self._is_abandoned:
+            self.end()
 
     def _await_data(self, begin: float) -> None:
         """Waits until there is something to read, or the process has ended. Raises `TimedOut` where the patience from a moment on is
@@ -192,11 +204,12 @@ class Batch:
 
     def _receive(self) -> None:
         """Reads what there is, at least a byte, and keeps its whole lines for those who asked."""
-        data = os.read(self._answers, PIPE_BYTES)
-        if not data:
-            self._error = self._why_ended()
-            return
         try:
+            self._forget()
+            data = os.read(self._answers, PIPE_BYTES)
+            if not data:
+                self._error = self._why_ended()
+                return
             for line in self._exchange.receive(data):
                 if line.record in self._dropped:
                     self._dropped.discard(line.record)
@@ -204,6 +217,17 @@ class Batch:
                     self._arrived[line.record] = line
         except ProgramEnded as error:
             self._fail(error)
+        except BaseException:
+            # What was read may be lost: the next line would be taken for another one.
+            self._fail(ProgramEnded(INTERRUPTED))
+            raise
+
+    def _forget(self) -> None:
+        """Forgets the lines that nobody waits for any more."""
+        while not self._left.empty():
+            for key in self._left.get():
+                if self._arrived.pop(key, None) is None and key > self._exchange.answered:
+                    self._dropped.add(key)
 
     def _why_ended(self) -> ToolError:
         """The error after the last answer: what the process said, or how it ended."""

@@ -5,7 +5,7 @@ from contextlib import closing
 from itertools import tee
 from pathlib import Path
 from types import TracebackType
-from typing import TYPE_CHECKING, Any, Literal, cast, overload
+from typing import TYPE_CHECKING, Any, Literal, NoReturn, cast, overload
 
 from olr.asking.files import MapFiles
 from olr.asking.patience import PATIENCE, require_patience
@@ -115,6 +115,9 @@ class Map:
                 words.append(f"{argument(name)}={value}")
         text = f"Map({', '.join(words)})"
         return f"<closed {text}>" if self._closed else text
+
+    def __reduce__(self) -> NoReturn:
+        raise TypeError("a Map can't be pickled, as it has processes: make one where it is asked")
 
     def __enter__(self) -> "Map":
         return self

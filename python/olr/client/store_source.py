@@ -169,42 +169,44 @@ class _Regions:
 
     def __init__(self, settings: Settings) -> None:
         self._settings = settings
-        self._there: "_Kept" = {}
-        self.close = weakref.finalize(self, _delete, self._there, os.getpid())
-        """Ends the processes, and deletes the scratch folder: at the latest when Python ends."""
+        self._there: _Region | None = None
+        self._folder: list[Path] = []
+        self._delete = weakref.finalize(self, _delete, self._folder, os.getpid())
+        """Deletes the scratch folder: at the latest when Python ends."""
+
+    def close(self) -> None:
+        """Ends the processes, and deletes the scratch folder."""
+        self.end()
+        self._delete()
 
     def of(self, lines: Integers, store: Store) -> Processes:
         """Processes on a map of the store that has these lines: those that are there, or other ones. Raises `ToolError` if the store can't be
         read, or the scratch folder can't be written."""
-        there = self._there.pop("region", None)
-        if isinstance(there, _Region):
+        there = self._there
+        if there is not None:
             if np.isin(lines, there.lines, assume_unique=True).all():
-                self._there["region"] = there
                 return there.processes
+            self._there = None
             there.processes.close()
         folder = self._scratch() / "map"
         write_scratch_map(store, lines, folder)
         files = PartFiles(folder, Version(store.digest, store.digest))
-        region = _Region(lines, Processes(files, self._settings))
-        self._there["region"] = region
-        return region.processes
+        self._there = _Region(lines, Processes(files, self._settings))
+        return self._there.processes
 
     def end(self) -> None:
         """Ends the processes: whoever waits for them gets an error. Any thread may call it."""
-        there = self._there.get("region")
-        if isinstance(there, _Region):
+        there = self._there
+        if there is not None:
             there.processes.close()
 
     def _scratch(self) -> Path:
         """The scratch folder. Raises `ToolError` if it can't be made."""
-        there = self._there.get("folder")
-        if isinstance(there, Path):
-            return there
-        if not self.close.alive:
+        if not self._delete.alive:
             raise closed_error()
-        folder = new_scratch_folder()
-        self._there["folder"] = folder
-        return folder
+        if not self._folder:
+            self._folder.append(new_scratch_folder())
+        return self._folder[0]
 
 
 class _Region(NamedTuple):
@@ -214,19 +216,11 @@ class _Region(NamedTuple):
     processes: Processes
 
 
-_Kept = dict[str, _Region | Path]
-"""The region that is there, and the scratch folder."""
-
-
-def _delete(kept: _Kept, owner: int) -> None:
-    """Ends the processes of a map, and deletes the scratch folder: in the process that made it."""
-    if os.getpid() != owner:
-        return
-    region, folder = kept.pop("region", None), kept.pop("folder", None)
-    if isinstance(region, _Region):
-        region.processes.close()
-    if isinstance(folder, Path):
-        shutil.rmtree(folder, ignore_errors=True)
+def _delete(folders: list[Path], owner: int) -> None:
+    """Deletes the scratch folder: in the process that made it."""
+    if os.getpid() == owner:
+        for folder in folders:
+            shutil.rmtree(folder, ignore_errors=True)
 
 
 def _size_of_chunk(question: Kind) -> int:

@@ -77,7 +77,7 @@ OF_ROWS, OF_LINES = (
 )
 @options.flag_option(
     "--resume",
-    "Go on with the run that the folder of --out holds. By default a folder that holds one is refused.",
+    "Go on with the run that the folder of --out holds, which has to be there. By default a folder that holds one is refused.",
 )
 @options.file_option(
     "--join",

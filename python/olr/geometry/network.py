@@ -67,8 +67,11 @@ class Network:
     'LineString'
     """
 
-    def __init__(self, nodes: PathLike, lines: PathLike) -> None:
-        """Reads the files of nodes and of lines. Raises `ToolError` if they can't be read, or are changed meanwhile."""
+    def __init__(self, nodes: PathLike, lines: PathLike | None = None) -> None:
+        """Reads the files of nodes and of lines; or, of one path alone, those of a folder. Raises `ToolError` if they can't be read, or are
+        changed meanwhile."""
+        if lines is None:
+            nodes, lines = Path(nodes, NODES), Path(nodes, LINES)
         nodes_file, lines_file = Path(nodes), Path(lines)
         self.folder = lines_file.parent
         self.digest = digest_of(nodes_file, lines_file)
@@ -121,7 +124,7 @@ class Network:
             from olr.geometry.store_network import StoreNetwork
 
             return StoreNetwork(Path(folder))
-        return cls(Path(folder, NODES), Path(folder, LINES))
+        return cls(folder)
 
     def __repr__(self) -> str:
         sizes = f"{len(self.node_id):,} nodes, {len(self.line_id):,} lines"
@@ -178,7 +181,7 @@ class Network:
         """The line of pieces, one behind the other; an empty one for no pieces. A piece is a line's id and two positions.
 
         A position is a share of the line's length, and the same share of its polyline, as the program counts. Raises `MapRefused`
-        if the pieces are of another version of the map, and `ToolError` if it hasn't such a line.
+        if the pieces are of another version of the map, and `ToolError` if it hasn't such a line, it ends before, or a piece runs backwards.
 
         >>> import olr
         >>> network = olr.Network.read("examples")
@@ -203,7 +206,7 @@ class Network:
     def polylines(self, pieces: Integers, counts: Integers) -> Polylines:
         """The lines of many rows of pieces: `pieces` has a line's id and two positions of each, and `counts` says how many of them each
         polyline has. It is what `geometry` makes of each row of them, hundreds of times as fast. Raises `ToolError` if the map hasn't
-        such a line, or it ends before.
+        such a line, it ends before, or a piece runs backwards.
 
         >>> import numpy, olr
         >>> pieces = numpy.array([[104, 0, 2435], [107, 0, 45]])
@@ -213,6 +216,7 @@ class Network:
         index = self.indices_of(pieces[:, 0])
         self._require_on(index, pieces[:, 1])
         self._require_on(index, pieces[:, 2])
+        _require_forward(pieces)
         low, high = (pieces[:, column] / self.length[index] for column in (1, 2))
         starts, ends = self._at(index, low), self._at(index, high)
         doubled = np.zeros(len(index), dtype=np.bool_)
@@ -366,6 +370,16 @@ class Network:
         start, end = self.points[segment - 1], self.points[segment]
         result: Floats = start + (end - start) * part[:, None]
         return result
+
+
+def _require_forward(pieces: Integers) -> None:
+    """Raises `ToolError` for the first piece that runs backwards."""
+    backwards = pieces[:, 1] > pieces[:, 2]
+    if backwards.any():
+        line, start, end = pieces[np.argmax(backwards)]
+        raise ToolError(
+            f"the piece of line {line} from {start} to {end} runs backwards: give the line of the other direction, or the lesser position first"
+        )
 
 
 def middle(route: Pieces, earliest: Place, latest: Place) -> Place:

@@ -1,6 +1,7 @@
 """A table of references, and where each of them is: `olr.locate`."""
 
 from collections.abc import Hashable, Iterable, Iterator
+from contextlib import closing
 from typing import Any
 
 from olr.client.given import MapOrPath, opened
@@ -83,15 +84,16 @@ def locate(
             if places
             else asked.answers("match", texts, page=1)
         )
-        found = to_geodataframe(
-            _with_faults(watched(answers, "locating", len(texts)), cells),
-            asked.network(),
-            part=part,
-            candidates=asked.answers("candidates", texts),
-            confidence=sure,
-            references=texts,
-            most=1,
-        )
+        with closing(watched(answers, "locating", len(texts))) as shown:
+            found = to_geodataframe(
+                _with_faults(shown, cells),
+                asked.network(),
+                part=part,
+                candidates=asked.answers("candidates", texts),
+                confidence=sure,
+                references=texts,
+                most=1,
+            )
     result = table.assign(**{new: found[name].array for name, new in columns.items()})
     return geopandas.GeoDataFrame(result, geometry=columns["geometry"], crs=CRS)
 

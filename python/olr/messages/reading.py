@@ -29,7 +29,14 @@ from olr.messages.message import (
     Message,
     Reading,
 )
-from olr.messages.opening import is_read_twice, name_of, opened, pieces_of, text_lines
+from olr.messages.opening import (
+    STANDARD_INPUT,
+    is_read_twice,
+    name_of,
+    opened,
+    pieces_of,
+    text_lines,
+)
 from olr.messages.packed import Unpackable
 from olr.messages.pieces import stream_of
 from olr.messages.tables import messages_of_table
@@ -52,14 +59,14 @@ def read_messages(
     The file has lines of a key, a tab and a reference, or is CSV, JSON, XML or a table, packed or not; docs/MESSAGES.md says how its format is
     detected, unless `format` says it. `ref` and `key` name the columns or members. With `base64="url"` the references in the file are in base64
     for URLs: those that are given are plain. `olr.read_feed` gives all that is read of a record. Raises `ToolError` if the file can't be read, or
-    it isn't clear what it is, and `ValueError` for what is no format or no base64.
+    it isn't clear what it is, and `ValueError` for what is no format or no base64. A file that isn't there is an error at once.
 
     >>> import olr
     >>> dict(olr.read_messages("examples/messages.tsv"))["m2"]
     'CwVF+yN2yhpnBAFdAAsaFg=='
     """
-    for message in read_feed(file, ref, key, format, base64):
-        yield message.key, message.reference
+    messages = read_feed(file, ref, key, format, base64)
+    return ((message.key, message.reference) for message in messages)
 
 
 def read_feed(
@@ -84,7 +91,11 @@ def read_feed(
         raise ValueError(f"{format!r} is no format: give {', '.join(FORMATS)}")
     require_base64(base64)
     kept = (keep,) if isinstance(keep, str) else tuple(keep)
-    yield from messages_of(Path(file), Reading(format, ref, key, kept, base64))
+    path = Path(file)
+    if path != STANDARD_INPUT:
+        with readable(path, WANTED):
+            path.stat()
+    return messages_of(path, Reading(format, ref, key, kept, base64))
 
 
 def messages_of(

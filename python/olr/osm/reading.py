@@ -276,7 +276,8 @@ def restriction_kind(tags: Tags, table: TagTable, counts: Counts) -> str | None:
     """The kind of a turn restriction, such as no_left_turn, or None if it doesn't hold for all motor vehicles at all times:
     that is counted."""
     kind = first_of(tags, table.restriction_keys)
-    if any(key in tags for key in ("day_on", "day_off", "hour_on", "hour_off")):
+    has_hours = any(key in tags for key in ("day_on", "day_off", "hour_on", "hour_off"))
+    if has_hours or "@" in (kind or ""):
         counts.leave_out("conditional turn restrictions")
     elif kind is not None and table.excepted.intersection(several(value_of(tags, "except"))):
         counts.leave_out("turn restrictions that except motor vehicles")

@@ -1,6 +1,6 @@
 """A process of the program that a worker keeps from one group to the next one, on the map of a folder."""
 
-from collections.abc import Iterator, Sequence
+from collections.abc import Generator, Sequence
 from pathlib import Path
 
 from olr.asking.exchange import Asked
@@ -26,17 +26,20 @@ class Kept:
         files: MapFiles,
         patience: float | None,
         records: Sequence[Record],
-    ) -> Iterator[bytes]:
+    ) -> Generator[bytes, None, None]:
         """The lines of records, whose numbers rise, as `Numbered.lines` has them. Raises as that does; behind an error another process is started."""
         process = self._of((asked, [(one, Stamp.of(one)) for one in files.paths()], patience))
         if process is None or process.last >= records[0].number:
             self.end()
-            process = self._process = Numbered(asked, files, patience)
+            process = Numbered(asked, files, patience)
+        # Until all lines are taken it is of use to nobody else, whenever this generator is closed.
+        self._process = None
         try:
             yield from process.lines(records)
         except BaseException:
-            self.end()
+            process.end()
             raise
+        self._process = process
 
     def end(self) -> None:
         """Ends the process."""

@@ -92,8 +92,10 @@ class RunFolder:
         has. No other run may use the folder meanwhile.
 
         Raises `ToolError` if the folder can't be written, holds something else, or holds a run and `resume` isn't given, or one
-        with another question. Where a run doesn't begin, the folder is as it was.
+        with another question, or isn't there and `resume` is given. Where a run doesn't begin, the folder is as it was.
         """
+        if resume and not self.path.exists():
+            raise ToolError(f"{self.path} isn't there: leave --resume out to begin a run")
         if self.path.exists() and not self.path.is_dir():
             raise ToolError(f"{self.path} is a file: name a folder")
         with ExitStack() as locked:
