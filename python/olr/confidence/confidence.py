@@ -33,7 +33,7 @@ class Confidence:
 
     >>> import olr
     >>> text, sure = "CwVF/yN2yRpnBAFUAAgbpwYBAf9kK0Fa", olr.Confidence.default()
-    >>> with olr.Map("examples", profile="feed") as town:
+    >>> with olr.Map("examples") as town:
     ...     answers = [town.places(text, within=14620, most=100)]
     ...     table = olr.to_geodataframe(answers, town.network(), confidence=sure, references=[text], most=1)
     ...
@@ -107,7 +107,7 @@ class Confidence:
         >>> import olr
         >>> from olr.likely.listed import listed
         >>> text, sure = "CwVF/yN2yRpnBAFUAAgbpwYBAf9kK0Fa", olr.Confidence.default()
-        >>> with olr.Map("examples", profile="feed") as town:
+        >>> with olr.Map("examples") as town:
         ...     network, found = town.network(), [town.places(text, within=14620, most=100)]
         ...
         >>> places = listed(found, network)
@@ -123,7 +123,7 @@ class Confidence:
         >>> import olr
         >>> from olr.likely.listed import listed
         >>> text, sure = "CwVF/yN2yRpnBAFUAAgbpwYBAf9kK0Fa", olr.Confidence.default()
-        >>> with olr.Map("examples", profile="feed") as town:
+        >>> with olr.Map("examples") as town:
         ...     network, found = town.network(), [town.places(text, within=14620, most=100)]
         ...
         >>> places = listed(found, network)
