@@ -30,7 +30,7 @@ def batch(chosen):
 def client(chosen, look):
     """Goes through the answers of the client, and calls a function on each page."""
     texts = [line.split("\t")[-1] for line in chosen.input.read_text().splitlines()]
-    with olr.Map.of_folder(chosen.map, program=chosen.program) as asked:
+    with olr.Map.of_folder(chosen.map, program=chosen.program, profile="program") as asked:
         for page in asked.matches(texts):
             look(page)
 

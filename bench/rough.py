@@ -40,7 +40,7 @@ class Rough:
         if that was before it."""
         headers = {"Content-Type": "text/plain"}
         while not self._is_over.is_set():
-            status, answer, is_whole = await asyncio.to_thread(self._ask, 2, "POST", "/batch/match", body, headers)
+            status, answer, is_whole = await asyncio.to_thread(self._ask, 2, "POST", "/batch/match?profile=program", body, headers)
             if status != 200:
                 self._note(f"streams {status}")
                 continue

@@ -159,7 +159,7 @@ def posted(port, file):
     begin, size = time.perf_counter(), 0
     connection = http.client.HTTPConnection("127.0.0.1", port)
     with open(file, "rb") as body:
-        connection.request("POST", "/batch/match", body, {"Content-Type": "text/plain"})
+        connection.request("POST", "/batch/match?profile=program", body, {"Content-Type": "text/plain"})
         response = connection.getresponse()
         while piece := response.read(1 << 20):
             size += len(piece)

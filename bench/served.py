@@ -50,8 +50,8 @@ def expected_of(program, folder, what, texts):
 
 
 def path_of(what, text):
-    """The path and query of a question."""
-    return f"/{what}?ref={quote(text, safe='')}"
+    """The path and query of a question, asked as `olr` asks by itself, with which it is compared; a scene as the page asks."""
+    return f"/{what}?ref={quote(text, safe='')}" + ("" if what == "scene" else "&profile=program")
 
 
 class Client:

@@ -7,7 +7,7 @@ To begin, install the modules of others: on Debian by `olr-tools setup`, elsewhe
 >>> with olr.Map("examples") as town:
 ...     town.places("CwVF/yN2yRpnBAFUAAgbpwYBAf9kK0Fa")
 ...
-<Places: unique, 1 place, total 8>
+<Places: unique, 1 place, total 12>
 
 and for a table of pandas `olr.locate(frame, "ref", "examples")`. From here go on with `help(olr.Map)`, whose answers are `Places`, `Page`,
 `Candidates` and `Why`; `help(olr.locate)`; `olr.view(reference, "examples")`, which is a page on the map; `olr.decode`, what a reference says

@@ -18,6 +18,7 @@ from drawing import Drawing
 from forked import template
 from olr.counts import Counts
 from olr.model.map_folder import write_map
+from olr.model.profiles import DEFAULT_PROFILE, tolerances_of
 from olr.model.road_map import Line, RoadMap
 from olr.osm.importing import Options, import_osm
 from olr.tools import run
@@ -38,6 +39,15 @@ OF_PROGRAM = ("--profile", "program")
 """Words of `olr-tools` for the program's own tolerances: where what it writes is compared with what the program says, or was drawn for them."""
 ASKED_WITH_PROGRAM = "asked with: radius 100 m, bearing 4 sectors, class 7, lowest 0, percent 30 %, slack 300 dm, profile program"
 """What a summary says then."""
+
+
+def by_default(*words: object) -> list[str]:
+    """Words of the program `olr`, and the tolerances of the default profile that they don't name: by these it says what all that Python asks says."""
+    given = list(map(str, words))
+    usual = {f"--{name}": value for name, value in tolerances_of(DEFAULT_PROFILE).items()}
+    return given + [
+        word for name, value in usual.items() if name not in given for word in (name, str(value))
+    ]
 
 
 def pytest_configure() -> None:

@@ -13,7 +13,7 @@ from pathlib import Path
 from typing import Any, NamedTuple, Union
 from urllib.parse import quote
 
-from conftest import TOP, Program
+from conftest import TOP, Program, by_default
 from forked import Forked
 from olr.__main__ import main
 
@@ -216,10 +216,9 @@ class Expected(NamedTuple):
 def expected_of(
     program: Program, folder: Path, what: str, texts: Sequence[str], *options: object
 ) -> list[Expected]:
-    """What `olr batch` answers to references, in the bytes of its lines."""
+    """What `olr batch` answers to references, in the bytes of its lines: the tolerances that aren't given are those of the default profile."""
     records = "".join(f"k\t{text}\n" for text in texts)
-    words = [program.path, "batch", what, "--map", folder, *options]
-    command = [str(word) for word in words]
+    command = by_default(program.path, "batch", what, "--map", folder, *options)
     ended = subprocess.run(command, input=records.encode(), capture_output=True, check=True)
     found = []
     for number, line in enumerate(ended.stdout.splitlines(), 1):

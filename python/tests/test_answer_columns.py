@@ -125,7 +125,7 @@ def test_columns_are_those_of_the_json(
             wanted.append(row | expected(matching, part, origins) | about)
         if not page["matchings"]:
             wanted.append(row)
-    with olr.Map.of_folder(folder, program=program.path) as asked:
+    with olr.Map.of_folder(folder, program=program.path, profile="program") as asked:
         table = olr.to_geodataframe(
             asked.matches(texts),
             asked.network(),
@@ -152,7 +152,7 @@ NOTHING: Row = {"total": 0, "points": [], "legs": [], "cursor": ""}
 def test_columns_by_hand(program: Program) -> None:
     """The first message of the guide, a kiosk, and one that fits nothing. The kiosk lies on line 701, 269.7 to 271.6 m along it."""
     texts = [REFERENCE, KIOSK, UNMATCHED]
-    with olr.Map.of_folder(TOP / "examples", program=program.path) as town:
+    with olr.Map.of_folder(TOP / "examples", program=program.path, profile="program") as town:
         counted = town.answers("candidates", texts)
         answers = list(town.answers("places", texts))
         table = olr.to_geodataframe(answers, town.network(), list("abc"), candidates=counted)

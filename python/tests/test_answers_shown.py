@@ -41,15 +41,16 @@ def environment(program: Program, monkeypatch: pytest.MonkeyPatch) -> None:
 
 @pytest.fixture
 def town() -> Iterator[olr.Map]:
-    """The map of the examples, with the tolerances of a feed."""
-    with olr.Map(EXAMPLES, profile="feed") as asked:
+    """The map of the examples, with the usual tolerances."""
+    with olr.Map(EXAMPLES) as asked:
         yield asked
 
 
 @pytest.fixture
 def plain_town() -> Iterator[olr.Map]:
     """That map without its bans, with the program's own tolerances."""
-    with olr.Map(EXAMPLES / "nodes.csv", EXAMPLES / "lines.csv") as asked:
+    nodes, lines = EXAMPLES / "nodes.csv", EXAMPLES / "lines.csv"
+    with olr.Map(nodes, lines, profile="program") as asked:
         yield asked
 
 

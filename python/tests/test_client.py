@@ -10,7 +10,7 @@ from typing import Any
 
 import olr
 from asking import as_json, batch_of, draw_map, draw_references, said
-from conftest import REFERENCE, TOP, Program
+from conftest import REFERENCE, TOP, Program, by_default
 from olr.asking.processes import AHEAD
 from olr.asking.program import find_program
 from olr.asking.starting import PIPE_BYTES
@@ -50,7 +50,7 @@ def test_many_references_in_one_go(
     texts = references[: REFERENCES if what == "match" else 150]
     records = tmp_path / "records"
     records.write_text("".join(f"x\t{text}\n" for text in texts), encoding="utf-8")
-    expected = batch_of(program, what, records, ["--map", folder])
+    expected = batch_of(program, what, records, by_default("--map", folder))
     with olr.Map.of_folder(folder, program=program.path) as drawn:
         answers = list(drawn.answers(what, texts))
     assert len(answers) == len(texts)
@@ -68,9 +68,8 @@ def test_one_at_a_time_and_in_one_go(folder: Path, references: list[str], progra
                 alone = fault
             assert alone == answer
     for text in references[:40]:
-        expected = said(
-            program, "match", "--map", folder, "--format", "json", "--page", 3, "--", text
-        )
+        words = by_default("match", "--map", folder, "--format", "json", "--page", 3)
+        expected = said(program, *words, "--", text)
         with olr.Map.of_folder(folder, program=program.path) as drawn:
             (answer,) = drawn.matches([text], page=3)
         shown = plain(answer)
@@ -124,7 +123,9 @@ def test_the_conformance_suite(program: Program, tmp_path: Path) -> None:
             for name in options
             for word in (name, tmp_path / name[2:] if name[2:] in files else options[name])
         ]
-        with olr.Map(nodes, lines, bans, program=program.path, **numbers) as drawn:
+        with olr.Map(
+            nodes, lines, bans, program=program.path, profile="program", **numbers
+        ) as drawn:
             for text, answer in zip(texts, drawn.answers(what, texts, **own)):  # type: ignore[call-overload]
                 expected = said(program, what, *words, "--format", "json", "--", text)
                 shown = plain(answer)
@@ -153,7 +154,8 @@ def test_decode(text: str, program: Program) -> None:
 )
 def test_texts_that_are_hardly_records(text: str, top: Path, program: Program) -> None:
     words = text.replace("\0", "!").encode("utf-8", "replace").decode()
-    expected = said(program, "match", "--map", top / "examples", "--format", "json", "--", words)
+    asked = by_default("match", "--map", top / "examples", "--format", "json")
+    expected = said(program, *asked, "--", words)
     with olr.Map.of_folder(top / "examples", program=program.path) as town:
         before, answer, behind = town.matches([REFERENCE, text, KIOSK])
         assert plain(answer) == expected
@@ -166,7 +168,9 @@ def test_texts_that_are_hardly_records(text: str, top: Path, program: Program) -
 
 def test_names_of_the_answers(top: Path, program: Program) -> None:
     examples = top / "examples"
-    with olr.Map(examples / "nodes.csv", examples / "lines.csv", program=program.path) as town:
+    with olr.Map(
+        examples / "nodes.csv", examples / "lines.csv", program=program.path, profile="program"
+    ) as town:
         best = town.match(REFERENCE).matchings[0]
         assert (best.total, best.route[0], best.points[1].line) == (8, (104, 13, 2435), 107)
         assert best.outer is not None and best.outer.length() == 1556 + 2150 + 324 + 1585
@@ -183,7 +187,11 @@ def test_names_of_the_answers(top: Path, program: Program) -> None:
         with pytest.raises(AttributeError):
             best.total = 1  # type: ignore[misc]
     with olr.Map(
-        examples / "nodes.csv", examples / "lines.csv", lowest=2, program=program.path
+        examples / "nodes.csv",
+        examples / "lines.csv",
+        lowest=2,
+        program=program.path,
+        profile="program",
     ) as wider:
         assert wider.match(UNMATCHED).matchings[0].total == 12
 

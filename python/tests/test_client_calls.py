@@ -15,6 +15,7 @@ import olr
 from asking import as_json, said
 from conftest import REFERENCE, TOP, Program
 from olr.content import Content, digest_of
+from olr.model.profiles import DEFAULT_PROFILE, tolerances_of
 from olr.model.questions import NUMBERS, TOLERANCES, Number
 
 EXAMPLES = TOP / "examples"
@@ -39,7 +40,7 @@ def folder(tmp_path: Path) -> Path:
 
 
 def test_pages(program: Program) -> None:
-    with olr.Map.of_folder(EXAMPLES, program=program.path) as town:
+    with olr.Map.of_folder(EXAMPLES, program=program.path, profile="program") as town:
         every = town.match(BREAKDOWN, page=1000)
         assert len(every.matchings) == 4 and every.next is None
         for size in (1, 2, 3, 4):
@@ -191,13 +192,14 @@ def test_numbers_that_arent_there() -> None:
 
 
 def test_defaults() -> None:
-    """The table, and what help shows of the calls, are the same."""
+    """What help shows of the calls is that of the table, and of the profile where none is named."""
     calls: list[Callable[..., object]] = [olr.Map.__init__, olr.Map.of_folder]
     assert inspect.signature(olr.Map).parameters.keys() > {"nodes", "radius", "patience"}
     for call in calls:
         parameters = inspect.signature(call).parameters
         for name, number in TOLERANCES.items():
-            assert parameters["class_" if name == "class" else name].default == number.default
+            usual = tolerances_of(DEFAULT_PROFILE)[name]
+            assert parameters["class_" if name == "class" else name].default == usual
             assert number.range_text() in (inspect.getdoc(call) or "")
     for what, of_question in NUMBERS.items():
         parameters = inspect.signature(getattr(olr.Map, what)).parameters
@@ -242,7 +244,7 @@ def test_a_map_that_changes_while_it_is_read(folder: Path, program: Program) -> 
     change = f"sed -i s/7418773/7418774/ {folder}/lines.csv"
     script.write_text(f'#!/bin/sh\n{change}\nexec {program.path} "$@"\n')
     script.chmod(0o755)
-    with olr.Map.of_folder(folder, program=script) as town:
+    with olr.Map.of_folder(folder, program=script, profile="program") as town:
         calls: list[Call] = [lambda: town.match(KIOSK), lambda: town.match(KIOSK, after="0:1.1")]
         for call in calls:
             shutil.copy(EXAMPLES / "lines.csv", folder)

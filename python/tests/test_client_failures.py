@@ -42,7 +42,7 @@ def nothing_left() -> Iterator[None]:
 
 def town(program: Program) -> olr.Map:
     """The map of the examples."""
-    return olr.Map.of_folder(TOP / "examples", program=program.path)
+    return olr.Map.of_folder(TOP / "examples", program=program.path, profile="program")
 
 
 def script(folder: Path, text: str) -> Path:

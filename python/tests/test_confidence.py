@@ -342,10 +342,10 @@ def test_what_is_no_file(text: str, reason: str, tmp_path: Path) -> None:
 
 
 def test_other_numbers() -> None:
-    made = confidence_of()
-    assert made.others({}, 750) == "" == made.others({"class_": 7, "radius": 100}, 750)
+    made = confidence_of(tolerances=tolerances_of(FEED))
+    assert made.others({}, 750) == "" == made.others({"class_": 7, "radius": 75}, 750)
     assert made.others({"radius": 50, "class_": 3}, 100) == (
-        "radius is 50, not 100; class is 3, not 7; apart is 100, not 750"
+        "radius is 50, not 75; class is 3, not 7; apart is 100, not 750"
     )
 
 

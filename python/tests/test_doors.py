@@ -12,9 +12,10 @@ from pathlib import Path
 from typing import Any, NamedTuple, TypeGuard
 
 import olr
+from browser import Browser
 from confidences import FEED as OF_FEED
 from confidences import write_confidence
-from conftest import Program
+from conftest import TOP, Program, Tools
 from feeds import data_of, point_along_line
 from olr.comparing.columns import CHANGES
 from olr.confidence.expected import Expected
@@ -26,7 +27,8 @@ from olr.matching.tables import Columns
 from olr.model.answers import AnswerOrFault, Places
 from olr.model.fault import Fault
 from olr.model.map_folder import read_map
-from olr.model.profiles import FEED
+from olr.model.profiles import FEED, PROFILES
+from olr.model.questions import NUMBERS, What
 from olr.regions.making import make_store_of_folder
 from olr.tools import run
 from olr.trials.changing import Spreads, changed_points
@@ -34,6 +36,7 @@ from olr.trials.encoder import text_of
 from olr.trials.graph import Graph
 from olr.trials.paths import Paths
 from olr.trials.roads import Roads
+from page_of_file import FilePage, write_page
 from runs import answer_all
 from servers import Server, path_of, serving
 from vector_files import write_tempe
@@ -48,6 +51,7 @@ WEIGHTS = {"distance": 0.02, "direction": 0.2, "length": 0.05, "behind": 0.02, "
 WEIGHTS |= {"none": -5.0, "none_points": -0.5, "none_lines": 0.5}
 DRAWN, LINES = 100, 14
 """So many references of lines are drawn and matched, and so many are asked for in each way."""
+EXAMPLES = TOP / "examples"
 PAGES = 5
 """So many of them are viewed: each page asks anew."""
 COLUMNS = [name for name in ANSWERS if name != "candidates"]
@@ -333,3 +337,199 @@ def is_place(answer: AnswerOrFault) -> TypeGuard[Places | Fault]:
 def absent(value: Any) -> Any:
     """None for what pandas has in place of a value that isn't there."""
     return None if pandas.isna(value) else value
+
+
+# ---- without options
+
+
+class Usual(NamedTuple):
+    """The messages of the examples, and what `olr-tools match` says of them, as a user would ask."""
+
+    texts: Mapping[str, str]
+    """The references by their keys."""
+    rows: Mapping[What, Mapping[str, Sequence[Row]]]
+    """The rows of each, of matchings and of places, the likeliest place first."""
+
+
+@pytest.fixture(scope="module")
+def usual(program: Program, tmp_path_factory: pytest.TempPathFactory) -> Usual:
+    place, messages = tmp_path_factory.mktemp("usual"), EXAMPLES / "messages.tsv"
+    words = ["match", messages, "--map", EXAMPLES, "--out"]
+    with pytest.MonkeyPatch.context() as patch:
+        patch.setenv("OLR_PROGRAM", os.fspath(program.path))
+        assert run(list(map(str, [*words, place / "match.csv"]))) == 0
+        assert run(list(map(str, [*words, place / "places.csv", "--places"]))) == 0
+    texts = dict(line.split("\t") for line in messages.read_text().splitlines())
+    return Usual(
+        texts,
+        {
+            "match": by_keys(rows_of(place / "match.csv")),
+            "places": by_keys(rows_of(place / "places.csv")),
+        },
+    )
+
+
+@pytest.fixture(scope="module")
+def usual_server(program: Program, tmp_path_factory: pytest.TempPathFactory) -> Iterator[Server]:
+    with serving(program.path, EXAMPLES, tmp_path_factory.mktemp("server") / "log") as started:
+        yield started
+
+
+def table_rows(table: "pandas.DataFrame") -> list[Row]:
+    """The rows of a table, without their geometries."""
+    found = table.drop(columns="geometry").astype(object).to_dict("records")
+    return [{name: absent(value) for name, value in row.items()} for row in found]
+
+
+def scene_of_view(text: str, file: Path) -> Any:
+    """What the page of `olr-tools view` shows of a reference."""
+    assert run(["view", text, "--map", str(EXAMPLES), "--out", str(file), "--force"]) == 0
+    return data_of(file)
+
+
+def test_the_profiles_differ(usual: Usual, tmp_path: Path) -> None:
+    """The messages tell which one is asked with, or the tests below would show little."""
+    verdicts = []
+    for profile in PROFILES:
+        with olr.Map(EXAMPLES, profile=profile) as town:
+            answers = town.answers("places", usual.texts.values())
+            verdicts.append([getattr(one, "verdict", "fault") for one in answers])
+    assert verdicts[0] != verdicts[1]
+    assert [rows[0]["verdict"] for rows in usual.rows["places"].values()] in verdicts
+
+
+def test_locate_by_default(usual: Usual) -> None:
+    """All columns of each row, in the two ways to name a map."""
+    table = pandas.DataFrame({"ref": usual.texts.values()}, index=list(usual.texts))
+    firsts = [rows[0] for rows in usual.rows["places"].values()]
+    assert list(usual.rows["places"]) == list(usual.texts)
+    with olr.Map(EXAMPLES) as town:
+        for found in (olr.locate(table, "ref", EXAMPLES), olr.locate(table, "ref", town)):
+            assert only(table_rows(found), list(ANSWERS)) == only(firsts, list(ANSWERS))
+
+
+@pytest.mark.parametrize("what", ["match", "places"])
+def test_tables_by_default(what: What, usual: Usual) -> None:
+    """All rows of a table of answers, and all pages of references."""
+    texts, long = list(usual.texts.values()), LIST if what == "places" else {}
+    with olr.Map.of_folder(EXAMPLES) as town:
+        table = olr.to_geodataframe(
+            [one for one in town.answers(what, texts, **long) if is_located(one)],
+            town.network(),
+            keys=list(usual.texts),
+            confidence=olr.Confidence.default() if what == "places" else None,
+            references=texts,
+            within=NUMBERS["places"]["within"].default if what == "places" else None,
+        )
+    rows = by_keys(table_rows(table))
+    for key, expected in usual.rows[what].items():
+        assert only(rows[key]) == only(expected)
+
+
+def is_located(answer: AnswerOrFault) -> "TypeGuard[olr.Page | Places | Fault]":
+    """Whether an answer is one to `match` or `places`."""
+    return isinstance(answer, (olr.Page, Places, Fault))
+
+
+def said_of(scene: Any) -> Any:
+    """What the picture says of the answer, and how it was asked."""
+    totals = [entry["total"] for entry in scene["entries"]]
+    return scene["command"], scene["verdict"], scene["probability"], totals
+
+
+def test_pages_by_default(usual: Usual, tmp_path: Path) -> None:
+    """The pages of `view` and `report`, and those of a notebook."""
+    report, messages = tmp_path / "report.html", EXAMPLES / "messages.tsv"
+    assert run(["report", str(messages), "--map", str(EXAMPLES), "--out", str(report)]) == 0
+    found = data_of(report)
+    for row, scene in zip(found["rows"], found["scenes"], strict=True):
+        expected = usual.rows["places"][row["key"]][0]
+        if expected["fault"]:
+            continue
+        assert row["verdict"] == expected["verdict"] == scene["verdict"]["word"]
+        text = usual.texts[row["key"]]
+        viewed = scene_of_view(text, tmp_path / "view.html")
+        olr.view(text, EXAMPLES).save(tmp_path / "notebook.html")
+        assert data_of(tmp_path / "notebook.html") == viewed
+        assert said_of(scene) == said_of(viewed)
+
+
+@pytest.mark.parametrize("what", NUMBERS)
+def test_lines_by_default(
+    what: What,
+    usual: Usual,
+    usual_server: Server,
+    tmp_path: Path,
+    monkeypatch: pytest.MonkeyPatch,
+) -> None:
+    """The answers of a run, of streams, of addresses and of a map, as the program writes them. A run asks for the long list of places."""
+    monkeypatch.setattr("olr.commands.run.answer_here", answer_all)
+    lines = tmp_path / "lines.jsonl"
+    words = ["--map", EXAMPLES, "--out", tmp_path / "run", "--join", lines]
+    asked = [] if what == "match" else [f"--{what}"]
+    messages = EXAMPLES / "messages.tsv"
+    assert run(list(map(str, ["run", messages, *words, *asked]))) == 0
+    query = "&".join(f"{name}={value}" for name, value in LIST.items()) if what == "places" else ""
+    body = messages.read_text()
+    reply = usual_server.get(f"/batch/{what}?{query}", "POST", body, Content_Type="text/plain")
+    assert reply.body == lines.read_bytes()
+    reply = usual_server.get(f"/batch/{what}", "POST", body, Content_Type="text/plain")
+    with olr.Map(EXAMPLES) as town:
+        for text, line in zip(usual.texts.values(), reply.body.splitlines(), strict=True):
+            posted = usual_server.get(
+                f"/{what}", "POST", json.dumps({"ref": text}), Content_Type="application/json"
+            )
+            one = usual_server.get(path_of(what, text))
+            if json.loads(line)["fault"] is None:
+                raw = town.raw_answer(what, text)
+                assert line.startswith(b'{"answer":' + raw + b',"fault":null,')
+                assert one.body == posted.body == raw
+            else:
+                assert one.status == posted.status == 422
+
+
+def test_serve_by_default(usual: Usual, usual_server: Server, tmp_path: Path) -> None:
+    """The rows of a body, GeoJSON, and the scene of each reference."""
+    body = (EXAMPLES / "messages.tsv").read_text()
+    reply = usual_server.get("/rows", "POST", body, Content_Type="text/plain")
+    for row in map(json.loads, reply.body.splitlines()):
+        names = [name for name in row if name in ANSWERS]
+        assert only([row], names) == only(usual.rows["places"][row["key"]][:1], names)
+    seq = {"Content_Type": "text/plain", "Accept": "application/geo+json-seq"}
+    for what, rows in usual.rows.items():
+        reply = usual_server.get(f"/batch/{what}", "POST", body, **seq)
+        found = [json.loads(line)["properties"] for line in reply.body.split(b"\x1e")[1:]]
+        assert only(found) == [row for some in rows.values() for row in only(some)]
+        for key, text in usual.texts.items():
+            one = usual_server.get(path_of(what, text), Accept="application/geo+json")
+            if rows[key][0]["fault"]:
+                continue
+            properties = [it["properties"] for it in json.loads(one.body)["features"]]
+            assert only(properties, list(ANSWERS)) == only(rows[key], list(ANSWERS))
+    for key, text in usual.texts.items():
+        scene = usual_server.get(path_of("scene", text))
+        if not usual.rows["places"][key][0]["fault"]:
+            assert json.loads(scene.body) == scene_of_view(text, tmp_path / "view.html")
+
+
+def test_page_by_default(
+    usual: Usual, usual_server: Server, browser: Browser, tools: Tools, tmp_path: Path
+) -> None:
+    """The page that answers by itself says what the server says."""
+    page = FilePage(browser, write_page(tools, EXAMPLES, tmp_path / "page.html"))
+    page.begin()
+    whats = [*NUMBERS, "scene"]
+    paths = [path_of(what, text) for what in whats for text in usual.texts.values()]
+    for path, (status, text) in zip(paths, page.answers([path[1:] for path in paths])):
+        reply = usual_server.get(path)
+        assert status == reply.status
+        if path.startswith("/scene") and status == 200:
+            assert said_of(json.loads(text)) == said_of(json.loads(reply.body))
+        elif status == 200:
+            assert text.encode() == reply.body
+    body = (EXAMPLES / "messages.tsv").read_text()
+    rows = page.value(
+        f"fetch('rows', {{ method: 'POST', body: {json.dumps(body)} }}).then(it => it.text())"
+    )
+    wanted = usual_server.get("/rows", "POST", body, Content_Type="text/plain").body
+    assert list(map(json.loads, rows.splitlines())) == list(map(json.loads, wanted.splitlines()))

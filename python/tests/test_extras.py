@@ -61,7 +61,7 @@ import olr, pydoc
 assert "olr.Network" in pydoc.render_doc(olr) and "Network" not in dir(olr)
 program, examples, text = sys.argv[2:]
 print(olr.decode(text, program=program).kind)
-with olr.Map.of_folder(examples, program=program) as town:
+with olr.Map.of_folder(examples, program=program, profile="program") as town:
     print(town.match(text).matchings[0].total, town.places(text).verdict, town.why(text).verdict)
     print(len(town.candidates(text).points), len(list(town.pages(text))))
     print(town.match(text).to_dict()["next"], "<table>" in town.places(text)._repr_html_())

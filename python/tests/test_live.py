@@ -11,7 +11,7 @@ from typing import Any
 
 import olr
 from browser import Browser
-from conftest import OF_PROGRAM, REFERENCE, TOP, Program, Tools
+from conftest import OF_PROGRAM, REFERENCE, TOP, Program, Tools, by_default
 from feeds import Feed, make_feed
 from live_maps import Made, draw_made
 from olr.model.questions import NUMBERS, TOLERANCES, What
@@ -82,8 +82,9 @@ def answer_on_all(
     program: Program, made: Made, what: What, reference: str, numbers: dict[str, int]
 ) -> Any:
     """What the program answers on the whole map."""
-    words = [word for name, value in numbers.items() for word in (f"--{name}", value)]
-    ended = program.run(what, reference, "--map", made.folder, "--format", "json", *words)
+    given = [word for name, value in numbers.items() for word in (f"--{name}", value)]
+    words = by_default(what, reference, "--map", made.folder, "--format", "json", *given)
+    ended = program.run(*words)
     return json.loads(ended.stdout) if ended.returncode == 0 else ended.stderr.split()[1]
 
 

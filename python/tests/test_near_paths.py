@@ -67,7 +67,7 @@ def notes_on(
     make_store_of_folder(whole, store)
     found = []
     for path in (whole, store):
-        with olr.Map(path, program=program.path, lowest=lowest) as asked:
+        with olr.Map(path, program=program.path, profile="program", lowest=lowest) as asked:
             matching = asked.match(drawn.text).matchings[0]
             reference = olr.decode(drawn.text, program=program.path)
             streets = streets_of(asked, reference, matching)
@@ -449,7 +449,7 @@ def test_a_drawn_town(program: Program, tmp_path: Path) -> None:
                 continue
             reference, matching = olr.decode(text, program=program.path), page.matchings[0]
             streets = streets_of(asked, reference, matching)
-            notes = near_paths(matching, reference, streets, 0)
+            notes = near_paths(matching, reference, streets, asked.tolerances["lowest"])
             assert_right(streets, reference, matching, notes)
             seen += len(notes)
     assert seen > 40

@@ -184,7 +184,9 @@ def test_tables(program: Program, tmp_path: Path, suffix: str) -> None:
     examples = TOP / "examples"
     network = olr.Network.read(examples)
     texts = [REFERENCE, ROADWORKS, "CwVGnSN2zhvHCgDX", "CwVGnSN2zhtnBgEB/2IjAQ=="]
-    with olr.Map(examples / "nodes.csv", examples / "lines.csv", program=program.path) as town:
+    with olr.Map(
+        examples / "nodes.csv", examples / "lines.csv", program=program.path, profile="program"
+    ) as town:
         table = olr.to_geodataframe(town.matches(texts), network, keys=["a", "b", "c", "d"])
         places = olr.to_geodataframe([town.places(ROADWORKS)], network, part="inner")
         kiosk = olr.to_geodataframe([town.match(KIOSK)], network)

@@ -44,15 +44,16 @@ def environment(program: Program, monkeypatch: pytest.MonkeyPatch) -> None:
 
 @pytest.fixture
 def town() -> Iterator[olr.Map]:
-    """The map of the examples, with the tolerances of a feed."""
-    with olr.Map(EXAMPLES, profile="feed") as asked:
+    """The map of the examples, with the usual tolerances."""
+    with olr.Map(EXAMPLES) as asked:
         yield asked
 
 
 @pytest.fixture
 def plain_town() -> Iterator[olr.Map]:
     """That map without its bans, with the program's own tolerances."""
-    with olr.Map(EXAMPLES / "nodes.csv", EXAMPLES / "lines.csv") as asked:
+    nodes, lines = EXAMPLES / "nodes.csv", EXAMPLES / "lines.csv"
+    with olr.Map(nodes, lines, profile="program") as asked:
         yield asked
 
 
@@ -173,11 +174,11 @@ def test_the_part_of_the_geometry(town: olr.Map) -> None:
 
 
 def test_a_series_becomes_a_column() -> None:
-    """By its own name, or the one that is given. A path is a map with the program's own tolerances, which have no probabilities."""
+    """By its own name, or the one that is given. A path is a map with the usual tolerances, which have probabilities."""
     named = pandas.Series([SLOW], name="message", index=["x"])
     found = olr.locate(named, map=str(EXAMPLES))
     assert list(found.columns)[:2] == ["message", "likely"] and list(found.index) == ["x"]
-    assert found["verdict"].tolist() == ["unique"] and found["probability"].isna().all()
+    assert found["verdict"].tolist() == ["unique"] and found["probability"].notna().all()
     assert olr.locate(named, "other", EXAMPLES).columns[0] == "other"
     assert olr.locate(named.rename(None), map=EXAMPLES).columns[0] == "ref"
 
@@ -314,11 +315,13 @@ def test_a_view_is_the_page_of_the_command(text: str, tmp_path: Path, own_folder
     words = ["view", text, "--map", str(own_folder), "--within", "1", "--out"]
     assert run([*words, str(of_feed)]) == 0
     assert run([*words, str(of_program), *OF_PROGRAM]) == 0
-    with olr.Map(own_folder, profile="feed") as asked:
+    assert olr.view(text, own_folder, within=1).page == of_feed.read_text()
+    with olr.Map(own_folder) as asked:
         assert olr.view(text, asked, within=1).page == of_feed.read_text()
         answer = about(asked.why(text), text)
         assert olr.view(answer, asked, within=1).page == of_feed.read_text()
-    assert olr.view(text, own_folder, within=1).page == of_program.read_text()
+    with olr.Map(own_folder, profile="program") as asked:
+        assert olr.view(text, asked, within=1).page == of_program.read_text()
 
 
 def test_a_view_by_the_program_of_its_map(
@@ -369,7 +372,7 @@ def test_a_view_names_no_folder_that_isnt_the_map(plain_town: olr.Map, tmp_path:
 def test_answers_of_a_map_know_their_reference(town: olr.Map, tmp_path: Path) -> None:
     """However they are asked for, on a folder and on a store."""
     make_store_of_folder(EXAMPLES, tmp_path / "town.gpkg")
-    with olr.Map(tmp_path / "town.gpkg", profile="feed") as store:
+    with olr.Map(tmp_path / "town.gpkg") as store:
         for asked in (town, store):
             first, second = asked.pages(BREAKDOWN, page=3)
             answers = [asked.why(SLOW), asked.places(SLOW), asked.candidates(SLOW), first, second]

@@ -13,8 +13,8 @@ import olr
 from alone import draw_two_ways
 from asking import draw_references
 from browser import Browser
-from conftest import TOP, Program, Tools
-from olr.model.profiles import PROFILES, tolerances_of
+from conftest import TOP, Program, Tools, by_default
+from olr.model.profiles import DEFAULT_PROFILE, PROFILES, tolerances_of
 from olr.model.questions import NUMBERS, TOLERANCES, What
 from page_of_file import FilePage, answer_in, lines_of_batch, write_page
 
@@ -91,7 +91,7 @@ def drawn_options(what: What, draws: random.Random) -> Options:
 
 def words_of(options: Options) -> list[str]:
     """The same as words of the program."""
-    numbers: Options = {**tolerances_of(str(options.get("profile", "program"))), **options}
+    numbers: Options = {**tolerances_of(str(options.get("profile", DEFAULT_PROFILE))), **options}
     numbers.pop("profile", None)
     return [word for name, it in numbers.items() for word in (f"--{name}", str(it))]
 
@@ -183,7 +183,7 @@ def test_lines_within_references(all_asked: list[Asked]) -> None:
     asked = all_asked[0]
     ref = asked.references[0]
     given = [f"{ref}\n{ref}", f"{ref[:8]}\n{ref[8:]}", f"\n{ref}\r\n", f"{ref}\r{ref}", "\n"]
-    on = ("--map", asked.folder)
+    on = by_default("--map", asked.folder)
     require_same(
         asked.page,
         [single_case(asked.program, what, one, {}, *on) for what in QUESTIONS for one in given],
@@ -203,7 +203,7 @@ def test_pages_behind_a_cursor(all_asked: list[Asked]) -> None:
     """Those that a first page ends with, and others, which aren't its."""
     count, faults = 0, set()
     for asked in all_asked:
-        on = ("--map", asked.folder)
+        on = by_default("--map", asked.folder)
         expected = []
         for ref in list(dict.fromkeys(asked.references))[:15]:
             first = asked.program.run("match", *on, "--page", 1, "--format", "json", "--", ref)

@@ -9,7 +9,7 @@ from typing import Any, get_args
 
 from asking import draw_map
 from browser import Browser
-from conftest import REFERENCE, TOP, Program, Tools
+from conftest import REFERENCE, TOP, Program, Tools, by_default
 from olr.model.questions import What
 from olr.pages.alone import module
 from page_of_file import FilePage, answer_in, lines_of_batch, write_page
@@ -102,7 +102,8 @@ def problem(page: FilePage, address: str) -> tuple[int, str, str]:
 def require_answers(page: FilePage, program: Program, folder: Path, reference: str) -> None:
     """The page answers as the program does."""
     whats: tuple[What, ...] = get_args(What)
-    lines = [lines_of_batch(program, what, folder, [("", reference)])[0] for what in whats]
+    usual = by_default()
+    lines = [lines_of_batch(program, what, folder, [("", reference)], *usual)[0] for what in whats]
     found = page.answers([f"{what}?ref={reference}" for what in whats])
     assert found == [(200, answer_in(line)) for line in lines]
 
@@ -127,7 +128,7 @@ def test_answers_that_there_is_no_room_for(
 
     def asked(count: int) -> Any:
         body = "".join(f"{number}\t{reference}\n" for number in range(count))
-        asking = f"fetch('rows?look=10000', {{ method: 'POST', body: {json.dumps(body)} }})"
+        asking = f"fetch('rows?profile=program&look=10000', {{ method: 'POST', body: {json.dumps(body)} }})"
         return page.value(f"{asking}.then(async answer => [answer.status, await answer.text()])")
 
     status, text = asked(100)

@@ -3,6 +3,7 @@
 import inspect
 import json
 import os
+import pandas
 import pytest
 import shlex
 from collections.abc import Callable, Iterator
@@ -13,19 +14,20 @@ import olr
 from asking import as_json, said
 from conftest import REFERENCE, Program
 from feeds import data_of
-from olr.model.profiles import FEED, PROFILES, PROGRAM, tolerances_of
+from olr.model.profiles import DEFAULT_PROFILE, FEED, PROFILES, PROGRAM, tolerances_of
 from olr.model.questions import TOLERANCES
 from olr.regions.making import make_store_of_folder
 from profiled import DEFAULTS, EXAMPLES, LACKING, MESSAGES, texts_of, tools, words_of
 from servers import Server, expected_of, path_of, serving
 
 CASES: list[tuple[dict[str, Any], dict[str, int]]] = [
-    ({}, DEFAULTS),
+    ({}, tolerances_of(DEFAULT_PROFILE)),
+    ({"lowest": 0}, {**tolerances_of(DEFAULT_PROFILE), "lowest": 0}),
     ({"profile": PROGRAM}, DEFAULTS),
     ({"profile": FEED}, tolerances_of(FEED)),
     ({"profile": FEED, "lowest": 0}, {**tolerances_of(FEED), "lowest": 0}),
 ]
-"""Options of a call or an address that speaks for the program, and which tolerances hold then."""
+"""Options of a call or an address, and which tolerances hold then."""
 
 
 @pytest.fixture(autouse=True)
@@ -104,7 +106,7 @@ def test_stores_have_no_command(tmp_path: Path) -> None:
 
 
 def test_maps(program: Program) -> None:
-    """By default the program's own, and single tolerances win."""
+    """Single tolerances win over those of a profile."""
     for given, tolerances in CASES:
         words = ["--map", EXAMPLES, *words_of(tolerances), "--format", "json"]
         for town in (olr.Map(EXAMPLES, **given), olr.Map.of_folder(EXAMPLES, **given)):
@@ -116,17 +118,58 @@ def test_maps(program: Program) -> None:
 
 def test_a_map_says_what_it_has() -> None:
     """A map of the same tolerances, as it is written in Python."""
-    assert repr(olr.Map("x", profile=PROGRAM)) == repr(olr.Map("x"))
-    own = ", ".join(
-        f"{name}={value}" for name, value in tolerances_of(FEED).items() if value != DEFAULTS[name]
-    )
-    assert repr(olr.Map("x", profile=FEED)) == repr(olr.Map("x"))[:-1] + f", {own})"
+    radius = tolerances_of(DEFAULT_PROFILE)["radius"]
+    cases: list[tuple[dict[str, Any], dict[str, Any], str]] = [
+        ({}, {"profile": DEFAULT_PROFILE}, ""),
+        ({"radius": radius, "profile": DEFAULT_PROFILE}, {"profile": DEFAULT_PROFILE}, ""),
+        (
+            {"radius": radius + 1},
+            {"profile": DEFAULT_PROFILE, "radius": radius + 1},
+            f", radius={radius + 1}",
+        ),
+        ({"profile": PROGRAM}, {"profile": PROGRAM}, ", profile='program'"),
+        (
+            {"class_": 2, "profile": PROGRAM},
+            {"profile": PROGRAM, "class_": 2},
+            ", profile='program', class_=2",
+        ),
+    ]
+    plain = repr(olr.Map("x")).removesuffix(")")
+    for given, asked_with, text in cases:
+        town = olr.Map("x", **given)
+        assert (town.asked_with, repr(town)) == (asked_with, f"{plain}{text})")
+        again = olr.Map("x", **town.asked_with)
+        assert (again.tolerances, repr(again)) == (town.tolerances, repr(town))
     calls: list[Callable[..., object]] = [olr.Map, olr.Map.of_folder]
     for call in calls:
-        assert inspect.signature(call).parameters["profile"].default == PROGRAM
+        assert inspect.signature(call).parameters["profile"].default == DEFAULT_PROFILE
         assert "`ValueError` for what is no profile" in (inspect.getdoc(olr.Map.__init__) or "")
         with pytest.raises(ValueError, match="'fed' is no profile: the profiles are program, feed"):
             call("x", profile="fed")
+
+
+def test_tables_say_how_was_asked() -> None:
+    """Those of one asking; of several, and where no answer knows, a table says nothing. That of the table that was given stays."""
+    table = pandas.DataFrame({"ref": [REFERENCE, LACKING]})
+    table.attrs["source"] = "mine"
+    cases: list[dict[str, Any]] = [{}, {"profile": PROGRAM}, {"radius": 60, "class_": 2}]
+    for given in cases:
+        with olr.Map(EXAMPLES, **given) as town:
+            asked_with: dict[str, Any] = {"asked_with": town.asked_with}
+            assert olr.locate(table, "ref", town).attrs == {"source": "mine", **asked_with}
+            assert olr.locate(pandas.Series([], dtype=object), map=town).attrs == asked_with
+            pages, network = list(town.matches([REFERENCE, "none"])), town.network()
+            assert olr.to_geodataframe(pages, network).attrs == asked_with
+            assert olr.to_pieces(pages, network).attrs == asked_with
+            (page,) = town.pages(REFERENCE)
+            after = town.match(REFERENCE, after=page.matchings[0].cursor)
+            for one in (page, after, town.places(REFERENCE), town.why(REFERENCE)):
+                assert one.asked_with == town.asked_with
+    assert olr.locate(table, "ref", EXAMPLES).attrs["asked_with"] == {"profile": DEFAULT_PROFILE}
+    with olr.Map(EXAMPLES) as town, olr.Map(EXAMPLES, radius=60) as other:
+        both = [town.match(REFERENCE), other.match(REFERENCE)]
+        assert olr.to_geodataframe(both, town.network()).attrs == {}
+        assert olr.to_geodataframe([olr.Fault("Empty")], town.network()).attrs == {}
 
 
 def test_stores_take_a_profile(tmp_path: Path) -> None:
@@ -149,7 +192,7 @@ def server(program: Program, tmp_path_factory: pytest.TempPathFactory) -> Iterat
 
 @pytest.mark.parametrize("what", ["candidates", "match", "places", "why"])
 def test_addresses(what: str, server: Server, program: Program) -> None:
-    """By default the program's own. Streams and single answers are the same."""
+    """Streams and single answers are the same."""
     for options, tolerances in CASES:
         texts = texts_of(MESSAGES)
         expected = expected_of(program, EXAMPLES, what, texts, *words_of(tolerances))
@@ -164,9 +207,8 @@ def test_addresses(what: str, server: Server, program: Program) -> None:
 
 
 def test_scenes(server: Server, program: Program, monkeypatch: pytest.MonkeyPatch) -> None:
-    """The feed's by default: it is what the page asks."""
     cases: list[tuple[dict[str, object], str]] = [
-        ({}, FEED),
+        ({}, DEFAULT_PROFILE),
         ({"profile": FEED}, FEED),
         ({"profile": PROGRAM}, PROGRAM),
     ]
@@ -197,10 +239,7 @@ def test_what_the_server_says_of_them(server: Server) -> None:
         schemas = {one["name"]: one["schema"] for one in address["parameters"]}
         if "radius" in schemas:
             assert schemas["profile"]["enum"] == list(PROFILES)
-            assert schemas["profile"]["default"] == (
-                FEED if path in ("/scene", "/rows") else PROGRAM
-            )
+            assert schemas["profile"]["default"] == DEFAULT_PROFILE
             assert all("default" not in schemas[name] for name in TOLERANCES)
     page = server.get("/docs").body.decode()
-    assert "<td>profile</td><td>program, feed</td><td>program</td>" in page
-    assert "<td>profile</td><td>program, feed</td><td>feed</td>" in page
+    assert f"<td>profile</td><td>program, feed</td><td>{DEFAULT_PROFILE}</td>" in page

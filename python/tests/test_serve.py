@@ -14,7 +14,7 @@ from urllib.parse import quote
 
 import olr
 from asking import draw_map, draw_references
-from conftest import OF_PROGRAM, REFERENCE, TOP, Program, Tools
+from conftest import REFERENCE, TOP, Program, Tools, by_default
 from olr.model.fault_table import ROWS
 from olr.model.questions import NUMBERS, TOLERANCES
 from olr.pages.view.scene import scene_of
@@ -99,7 +99,7 @@ def test_streamed(
     records = "".join(f"kéy {number}\t{text}\n" for number, text in enumerate(texts[:500])).encode()
     records += b"\n\r\n" + REFERENCE.encode() + b"\r\n" + b"k\t" + b"x" * 70_000 + b"\n"
     records += b"\xff\t" + REFERENCE.encode() + b"\n\tlast"
-    words = [str(program.path), "batch", what, "--map", str(drawn), "--radius", "50"]
+    words = by_default(program.path, "batch", what, "--map", drawn, "--radius", 50)
     expected = subprocess.run(words, input=records, capture_output=True, check=True).stdout
     reply = server.get(f"/batch/{what}?radius=50", "POST", records, **LINES)
     assert reply.status == 200 and reply.headers["content-type"] == "application/x-ndjson"
@@ -152,9 +152,9 @@ def test_pages_behind_cursors(
     pages = 1
     after = _next(server.get(path_of("match", text, page=2)).body)
     while after is not None and pages < 6:
-        words = ["match", text, "--map", drawn, "--page", 2, "--after", after, "--format", "json"]
+        words = by_default("match", text, "--map", drawn, "--page", 2, "--after", after)
         page = server.get(path_of("match", text, page=2, after=after)).body
-        assert page.decode() + "\n" == program.run(*words).stdout
+        assert page.decode() + "\n" == program.run(*words, "--format", "json").stdout
         after, pages = _next(page), pages + 1
     assert pages > 2
     assert server.get(path_of("match", text, after="x")).problem()[:2] == (422, "BadCursor")
@@ -186,7 +186,7 @@ def test_geojson(
     records, out = tmp_path / "records.tsv", tmp_path / "rows.geojson"
     records.write_text("".join(f"{number}\t{text.strip()}\n" for number, text in enumerate(some)))
     words: list[object] = ["--places"] if what == "places" else []
-    words += ["--radius", 80, *OF_PROGRAM]
+    words += ["--radius", 80]
     ended = tools.run("match", records, "--map", folder, *words, "--out", out)
     assert ended.returncode == 0, ended.stderr
     expected: dict[str, list[object]] = {}

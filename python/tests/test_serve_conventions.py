@@ -55,7 +55,7 @@ def test_gzip_is_not_wanted(accept: str) -> None:
 @pytest.mark.parametrize(
     "path",
     [
-        path_of("match", REFERENCE, page=100, radius=1000, bearing=16),
+        path_of("match", REFERENCE, page=100, radius=1000, bearing=16, profile="program"),
         path_of("why", REFERENCE, nearest=60),
         path_of("scene", REFERENCE),
         "/",
@@ -192,17 +192,17 @@ def test_other_questions_have_other_tags(server: Server) -> None:
     others: list[dict[str, object]] = [
         {"page": 2},
         {"radius": 99},
-        {"profile": "feed"},
-        {"after": "8:1.1.1", "page": 1},
-        {"after": "8:1.1.1", "page": 2},
+        {"profile": "program"},
+        {"profile": "program", "after": "8:1.1.1", "page": 1},
+        {"profile": "program", "after": "8:1.1.1", "page": 2},
     ]
     paths = [*CACHED, path_of("match", OTHER), path_of("why", REFERENCE, nearest=3)]
     paths += [path_of("match", REFERENCE, **one) for one in others]
     tags = [server.get(path).headers["etag"] for path in paths]
     assert len(set(tags)) == len(paths)
     for same in (
-        path_of("match", f" {REFERENCE}", page=10, radius=100),
-        path_of("match", REFERENCE, radius=100, profile="program"),
+        path_of("match", f" {REFERENCE}", page=10, radius=75),
+        path_of("match", REFERENCE, radius=75, profile="feed"),
     ):
         assert (
             server.get(same).headers["etag"]

@@ -60,7 +60,7 @@ def request(server: Server, line: str, *fields: str) -> bytes:
 
 def is_well(server: Server) -> bool:
     """Whether it answers as ever."""
-    reply = server.get(path_of("match", REFERENCE))
+    reply = server.get(path_of("match", REFERENCE, profile="program"))
     return reply.status == 200 and json.loads(reply.body)["matchings"][0]["total"] == 8
 
 

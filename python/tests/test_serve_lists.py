@@ -13,6 +13,7 @@ from bad_programs import bad_program
 from browser import Browser
 from conftest import OF_PROGRAM, Program, Tools
 from olr.messages.reading import read_messages
+from olr.model.profiles import PROGRAM, tolerances_of
 from olr.model.questions import NUMBERS
 from page_of_server import (
     AS_PROGRAM,
@@ -110,7 +111,8 @@ def test_options_ask_a_list_anew(page: Page) -> None:
     page.browser.press("Enter", "\r")
     page.wait(f"{SHOWN}[3].cells[{VERDICT}].textContent === 'unique'")
     page.wait("document.querySelector('#list').dataset.state === 'done'")
-    others = olr.Confidence.default().others({"lowest": 2}, NUMBERS["places"]["apart"].default)
+    asked = tolerances_of(PROGRAM) | {"lowest": 2}
+    others = olr.Confidence.default().others(asked, NUMBERS["places"]["apart"].default)
     said = f"No probabilities: {others}: make a file with your options by olr-tools calibrate."
     assert others.startswith("radius is 100, not ")
     page.settle()

@@ -9,7 +9,7 @@ from typing import Any, NamedTuple
 from urllib.parse import quote
 
 from browser import Browser
-from conftest import Program, Tools
+from conftest import Program, Tools, by_default
 from olr.confidence.confidence import Confidence
 from olr.confidence.sentences import probability_text
 from olr.model.profiles import FEED, tolerances_of
@@ -180,6 +180,6 @@ def test_what_is_shown(known: Known, tools: Tools, folder: Path, tmp_path: Path)
 
 def test_plain_json_is_that_of_the_program(known: Known, program: Program, folder: Path) -> None:
     """Byte for byte, in the program's order."""
-    words = ["places", TEXTS["m3"], "--map", folder, "--format", "json"]
+    words = by_default("places", TEXTS["m3"], "--map", folder, "--format", "json")
     reply = known.server.get(path_of("places", TEXTS["m3"]))
     assert reply.body.decode() + "\n" == program.run(*words).stdout

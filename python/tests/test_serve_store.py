@@ -13,7 +13,7 @@ from pathlib import Path
 import olr
 from asking import draw_map
 from bad_programs import bad_program
-from conftest import Program
+from conftest import Program, by_default
 from olr.model.questions import NUMBERS
 from olr.regions.making import make_store_of_folder
 from olr.serving import store_map
@@ -59,7 +59,7 @@ def test_options(server: Server, program: Program, town: Town, texts: list[str])
 def test_streamed(what: str, server: Server, program: Program, town: Town) -> None:
     """With records of each kind that has no answer."""
     records = b"\n".join(town.messages.read_bytes().split(b"\n")[:40])
-    words = [str(program.path), "batch", what, "--map", str(town.folder)]
+    words = by_default(program.path, "batch", what, "--map", town.folder)
     expected = subprocess.run(words, input=records, capture_output=True, check=True).stdout
     for body in (records, (records[at : at + 999] for at in range(0, len(records), 999))):
         reply = server.get(f"/batch/{what}", "POST", body, Content_Type="text/plain")

@@ -106,7 +106,8 @@ def test_pages_and_cursors(town: Town) -> None:
     expected = pages_of(town.folder, text)
     assert pages_of(town.store, text) == expected
     others = references(town, 30)[1:8]
-    with olr.Map(town.store) as store, olr.Map(town.folder) as folder:
+    options: dict[str, Any] = {"profile": "program"}
+    with olr.Map(town.store, **options) as store, olr.Map(town.folder, **options) as folder:
         pages, before = store.pages(text, page=2), []
         for page in pages:
             before.append(page)
@@ -127,7 +128,7 @@ def test_pages_and_cursors(town: Town) -> None:
 
 def pages_of(path: Path, text: str) -> list[Any]:
     """The matchings of all pages of two, or none for what is no reference."""
-    with olr.Map(path) as asked:
+    with olr.Map(path, profile="program") as asked:
         try:
             return [as_json(page.matchings) for page in asked.pages(text, page=2)]
         except olr.Fault:

@@ -42,7 +42,7 @@ def test_keys_that_look_like_an_answer(program: Program, tmp_path: Path) -> None
         file.write_bytes(lines_of_batch(program, EXAMPLES, what, records))
         found = list(olr.answers(file))
         assert [one.key for one in found] == [key for key in keys for _ in range(2)]
-        with olr.Map(EXAMPLES) as town:
+        with olr.Map(EXAMPLES, profile="program") as town:
             first, last = town.answers(what, [texts[0], texts[4]])
         assert [one.answer for one in found] == [first, last] * len(keys)
 

@@ -14,21 +14,25 @@ from olr.asking.program import PathLike
 from olr.asking.threaded import Batch
 from olr.client.source import FilesSource, Source
 from olr.extras import needed_by
-from olr.model.answers import Answer, AnswerOrFault, Candidates, Page, Places, Why, about
+from olr.model.answers import Answer, AnswerOrFault, Candidates, Known, Page, Places, Why, about
 from olr.model.fault import Fault
 from olr.model.map_folder import store_of
 from olr.model.objects import page_of
-from olr.model.profiles import PROGRAM, tolerances_of
+from olr.model.profiles import (
+    DEFAULT_PROFILE,
+    PROFILE,
+    as_arguments,
+    others_than,
+    tolerances_of,
+    with_tolerances,
+)
 from olr.model.questions import (
-    TOLERANCES,
     What,
     all_tolerances,
-    argument,
     cursor_of,
     many,
     record_text,
     with_empty_texts,
-    with_tolerances,
 )
 
 if TYPE_CHECKING:
@@ -53,9 +57,9 @@ class Map:
     ...     best = town.match("CwVF/yN2yRpnBAFUAAgbpwYBAf9kK0Fa").matchings[0]
     ...
     >>> best
-    <Matching: total 8, 4 lines, 561.5 m, cursor 8:1.1.1>
-    >>> olr.Map("examples", radius=50, profile="feed")
-    Map('examples/nodes.csv', 'examples/lines.csv', 'examples/bans.csv', radius=50, bearing=6, lowest=4, percent=15)
+    <Matching: total 12, 4 lines, 561.5 m, cursor 12:1.1.1>
+    >>> olr.Map("examples", radius=50)
+    Map('examples/nodes.csv', 'examples/lines.csv', 'examples/bans.csv', radius=50)
     """
 
     @with_tolerances
@@ -67,12 +71,12 @@ class Map:
         *,
         program: PathLike | None = None,
         patience: float | None = PATIENCE,
-        profile: str = PROGRAM,
+        profile: str = DEFAULT_PROFILE,
         **tolerances: int,
     ) -> None:
         """A map of these files; or, of one path alone, that of a folder with its `nodes.csv`, its `lines.csv` and, if it is there, its
         `bans.csv`, or of a store. The tolerances are those of the program's options: those that aren't given are those of the
-        profile, which is the program's own defaults, or another one of `olr.model.profiles`, such as "feed". `find_program` says which
+        profile, which is "feed" as in all of `olr-tools`, or "program" for the program's own defaults. `find_program` says which
         program is run, and `patience` for how many seconds it may answer nothing; with None it is waited for without end. Raises
         `ValueError` for what is no profile.
         """
@@ -81,6 +85,8 @@ class Map:
         settings = Settings(given, run, require_patience(patience))
         settings.words()
         self._settings = settings
+        others = others_than(profile, {name: int(value) for name, value in given.items()})
+        self._asked_with: dict[str, Any] = {PROFILE: profile, **as_arguments(others)}
         self._source = _source_of(nodes, lines, bans, settings)
         self._network: "Network | None" = None
         self._closed = False
@@ -93,7 +99,7 @@ class Map:
         *,
         program: PathLike | None = None,
         patience: float | None = PATIENCE,
-        profile: str = PROGRAM,
+        profile: str = DEFAULT_PROFILE,
         **tolerances: int,
     ) -> "Map":
         """The map of a folder, or a store: as `Map` of its path alone.
@@ -110,9 +116,9 @@ class Map:
 
     def __repr__(self) -> str:
         words = [repr(str(file)) for file in self.files.paths()]
-        for name, value in self._settings.tolerances.items():
-            if value != TOLERANCES[name].default:
-                words.append(f"{argument(name)}={value}")
+        for name, value in self._asked_with.items():
+            if (name, value) != (PROFILE, DEFAULT_PROFILE):
+                words.append(f"{name}={value!r}")
         text = f"Map({', '.join(words)})"
         return f"<closed {text}>" if self._closed else text
 
@@ -146,14 +152,24 @@ class Map:
 
     @property
     def tolerances(self) -> Mapping[str, int]:
-        """The tolerances by their names: those that weren't given have their defaults. Each is in the unit of its option, which
+        """The tolerances by their names: those that weren't given are those of the profile. Each is in the unit of its option, which
         `help(olr.Map)` has.
 
         >>> import olr
-        >>> olr.Map("examples", profile="feed").tolerances["radius"]
+        >>> olr.Map("examples").tolerances["radius"]
         75
         """
         return dict(self._settings.tolerances)
+
+    @property
+    def asked_with(self) -> Mapping[str, Any]:
+        """The profile, and the tolerances that aren't as it has them, by their names as arguments: a map of these asks as this one does.
+
+        >>> import olr
+        >>> olr.Map("examples", radius=60, lowest=4).asked_with
+        {'profile': 'feed', 'radius': 60}
+        """
+        return dict(self._asked_with)
 
     @property
     def program(self) -> Path | None:
@@ -203,12 +219,12 @@ class Map:
         ...     page = town.match("CwVF+yN2yhpnBAFdAAsaFg==", page=3)
         ...     page, town.match("CwVF+yN2yhpnBAFdAAsaFg==", after=page.next)
         ...
-        (<Page: 3 matchings, total 8 to 29, more behind 29:1.2>, <Page: 1 matching, total 35>)
+        (<Page: 3 matchings, total 12 to 31, more behind 31:1.2>, <Page: 3 matchings, total 35 to 89>)
         """
         if after is None:
             return cast(Page, self._answer("match", ref, {"page": page}))
         question = Kind.of("match", {"page": page})
-        return about(self._behind(ref, question, cursor_of(after), page_of), ref)
+        return self._about(self._behind(ref, question, cursor_of(after), page_of), ref)
 
     def pages(self, ref: str, *, page: int = 10, after: str | None = None) -> Iterator[Page]:
         """All pages of the matchings of a reference, from the first on or from a cursor on, of `page` matchings each: see `match`. If
@@ -219,7 +235,7 @@ class Map:
         >>> with olr.Map("examples") as town:
         ...     [len(page.matchings) for page in town.pages("CwVF+yN2yhpnBAFdAAsaFg==", page=3)]
         ...
-        [3, 1]
+        [3, 3]
         """
         record_text(ref)
         Kind.of("match", {"page": page})
@@ -233,7 +249,7 @@ class Map:
         ...     for answer in town.matches(["CwVF/yN2yRpnBAFUAAgbpwYBAf9kK0Fa", "CwVGnSN2zhvHCgDX"]):
         ...         print(answer.text if isinstance(answer, olr.Fault) else answer)
         ...
-        <Page: 1 matching, total 8>
+        <Page: 1 matching, total 12>
         BadLength 12
         """
         texts = many("matches takes many references", refs, "ask match about one")
@@ -249,7 +265,7 @@ class Map:
         >>> with olr.Map("examples/nodes.csv", "examples/lines.csv") as town:
         ...     town.places("CwVGnSN2zhvHCgDX/tIzAw==")
         ...
-        <Places: ambiguous, 2 places, total 64, margin 7>
+        <Places: ambiguous, 2 places, total 66, margin 7>
         """
         numbers = {"apart": apart, "within": within, "look": look, "most": most}
         return cast(Places, self._answer("places", ref, numbers))
@@ -260,9 +276,9 @@ class Map:
 
         >>> import olr
         >>> with olr.Map("examples") as town:
-        ...     town.why("CwVGnSN2zhtnBgEB/2IjAQ==")
+        ...     town.why("CwVGnSN2zhunAwEB/2IrAQ==")
         ...
-        <Why: leg 1, try lowest 2, radius 172>
+        <Why: leg 1, try radius 211, slack 1323, percent 59>
         """
         return cast(Why, self._answer("why", ref, {"nearest": nearest}))
 
@@ -273,7 +289,7 @@ class Map:
         >>> with olr.Map("examples") as town:
         ...     town.candidates("CwVF/yN2yRpnBAFUAAgbpwYBAf9kK0Fa").points[0]
         ...
-        (Candidate(at=13, line=104, penalty=2), Candidate(at=0, line=403, penalty=141))
+        (Candidate(at=13, line=104, penalty=3),)
         """
         return cast(Candidates, self._answer("candidates", ref, {}))
 
@@ -334,13 +350,13 @@ class Map:
         m1 unique
         m2 unique
         m3 unique
-        m4 none
+        m4 unique
         m5 BadLength 12
         """
         question = Kind.of(what, numbers)
         texts = many("answers takes many references", refs, f"ask {what} about one")
         asked, again = tee(with_empty_texts(texts))
-        return _known(self._source.answers(question, asked), again)
+        return self._known(self._source.answers(question, asked), again)
 
     def raw_answer(
         self, what: What, ref: str, *, after: str | None = None, **numbers: int
@@ -350,7 +366,7 @@ class Map:
 
         >>> import olr
         >>> with olr.Map("examples") as town:
-        ...     town.raw_answer("match", "CwVGnSN2zhtnBgEB/2IjAQ==")
+        ...     town.raw_answer("match", "CwVGnSN2zhunAwEB/2IrAQ==")
         ...
         b'{"matchings":[],"next":null}'
         """
@@ -366,7 +382,7 @@ class Map:
         found = self._asked_alone(what, ref, numbers, Batch.answer)
         if isinstance(found, Fault):
             raise found
-        return about(found, ref)
+        return self._about(found, ref)
 
     def _asked_alone(
         self, what: What, ref: str, numbers: dict[str, int], read: Callable[[Batch, int], Read]
@@ -375,6 +391,18 @@ class Map:
         text, question = record_text(ref), Kind.of(what, numbers)
         with self._source.one(question, text.decode()) as processes:
             return processes.ask(question, text, read)
+
+    def _about(self, answer: Known, ref: str) -> Known:
+        """An answer, which knows what was asked."""
+        return about(answer, ref, self._asked_with)
+
+    def _known(
+        self, answers: Generator[AnswerOrFault, None, None], texts: Iterator[str]
+    ) -> Iterator[Any]:
+        """Answers, each of which knows what was asked."""
+        with closing(answers):
+            for answer, text in zip(answers, texts):
+                yield self._about(answer, text)
 
     def _pages(self, ref: str, page: int, after: str | None) -> Iterator[Page]:
         """The pages from a cursor on."""
@@ -408,13 +436,6 @@ def _source_of(
     with needed_by("olr.Map of a store", "scale"):
         from olr.client.store_source import StoreSource
     return StoreSource(Path(nodes), settings)
-
-
-def _known(answers: Generator[AnswerOrFault, None, None], texts: Iterator[str]) -> Iterator[Any]:
-    """Answers, which know their references."""
-    with closing(answers):
-        for answer, text in zip(answers, texts):
-            yield about(answer, text)
 
 
 def _raw_page(shown: bytes, digest: str | None) -> bytes:

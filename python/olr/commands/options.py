@@ -11,7 +11,7 @@ from olr.asking.patience import PATIENCE, require_patience
 from olr.messages.message import ALL, BASE64, FORMATS, KEY, REF, Base64, Format, Reading
 from olr.model.asked_with import Asking
 from olr.model.box import Box
-from olr.model.profiles import FEED, PROFILE, PROFILES, about_text
+from olr.model.profiles import DEFAULT_PROFILE, PROFILE, PROFILES, about_text
 from olr.model.questions import NUMBERS, TOLERANCES, Number, What, argument
 
 Command = Callable[..., None]
@@ -146,7 +146,7 @@ tolerance_options = in_order(
     click.option(
         f"--{PROFILE}",
         type=click.Choice(list(PROFILES)),
-        default=FEED,
+        default=DEFAULT_PROFILE,
         show_default=True,
         help=f"The tolerances that aren't given: {'; '.join(map(about_text, PROFILES))}.",
     ),

@@ -8,7 +8,7 @@ from typing import TYPE_CHECKING, Any
 
 from olr.extras import needed_by
 from olr.model.answers import Reference
-from olr.model.questions import TOLERANCES
+from olr.model.profiles import DEFAULT_PROFILE, resolved
 
 with needed_by("olr.Confidence", "geo"):
     import numpy as np
@@ -33,7 +33,7 @@ class Confidence:
 
     >>> import olr
     >>> text, sure = "CwVF/yN2yRpnBAFUAAgbpwYBAf9kK0Fa", olr.Confidence.default()
-    >>> with olr.Map("examples", profile="feed") as town:
+    >>> with olr.Map("examples") as town:
     ...     answers = [town.places(text, within=14620, most=100)]
     ...     table = olr.to_geodataframe(answers, town.network(), confidence=sure, references=[text], most=1)
     ...
@@ -79,17 +79,15 @@ class Confidence:
         return _default()
 
     def others(self, tolerances: Mapping[str, int], apart: int) -> str:
-        """Which numbers are others than those that it was made with; an empty text if none is. Tolerances that aren't given are the program's
-        defaults; `class` may be called `class_`.
+        """Which numbers are others than those that it was made with; an empty text if none is. Tolerances that aren't given are those of the
+        default profile; `class` may be called `class_`.
 
         >>> import olr
         >>> sure = olr.Confidence.default()
-        >>> sure.others({**sure.tolerances, "radius": 100}, sure.apart)
+        >>> sure.others({"radius": 100}, sure.apart)
         'radius is 100, not 75'
         """
-        given = {name.removesuffix("_"): value for name, value in tolerances.items()}
-        defaults = {name: number.default for name, number in TOLERANCES.items()}
-        asked = {**defaults, **given, "apart": apart}
+        asked = {**resolved(DEFAULT_PROFILE, tolerances), "apart": apart}
         made = {**self.tolerances, "apart": self.apart}
         others = [
             f"{name} is {asked[name]}, not {made[name]}"
@@ -107,7 +105,7 @@ class Confidence:
         >>> import olr
         >>> from olr.likely.listed import listed
         >>> text, sure = "CwVF/yN2yRpnBAFUAAgbpwYBAf9kK0Fa", olr.Confidence.default()
-        >>> with olr.Map("examples", profile="feed") as town:
+        >>> with olr.Map("examples") as town:
         ...     network, found = town.network(), [town.places(text, within=14620, most=100)]
         ...
         >>> places = listed(found, network)
@@ -123,7 +121,7 @@ class Confidence:
         >>> import olr
         >>> from olr.likely.listed import listed
         >>> text, sure = "CwVF/yN2yRpnBAFUAAgbpwYBAf9kK0Fa", olr.Confidence.default()
-        >>> with olr.Map("examples", profile="feed") as town:
+        >>> with olr.Map("examples") as town:
         ...     network, found = town.network(), [town.places(text, within=14620, most=100)]
         ...
         >>> places = listed(found, network)

@@ -4,7 +4,7 @@ from collections.abc import Iterable, Iterator, Mapping, Sequence
 from typing import Any
 
 from olr.extras import needed_by
-from olr.model.answers import Page, Places
+from olr.model.answers import AboutReference, Page, Places
 from olr.model.fault import Fault
 from olr.model.questions import many
 
@@ -24,6 +24,8 @@ with needed_by("olr.to_geodataframe", "geo"):
     from olr.matching.tables import TYPES, Columns
 
 CRS = "EPSG:4326"
+ASKED_WITH = "asked_with"
+"""The name in `attrs` of a table of how its answers were asked: as `olr.Map.asked_with` has it."""
 
 
 def to_geodataframe(
@@ -57,6 +59,10 @@ def to_geodataframe(
     ...
     >>> table[["key", "verdict", "lines", "outer_m", "fault"]].values.tolist()
     [['m1', 'match', '104;107;201;501', 561.5, None], ['m2', 'fault', None, nan, 'BadLength 12']]
+    >>> table.attrs
+    {'asked_with': {'profile': 'feed'}}
+
+    `attrs` has the `asked_with` of the maps that were asked, if it is the same for all answers that know it.
 
     The columns and their types are the same whatever is in them: `Int64`, `float64`, or `object` with texts or None. Raises
     `MapRefused` if the network is of another version of the map than an answer, `ToolError` if it hasn't a line of one, `ValueError`
@@ -64,9 +70,10 @@ def to_geodataframe(
     """
     require_extent(part)
     _require_network("to_geodataframe", network)
-    answered = _answered("to_geodataframe", answers, keys, references, candidates)
+    asked: list[Mapping[str, Any]] = []
+    answered = _answered("to_geodataframe", asked, answers, keys, references, candidates)
     chunks = chunks_of(answered, network, Judging(confidence, _shown(within, most)))
-    return _table(((one.items, one.rows(part)) for one in chunks), ANSWERS, keys is None)
+    return _table(((one.items, one.rows(part)) for one in chunks), ANSWERS, keys is None, asked)
 
 
 def _shown(within: int | None, most: int | None) -> Shown | None:
@@ -94,8 +101,9 @@ def to_pieces(
     ['outer', 104, 87.9, 243.5]
     """
     _require_network("to_pieces", network)
-    chunks = chunks_of(_answered("to_pieces", answers, keys), network)
-    return _table(((one.items, one.pieces()) for one in chunks), PIECES, keys is None)
+    asked: list[Mapping[str, Any]] = []
+    chunks = chunks_of(_answered("to_pieces", asked, answers, keys), network)
+    return _table(((one.items, one.pieces()) for one in chunks), PIECES, keys is None, asked)
 
 
 def _require_network(call: str, network: object) -> None:
@@ -107,13 +115,14 @@ def _require_network(call: str, network: object) -> None:
 
 def _answered(
     call: str,
+    asked: list[Mapping[str, Any]],
     answers: Iterable[Located],
     keys: Iterable[object] | None,
     references: Iterable[str] | None = None,
     candidates: "Iterable[Counted] | None" = None,
 ) -> "Iterator[Answered[object]]":
-    """Answers with what was given of each; without keys they are counted. Raises `TypeError` for one in place of many, and `ValueError` where
-    there are more or fewer."""
+    """Answers with what was given of each; without keys they are counted. `asked` gets each `asked_with` of them once. Raises `TypeError` for one
+    in place of many, and `ValueError` where there are more or fewer."""
     if isinstance(answers, (Page, Places, Fault)):
         raise TypeError(f"{call} takes many answers, not one: give a list of it")
     others = {"keys": keys, "references": references, "candidates": candidates}
@@ -124,14 +133,21 @@ def _answered(
     given = {name: items for name, items in columns.items() if items is not None}
     for number, values in enumerate(zip(*given.values(), strict=True)):
         one: dict[str, Any] = {"keys": number} | dict(zip(given, values))
-        text, counted = one.get("references"), one.get("candidates")
-        yield Answered(one["keys"], text, one["answers"], counted)
+        text, counted, answer = one.get("references"), one.get("candidates"), one["answers"]
+        known = answer.asked_with if isinstance(answer, AboutReference) else None
+        if known is not None and known not in asked:
+            asked.append(known)
+        yield Answered(one["keys"], text, answer, counted)
 
 
 def _table(
-    chunks: Iterable[tuple[Sequence[object], Rows]], columns: "Columns[Any]", are_counted: bool
+    chunks: Iterable[tuple[Sequence[object], Rows]],
+    columns: "Columns[Any]",
+    are_counted: bool,
+    asked: Sequence[Mapping[str, Any]],
 ) -> "geopandas.GeoDataFrame":
-    """A table of rows, with the keys of their answers in front of these columns."""
+    """A table of rows, with the keys of their answers in front of these columns. It says how they were `asked`, if all were asked so: that
+    is known once the last chunk is there."""
     keys: list[object] = []
     values: Mapping[str, list[Any]] = {name: [] for name in columns}
     geometries: list[bytes | None] = []
@@ -146,4 +162,6 @@ def _table(
         for name, found in values.items()
     }
     shapes = geopandas.array.from_wkb(np.array(geometries, dtype=object), crs=CRS)
-    return geopandas.GeoDataFrame(table, geometry=shapes, crs=CRS)
+    made = geopandas.GeoDataFrame(table, geometry=shapes, crs=CRS)
+    made.attrs.update({ASKED_WITH: dict(asked[0])} if len(asked) == 1 else {})
+    return made

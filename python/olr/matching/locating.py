@@ -19,7 +19,7 @@ with needed_by("olr.locate", "geo"):
     from olr.confidence.confidence import Confidence
     from olr.likely.long_list import LIST
     from olr.matching.columns import ANSWERS
-    from olr.matching.geodataframe import CRS, to_geodataframe
+    from olr.matching.geodataframe import ASKED_WITH, CRS, to_geodataframe
     from olr.matching.rows import Extent, Located, require_extent
 
 
@@ -39,7 +39,8 @@ def locate(
 
     `data` is a DataFrame whose column `ref` has the references, or a Series of them, which becomes a column of that name: by default its
     own. `map` is an `olr.Map`, or the path of a folder or store, which is asked as `olr.Map(path)`: tolerances and profile are those of the
-    map. With `places=False` it is the first matching in place of the likeliest place, and without probabilities.
+    map, and `attrs` of the result has its `asked_with`. With `places=False` it is the first matching in place of the likeliest place, and
+    without probabilities.
 
     A cell that is empty, None or NaN has the fault `Empty`, and one of another type such as a number `BadCell` with the type: each row stays,
     and those without a place have no geometry. `fault` says why there is none.
@@ -52,13 +53,11 @@ def locate(
 
     >>> import olr, pandas
     >>> jams = pandas.DataFrame({"ref": ["CwVF/yN2yRpnBAFUAAgbpwYBAf9kK0Fa", None], "delay_s": [300, 120]}, index=["a", "b"])
-    >>> with olr.Map("examples", profile="feed") as town:
-    ...     found = olr.locate(jams, "ref", town)
-    ...
+    >>> found = olr.locate(jams, "ref", "examples")
     >>> found[["delay_s", "verdict", "lines", "outer_m", "fault"]].values.tolist()
     [[300, 'unique', '104;107;201;501', 561.5, None], [120, 'fault', None, nan, 'Empty']]
-    >>> found.index.tolist(), found.crs.to_string()
-    (['a', 'b'], 'EPSG:4326')
+    >>> found.index.tolist(), found.crs.to_string(), found.attrs
+    (['a', 'b'], 'EPSG:4326', {'asked_with': {'profile': 'feed'}})
 
     Raises `ValueError` where `data` has a column of these names already (give a `prefix` for those of the answers, or rename yours), or
     more than one column `ref`, and for another part or base64; `KeyError` where it has none, and `TypeError` for other things than a table and a map. Raises `ToolError` where
@@ -95,7 +94,9 @@ def locate(
                 most=1,
             )
     result = table.assign(**{new: found[name].array for name, new in columns.items()})
-    return geopandas.GeoDataFrame(result, geometry=columns["geometry"], crs=CRS)
+    located = geopandas.GeoDataFrame(result, geometry=columns["geometry"], crs=CRS)
+    located.attrs = {**data.attrs, ASKED_WITH: asked.asked_with}
+    return located
 
 
 def _table_of(data: Any, ref: Hashable) -> "tuple[pandas.DataFrame, pandas.Series]":

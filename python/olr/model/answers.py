@@ -6,7 +6,7 @@ docs/specification has what each of them means.
 
 from collections.abc import Mapping, Sequence
 from dataclasses import dataclass
-from typing import Literal, TypeVar
+from typing import Any, Literal, TypeVar
 
 from olr.model.display import Displayed, Point, counted, plain
 from olr.model.fault import Fault
@@ -22,6 +22,8 @@ class AboutReference(Displayed):
 
     ref: str | None = None
     """The text that was asked about; None where that isn't known. It is no part of the answer, and not of its JSON."""
+    asked_with: Mapping[str, Any] | None = None
+    """`Map.asked_with` of the map that was asked; None where that isn't known. It is no part of the answer either."""
 
     def _spots(self) -> Sequence[Point]:
         from olr.model.reference import read_reference
@@ -30,10 +32,11 @@ class AboutReference(Displayed):
         return () if reference is None else reference._spots()
 
 
-def about(answer: Known, ref: str) -> Known:
-    """An answer that was just read, which knows its reference from now on. A fault stays as it is."""
+def about(answer: Known, ref: str, asked_with: Mapping[str, Any] | None = None) -> Known:
+    """An answer that was just read, which knows its reference and how it was asked from now on. A fault stays as it is."""
     if isinstance(answer, AboutReference):
         object.__setattr__(answer, "ref", ref)
+        object.__setattr__(answer, "asked_with", asked_with)
     return answer
 
 
@@ -106,9 +109,9 @@ class Candidates(AboutReference):
     ...     found = town.candidates("CwVF/yN2yRpnBAFUAAgbpwYBAf9kK0Fa")
     ...
     >>> found
-    <Candidates: 3 points, 2 + 2 + 2 lines>
+    <Candidates: 3 points, 1 + 2 + 2 lines>
     >>> found.points[0][0]
-    Candidate(at=13, line=104, penalty=2)
+    Candidate(at=13, line=104, penalty=3)
     """
 
     points: tuple[tuple[Candidate, ...], ...]
@@ -142,7 +145,7 @@ class Matching(Displayed):
     ...     best = town.match("CwVF/yN2yRpnBAFUAAgbpwYBAf9kK0Fa").matchings[0]
     ...
     >>> best
-    <Matching: total 8, 4 lines, 561.5 m, cursor 8:1.1.1>
+    <Matching: total 12, 4 lines, 561.5 m, cursor 12:1.1.1>
     >>> best.outer[0], best.outer.length()
     (Piece(line=104, from_=879, to=2435), 5615)
     """
@@ -197,9 +200,9 @@ class Page(AboutReference):
     ...     page = town.match("CwVF+yN2yhpnBAFdAAsaFg==", page=3)
     ...
     >>> page
-    <Page: 3 matchings, total 8 to 29, more behind 29:1.2>
+    <Page: 3 matchings, total 12 to 31, more behind 31:1.2>
     >>> [matching.total for matching in page.matchings]
-    [8, 14, 29]
+    [12, 16, 31]
     """
 
     matchings: Sequence[Matching]
@@ -248,9 +251,9 @@ class Places(AboutReference):
     ...     found = town.places("CwVGnSN2zhvHCgDX/tIzAw==")
     ...
     >>> found
-    <Places: ambiguous, 2 places, total 64, margin 7>
+    <Places: ambiguous, 2 places, total 66, margin 7>
     >>> [(place.gap, place.matching.total) for place in found.places]
-    [(0, 64), (7, 71)]
+    [(0, 66), (7, 73)]
     >>> found.to_dict()["places"][0]["matching"]["outer"][0]
     [107, 36, 2150]
     """
@@ -353,12 +356,12 @@ class Why(AboutReference):
 
     >>> import olr
     >>> with olr.Map("examples") as town:
-    ...     why = town.why("CwVGnSN2zhtnBgEB/2IjAQ==")
+    ...     why = town.why("CwVGnSN2zhunAwEB/2IrAQ==")
     ...
     >>> why
-    <Why: leg 1, try lowest 2, radius 172>
+    <Why: leg 1, try radius 211, slack 1323, percent 59>
     >>> why.legs[0].admits, why.legs[0].from_, why.legs[0].to
-    (0, 2161, 5632)
+    (0, 1194, 2995)
     """
 
     legs: tuple[WhyLeg, ...]

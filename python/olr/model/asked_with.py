@@ -6,7 +6,7 @@ from pathlib import Path
 from typing import Any, NamedTuple
 
 from olr.model.map_folder import store_of
-from olr.model.profiles import PROFILE, as_arguments, other_profile, resolved, tolerances_of
+from olr.model.profiles import PROFILE, as_arguments, other_profile, others_than, resolved
 from olr.model.questions import ALL, NUMBERS, TOLERANCES, What
 
 
@@ -14,7 +14,7 @@ def numbers_text(profile: str, tolerances: Mapping[str, int], numbers: Mapping[s
     """All tolerances with their profile, and other numbers of a question: `radius 75 m, ..., profile feed, page 10 matchings`. Tolerances
     that aren't given are those of the profile, and those that aren't as it has them are named."""
     asked = resolved(profile, tolerances)
-    others = [name for name, value in tolerances_of(profile).items() if asked[name] != value]
+    others = others_than(profile, asked)
     but = f" but for {' and '.join(others)}" if others else ""
     return ", ".join(
         [

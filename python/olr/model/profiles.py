@@ -1,11 +1,16 @@
 """Profiles: tolerances that go together, by a name. Single tolerances that are given win over those of a profile."""
 
-from collections.abc import Mapping
-from typing import NamedTuple
+import inspect
+from collections.abc import Callable, Mapping
+from typing import Any, NamedTuple, TypeVar
 
 from olr.model.questions import TOLERANCES, argument
 
+Call = TypeVar("Call", bound=Callable[..., Any])
+
 PROGRAM, FEED = "program", "feed"
+DEFAULT_PROFILE = FEED
+"""The profile where none is named, in all that Python asks. The program `olr` itself has its own numbers, those of `program`."""
 PROFILE = "profile"
 """The name of the option, of the argument in Python, and of the option of an address."""
 
@@ -42,6 +47,12 @@ def resolved(profile: str, given: Mapping[str, int]) -> dict[str, int]:
     return {name: by_name.get(name, value) for name, value in tolerances_of(profile).items()}
 
 
+def others_than(profile: str, tolerances: Mapping[str, int]) -> dict[str, int]:
+    """Those of all tolerances that aren't as the profile has them, by the names of the program's options. Raises as `tolerances_of`."""
+    usual = tolerances_of(profile)
+    return {name: value for name, value in tolerances.items() if value != usual[name]}
+
+
 def as_arguments(tolerances: Mapping[str, int]) -> dict[str, int]:
     """Tolerances by the names that they have as arguments of `olr.Map`."""
     return {argument(name): value for name, value in tolerances.items()}
@@ -67,3 +78,20 @@ def about_text(profile: str) -> str:
 def names_text() -> str:
     """Which profiles there are."""
     return f"the profiles are {', '.join(PROFILES)}"
+
+
+def with_tolerances(call: Call) -> Call:
+    """A call that has tolerances as its `**` arguments: help shows each by its name, with its number in the default profile, and what it is."""
+    signature, kind = inspect.signature(call), inspect.Parameter.KEYWORD_ONLY
+    others = list(signature.parameters.values())[:-1]
+    tolerances = [
+        inspect.Parameter(argument(name), kind, default=value, annotation=int)
+        for name, value in tolerances_of(DEFAULT_PROFILE).items()
+    ]
+    lines = [
+        f"`{argument(name)}`: {number.purpose}: {number.range_text()}."
+        for name, number in TOLERANCES.items()
+    ]
+    call.__doc__ = "\n".join([f"{inspect.getdoc(call) or ''}\n", *lines])
+    setattr(call, "__signature__", signature.replace(parameters=[*others, *tolerances]))
+    return call

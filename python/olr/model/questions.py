@@ -1,9 +1,8 @@
 """What can be asked about a reference on a map, with which numbers; and a reference as the text of a record."""
 
-import inspect
 import re
 from collections import ChainMap
-from collections.abc import Callable, Iterable, Iterator, Mapping
+from collections.abc import Iterable, Iterator, Mapping
 from keyword import iskeyword
 from math import isnan
 from numbers import Integral
@@ -13,7 +12,6 @@ from olr.model.fault import Fault
 
 What = Literal["candidates", "match", "places", "why"]
 Item = TypeVar("Item")
-Call = TypeVar("Call", bound=Callable[..., Any])
 
 
 SIGNS = {
@@ -196,23 +194,6 @@ def all_tolerances(given: Mapping[str, int], others: Mapping[str, int]) -> dict[
                 f"Map() got an unexpected keyword argument {name!r}: the tolerances are {', '.join(names)}"
             )
     return {name: given.get(key, others[name]) for key, name in names.items()}
-
-
-def with_tolerances(call: Call) -> Call:
-    """A call that has tolerances as its `**` arguments: help shows each by its name, with the program's default, and what it is."""
-    signature, kind = inspect.signature(call), inspect.Parameter.KEYWORD_ONLY
-    others = list(signature.parameters.values())[:-1]
-    tolerances = [
-        inspect.Parameter(argument(name), kind, default=number.default, annotation=int)
-        for name, number in TOLERANCES.items()
-    ]
-    lines = [
-        f"`{argument(name)}`: {number.purpose}: {number.range_text()}."
-        for name, number in TOLERANCES.items()
-    ]
-    call.__doc__ = "\n".join([f"{inspect.getdoc(call) or ''}\n", *lines])
-    setattr(call, "__signature__", signature.replace(parameters=[*others, *tolerances]))
-    return call
 
 
 def words_of(what: What, given: Mapping[str, int]) -> list[str]:

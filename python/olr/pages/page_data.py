@@ -3,7 +3,7 @@
 from collections.abc import Mapping
 from typing import Any
 
-from olr.model.profiles import FEED, PROFILES, about_text, tolerances_of
+from olr.model.profiles import DEFAULT_PROFILE, PROFILES, about_text, tolerances_of
 from olr.model.questions import NUMBERS, TOLERANCES, Number
 
 
@@ -18,7 +18,7 @@ def page_data(
             {"name": name, "about": about_text(name), "tolerances": tolerances_of(name)}
             for name in PROFILES
         ],
-        "profile": FEED,
+        "profile": DEFAULT_PROFILE,
         "names": {what: list(numbers) for what, numbers in NUMBERS.items()},
         "body": body,
         "rows": rows,

@@ -15,7 +15,6 @@ from olr.asking.processes import Kind
 from olr.asking.records import Answered, Record
 from olr.errors import ToolError
 from olr.model.fault import Fault
-from olr.model.profiles import FEED
 from olr.model.questions import NUMBERS, What, record_text
 from olr.serving import features, openapi, streaming
 from olr.serving.accepting import field_of
@@ -208,7 +207,7 @@ class _Answers:
     def rows(self) -> Streaming:
         """The rows of the page's list."""
         lines = partial(self._rows.lines, "rows", self._apart)
-        return Streaming(self._served, self._limits, "places", lines, FEED)
+        return Streaming(self._served, self._limits, "places", lines)
 
     async def show(self, request: Request) -> Response:
         """What a reference says."""

@@ -7,7 +7,7 @@ from collections.abc import Collection, Iterable, Mapping
 
 from olr.messages.message import BASE64
 from olr.model.answers import Reference
-from olr.model.profiles import FEED, PROFILE, PROFILES, PROGRAM, about_text, tolerances_of
+from olr.model.profiles import DEFAULT_PROFILE, PROFILE, PROFILES, about_text, tolerances_of
 from olr.model.questions import NUMBERS, TOLERANCES, Number, What
 from olr.serving import features, listing, lists, meters, posted, problems, streaming
 from olr.serving.limits import Limits
@@ -44,7 +44,7 @@ JSON = "application/json"
 
 def document(limits: Limits, at: str = "") -> Json:
     """The document of a server whose addresses begin with a path `at`, such as `/olr`."""
-    likeliest = _numbers("places", limits, FEED)
+    likeliest = _numbers("places", limits)
     rows = "The likeliest place of each reference, and how probable it is, as the page's list shows them: a line for each line"
     gets = {
         **{what: _question(what, limits) for what in NUMBERS},
@@ -103,7 +103,7 @@ def _operation(method: str, name: str, gets: Collection[str]) -> str:
 
 
 def _question(what: What, limits: Limits) -> Json:
-    parameters = [*_own(what), *_numbers(what, limits, PROGRAM)]
+    parameters = [*_own(what), *_numbers(what, limits)]
     return _cached(_address(SUMMARIES[what], parameters, _answers(what)))
 
 
@@ -129,7 +129,7 @@ def _answers(what: What) -> Json:
 
 def _posted(what: What, limits: Limits) -> Json:
     """A question about one reference, or a few, as JSON."""
-    numbers = _numbers(what, limits, PROGRAM)
+    numbers = _numbers(what, limits)
     options = {it["name"]: _described(it) for it in numbers}
     refs = {"type": "array", "items": TEXT, "maxItems": posted.MOST_REFS}
     own = {it["name"]: _described(it) for it in _own(what)}
@@ -198,7 +198,7 @@ def _health(summary: str, refusals: Mapping[str, str]) -> Json:
 
 def _batch(what: What, limits: Limits) -> Json:
     summary = f"{SUMMARIES[what]}: a line for each line"
-    return _lines(summary, _numbers(what, limits, PROGRAM), limits, _batch_lines(what))
+    return _lines(summary, _numbers(what, limits), limits, _batch_lines(what))
 
 
 def _lines(summary: str, parameters: list[Json], limits: Limits, answers: Json) -> Json:
@@ -241,9 +241,9 @@ def _reference() -> Json:
     return _parameter(REF, TEXT, text) | {"required": True, "example": EXAMPLE}
 
 
-def _numbers(what: What, limits: Limits, profile: str) -> list[Json]:
-    """The profile, which is by default that one, the tolerances, and the other numbers of a question."""
-    names = {"type": "string", "enum": list(PROFILES), "default": profile}
+def _numbers(what: What, limits: Limits) -> list[Json]:
+    """The profile, the tolerances, and the other numbers of a question."""
+    names = {"type": "string", "enum": list(PROFILES), "default": DEFAULT_PROFILE}
     about = "; ".join(map(about_text, PROFILES))
     found = [_parameter(PROFILE, names, f"the tolerances that aren't given: {about}")]
     for name, number in TOLERANCES.items():

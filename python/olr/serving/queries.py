@@ -1,6 +1,5 @@
-"""The query of a URL as a question. Names and ranges are those of the command line: `olr.model.questions` has them. So are the defaults, but
-that tolerances are those of the profile `program` where none is named: who asks an address speaks for the program.
-"""
+"""The query of a URL as a question. Names, ranges and defaults are those of the commands: `olr.model.questions` and `olr.model.profiles` have
+them."""
 
 import re
 from collections.abc import Mapping
@@ -10,7 +9,7 @@ from urllib.parse import unquote_to_bytes
 
 from olr.asking.processes import Kind
 from olr.model.fault import Fault
-from olr.model.profiles import PROFILE, PROFILES, PROGRAM, names_text, tolerances_of
+from olr.model.profiles import DEFAULT_PROFILE, PROFILE, PROFILES, names_text, tolerances_of
 from olr.model.questions import ALL, NUMBERS, Number, What, all_words, cursor_of, record_text
 from olr.serving.problems import bad_request, of_fault
 
@@ -88,7 +87,7 @@ def numbers_of(what: What, most_look: int) -> dict[str, Number]:
 @lru_cache(maxsize=KINDS)
 def _kind(what: What, options: tuple[tuple[str, str], ...], most_look: int) -> Kind:
     given = dict(options)
-    profile = given.pop(PROFILE, PROGRAM)
+    profile = given.pop(PROFILE, DEFAULT_PROFILE)
     if profile not in PROFILES:
         raise bad_request(f"{profile!r} is no profile: {names_text()}")
     admitted = numbers_of(what, most_look)

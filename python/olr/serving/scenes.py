@@ -3,7 +3,7 @@
 from typing import IO, TYPE_CHECKING, NamedTuple
 
 from olr.model.fault import Fault
-from olr.model.profiles import FEED, PROFILE
+from olr.model.profiles import PROFILE
 from olr.model.questions import NUMBERS, TOLERANCES, What, record_text
 from olr.serving.judging import listing_of
 from olr.serving.limits import Limits
@@ -30,10 +30,8 @@ class Scenes(NamedTuple):
 
     async def scene(self, options: Options, is_gone: IsGone) -> IO[bytes]:
         """The scene of a reference, which says why it has no probabilities where it has none. The options are the tolerances and the
-        numbers of `places`. Without a profile it is that of messages of feeds, as in all that draws. Raises `Fault` if it is no reference,
-        other errors of the package, and `Problem`.
+        numbers of `places`. Raises `Fault` if it is no reference, other errors of the package, and `Problem`.
         """
-        options = {PROFILE: FEED} | options
         text = record_text(reference_of(options))
         kind = kind_of("places", options, self.limits.look)
         said = await self.served.show(text)

@@ -14,7 +14,6 @@ from starlette.types import Receive, Scope, Send
 from olr.asking.processes import Kind
 from olr.asking.records import Record
 from olr.errors import MapRefused, ToolError
-from olr.model.profiles import PROFILE, PROGRAM
 from olr.model.questions import What
 from olr.serving.bodies import Body, Gone, too_large
 from olr.serving.limits import Limits
@@ -45,21 +44,19 @@ class Streaming:
         limits: Limits,
         what: What,
         lines: Lines,
-        profile: str = PROGRAM,
         headers: Mapping[str, str] = {"Content-Type": MEDIA_TYPE},
         has_body: bool = True,
     ) -> None:
-        """Its options are those of the question `what`, and the tolerances that aren't given those of `profile`. Without a body
-        the references are known to `lines`, which needs no place of the map then."""
+        """Its options are those of the question `what`. Without a body the references are known to `lines`, which needs no place of the
+        map then."""
         self._served, self._limits, self._lines = served, limits, lines
-        self._what, self._profile = what, profile
+        self._what = what
         self._headers, self._has_body = headers, has_body
 
     async def __call__(self, scope: Scope, receive: Receive, send: Send) -> None:
         """Answers a request. Raises `ToolError` and `Problem` before it has begun to; later it closes the connection."""
         request = Request(scope)
-        options = {PROFILE: self._profile} | options_of(scope["query_string"])
-        kind = kind_of(self._what, options, self._limits.look)
+        kind = kind_of(self._what, options_of(scope["query_string"]), self._limits.look)
         _require_type(request)
         self._require_length(request)
         await self.answer(kind, scope, receive, send)

@@ -10,7 +10,7 @@ from urllib.parse import quote
 from olr.client.map_client import Map
 from olr.messages.message import Message
 from olr.model.asked_with import Asking
-from olr.model.profiles import FEED, PROFILE, resolved, tolerances_of
+from olr.model.profiles import DEFAULT_PROFILE, PROFILE, others_than, resolved
 from olr.model.questions import NUMBERS
 from olr.pages.alone.making import carried_of
 from olr.pages.alone.page import Opened, html_of, packed, policy_of
@@ -98,13 +98,12 @@ def page_for_list(asked: Map, making: Making, messages: Sequence[Message]) -> Li
 
 def address_of(asking: Asking, message: Message | None) -> str:
     """The query of the address at which the page shows a reference, or its list, asked with these numbers: as address.js has it."""
-    usual = tolerances_of(asking.profile)
-    tolerances = resolved(asking.profile, asking.given).items()
+    others = others_than(asking.profile, resolved(asking.profile, asking.given))
     of_message = {} if message is None else _of_message(message)
     pairs: dict[str, object] = {
         **of_message,
-        **({} if asking.profile == FEED else {PROFILE: asking.profile}),
-        **{name: value for name, value in tolerances if value != usual[name]},
+        **({} if asking.profile == DEFAULT_PROFILE else {PROFILE: asking.profile}),
+        **others,
         **{
             name: value
             for name, value in asking.numbers.items()

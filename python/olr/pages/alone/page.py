@@ -11,7 +11,7 @@ from importlib import resources
 from typing import Any, NamedTuple
 
 from olr.model.box import Box
-from olr.model.profiles import PROFILES, tolerances_of
+from olr.model.profiles import DEFAULT_PROFILE, PROFILES, tolerances_of
 from olr.model.questions import NUMBERS, TOLERANCES, Number
 from olr.pages.alone.module import MODULE
 from olr.pages.alone.tables import tables
@@ -206,11 +206,12 @@ def _about(carried: Carried) -> str:
 
 
 def _questions() -> dict[str, Any]:
-    """The numbers of questions, and the tolerances of profiles."""
+    """The numbers of questions, the tolerances of profiles, and the profile where none is named."""
     return {
         "tolerances": _rows(TOLERANCES),
         "numbers": {what: _rows(numbers) for what, numbers in NUMBERS.items()},
         "profiles": {name: tolerances_of(name) for name in PROFILES},
+        "profile": DEFAULT_PROFILE,
     }
 
 

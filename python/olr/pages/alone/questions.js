@@ -3,8 +3,8 @@
 //
 //   const { what, ref, after, numbers } = questionOf("places", optionsOf("ref=CwVF&radius=50"), tables);
 //
-// `tables` comes from Python: { tolerances, numbers, profiles }, of which `numbers` has those of each question besides the tolerances. Throws a
-// Problem for what isn't understood.
+// `tables` comes from Python: { tolerances, numbers, profiles, profile }, of which `numbers` has those of each question besides the tolerances,
+// and `profile` is the one where none is named. Throws a Problem for what isn't understood.
 
 // Why a question has no answer: as the problem documents of the server.
 class Problem extends Error {
@@ -56,7 +56,7 @@ function questionOf(what, options, tables) {
 
 // All numbers of a question, by their names.
 function numbersOf(what, options, tables) {
-  const { profile = "program", ...given } = Object.fromEntries(options);
+  const { profile = tables.profile, ...given } = Object.fromEntries(options);
   if (!Object.hasOwn(tables.profiles, profile)) {
     throw badRequest(`${quoted(profile)} is no profile: the profiles are ${Object.keys(tables.profiles).join(", ")}`);
   }

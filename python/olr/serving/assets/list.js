@@ -131,7 +131,7 @@ function listOf({ place, data, fields, say, onChoose }) {
   const askSome = async (some, signal) => {
     const body = some.map((row) => `${row.index}\t${row.reference}\n`).join("");
     const more = { method: "POST", body, headers: { "Content-Type": "text/plain" }, signal };
-    const response = await asked(`rows?${queryOf(Object.entries(fields.asked(options)))}`, more);
+    const response = await asked(`rows?${queryOf(Object.entries(options))}`, more);
     for await (const lines of linesOf(response)) {
       if (signal.aborted) return;
       lines.forEach(take);
@@ -188,7 +188,7 @@ function listOf({ place, data, fields, say, onChoose }) {
     const step = (count) => { saveButton.textContent = `Stop saving: ${grouped(count)} of ${grouped(some.length)}`; };
     step(0);
     try {
-      const text = await geojsonOf(some, fields.asked(options), mine.signal, step);
+      const text = await geojsonOf(some, options, mine.signal, step);
       save("places.geojson", "application/geo+json", text);
     } catch (error) {
       if (!(error instanceof Trouble) && !mine.signal.aborted) throw error;

@@ -7,7 +7,6 @@
 // numbers }. The select of the profile stands in the first group. By default a field has the number of the profile that is chosen, or else
 // its own. `fields.values()` has the texts of those that aren't as they are by default, and `profile` if it isn't that one,
 // `fields.set(values)` fills them, and `fields.isRight()` says whether all are in their ranges; else the first that isn't tells so.
-// `fields.asked(values)` has the profile too if it is the one by default: for addresses whose default is another one.
 function fieldsOf({ place, profiles, profile, groups, onChange }) {
   const inputs = new Map();
   const hints = new Map();
@@ -85,7 +84,6 @@ function fieldsOf({ place, profiles, profile, groups, onChange }) {
       input.classList.toggle("changed", input.value !== input.defaultValue);
     });
   };
-  const asked = (given) => ({ profile, ...given });
   const isRight = () => place.reportValidity();
   place.addEventListener("change", () => {
     set(values());
@@ -93,5 +91,5 @@ function fieldsOf({ place, profiles, profile, groups, onChange }) {
   });
   place.addEventListener("submit", (event) => event.preventDefault());
   fillDefaults(profile);
-  return { values, set, asked, isRight, names: ["profile", ...inputs.keys()] };
+  return { values, set, isRight, names: ["profile", ...inputs.keys()] };
 }

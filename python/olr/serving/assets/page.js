@@ -91,7 +91,7 @@
       // Keys that are held down go over many rows.
       await new Promise((done) => { setTimeout(done, COALESCED); });
       if (running !== mine) return undefined;
-      const scene = await askedJson(`scene?${queryOf([["ref", state.ref], ...Object.entries(fields.asked(state.options))])}`, { signal: mine.signal });
+      const scene = await askedJson(`scene?${queryOf([["ref", state.ref], ...Object.entries(state.options)])}`, { signal: mine.signal });
       if (running !== mine) return undefined;
       find("panel").hidden = false;
       picture.show(scene, state.place === null ? undefined : Number(state.place) - 1);
@@ -125,7 +125,7 @@
   });
   const linkAnswers = () => links.forEach(([what, link]) => {
     const names = what === "show" ? [] : ["profile", ...data.tolerances.map((number) => number.name), ...data.names[what]];
-    link.href = `${what}?${queryOf([["ref", state.ref], ...Object.entries(fields.asked(state.options)).filter(([name]) => names.includes(name))])}`;
+    link.href = `${what}?${queryOf([["ref", state.ref], ...Object.entries(state.options).filter(([name]) => names.includes(name))])}`;
   });
 
   // ---- the reference
