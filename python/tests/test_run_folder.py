@@ -18,6 +18,7 @@ from olr.running.answering import GroupsFailed, answer_groups
 from olr.running.asked_map import AskedMap
 from olr.running.kept import Kept
 from runs import Begun, Runs, Town, assert_resumes, lines_of_batch
+from test_client_failures import children
 
 GROUPS = ["--per-group", 20]
 WAYS = dict.fromkeys(FAILING, ProgramEnded) | dict.fromkeys(HANGING, TimedOut)
@@ -142,10 +143,12 @@ def test_lines_that_arent_all_taken(begun: Begun) -> None:
     kept, asked, files = Kept(), begun.job.asked(), begun.job.map.files()
     records = [Record(number, b"a\t" + REFERENCE.encode()) for number in range(1, 5)]
     left, lines = (kept.lines(asked, files, 60, some) for some in (records[:2], records[2:]))
+    before = children()
     assert next(left).endswith(b',"record":1}\n')
     assert next(lines).endswith(b',"record":3}\n')
     with ThreadPoolExecutor(1) as other:
         other.submit(left.close).result()
+    assert len(children() - before) == 1
     assert [line[-4:] for line in lines] == [b":4}\n"]
     kept.end()
 
