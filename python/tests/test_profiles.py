@@ -45,6 +45,16 @@ def test_the_table() -> None:
 
 
 @pytest.mark.parametrize("profile", PROFILES)
+def test_the_program_has_the_table(profile: str, program: Program) -> None:
+    """The cursor behind a page has the digest of all tolerances."""
+    question = ("match", "CwVF+yN2yhpnBAFdAAsaFg==", "--map", TOP / "examples", "--page", 1)
+    named = program.run(*question, "--profile", profile).stdout
+    assert named.splitlines()[-1].startswith("more ")
+    numbers = (f"--{name}={value}" for name, value in tolerances_of(profile).items())
+    assert named == program.run(*question, *numbers).stdout
+
+
+@pytest.mark.parametrize("profile", PROFILES)
 @pytest.mark.parametrize(
     "given",
     [{}, {"radius": 5}, {"class_": 2}, {"class": 2}, {"lowest": 7, "slack": 0}, {"percent": 0}],
