@@ -50,10 +50,14 @@ def metadata(packed: Path) -> list[Entry]:
 
 
 def package_files(state: State) -> list[Entry]:
-    """The files of the package `olr`, below the folder `olr`, and the module of the program for pages."""
+    """The files of the package `olr`, below the folder `olr`, the module of the program for pages, and the texts of licences."""
     names = state.names("python/olr")
     modules = (Entry(f"olr/bin/{name}", it) for name, it in module_of_pages(state).items())
-    return [*(Entry(name.removeprefix("python/"), state.read(name)) for name in names), *modules]
+    texts = (
+        Entry(f"olr/pages/licences/{name}", state.read(name)) for name in ("LICENSE", "NOTICE")
+    )
+    files = (Entry(name.removeprefix("python/"), state.read(name)) for name in names)
+    return [*files, *modules, *texts]
 
 
 def given(state: State, machine: Machine) -> Given:

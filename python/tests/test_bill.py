@@ -156,7 +156,7 @@ def test_the_tools(told: Any) -> None:
     assert related(told, "Given-olr.deb", "DEPENDS_ON") == set()
     packages = {one["SPDXID"]: one for one in told["packages"]}
     fiona = packages["SPDXRef-Python-fiona"]
-    assert fiona["versionInfo"] == ">=1.9,<1.10"
+    assert fiona["versionInfo"] == ">=1.9"
     locators = [it["referenceLocator"] for it in fiona["externalRefs"]]
     assert locators == ["pkg:pypi/fiona", "pkg:deb/debian/python3-fiona"]
     osmium = packages["SPDXRef-Python-osmium"]["externalRefs"][1]

@@ -11,7 +11,7 @@
 | `bars.js` | `tableOfBars`: counts with bars |
 | `base.css` | of all pages: colours, light and dark, and what has the focus |
 | `shared.css` | styles of them, of tables with bars, and of what is printed |
-| `licences` | the texts that each page has of what it carries: links to those of the repository |
+| `licences` | where a release has the texts that each page has of what it carries |
 
 A page is a package with `page.html`, `page.css` and `page.js`, named in the package data of `pyproject.toml`:
 

@@ -13,6 +13,7 @@ from urllib.parse import urlsplit
 
 from olr.errors import ToolError
 from olr.outputs import require_free_file
+from olr.version import TOP
 
 LEAFLET = (Path(__file__).with_name("leaflet"), Path("/usr/share/javascript/leaflet"))
 """Where Leaflet is looked for: it came with this package, as in a wheel, or Debian's package libjs-leaflet has it there."""
@@ -21,8 +22,8 @@ HOST = re.compile(r"([A-Za-z0-9._{}-]+|\[[0-9A-Fa-f:.]+\])(:[0-9]{1,5})?")
 SHARED = "olr.pages"
 FROM_PAGE = ("policy", "title", "licences", "leaflet_css", "leaflet_js", "data")
 """What a page that makes others puts into their templates."""
-LICENCES = ("NOTICE", "Apache-2.0")
-"""The files of `licences`."""
+LICENCES = Path(__file__).with_name("licences")
+"""The texts of licences, which came with this package, as in a wheel. The repository has them at its top."""
 SUFFIXES = (".html", ".htm")
 BASE = "base.css"
 """Styles of all pages: colours, light and dark, and the focus."""
@@ -120,8 +121,15 @@ def _file(package: str, name: str) -> str:
 
 
 def licences() -> str:
-    """What says whose all is that a page may carry, and the licences of it: the texts that go along with each release."""
-    return "\n\n".join(_file(SHARED, f"licences/{name}") for name in LICENCES)
+    """What says whose all is that a page may carry, and the licences of it: the texts that go along with each release. Raises
+    `ToolError` if they are missing."""
+    folder = LICENCES if LICENCES.is_dir() else TOP
+    try:
+        return "\n\n".join((folder / name).read_text("utf-8") for name in ("NOTICE", "LICENSE"))
+    except OSError as error:
+        raise ToolError(
+            f"a page needs the texts of licences, and there is no {error.filename}: install a release of olr-tools"
+        ) from error
 
 
 def leaflet(name: str) -> str:
