@@ -302,33 +302,35 @@ def zipped(
 
 
 LIST = f"key,ref\nm1,{ONE}\n"
-ENDED = zipped({"a.csv": LIST})[:-30]
+PACKED = {
+    "gzip": gzip.compress(LIST.encode()),
+    "UTF-16": gzip.compress(LIST.encode("utf-16")),
+    "twice": gzip.compress(gzip.compress(LIST.encode())),
+    "zip": zipped({"a.csv": LIST}),
+    "stored": zipped({"a.csv": LIST}, zipfile.ZIP_STORED, b"a comment"),
+    "one of three": zipped({"a.csv": LIST, "folder/": "", "__MACOSX/a.csv": "x"}),
+    "two": zipped({"a.csv": LIST, "b.csv": LIST}),
+    "a workbook": zipped({"xl/workbook.xml": ""}),
+    "bzip2": zipped({"a.csv": LIST}, zipfile.ZIP_BZIP2),
+    "plain": LIST.encode(),
+}
+DAMAGED = {
+    "gzip": gzip.compress(LIST.encode())[:-9],
+    "zip": zipped({"a.csv": LIST})[:-30],
+    "beginning": b"PK\3\4",
+    "no directory": b"PK\3\4" + b"x" * 100,
+}
+"""By names, since what is packed has the time in it, and all processes that run tests have to find the same ones."""
 
 
-@pytest.mark.parametrize(
-    "data",
-    [
-        gzip.compress(LIST.encode()),
-        gzip.compress(LIST.encode("utf-16")),
-        gzip.compress(gzip.compress(LIST.encode())),
-        zipped({"a.csv": LIST}),
-        zipped({"a.csv": LIST}, zipfile.ZIP_STORED, b"a comment"),
-        zipped({"a.csv": LIST, "folder/": "", "__MACOSX/a.csv": "x"}),
-        zipped({"a.csv": LIST, "b.csv": LIST}),
-        zipped({"xl/workbook.xml": ""}),
-        zipped({"a.csv": LIST}, zipfile.ZIP_BZIP2),
-        LIST.encode(),
-    ],
-)
+@pytest.mark.parametrize("data", PACKED.values(), ids=PACKED)
 def test_packed_lists(scripts: Browser, capsys: pytest.CaptureFixture[str], data: bytes) -> None:
     case = data, Reading()
     found = scripts.value(f"triedPacked({json.dumps(given(case))})")
     assert found == expected(case, lambda: capsys.readouterr().err)
 
 
-@pytest.mark.parametrize(
-    "data", [gzip.compress(LIST.encode())[:-9], ENDED, b"PK\3\4", b"PK\3\4" + b"x" * 100]
-)
+@pytest.mark.parametrize("data", DAMAGED.values(), ids=DAMAGED)
 def test_damaged_packed_lists(scripts: Browser, data: bytes) -> None:
     """A browser says in its own words what is wrong."""
     found = scripts.value(f"triedPacked({json.dumps(given((data, Reading())))})")
