@@ -83,7 +83,8 @@ def test_its_answers_are_those_of_the_program(opened: Browser, program: Program)
             command = [os.fspath(program.path), "batch", what, "--map", examples, *words]
             records = "".join(f"{at}\t{ref}\n" for at, ref in enumerate(refs))
             written = subprocess.run(command, input=records, capture_output=True, text=True)
-            query = "".join(f"&{name[2:]}={value}" for name, value in zip(words[::2], words[1::2]))
+            pairs = zip(words[::2], words[1::2])
+            query = "&profile=program" + "".join(f"&{name[2:]}={value}" for name, value in pairs)
             for ref, line in zip(refs, written.stdout.splitlines(), strict=True):
                 status, text = asked(opened, f"{what}?ref={_escaped(ref)}{query}")
                 fault = json.loads(line)["fault"]

@@ -339,7 +339,7 @@ def test_texts_of_others_are_no_markup(feed: Feed, data: Any) -> None:
     """But in the data, where `<` is written otherwise."""
     text = (feed.folder.parent / "page.html").read_text(encoding="utf-8")
     assert data and MARKUP not in text and "evil" in text
-    assert text.count("</script>") == 3
+    assert text.count("</script>") == 4
     assert " src=" not in text.split("<script")[0] and "url(" not in text.split("</style>")[0]
 
 
