@@ -131,11 +131,13 @@ impl Sink for Taken {
     }
 }
 
-/// A writer that is interrupted in one of its calls, and else drops what it is given.
+/// A writer that fails in one of its calls, and else drops what it is given.
 #[derive(Clone, Copy)]
 pub struct Dropping {
-    /// The call of `write` or of `flush` that is interrupted.
+    /// The call of `write` or of `flush` that fails.
     pub failing: u32,
+    /// How it fails.
+    pub kind: io::ErrorKind,
     /// The calls so far.
     pub calls: u32,
 }
@@ -150,18 +152,20 @@ impl Write for Dropping {
         let call = self.calls;
         self.calls = call.saturating_add(1);
         if call == self.failing {
-            return Err(io::Error::from(io::ErrorKind::Interrupted));
+            return Err(io::Error::from(self.kind));
         }
         Ok(())
     }
 }
 
-/// A reader that gives a byte a call, and is interrupted in one of its calls.
+/// A reader that gives a byte a call, and fails in one of its calls.
 #[derive(Drop)]
 pub struct Dripping<'a> {
     pub rest: &'a [u8],
-    /// The call that is interrupted.
+    /// The call that fails.
     pub failing: u32,
+    /// How it fails.
+    pub kind: io::ErrorKind,
     /// The calls so far.
     pub calls: u32,
 }
@@ -171,7 +175,7 @@ impl<'a> Read for Dripping<'a> {
         let call = self.calls;
         self.calls = call.saturating_add(1);
         if call == self.failing {
-            return Err(io::Error::from(io::ErrorKind::Interrupted));
+            return Err(io::Error::from(self.kind));
         }
         let Some((first, rest)) = self.rest.split_first() else {
             return Ok(0);

@@ -7,6 +7,7 @@ use olr_app::{Fault, File, Sink, Source};
 use olr_keys::BadPage;
 use olr_map::{In, MapFault, read_map};
 use std::alloc::Global;
+use std::io::ErrorKind;
 use std::process::Abort;
 use std::test::Fail;
 
@@ -117,11 +118,12 @@ fn reports_each_failure_of_a_source(rt: HostRuntime) -> Result<(), Fail> {
     Ok(())
 }
 
-/// How many nodes are read by a reader that is interrupted in a call, and the failures.
-fn nodes_read(alloc: Global, failing: u32) -> (Result<u32, MapFault>, u64) {
+/// How many nodes are read by a reader that fails in a call, and the failures.
+fn nodes_read(alloc: Global, failing: u32, kind: ErrorKind) -> (Result<u32, MapFault>, u64) {
     let mut nodes = In::new(Dripping {
         rest: TWO_NODES,
         failing,
+        kind,
         calls: 0,
     });
     let count = match read_map(alloc, &mut nodes, &mut In::new(NO_LINES)) {
@@ -131,12 +133,20 @@ fn nodes_read(alloc: Global, failing: u32) -> (Result<u32, MapFault>, u64) {
     (count, nodes.failures())
 }
 
-/// No contract says that [`In`] gives what its reader gave, and that an interruption is a failure.
+/// No contract says that [`In`] gives what its reader gave, and that an interruption is no failure.
 #[test]
 fn reports_each_failure_of_a_reader(rt: HostRuntime) {
-    assert!(rt; nodes_read(rt.alloc(), NEVER) == (Ok(2), 0));
+    let read = (Ok(2), 0);
     let failed = (Err(MapFault::ReadFailed(File::Nodes)), 1);
+    assert!(rt; nodes_read(rt.alloc(), NEVER, ErrorKind::Other) == read);
     for call in 0..=TWO_NODES.len() as u32 {
-        assert!(rt; nodes_read(rt.alloc(), call) == failed, "{call}");
+        assert!(rt;
+            nodes_read(rt.alloc(), call, ErrorKind::Other) == failed,
+            "{call}"
+        );
+        assert!(rt;
+            nodes_read(rt.alloc(), call, ErrorKind::Interrupted) == read,
+            "{call}"
+        );
     }
 }

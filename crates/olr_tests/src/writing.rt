@@ -7,7 +7,7 @@ use crate::samples::{Files, LINE, LINE_SHOWN, STREET};
 use olr_app::{Fault, File, In, Out, Sink};
 use olr_keys::BadPage;
 use std::alloc::{AllocError, Global};
-use std::io::BufWriter;
+use std::io::{BufWriter, ErrorKind};
 use std::process::Abort;
 use std::test::Fail;
 
@@ -106,26 +106,40 @@ fn writes_all(alloc: Global) -> Result<bool, Fail> {
     )
 }
 
-/// The calls of a writer that is interrupted in one, and the failures, if the request ends.
-fn ends(alloc: Global, failing: u32) -> Option<(u32, u64)> {
-    let mut out = Out::new(Dropping { failing, calls: 0 });
-    let answer = answer_into(alloc, Asked::Show(LINE), STREET, &mut out);
+/// The answer to a request over a writer that fails in a call, the calls of the writer, and the
+/// failures.
+fn ended(
+    alloc: Global,
+    failing: u32,
+    kind: ErrorKind,
+) -> Result<(Result<(), Fault>, u32, u64), BadPage> {
+    let mut out = Out::new(Dropping {
+        failing,
+        kind,
+        calls: 0,
+    });
+    let answer = answer_into(alloc, Asked::Show(LINE), STREET, &mut out)?;
     let failures = out.failures();
-    let calls = out.into_writer().calls;
-    if answer == Ok(FAILED) {
-        Some((calls, failures))
-    } else {
-        None
-    }
+    Ok((answer, out.into_writer().calls, failures))
 }
 
 /// No contract says that [`Out`] answers what its writer answered. The first failure ends a
-/// request, and no call follows it, though it might pass.
+/// request, and no call follows it, though it might pass; an interrupted call is made again.
 #[test]
 fn answers_as_a_writer(rt: HostRuntime) -> Result<(), Fail> {
     assert!(rt; writes_all(rt.alloc())?);
-    assert!(rt; ends(rt.alloc(), 0) == Some((1, 1)), "a write");
-    assert!(rt; ends(rt.alloc(), 1) == Some((2, 1)), "a flush");
+    assert!(rt;
+        ended(rt.alloc(), 0, ErrorKind::Other)? == (FAILED, 1, 1),
+        "a write"
+    );
+    assert!(rt;
+        ended(rt.alloc(), 1, ErrorKind::Other)? == (FAILED, 2, 1),
+        "a flush"
+    );
+    for call in 0..2 {
+        let found = ended(rt.alloc(), call, ErrorKind::Interrupted)?;
+        assert!(rt; found == (Ok(()), 3, 0), "{call}");
+    }
     Ok(())
 }
 
