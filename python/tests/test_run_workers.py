@@ -279,6 +279,7 @@ def test_a_run_that_starts_is_ended(runs: Runs) -> None:
     """At five moments, by both signals: one message, no process and no scratch file is left, and the next run goes on."""
     words = runs.words("--workers", 3, *GROUPS, "--resume")[1:]
     errors = runs.folder / "stderr"
+    (runs.folder / "out").mkdir()
     for moment in (1, 2, 4, 7, 8):
         sign = (signal.SIGTERM, signal.SIGINT)[moment % 2]
         with Forked(words, runs.environment(), errors, ended_at(moment, sign)) as run:
