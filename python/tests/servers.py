@@ -15,7 +15,6 @@ from urllib.parse import quote
 
 from conftest import TOP, Program, by_default
 from forked import Forked
-from olr.__main__ import main
 
 SECONDS = 600.0
 """So long is waited for what has to come, also on a busy machine: only what hangs fails by it."""
@@ -110,10 +109,12 @@ def reply_on(
 
 
 @contextmanager
-def started(words: Sequence[str], environment: dict[str, str], errors: Path) -> Iterator[Process]:
-    """The command `olr-tools` as a new process."""
+def started(
+    words: Sequence[str], environment: dict[str, str], errors: Path, before: Sequence[str] = ()
+) -> Iterator[Process]:
+    """The command `olr-tools` as a new process, which another command may start."""
     with errors.open("w") as stream, subprocess.Popen(
-        ["/usr/bin/python3", "-m", "olr", *words],
+        [*before, "/usr/bin/python3", "-m", "olr", *words],
         stdout=subprocess.PIPE,
         stderr=stream,
         text=True,
@@ -126,15 +127,6 @@ def started(words: Sequence[str], environment: dict[str, str], errors: Path) -> 
 def forked(words: Sequence[str], environment: dict[str, str], errors: Path) -> Iterator[Process]:
     """The same as a fork."""
     with Forked(words, environment, errors) as process:
-        yield process
-
-
-@contextmanager
-def forked_here(
-    words: Sequence[str], environment: dict[str, str], errors: Path
-) -> Iterator[Process]:
-    """The same as a fork of this process, with what a test changed in it."""
-    with Forked(words, environment, errors, main) as process:
         yield process
 
 

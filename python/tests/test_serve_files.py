@@ -1,21 +1,23 @@
 """How many files `olr-tools serve` may open."""
 
 import pytest
-import resource
 import socket
+from functools import partial
 from pathlib import Path
 
 from conftest import REFERENCE, TOP, Program
-from servers import forked_here, path_of, serving
+from servers import Begin, path_of, serving, started
 
 EXAMPLES = TOP / "examples"
 
 
-def test_few_files_for_several_maps(
-    program: Program, tmp_path: Path, monkeypatch: pytest.MonkeyPatch
-) -> None:
+def limited(files: int) -> Begin:
+    """What starts a server that may open so many files."""
+    return partial(started, before=("/usr/bin/prlimit", f"--nofile={files}"))
+
+
+def test_few_files_for_several_maps(program: Program, tmp_path: Path) -> None:
     """Each has as many processes."""
-    monkeypatch.setattr(resource, "getrlimit", lambda _: (208, 208))
     with pytest.raises(AssertionError, match="needs 232 with 16 processes"):
         with serving(
             program.path,
@@ -23,24 +25,21 @@ def test_few_files_for_several_maps(
             tmp_path / "log",
             "--map",
             f"b={EXAMPLES}",
-            begin=forked_here,
+            begin=limited(208),
         ):
             pass
 
 
 @pytest.mark.parametrize("files, said", [(184, "needs 188"), (208, "there are 24 connections")])
-def test_few_files(
-    files: int, said: str, program: Program, tmp_path: Path, monkeypatch: pytest.MonkeyPatch
-) -> None:
+def test_few_files(files: int, said: str, program: Program, tmp_path: Path) -> None:
     """It says how many connections that leaves, and answers on them; with too few it doesn't start."""
-    monkeypatch.setattr(resource, "getrlimit", lambda _: (files, files))
     if files < 188:
         with pytest.raises(AssertionError, match=said):
-            with serving(program.path, EXAMPLES, tmp_path / "log", begin=forked_here):
+            with serving(program.path, EXAMPLES, tmp_path / "log", begin=limited(files)):
                 pass
         assert (tmp_path / "log").read_text().count("\n") == 1
         return
-    with serving(program.path, EXAMPLES, tmp_path / "log", begin=forked_here) as server:
+    with serving(program.path, EXAMPLES, tmp_path / "log", begin=limited(files)) as server:
         assert said in server.log() and server.log().count("\n") == 1
         silent = list[socket.socket]()
         stream = b"CwVG\n" * 100
