@@ -19,10 +19,17 @@ from multiprocessing import resource_tracker
 from pathlib import Path
 from typing import NoReturn
 
-from olr.__main__ import main
-
 COMMANDS = ("olr.commands.run", "olr.commands.serve")
 """Modules that the template has."""
+OF_DASK = ("distributed.cli.dask_scheduler", "distributed.cli.dask_worker")
+"""Modules with commands of Dask. Once one was asked for, the template has them and those that their processes and runs import."""
+WITH_DASK = (*COMMANDS, *OF_DASK, "olr.running.cluster", "pandas")
+SETTINGS_OF_DASK = {
+    "DASK_DISTRIBUTED__SCHEDULER__HTTP__ROUTES": "[]",
+    "DASK_DISTRIBUTED__WORKER__HTTP__ROUTES": "[]",
+    "DASK_DISTRIBUTED__WORKER__PROFILE__ENABLED": "False",
+}
+"""Without pages, and without a thread that looks every 10 ms what a worker does."""
 MOST_MESSAGE = 1 << 16
 """Bytes of what the template is told."""
 
@@ -36,14 +43,16 @@ class Forked:
         environment: Mapping[str, str],
         errors: Path,
         command: Callable[[], object] | None = None,
+        module: str = "olr.__main__",
     ) -> None:
-        """A fork of the template that runs `olr-tools`; or one of this process that runs a command, and has what tests changed."""
+        """A fork of the template that runs `olr-tools`, or the command of another module; or one of this process that runs a command, and has
+        what tests changed."""
         read, write = os.pipe()
         self.words, self.errors = words, errors
         self.returncode: int | None = None
         self._wait = template.wait if command is None else _wait
         if command is None:
-            self.pid = template.fork(words, environment, errors, write)
+            self.pid = template.fork(module, words, environment, errors, write)
         else:
             self.pid = os.fork()
             if self.pid == 0:
@@ -102,10 +111,15 @@ class Template:
         os.waitpid(self._pid, 0)
 
     def fork(
-        self, words: Sequence[str], environment: Mapping[str, str], errors: Path, output: int
+        self,
+        module: str,
+        words: Sequence[str],
+        environment: Mapping[str, str],
+        errors: Path,
+        output: int,
     ) -> int:
-        """Forks a process that runs `olr-tools` here. Answers its id."""
-        message = pickle.dumps((os.getcwd(), words, dict(environment), errors))
+        """Forks a process that runs the command of a module here. Answers its id."""
+        message = pickle.dumps((module, os.getcwd(), words, dict(environment), errors))
         socket.send_fds(self._asked, [message], [output])
         return int(self._asked.recv(MOST_MESSAGE))
 
@@ -129,6 +143,7 @@ def _wait(pid: int) -> int | None:
 def _fork_for(asked: socket.socket) -> NoReturn:
     """What the template does, until the process of the tests has ended."""
     signal.signal(signal.SIGINT, signal.SIG_IGN)
+    os.environ.update(SETTINGS_OF_DASK)
     while True:
         message, descriptors, *_ = socket.recv_fds(asked, MOST_MESSAGE, 1)
         if not message:
@@ -136,14 +151,15 @@ def _fork_for(asked: socket.socket) -> NoReturn:
         if not descriptors:
             asked.send(str(_wait(int(message))).encode())
             continue
-        for name in COMMANDS:
+        module, folder, words, environment, errors = pickle.loads(message)
+        for name in WITH_DASK if module in OF_DASK else COMMANDS:
             importlib.import_module(name)
+        command = importlib.import_module(module).main
         gc.freeze()
         pid = os.fork()
         if pid == 0:
-            folder, words, environment, errors = pickle.loads(message)
             os.chdir(folder)
-            _run(main, words, environment, descriptors[0], errors)
+            _run(command, words, environment, descriptors[0], errors)
         os.close(descriptors[0])
         asked.send(str(pid).encode())
 

@@ -19,7 +19,6 @@ from typing import TYPE_CHECKING, NamedTuple
 from asking import draw_map, draw_references
 from conftest import OF_PROGRAM, TOP, Program, Tools
 from forked import Forked
-from olr.__main__ import main
 from olr.content import Content
 from olr.messages.message import Reading
 from olr.regions.making import make_store_of_folder
@@ -201,9 +200,7 @@ class Runs:
     def started(self, *words: object, program: Path | None = None) -> Iterator[Forked]:
         """A run as a process of its own, which is the first one of its session. It doesn't outlive this."""
         errors = self.folder / "stderr"
-        # Dask takes long to import.
-        command = main if "--scheduler" in words else None
-        with Forked(self.words(*words)[1:], self.environment(program), errors, command) as process:
+        with Forked(self.words(*words)[1:], self.environment(program), errors) as process:
             try:
                 yield process
             finally:

@@ -1,27 +1,15 @@
-"""Schedulers and workers of Dask that aren't those of a run: its own commands, as forks of this process."""
+"""Schedulers and workers of Dask that aren't those of a run: its own commands, as processes of their own."""
 
-import dask
-import importlib
 import json
 import os
 import signal
 import time
-from collections.abc import Callable
-from distributed.cli import dask_scheduler, dask_worker
 from pathlib import Path
 from typing import NamedTuple
 
 from forked import Forked
 from runs import Runs
 
-# They tell its version, and forks have it then.
-importlib.import_module("pandas")
-SETTINGS = {
-    "distributed.scheduler.http.routes": [],
-    "distributed.worker.http.routes": [],
-    "distributed.worker.profile.enabled": False,
-}
-"""Without pages, and without a thread that looks every 10 ms what a worker does."""
 HIDDEN = ["--no-dashboard", "--dashboard-address", "127.0.0.1:0"]
 
 
@@ -34,7 +22,7 @@ class Scheduler:
         self._environment = runs.environment(program)
         self.processes = list[Forked]()
         words = ["--host", "127.0.0.1", "--port", "0", *HIDDEN]
-        self._start(dask_scheduler.main, *words, "--scheduler-file", str(self._file))
+        self._start("dask_scheduler", *words, "--scheduler-file", str(self._file))
         while (address := self._found()) is None:
             assert self.processes[0].poll() is None
             time.sleep(0.1)
@@ -52,17 +40,16 @@ class Scheduler:
         """Starts a worker with so many threads and a limit of its memory, by default without one."""
         words = [self.address, "--local-directory", self._local, *HIDDEN, "--no-nanny"]
         words += ["--nworkers", "1", "--nthreads", str(threads), "--memory-limit", memory]
-        self._start(dask_worker.main, *words)
+        self._start("dask_worker", *words)
 
     def kill(self) -> None:
         """Kills the scheduler alone."""
         self.processes[0].kill()
 
-    def _start(self, command: Callable[[], object], *words: str) -> None:
-        """Starts a command of Dask."""
-        with dask.config.set(SETTINGS):
-            started = Forked(words, self._environment, Path(os.devnull), command)
-        self.processes.append(started)
+    def _start(self, command: str, *words: str) -> None:
+        """Starts a command of Dask: no fork of this process, where Dask may have had threads, for which a fork would wait for ever."""
+        module = f"distributed.cli.{command}"
+        self.processes.append(Forked(words, self._environment, Path(os.devnull), module=module))
 
     def _found(self) -> str | None:
         """The address in the scheduler's file, or None until all of the file is written."""
