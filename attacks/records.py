@@ -1,5 +1,5 @@
 #!/usr/bin/env python3
-"""Gives `batch` records at its limits, and a client that writes a record and waits for its line.
+"""Gives `batch` and `answer` records at their limits, and a client that writes a record and waits for its line.
 
     attacks/records.py [--program PATH..]
 
@@ -8,7 +8,7 @@ and a last line feed; keys of any bytes of UTF-8 are given back; of two referenc
 has to; a record of millions of bytes takes no memory of its own. Memory: 100,000 records need no more address space than 1,000, but for one step by
 which the C library's heap grows. Flow: each line comes before the next record is written, from records written whole, in parts, and two at once. All
 of them ask for matchings; memory and flow are tried for places too, and with 20,000 records for why there is no matching, with tolerances that leave
-none. It needs Linux.
+none, and for `answer` with records that ask for each of these. It needs Linux.
 """
 
 import base64
@@ -20,16 +20,17 @@ import resource
 import select
 import subprocess
 import sys
-import tempfile
 import termios
 
 from limits import MIB, least_to_answer, least_to_begin
-from trials import bound, main, write_town
+from trials import bound, in_own_folder, main
 
 TOWN = b"CwVGnSN2zhvHCgDX/tIzAw=="
 MAP = ["--nodes", "town.nodes", "--lines", "town.lines", "--bans", "town.bans"]
 MATCH, PLACES = ["batch", "match", *MAP], ["batch", "places", *MAP, "--apart", "0"]
 WHY = ["batch", "why", *MAP, "--bearing", "0", "--nearest", "1"]
+ANSWER = ["answer", *MAP]
+QUESTIONS = [b"match -- ", b"why --bearing 0 --nearest 1 -- ", b"show -- ", b"places --apart 0 -- ", b"candidates -- ", b"match --page 1 --radius 50 -- "]
 LONGEST = 65_536  # bytes of a record
 # By how many bytes glibc's heap grows at once. What is free in it lies otherwise after many records than after few, so it may have to grow once more.
 HEAP_STEP = 132 << 10
@@ -111,6 +112,8 @@ def passed_over(trial, mebibytes):
 def lasting(trial, count, words):
     """Gives many records within the address space that a hundredth of them takes."""
     kinds = [b"key\t" + TOWN, b"", b"*", TOWN[:-4] + b"AA==", b"\xff", 300 * b"C", b"a\tb\tc", b"\t", *8 * [b"-"]]
+    if words == ANSWER:
+        kinds = [b"key\t" + QUESTIONS[0] + TOWN, b"", *(question + text for question in QUESTIONS for text in (TOWN, b"*")), b"\xff", b"match --all -- -"]
     few = answer_to(trial, b"\n".join(kinds[number % len(kinds)] for number in range(count // 100)), words=words)
     trial.need(few[0] == 0 and few[1], f"{count // 100} records", few)
 
@@ -123,7 +126,7 @@ def lasting(trial, count, words):
     numbers = [json.loads(line)["record"] for line in lines]
     trial.expect(found[0] == 0 and numbers == [n + 1 for n in range(count) if n % len(kinds) != 1], f"{count} records: their numbers", found)
     trial.expect(found[1].startswith(few[1]) and b"NoMemory" not in found[1], f"{count} records: the first {count // 100}", found)
-    trial.summary = f"{words[1]}: {count} records within {enough} bytes of address space, as {count // 100}"
+    trial.summary = f"{' '.join(words[: words.index('--nodes')])}: {count} records within {enough} bytes of address space, as {count // 100}"
 
 
 def next_line(process):
@@ -141,14 +144,14 @@ def has_read_all(process):
     return state == "S" and int.from_bytes(unread, sys.byteorder) == 0
 
 
-def flow(trial, words):
-    """Writes records and waits for their lines."""
+def flow(trial, words, text):
+    """Writes records, of which one has this text, and waits for their lines."""
     how = {"cwd": trial.folder, "stdin": subprocess.PIPE, "stdout": subprocess.PIPE, "stderr": subprocess.PIPE, "bufsize": 0}
     with subprocess.Popen([trial.program, *words], **how) as process:
         number = 0
         try:
             bound(process)
-            for parts in ([TOWN + b"\n"], [b"a key", b"\t" + TOWN[:5], TOWN[5:], b"\n"], [b"*\n*\n"], [b"\n" + TOWN + b"\r\n\n*\n"], [(LONGEST + 1) * b"C", b"\n"]):
+            for parts in ([text + b"\n"], [b"a key", b"\t" + text[:5], text[5:], b"\n"], [b"*\n*\n"], [b"\n" + text + b"\r\n\n*\n"], [(LONGEST + 1) * b"C", b"\n"]):
                 for part in parts:
                     process.stdin.write(part)
                 for record in b"".join(parts).splitlines():
@@ -156,7 +159,7 @@ def flow(trial, words):
                     line = next_line(process) if record else b""
                     holds = not record or (line.endswith(b"\n") and json.loads(line)["record"] == number)
                     trial.need(holds, f"the line of record {number}, before more is written", (None, line, b""))
-            process.stdin.write(TOWN)
+            process.stdin.write(text)
             rest, errors = process.communicate()
             trial.expect(json.loads(rest)["record"] == number + 1, "the line of a last record without a line feed", (process.returncode, rest, errors))
         finally:
@@ -166,17 +169,10 @@ def flow(trial, words):
 
 def make_cases(folder):
     """The cases."""
-    counts = ((100_000, MATCH), (100_000, PLACES), (20_000, WHY))
-    return [(lengths,), (keys,), *((turned, text) for text in TURNED), (passed_over, 6), *((lasting, *case) for case in counts), *((flow, words) for _, words in counts)]
-
-
-def try_case(trial, function, *arguments):
-    """Tries a case in a folder of its own, for the records that it gives."""
-    with tempfile.TemporaryDirectory(dir=trial.folder) as own:
-        trial.folder = pathlib.Path(own)
-        write_town(own)
-        function(trial, *arguments)
+    counts = ((100_000, MATCH), (100_000, PLACES), (20_000, WHY), (20_000, ANSWER))
+    flows = (*((words, TOWN) for words in (MATCH, PLACES, WHY)), *((ANSWER, question + TOWN) for question in QUESTIONS[:3]))
+    return [(lengths,), (keys,), *((turned, text) for text in TURNED), (passed_over, 6), *((lasting, *case) for case in counts), *((flow, *case) for case in flows)]
 
 
 if __name__ == "__main__":
-    main(__doc__, "olr", try_case, make_cases)
+    main(__doc__, "olr", in_own_folder, make_cases)

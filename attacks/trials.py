@@ -129,6 +129,14 @@ class Trial:
         self.flaws.append(flaw)
 
 
+def in_own_folder(trial, function, *arguments):
+    """Tries a case in a folder of its own with the small town, for the records that it gives."""
+    with tempfile.TemporaryDirectory(dir=trial.folder) as own:
+        trial.folder = pathlib.Path(own)
+        write_town(own)
+        function(trial, *arguments)
+
+
 def flaw_of(what, found):
     """The flaw of a run, in words."""
     status, output, errors = found
@@ -187,19 +195,22 @@ def try_all(function, programs, folder, cases):
     return passed, failed
 
 
-def programs_of(doc, crate):
-    """The programs that the words of a script name, or else those that the gate built of a crate: its own, and the one by Rattle's own compiler
-    where it is there."""
+def chosen_of(doc, crate, numbers):
+    """What the words of a script name: the programs, or else those that the gate built of a crate, its own and the one by Rattle's own compiler where
+    it is there; and numbers by their names, or else the given ones."""
     parser = argparse.ArgumentParser(description=doc, formatter_class=argparse.RawDescriptionHelpFormatter)
     built = TOP / "crates" / crate / "out" / crate
     parser.add_argument("--program", nargs="+", type=pathlib.Path, help="the programs to try (default: those that the gate builds)")
     other = built.with_name(f"{crate}.by-rattle")
-    programs = parser.parse_args().program or [built, *([other] if other.exists() else [])]
+    for name, number in numbers.items():
+        parser.add_argument(f"--{name}", type=int, default=number, help=f"(default: {number})")
+    chosen = vars(parser.parse_args())
+    programs = chosen.pop("program") or [built, *([other] if other.exists() else [])]
     for program in programs:
         if not os.access(program, os.X_OK) or program.is_dir():
             print(f"there is no program {program}: .ci/run builds the programs that it tries")
             end(0, 1)
-    return [program.resolve() for program in programs]
+    return [program.resolve() for program in programs], chosen
 
 
 def end(passed, failed):
@@ -211,10 +222,11 @@ def end(passed, failed):
     sys.exit(1 if failed else 0)
 
 
-def main(doc, crate, function, make_cases):
-    """All of a script: `make_cases` writes what the runs need into a folder, and gives the cases."""
+def main(doc, crate, function, make_cases, **numbers):
+    """All of a script: `make_cases` writes what the runs need into a folder, and gives the cases. It gets the numbers, as the words of the script
+    change them."""
     signal.signal(signal.SIGTERM, lambda *_: sys.exit(1))  # so that the folder is removed
-    programs = programs_of(doc, crate)
+    programs, chosen = chosen_of(doc, crate, numbers)
     with tempfile.TemporaryDirectory() as folder:
-        passed, failed = try_all(function, programs, folder, make_cases(folder))
+        passed, failed = try_all(function, programs, folder, make_cases(folder, **chosen))
     end(passed, failed)
