@@ -4,9 +4,9 @@
     attacks/devices.py [--program PATH..]
 
 runs `show`, `candidates`, `match`, `places` and `why`, these but the first two as text and as JSON, `match` with a page and all pages, with two files
-and with three; and `batch` on the records of a file and of the standard input. In each case every read fails in turn, a whole one or one of 64 bytes,
-once or from then on: the answer has to be ReadFailed with the name of the file that was read, and nothing written, but the lines of the records of a
-batch that ended before. A read may also give no byte too early, as a shorter file: what is answered then has to be what the program answers to that
+and with three; and `batch` and `answer` on the records of a file and of the standard input. In each case every read fails in turn, a whole one or one
+of 64 bytes, once or from then on: the answer has to be ReadFailed with the name of the file that was read, and nothing written, but the lines of the
+records that ended before. A read may also give no byte too early, as a shorter file: what is answered then has to be what the program answers to that
 shorter file. Every write fails in turn or takes no byte, a whole one or one of 7 bytes, once or from then on: WriteFailed, and what was written is a
 beginning of the output. A read or a write that a signal interrupts is made again: the output is the same. So it is with reads and writes of 1 and of
 7 bytes. It needs `cc`, Linux and glibc.
@@ -25,8 +25,8 @@ RECORDS = "town.records"
 FILES_READ = {0: RECORDS, 3: "town.nodes", 4: "town.lines", 5: "town.bans", 6: RECORDS}
 NAMES = {0: "input", 3: "nodes", 4: "lines", 5: "bans", 6: "input"}
 TOWN = "CwVGnSN2zhvHCgDX/tIzAw=="
-# Six records, of which the last one has no line feed: each has a line.
-INPUT = f"one\t{TOWN}\n{TOWN}\r\nbroken\t*\n".encode() + b"\xff\n" + f"\t{TOWN}\nlast\t{TOWN}".encode()
+# Eight records, of which the last one has no line feed: each has a line.
+INPUT = f"one\t{TOWN}\n{TOWN}\r\nbroken\t*\n".encode() + b"\xff\n" + f"\t{TOWN}\nmatch -- {TOWN}\n\tshow {TOWN}\nlast\t{TOWN}".encode()
 FILES = ["--nodes", "town.nodes", "--lines", "town.lines", "--bans", "town.bans"]
 JSON = ["--format", "json"]
 ALL = ["--page", "1", "--all", "--bearing", "12"]
@@ -47,6 +47,8 @@ CASES = [
     ["why", TOWN, *FILES, "--bearing", "0", "--nearest", "1"],
     ["why", TOWN, *FILES[:4], "--percent", "0", "--slack", "0", "--nearest", "0", *JSON],
     ["batch", "why", *FILES, "--bearing", "0", "--nearest", "0", "--input", RECORDS],
+    ["answer", *FILES],
+    ["answer", *FILES[:4], "--input", RECORDS],
 ]
 # The most bytes of a narrow read.
 WIDTH = 64

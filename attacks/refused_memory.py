@@ -124,16 +124,27 @@ CASES = [
     (["why", LINE, *on("spread", "--nearest", "0", "--format", "json")], 0, '{"legs":[],"points":[{"candidates":null,"nearest":[]},'),
     (["match", "--help"], 0, ""),
 ]
-# Batches of six records: the words, and the fault of each record with ample memory.
-INPUT = "batch.records"
+# Batches of six records, and six records for `answer`: the words, and the fault of each record with ample memory.
+INPUT, QUESTIONS = "batch.records", "answer.records"
 LONG = 65_537
 BATCHES = [
     (["batch", "match", *on("town", "--bans", "town.bans", "--input", INPUT)], [None, None, "NotBase64", "NotText", "LongRecord", None]),
     (["batch", "candidates", *on("town")], [None, None, "NotBase64", "NotText", "LongRecord", None]),
     (["batch", "places", *on("town", "--apart", "0")], [None, None, "NotBase64", "NotText", "LongRecord", None]),
     (["batch", "why", *on("four", "--bans", "bans", "--nearest", "1")], [None, None, "NotBase64", "NotText", "LongRecord", None]),
+    (["answer", *on("town", "--bans", "town.bans")], [None, None, "NotBase64", "NotText", "LongRecord", None]),
 ]
-RECORDS = f"one\t{TOWN}\n{TOWN}\r\nbroken\t*\n".encode() + b"\xff\n" + LONG * b"A" + f"\n\u00e9\t{TOWN}".encode()
+
+
+def records(one, two, broken, last):
+    """Six records with these texts."""
+    return f"one\t{one}\n{two}\r\nbroken\t{broken}\n".encode() + b"\xff\n" + LONG * b"A" + f"\n\u00e9\t{last}".encode()
+
+
+RECORDS = {
+    INPUT: records(TOWN, TOWN, "*", TOWN),
+    QUESTIONS: records(f"match --page 1 -- {TOWN}", f"why --bearing 0 -- {TOWN}", "show -- *", f"places --apart=0 {TOWN}"),
+}
 # No case has as many allocations.
 MOST = 100_000
 
@@ -155,7 +166,7 @@ def without_memory(line):
 
 
 def refused_records(found, wanted):
-    """How many records of a batch have NoMemory in place of their answer, or None where another line differs: also where that of a fault does."""
+    """How many records have NoMemory in place of their answer, or None where another line differs: also where that of a fault does."""
     lines, wanted_lines = (one[1].splitlines(keepends=True) for one in (found, wanted))
     if (found[0], found[2], len(lines)) != (0, b"", len(wanted_lines)):
         return None
@@ -165,17 +176,17 @@ def refused_records(found, wanted):
 
 
 def try_batch(trial, library, words, faults):
-    """Refuses each allocation of a batch."""
+    """Refuses each allocation of a run over records."""
 
     def run(first, last):
         return trial.run_over(library, words, refuse_from=first, refuse_to=last)
 
-    name, trial.given = " ".join(words), INPUT
+    name, trial.given = " ".join(words), INPUT if words[0] == "batch" else QUESTIONS
     wanted, _ = run(0, 0)
-    records = [json.loads(line) for line in wanted[1].splitlines()]
-    numbers = [record["record"] for record in records]
-    trial.need(wanted[0] == 0 and [record["fault"] for record in records] == faults, f"{name}: with ample memory", wanted)
-    trial.need(numbers == [1, 2, 3, 4, 5, 6] and [record["key"] for record in records][::5] == ["one", "\u00e9"], f"{name}: with ample memory", wanted)
+    lines = [json.loads(line) for line in wanted[1].splitlines()]
+    numbers = [line["record"] for line in lines]
+    trial.need(wanted[0] == 0 and [line["fault"] for line in lines] == faults, f"{name}: with ample memory", wanted)
+    trial.need(numbers == [1, 2, 3, 4, 5, 6] and [line["key"] for line in lines][::5] == ["one", "\u00e9"], f"{name}: with ample memory", wanted)
     ended = one = 0
     for what, found in refusals(run):
         count = refused_records(found, wanted)
@@ -211,7 +222,8 @@ def make_cases(folder):
     for name, text in FILES.items():
         (pathlib.Path(folder) / name).write_text(text)
     library = build(folder, "refuse.c")
-    (pathlib.Path(folder) / INPUT).write_bytes(RECORDS)
+    for name, data in RECORDS.items():
+        (pathlib.Path(folder) / name).write_bytes(data)
     return [*((try_request, library, *case) for case in CASES), *((try_batch, library, *case) for case in BATCHES)]
 
 
