@@ -144,7 +144,7 @@ def is_line(line, number, key, said):
     if not (line.startswith(b'{"answer":null,"fault":"Words ') and line.endswith(end)):
         return False
     fault = json.loads(line)["fault"]
-    return len(fault) > len("Words ") and len(fault.splitlines()) == 1
+    return len(fault) > len("Words ") and "\n" not in fault
 
 
 def kind_of(text, line):
