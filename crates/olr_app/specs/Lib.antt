@@ -1,6 +1,6 @@
 pub mod Common
 pub mod Out
-pub mod QuestionOnMap
+pub mod Unbanned
 pub mod Stages
 pub mod Accepting
 pub mod Listing

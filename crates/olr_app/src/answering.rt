@@ -4,48 +4,24 @@ ghost use Rattle.std.specs.Prelude.{IfErr, IfOk, Ok, OnOk, string_bytes, true};
 ghost use Rattle.olr_binary.specs.Reference.{IsReference};
 ghost use Rattle.olr_map.specs.Files.{IsReadInOrder, texts_of};
 ghost use Rattle.olr_app.specs.Accepting.{Accepts, ReportsRefusal};
-ghost use Rattle.olr_app.specs.Answer.{IsAnswerOn, IsAnswerOnMap, IsAnswered, IsFault, IsFaultOnMap};
-ghost use Rattle.olr_app.specs.Answer.{IsOutput, IsReason, IsReferenceIn};
+ghost use Rattle.olr_app.specs.Answer.{IsAnswerOn, IsAnswered, IsFault, IsOutput, IsReason};
 ghost use Rattle.olr_app.specs.Sources.{AnswerLeaves};
 ghost use Rattle.olr_app.specs.Stages.{IsStageFault};
 
 use crate::accepting::{Accepted, accept};
-use crate::listing::listing_of;
-use crate::matching::matchings_of;
-use crate::places::places_listing;
+use crate::on_map::{MapForRequests, printed_reference};
 use crate::sink::Sink;
-use crate::why::reasons_of;
 use crate::writing::write_whole;
-use olr_base::NoMemory;
-use olr_binary::{Reference, show_json, show_text};
 use olr_map::{File, Source, read_map_with_bans};
-use olr_request::{Fault, Format, Request};
+use olr_request::{Fault, Request};
 use olr_road::Map;
 use std::alloc::Global;
 
-/// The text of a reference in a format.
-fn printed_reference(
-    alloc: Global,
-    reference: &Reference,
-    format: Format,
-) -> Result<String, NoMemory>
-    ensures { IfOk result (λ text. IsReferenceIn format reference.now (string_bytes text)) }
-{
-    match format {
-        Format::Text => show_text(alloc, reference),
-        Format::Json => show_json(alloc, reference),
-    }
-}
-
-/// The whole output of a request that is accepted, on a map. That of [`Request::Show`] is the same
-/// on each map.
+/// The whole output of a request that is accepted, on a map, with marks in cursors.
 ///
 /// # Errors
 ///
-/// For a request that asks for matchings, [`Fault::CursorOfOther`] where the cursor has the mark of
-/// other inputs; else, but for [`Request::Why`], [`Fault::TooManyCandidates`] with the first point
-/// that has more than 64; else [`Fault::CursorNotHere`] where the cursor isn't that of a matching;
-/// [`Fault::NoMemory`] where the allocator refused memory.
+/// Those of [`MapForRequests::output`].
 fn output_on_map(
     alloc: Global,
     request: &Request<'_>,
@@ -57,43 +33,9 @@ fn output_on_map(
         IsAnswerOn true request.now accepted.now map.now (Ok (string_bytes output))) }
     ensures fault { IfErr result (IsStageFault (IsAnswerOn true request.now accepted.now map.now)) }
 {
-    let reference = &accepted.reference;
-    match request {
-        Request::Show { text: _, format } => {
-            let output = printed_reference(alloc, reference, *format)?;
-            Ok(output)
-        }
-        Request::Candidates {
-            text: _,
-            tolerances,
-            format,
-        } => listing_of(alloc, map, reference, tolerances, *format),
-        Request::Match(asked) => matchings_of(alloc, map, true, asked, accepted),
-        Request::Places(asked) => places_listing(alloc, map, asked, reference),
-        Request::Why(asked) => reasons_of(alloc, map, asked, reference),
-    }
-}
-
-/// Answers a request on a map that was read before: the whole output, which is what [`run`] writes
-/// where the files of the map are those of this one. That of [`Request::Show`] is the same on each
-/// map.
-///
-/// # Errors
-///
-/// The refusal of the reference, or else [`Fault::BadCursor`] where the text of a cursor isn't that
-/// of one, whatever memory does; else, for a request that asks for matchings,
-/// [`Fault::CursorOfOther`] where the cursor has the mark of other inputs; else, but for
-/// [`Request::Why`], [`Fault::TooManyCandidates`] with the first point that has more than 64; else
-/// [`Fault::CursorNotHere`] where the cursor isn't that of a matching; [`Fault::NoMemory`] where
-/// the allocator refused memory.
-pub fn answer_on_map(alloc: Global, request: &Request<'_>, map: &Map) -> Result<String, Fault>
-    ensures answer { IfOk result (λ output.
-        IsAnswerOnMap true map.now request.now (Ok (string_bytes output))) }
-    ensures fault { IfErr result (IsFaultOnMap true map.now request.now) }
-    ensures refused { ReportsRefusal request.now result }
-{
-    let accepted = accept(request)?;
-    output_on_map(alloc, request, &accepted, map)
+    let mut on = MapForRequests::new(map);
+    on.prepare(alloc, request)?;
+    on.output(alloc, request, accepted, true)
 }
 
 /// The whole output of a request that is accepted. It reads the files of the map, if the request

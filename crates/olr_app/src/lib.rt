@@ -5,14 +5,13 @@
 //!
 //! - [`accepting`]: the reference and the cursor of its own texts, before any file is read.
 //! - [`answering`]: [`run`], which reads the map that the request asks for, makes the whole output
-//!   and only then writes it; [`answer_on_map`], the same output on a map that was read before.
+//!   and only then writes it.
+//! - [`on_map`]: the output on a map, and [`MapForRequests`], a map that answers one request after the
+//!   other.
 //! - [`listing`]: the text of candidates, by [`listing_json`] where it is JSON; [`matching`]: the
 //!   pages of matchings; [`places`]: the places, and whether the match is unique; [`why`]: why
 //!   there is no matching.
 //! - [`sink`]: where the output goes, and [`writing`], the loops that hand it over.
-//!
-//! Of many texts each is answered by [`one_of_many`]: to the same [`Question`], on a map that was
-//! read before ([`question_on_map`]), by the same calls.
 #![tactic(auto)]
 
 mod accepting;
@@ -20,14 +19,13 @@ mod answering;
 mod listing;
 mod listing_json;
 mod matching;
-mod one_of_many;
+mod on_map;
 mod places;
-mod question_on_map;
 mod sink;
 mod why;
 mod writing;
 
-pub use answering::{answer_on_map, run};
+pub use answering::run;
 pub use olr_candidates::{Tolerance, Tolerances};
 pub use olr_map::{File, In, Source};
 pub use olr_matching::PageSize;
@@ -36,7 +34,6 @@ pub use olr_request::{
     Fault, Format, MatchRequest, Pages, PlacesRequest, Question, QuestionKind, Request, WhyRequest,
 };
 pub use olr_why::NearestCount;
-pub use one_of_many::answer_text;
-pub use question_on_map::{QuestionOnMap, unbanned_for};
+pub use on_map::MapForRequests;
 pub use sink::{Out, Sink};
 pub use writing::{put_whole, write_whole};

@@ -12,7 +12,7 @@ use olr_binary::Reference;
 use olr_candidates::ReferenceOnMap;
 use olr_request::{Fault, Format, WhyRequest};
 use olr_road::Map;
-use olr_why::{Why, unbanned_of, why_json, why_of, why_text};
+use olr_why::{Why, why_json, why_of, why_text};
 use std::alloc::Global;
 
 /// Reasons in a format.
@@ -33,7 +33,7 @@ fn printed_why(alloc: Global, map: &Map, why: &Why, format: Format) -> Result<St
 /// # Errors
 ///
 /// [`Fault::NoMemory`] where the allocator refused memory, and no other.
-pub(crate) fn reasons_with(
+pub(crate) fn reasons_of(
     alloc: Global,
     map: &Map,
     unbanned: Option<&Map>,
@@ -62,26 +62,4 @@ pub(crate) fn reasons_with(
     let why = why_of(alloc, &on, unbanned, *nearest)?;
     let output = printed_why(alloc, map, &why, *format)?;
     Ok(output)
-}
-
-/// What a request for the reasons of a reference asks for, on a map: [`reasons_with`] the map
-/// without its bans, which it makes where the map has bans.
-///
-/// # Errors
-///
-/// [`Fault::NoMemory`] where the allocator refused memory, and no other.
-pub(crate) fn reasons_of(
-    alloc: Global,
-    map: &Map,
-    asked: &WhyRequest<'_>,
-    reference: &Reference,
-) -> Result<String, Fault>
-    requires { IsReference reference.now }
-    ensures reasons { IfOk result (λ output. AreReasons asked.now.format asked.now.tolerances
-        asked.now.nearest reference.now map.now (Ok (string_bytes output))) }
-    ensures fault { IfErr result (IsStageFault (AreReasons asked.now.format asked.now.tolerances
-        asked.now.nearest reference.now map.now)) }
-{
-    let unbanned = unbanned_of(alloc, map)?;
-    reasons_with(alloc, map, unbanned.as_ref(), asked, reference)
 }
