@@ -107,7 +107,7 @@ pub(crate) static REFERENCE: [Explanation; 11] = [
 ];
 
 /// The records of a batch.
-pub(crate) static RECORDS: [Explanation; 7] = [
+pub(crate) static RECORDS: [Explanation; 8] = [
     Explanation {
         name: "LongRecord",
         detail: Detail::Nothing,
@@ -123,6 +123,16 @@ pub(crate) static RECORDS: [Explanation; 7] = [
         meaning: "the record isn't UTF-8",
         cause: "a file in another encoding, as Latin-1",
         remedy: "convert it: `iconv -f LATIN1 -t UTF-8`",
+    },
+    Explanation {
+        name: "Words",
+        detail: Detail::Values("TEXT"),
+        values: "",
+        meaning: "of `answer`: the words of the record aren't those of a request, as TEXT says",
+        cause: "\
+            an option that the command doesn't have, or that names a file; a number that isn't a whole \
+            one; a reference without ` -- ` before it that has a blank or begins with a hyphen",
+        remedy: "write the words as behind `olr`, without files, and ` -- ` before the reference",
     },
     Explanation {
         name: "BadCell",

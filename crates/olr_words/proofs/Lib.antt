@@ -1,2 +1,14 @@
 mod Common
 mod GivenTolerances
+mod TolerancesRead
+mod Tables
+mod RecordWords
+mod RecordOptions
+mod SimpleRecords
+mod Values
+mod Found
+mod Faults
+mod Requests
+mod OneGiven
+mod OneQuestion
+mod OneRequest

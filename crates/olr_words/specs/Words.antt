@@ -1,5 +1,5 @@
 -- What the words of a command line ask for.
-use Rattle.std.specs.Prelude.{◌≡◌, ℕ, ◌≤◌, None, Some, IsSome, get_or, unwrap_or, true, if◌then◌else◌}
+use Rattle.std.specs.Prelude.{◌≡◌, ℕ, ◌≤◌, List, codes, None, IsSome, get_or, unwrap_or, true, if◌then◌else◌}
 use Rattle.olr_request.specs.Question.{request_for}
 use Rattle.olr_request.specs.declared.fault.Fault.{Fault}
 use Rattle.olr_request.specs.declared.fault.Fault.TheVariants.{AfterWithAll, BadNearest, BadNumber, BadPage, BadTolerance}
@@ -8,6 +8,7 @@ use Rattle.olr_request.specs.declared.question.QuestionKind.{QuestionKind}
 use Rattle.olr_request.specs.declared.question.QuestionKind.TheVariants.{Candidates, Match, Places, Why}
 use Rattle.olr_request.specs.declared.request.Pages.{Pages}
 use Rattle.olr_request.specs.declared.request.Pages.TheVariants as pages
+use Rattle.olr_request.specs.declared.request.Request.{Request}
 use Rattle.olr_candidates.specs.Tolerances.{IsFirstOutOfRange, order_of}
 use Rattle.olr_candidates.specs.Values as tolerance
 use Rattle.olr_candidates.specs.declared.tolerances.Tolerance.{Tolerance}
@@ -17,12 +18,8 @@ use Rattle.olr_places.specs.declared.limits.PlaceLimit.{PlaceLimit}
 use Rattle.olr_places.specs.declared.limits.PlaceLimit.TheVariants.{Apart, Look, Most, Within}
 use Rattle.olr_places.specs.declared.limits.PlaceLimits.{PlaceLimits}
 use Rattle.olr_words.specs.Profile.{profile_value}
-use Rattle.olr_words.specs.declared.words.Asked.{Asked}
-use Rattle.olr_words.specs.declared.words.Asked.TheVariants.{Many, One}
-use Rattle.olr_words.specs.declared.words.Files.{Files}
 use Rattle.olr_words.specs.declared.words.Given.{Given}
 use Rattle.olr_words.specs.declared.words.GivenNumbers.{GivenNumbers}
-use Rattle.olr_words.specs.declared.words.Input.{Input}
 use Rattle.olr_words.specs.declared.words.MapSubcommand.{MapSubcommand}
 use Rattle.olr_words.specs.declared.words.MapSubcommand.TheVariants as each
 
@@ -94,6 +91,13 @@ IsNearest count = count ≤ 64
 
 -- ---- subcommands
 
+-- the name of a subcommand that asks of a map
+abbrev pub IsNameOf : MapSubcommand → List ℕ → Type 0
+IsNameOf each.Candidates name = name ≡ codes "candidates"
+IsNameOf each.Match name = name ≡ codes "match"
+IsNameOf each.Places name = name ≡ codes "places"
+IsNameOf each.Why name = name ≡ codes "why"
+
 -- what a subcommand asks of a reference, with what is given
 abbrev pub IsWhat : Given → MapSubcommand → QuestionKind → Type 0
 IsWhat given each.Candidates what = what ≡ Candidates
@@ -124,24 +128,16 @@ IsRefusedQuestion given subcommand other =
     ((tolerances : Tolerances) × AreTolerances given tolerances)
     × IsRefusedWhat given subcommand other
 
--- what a subcommand asks for on the map of files
-pub record AsksOne (given : Given) (subcommand : MapSubcommand) (files : Files) (asked : Asked)
-    : Type 0 where
+-- what a subcommand asks of a reference on a map
+pub record IsRequest (given : Given) (subcommand : MapSubcommand) (request : Request) : Type 0 where
   pub question : Question
   pub is : IsQuestion given subcommand question
   pub one_of_both : AreBoth given → ⊥
-  pub asks : asked ≡ One (request_for question.what question.tolerances given.text
-      (pages_of given) given.format) (Some files)
+  pub asks : request ≡ request_for question.what question.tolerances given.text (pages_of given)
+      given.format
 
 -- why it is refused: a cursor with all pages; else its question
-abbrev pub IsRefusedOne : Given → MapSubcommand → Fault → Type 0
-IsRefusedOne given subcommand AfterWithAll = AreBoth given
-IsRefusedOne given subcommand other =
+abbrev pub IsRefusedRequest : Given → MapSubcommand → Fault → Type 0
+IsRefusedRequest given subcommand AfterWithAll = AreBoth given
+IsRefusedRequest given subcommand other =
     (AreBoth given → ⊥) × IsRefusedQuestion given subcommand other
-
--- what a subcommand of `batch` asks for
-pub record AsksMany (given : Given) (subcommand : MapSubcommand) (files : Files) (input : Input)
-    (asked : Asked) : Type 0 where
-  pub question : Question
-  pub is : IsQuestion given subcommand question
-  pub asks : asked ≡ Many question files input

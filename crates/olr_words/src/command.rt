@@ -1,5 +1,10 @@
 //! The command of `clap`, as tables: the subcommands, their options, and the texts of help.
 
+ghost use Rattle.std.specs.Prelude.{◌≡◌, Decides, IfSome, is_some, map, option_map};
+ghost use Rattle.std.specs.List.{Any};
+ghost use Rattle.olr_words.specs.Options.{IsValue, options_named, options_of};
+ghost use Rattle.olr_words.specs.RecordCommand.{is_reference, options_in, record_value, row_of};
+
 use crate::profile::Profile;
 use clap::{Arg, ArgAction, ArgGroup, Command, Error};
 use std::alloc::Global;
@@ -27,12 +32,21 @@ enum Takes {
     Number,
     /// One of these words, which stand for this name.
     OneOf(&'static str, &'static [&'static str]),
+    /// The format of an output.
+    Format,
     /// The text of a cursor.
     Cursor,
     /// Nothing more.
     Nothing,
     /// Any number of words, which have no name before them.
     Words,
+}
+
+/// Whether a text is one of these words.
+fn is_one_of(text: &str, words: &[&str]) -> bool
+    ensures { Decides result (Any (λ word. word.now ≡ text.now) words.now) }
+{
+    words.iter().any(|word| *word == text)
 }
 
 /// An option of a subcommand.
@@ -50,6 +64,38 @@ impl CommandOption {
     pub fn takes_number(&self) -> bool {
         matches!(self.takes, Takes::Number)
     }
+
+    /// Whether a record may have it: it names no file, and doesn't ask for several pages.
+    pub fn is_of_record(&self) -> bool
+        ensures { result ≡ is_some (record_value self.now.takes) }
+    {
+        match self.takes {
+            Takes::Reference | Takes::Number | Takes::OneOf(_, _) | Takes::Format | Takes::Cursor =>
+                true,
+            Takes::MapFile(_) | Takes::File | Takes::MapFolder | Takes::Nothing | Takes::Words =>
+                false,
+        }
+    }
+
+    /// Whether it is the reference, which has no name before it.
+    pub fn is_reference(&self) -> bool
+        ensures { result ≡ is_reference self.now.takes }
+    {
+        matches!(self.takes, Takes::Reference)
+    }
+
+    /// Whether it takes a text in a record. The format of a record's answer is JSON.
+    pub fn takes_in_record(&self, text: &str) -> bool
+        ensures { Decides result
+            (IfSome (record_value self.now.takes) (λ value. IsValue value text.now)) }
+    {
+        match self.takes {
+            Takes::Number => text.parse::<u32>().is_ok(),
+            Takes::OneOf(_, words) => is_one_of(text, words),
+            Takes::Format => text == "json",
+            _ => true,
+        }
+    }
 }
 
 /// A subcommand, with the groups of options that it has, in the order of its help.
@@ -63,7 +109,7 @@ pub struct Subcommand {
 }
 
 /// The formats of an output.
-const FORMATS: Takes = Takes::OneOf("FORMAT", &["text", "json"]);
+const FORMATS: &[&str] = &["text", "json"];
 
 const REFERENCE: &[CommandOption] = &[CommandOption {
     name: "REF",
@@ -160,7 +206,7 @@ const LIMITS: &[CommandOption] = &[
 /// The format of an output that is one object.
 const FORMAT: &[CommandOption] = &[CommandOption {
     name: "format",
-    takes: FORMATS,
+    takes: Takes::Format,
     help: "Print text, or JSON: one object on a line [default: text]",
 }];
 
@@ -185,7 +231,7 @@ const PAGES: &[CommandOption] = &[
     },
     CommandOption {
         name: "format",
-        takes: FORMATS,
+        takes: Takes::Format,
         help: "Print each page as text, or as JSON: one object on a line [default: text]",
     },
 ];
@@ -204,6 +250,13 @@ const RECORDS: &[CommandOption] = &[CommandOption {
     help: "The records, one a line: the text of a reference, or a key, a tab and the text [default: standard input]",
 }];
 
+/// The records that have words of their own.
+const REQUESTS: &[CommandOption] = &[CommandOption {
+    name: "input",
+    takes: Takes::File,
+    help: "The records, one a line: the words of a command, as 'places --within 100 -- REF', or a key, a tab and the words [default: standard input]",
+}];
+
 /// The fault that is explained.
 const FAULT: &[CommandOption] = &[CommandOption {
     name: "NAME",
@@ -216,6 +269,13 @@ pub const EXPLAIN: Subcommand = Subcommand {
     name: "explain",
     about: "Print what a fault means, what usually causes it, and what to do about it",
     options: &[FAULT],
+};
+
+/// The subcommand for records that have words of their own.
+const ANSWER: Subcommand = Subcommand {
+    name: "answer",
+    about: "Answer every question about one map, by one line of JSON for each record, as they come",
+    options: &[FILES, REQUESTS],
 };
 
 /// The subcommands that answer one reference.
@@ -302,6 +362,11 @@ fn argument<'a>(alloc: Global, option: &CommandOption) -> Result<Arg<'a>, Error>
                 .allow_negative_numbers(true),
         ),
         Takes::OneOf(name, words) => Ok(named(alloc, option).value_name(name).value_parser(words)),
+        Takes::Format => Ok(
+            named(alloc, option)
+                .value_name("FORMAT")
+                .value_parser(FORMATS),
+        ),
         Takes::Cursor => Ok(named(alloc, option).value_name("CURSOR")),
         Takes::Nothing => Ok(named(alloc, option).action(ArgAction::SetTrue)),
         Takes::Words => Ok(Arg::new(alloc, option.name).help(option.help).num_args(0..)),
@@ -389,20 +454,30 @@ fn main_command<'a>(alloc: Global) -> Result<Command<'a>, Error> {
 /// Only where the allocator refused memory.
 pub fn whole_command<'a>(alloc: Global) -> Result<Command<'a>, Error> {
     let batch = batch_command(alloc)?;
+    let answer = command_of(alloc, &ANSWER)?.after_help(AFTER_HELP);
     let explain = command_of(alloc, &EXPLAIN)?;
-    Ok(main_command(alloc)?.subcommand(batch)?.subcommand(explain)?)
+    let command = main_command(alloc)?.subcommand(batch)?;
+    Ok(command.subcommand(answer)?.subcommand(explain)?)
 }
 
 /// The subcommand of this name among these, if there is one.
-fn named_in(subcommands: &[Subcommand], name: &str) -> Option<Subcommand> {
-    subcommands
-        .iter()
-        .find(|subcommand| subcommand.name == name)
-        .copied()
+fn named_in(subcommands: &[Subcommand], name: &str) -> Option<Subcommand>
+    ensures options { option_map options_in result ≡ options_named (map row_of subcommands.now) name.now }
+    ensures name { IfSome result (λ subcommand. subcommand.name.now ≡ name.now) }
+{
+    for subcommand in subcommands {
+        if subcommand.name == name {
+            return Some(*subcommand);
+        }
+    }
+    None
 }
 
-/// The subcommand of this name, if there is one, but for `batch` and `explain`.
-pub fn subcommand_named(name: &str) -> Option<Subcommand> {
+/// The subcommand of this name that answers one reference, if there is one.
+pub fn subcommand_named(name: &str) -> Option<Subcommand>
+    ensures options { option_map options_in result ≡ options_of name.now }
+    ensures name { IfSome result (λ subcommand. subcommand.name.now ≡ name.now) }
+{
     named_in(SUBCOMMANDS, name)
 }
 

@@ -1,5 +1,7 @@
 //! The tolerances that stand for those which the words don't give.
 
+ghost use Rattle.std.specs.Prelude.{option_map};
+ghost use Rattle.olr_words.specs.Given.{IsProfileNamed};
 ghost use Rattle.olr_words.specs.Profile.{AreOfProfile};
 
 use olr_candidates::Tolerances;
@@ -19,7 +21,9 @@ impl Profile {
     pub const NAMES: &'static [&'static str] = &["program", "feed"];
 
     /// The one of this name; that of the program for any other name, and where there is none.
-    pub fn named(name: Option<&str>) -> Profile {
+    pub fn named(name: Option<&str>) -> Profile
+        ensures { IsProfileNamed (option_map (λ name. name.now) name.entry) result }
+    {
         match name {
             Some("feed") => Profile::Feed,
             _ => Profile::Program,

@@ -1,13 +1,17 @@
 //! From the words of a command line to the request that they ask for, and the files that it reads.
 
-ghost use Rattle.std.specs.Prelude.{◌≡◌, IfErr, IfOk, None};
+ghost use Rattle.std.specs.Prelude.{◌≡◌, ◌≢◌, IfErr, IfNone, IfOk, IfSome, codes, false};
+ghost use Rattle.clap.specs.Words.{first_value, found_of};
 ghost use Rattle.olr_request.specs.declared.fault.Fault.TheVariants as fault;
+ghost use Rattle.olr_request.specs.declared.request.Format.TheVariants.{Json as JsonFormat};
 ghost use Rattle.olr_request.specs.declared.request.Request.TheVariants.{Show};
-ghost use Rattle.olr_words.specs.declared.words.Asked.TheVariants.{One};
-ghost use Rattle.olr_words.specs.Words.{AreBoth, AreLimits, AreTolerances, AsksMany, AsksOne};
-ghost use Rattle.olr_words.specs.Words.{IsNearest, IsQuestion, IsRefusedNumber, IsRefusedOne};
-ghost use Rattle.olr_words.specs.Words.{IsRefusedQuestion, IsRefusedTolerance, IsRefusedWhat};
-ghost use Rattle.olr_words.specs.Words.{IsSize, IsWhat, nearest_of, pages_of, size_of};
+ghost use Rattle.olr_words.specs.declared.words.MapSubcommand.{MapSubcommand as OfMap};
+ghost use Rattle.olr_words.specs.Given.{AreNumbers, AreTolerancesOf, IsGiven, IsNumberOf};
+ghost use Rattle.olr_words.specs.Record.{IsOfSubcommand};
+ghost use Rattle.olr_words.specs.Words.{AreBoth, AreLimits, AreTolerances, IsNameOf, IsNearest};
+ghost use Rattle.olr_words.specs.Words.{IsQuestion, IsRefusedNumber, IsRefusedQuestion};
+ghost use Rattle.olr_words.specs.Words.{IsRefusedRequest, IsRefusedTolerance, IsRefusedWhat};
+ghost use Rattle.olr_words.specs.Words.{IsRequest, IsSize, IsWhat, nearest_of, pages_of, size_of};
 
 use crate::command::whole_command;
 use crate::hints::{check_values, not_understood, topic_in};
@@ -52,9 +56,18 @@ pub enum Asked<'a> {
     /// The answer to one request, on the map of these files if it reads one.
     One(Request<'a>, Option<Files<'a>>),
     /// The answers to many records, on the map of these files.
-    Many(Question, Files<'a>, Input<'a>),
+    Many(Records, Files<'a>, Input<'a>),
     /// What these faults mean.
     Explain(Topic<'a>),
+}
+
+/// What the texts of records are.
+#[derive(Clone, Copy, Debug, PartialEq, Eq)]
+pub enum Records {
+    /// References, of each of which this is asked.
+    References(Question),
+    /// Requests: the words of each say what is asked.
+    Requests,
 }
 
 /// Where the records of a batch come from.
@@ -77,7 +90,10 @@ enum MapSubcommand {
 
 impl MapSubcommand {
     /// The one of this name, if there is one.
-    fn named(name: &str) -> Option<MapSubcommand> {
+    fn named(name: &str) -> Option<MapSubcommand>
+        ensures found { IfSome result (λ subcommand. IsNameOf subcommand name.now) }
+        ensures none { IfNone result ((other : OfMap) → ¬ (IsNameOf other name.now)) }
+    {
         match name {
             "candidates" => Some(MapSubcommand::Candidates),
             "match" => Some(MapSubcommand::Match),
@@ -86,6 +102,26 @@ impl MapSubcommand {
             _ => None,
         }
     }
+}
+
+/// The number that is found for an option; `None` where there is no text for it, or one that is no
+/// number.
+fn number_in(found: &ArgMatches<'_>, name: &str) -> Option<u32>
+    ensures { IsNumberOf (first_value (found_of found.now) name.now) result }
+{
+    let text = found.get_str(name)?;
+    text.parse().ok()
+}
+
+/// The numbers that are found for the tolerances, in the order of [`Tolerance::ALL`].
+fn tolerances_in(found: &ArgMatches<'_>) -> [Option<u32>; Tolerance::COUNT]
+    ensures { AreTolerancesOf (first_value (found_of found.now)) result }
+{
+    let mut tolerances = [None; Tolerance::COUNT];
+    for name in Tolerance::ALL {
+        tolerances[name.order()] = number_in(found, name.text());
+    }
+    tolerances
 }
 
 /// The numbers that the words give for places, in range or not: apart in decimetres, within in
@@ -101,12 +137,14 @@ struct GivenNumbers {
 
 impl GivenNumbers {
     /// The numbers that the words found for a subcommand give.
-    fn read(found: &ArgMatches<'_>) -> GivenNumbers {
+    fn read(found: &ArgMatches<'_>) -> GivenNumbers
+        ensures { AreNumbers (first_value (found_of found.now)) result }
+    {
         GivenNumbers {
-            apart: found.get_one("apart"),
-            within: found.get_one("within"),
-            look: found.get_one("look"),
-            most: found.get_one("most"),
+            apart: number_in(found, "apart"),
+            within: number_in(found, "within"),
+            look: number_in(found, "look"),
+            most: number_in(found, "most"),
         }
     }
 
@@ -136,7 +174,7 @@ impl GivenNumbers {
 /// numbers for places, and how many lines near a point are printed. `None` where an option is left
 /// out, or where the subcommand has no such option.
 #[derive(Clone, Copy)]
-struct Given<'a> {
+pub(crate) struct Given<'a> {
     text: &'a str,
     profile: Profile,
     tolerances: [Option<u32>; Tolerance::COUNT],
@@ -150,24 +188,34 @@ struct Given<'a> {
 
 impl<'a> Given<'a> {
     /// What the words found for a subcommand give, beside the text of a reference.
-    fn read(found: &ArgMatches<'a>, text: &'a str) -> Given<'a> {
-        let mut tolerances = [None; Tolerance::COUNT];
-        for name in Tolerance::ALL {
-            tolerances[name.order()] = found.get_one(name.text());
-        }
+    pub(crate) fn read(found: &ArgMatches<'a>, text: &'a str) -> Given<'a>
+        ensures text { result.text ≡ text.entry }
+        ensures given { IsGiven (first_value (found_of found.now)) result }
+    {
         Given {
             text,
             profile: Profile::named(found.get_str("profile")),
-            tolerances,
-            page: found.get_one("page"),
+            tolerances: tolerances_in(found),
+            page: number_in(found, "page"),
             numbers: GivenNumbers::read(found),
-            nearest: found.get_one("nearest"),
+            nearest: number_in(found, "nearest"),
             after: found.get_str("after"),
             all: found.get_flag("all"),
             format: match found.get_str("format") {
                 Some("json") => Format::Json,
                 _ => Format::Text,
             },
+        }
+    }
+
+    /// The same in a record: one page at most, as JSON.
+    pub(crate) fn of_record(self) -> Given<'a>
+        ensures { result ≡ record (self.entry) { all = false; format = JsonFormat } }
+    {
+        Given {
+            all: false,
+            format: Format::Json,
+            ..self
         }
     }
 
@@ -215,14 +263,13 @@ impl<'a> Given<'a> {
     }
 
     /// What `show` asks for.
-    fn show(&self) -> Asked<'a>
-        ensures { result ≡ One (Show self.now.text self.now.format) None }
+    fn show(&self) -> Request<'a>
+        ensures { result ≡ Show self.now.text self.now.format }
     {
-        let request = Request::Show {
+        Request::Show {
             text: self.text,
             format: self.format,
-        };
-        Asked::One(request, None)
+        }
     }
 
     /// How many matchings a page has.
@@ -285,37 +332,37 @@ impl<'a> Given<'a> {
         Ok(Question { what, tolerances })
     }
 
-    /// What a subcommand asks for, on the map of these files.
+    /// What a subcommand asks of a reference on a map.
     ///
     /// # Errors
     ///
     /// That of [`Given::pages`]; else that of [`Given::question`].
-    fn one(&self, subcommand: MapSubcommand, files: Files<'a>) -> Result<Asked<'a>, Fault>
-        ensures accepted { IfOk result (AsksOne self.now subcommand files.entry) }
-        ensures refused { IfErr result (IsRefusedOne self.now subcommand) }
+    fn on_map(&self, subcommand: MapSubcommand) -> Result<Request<'a>, Fault>
+        ensures accepted { IfOk result (IsRequest self.now subcommand) }
+        ensures refused { IfErr result (IsRefusedRequest self.now subcommand) }
     {
         let pages = self.pages()?;
-        let question = self.question(subcommand)?;
-        let request = question.request(self.text, pages, self.format);
-        Ok(Asked::One(request, Some(files)))
+        match self.question(subcommand) {
+            Ok(question) => Ok(question.request(self.text, pages, self.format)),
+            Err(fault) => Err(fault),
+        }
     }
 
-    /// What a subcommand of `batch` asks for, on the map of these files.
+    /// What the subcommand of this name asks for, if there is one.
     ///
     /// # Errors
     ///
-    /// That of [`Given::question`].
-    fn many(
-        &self,
-        subcommand: MapSubcommand,
-        files: Files<'a>,
-        input: Input<'a>,
-    ) -> Result<Asked<'a>, Fault>
-        ensures accepted { IfOk result (AsksMany self.now subcommand files.entry input.entry) }
-        ensures refused { IfErr result (IsRefusedQuestion self.now subcommand) }
+    /// That of [`Given::on_map`], but for `show`.
+    pub(crate) fn request(&self, name: &str) -> Option<Result<Request<'a>, Fault>>
+        ensures asked { IfSome result (IsOfSubcommand self.now name.now) }
+        ensures none { IfNone result ((name.now ≢ codes "show")
+            × ((other : OfMap) → ¬ (IsNameOf other name.now))) }
     {
-        let question = self.question(subcommand)?;
-        Ok(Asked::Many(question, files, input))
+        if name == "show" {
+            return Some(Ok(self.show()));
+        }
+        let subcommand = MapSubcommand::named(name)?;
+        Some(self.on_map(subcommand))
     }
 }
 
@@ -331,33 +378,43 @@ fn files_of<'a>(found: &ArgMatches<'a>) -> Option<Files<'a>> {
     })
 }
 
-/// What the subcommand of `batch` found among the words asks for, if there is one.
-fn many_in<'a>(matches: &ArgMatches<'a>) -> Option<Result<Asked<'a>, Fault>> {
-    let (name, found) = matches.subcommand()?;
-    let subcommand = MapSubcommand::named(name)?;
-    let files = files_of(found)?;
-    let input = match found.get_str("input") {
+/// Where the records come from that the words give.
+fn input_of<'a>(found: &ArgMatches<'a>) -> Input<'a> {
+    match found.get_str("input") {
         Some(path) => Input::File(path),
         None => Input::Standard,
+    }
+}
+
+/// What the subcommand of `batch` found among the words asks for, if there is one.
+fn batch_in<'a>(matches: &ArgMatches<'a>) -> Option<Result<Asked<'a>, Fault>> {
+    let (name, found) = matches.subcommand()?;
+    let subcommand = MapSubcommand::named(name)?;
+    let records = match Given::read(found, "").question(subcommand) {
+        Ok(question) => Records::References(question),
+        Err(fault) => return Some(Err(fault)),
     };
-    Some(Given::read(found, "").many(subcommand, files, input))
+    Some(Ok(Asked::Many(records, files_of(found)?, input_of(found))))
 }
 
 /// What the subcommand found among the words asks for, if there is one.
 fn asked_in<'a>(matches: &ArgMatches<'a>) -> Option<Result<Asked<'a>, Fault>> {
     let (name, found) = matches.subcommand()?;
-    if name == "batch" {
-        return many_in(found);
-    }
-    if name == "explain" {
-        return Some(Ok(Asked::Explain(topic_in(found))));
+    match name {
+        "batch" => return batch_in(found),
+        "answer" => {
+            let files = files_of(found)?;
+            return Some(Ok(Asked::Many(Records::Requests, files, input_of(found))));
+        }
+        "explain" => return Some(Ok(Asked::Explain(topic_in(found)))),
+        _ => {}
     }
     let given = Given::read(found, found.get_str("REF")?);
-    if name == "show" {
-        return Some(Ok(given.show()));
+    match given.request(name) {
+        Some(Ok(request)) => Some(Ok(Asked::One(request, files_of(found)))),
+        Some(Err(fault)) => Some(Err(fault)),
+        None => None,
     }
-    let subcommand = MapSubcommand::named(name)?;
-    Some(given.one(subcommand, files_of(found)?))
 }
 
 /// Why words that name no subcommand are rejected.

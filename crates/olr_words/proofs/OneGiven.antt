@@ -1,0 +1,82 @@
+-- What words give is one, but for where its texts lie in memory.
+use mathlib.Core.Path.{fun_ext}
+use Rattle.std.proofs.Common.{◌≡◌, ◌∙◌, ap, sym, refl, ℕ, Bor, false, List, Option, Some, None, cond}
+use Rattle.std.specs.Prelude.{option_map, unwrap_or}
+use Rattle.olr_request.specs.Request.{at_bytes, bytes_of}
+use Rattle.olr_request.specs.declared.request.Pages.TheVariants as pages
+use Rattle.olr_words.specs.Given.{IsNumberOf, IsProfileNamed}
+use Rattle.olr_words.specs.OneRequest.{placeless_pages}
+use Rattle.olr_words.specs.Options.{RecordOption}
+use Rattle.olr_words.specs.Profile.{profile_value}
+use Rattle.olr_words.specs.Record.{AreGivenBy}
+use Rattle.olr_words.specs.Words.{pages_of, value_of}
+use Rattle.olr_words.specs.declared.profile.Profile.{Profile}
+use Rattle.olr_words.specs.declared.profile.Profile.TheVariants.{Feed, Program}
+use Rattle.olr_words.specs.declared.words.Given.{Given}
+use Rattle.olr_words.specs.declared.words.GivenNumbers.{GivenNumbers}
+
+one_number : (text : Option (List ℕ)) (a b : Option ℕ) → IsNumberOf text a → IsNumberOf text b
+    → a ≡ b
+one_number None a b is other = is ∙ sym other
+one_number (Some text) None None is other = refl
+one_number (Some text) None (Some b) is other = absurd (is other.0)
+one_number (Some text) (Some a) None is other = absurd (other is.0)
+one_number (Some text) (Some a) (Some b) is other = ap (λ n. Some n) (is.1 ∙ sym other.1)
+
+one_profile : (name : Option (List ℕ)) (a b : Profile) → IsProfileNamed name a
+    → IsProfileNamed name b → a ≡ b
+one_profile name Feed Feed is other = refl
+one_profile name Feed Program is other = absurd (other is)
+one_profile name Program Feed is other = absurd (is other)
+one_profile name Program Program is other = refl
+
+-- the same values, texts and pages
+pub record Alike (g h : Given) : Type 0 where
+  pub values : value_of g ≡ value_of h
+  pub numbers : g.numbers ≡ h.numbers
+  pub page : g.page ≡ h.page
+  pub nearest : g.nearest ≡ h.nearest
+  pub pages : placeless_pages (pages_of g) ≡ placeless_pages (pages_of h)
+  pub text : g.text.now ≡ h.text.now
+  pub format : g.format ≡ h.format
+  pub one_page : g.all ≡ false
+  pub one_page_too : h.all ≡ false
+
+same_numbers : (a b : GivenNumbers) → a.apart ≡ b.apart → a.within ≡ b.within → a.look ≡ b.look
+    → a.most ≡ b.most → a ≡ b
+same_numbers a b apart within look most =
+    λ k. record { apart = apart k; within = within k; look = look k; most = most k }
+
+cursor_alike : (after : Option (Bor (List ℕ)))
+    → option_map (λ text. at_bytes text.now) after ≡ option_map at_bytes (bytes_of after)
+cursor_alike None = refl
+cursor_alike (Some cursor) = refl
+
+one_page_of : (g : Given) → g.all ≡ false
+    → placeless_pages (pages_of g) ≡ pages.One (option_map at_bytes (bytes_of g.after))
+one_page_of g one = ap (λ b. placeless_pages (cond b pages.All (pages.One g.after))) one
+    ∙ ap (λ cursor. pages.One cursor) (cursor_alike g.after)
+
+pub alike : (options : List RecordOption) (words : List (List ℕ)) (g h : Given)
+    → AreGivenBy options words g → AreGivenBy options words h → Alike g h
+alike options words g h by other =
+    let is = by.options_given in
+    let too = other.options_given in
+    record {
+      values = fun_ext (λ name. λ k. unwrap_or
+          (one_number _ _ _ (is.tolerances.each name) (too.tolerances.each name) k)
+          (profile_value (one_profile _ g.profile h.profile is.profile too.profile k) name));
+      numbers = same_numbers g.numbers h.numbers
+          (one_number _ _ _ is.numbers.apart too.numbers.apart)
+          (one_number _ _ _ is.numbers.within too.numbers.within)
+          (one_number _ _ _ is.numbers.look too.numbers.look)
+          (one_number _ _ _ is.numbers.most too.numbers.most);
+      page = one_number _ _ _ is.page too.page;
+      nearest = one_number _ _ _ is.nearest too.nearest;
+      pages = one_page_of g by.one_page ∙ (ap (λ t. pages.One (option_map at_bytes t))
+          (is.after ∙ sym too.after) ∙ sym (one_page_of h other.one_page));
+      text = by.reference ∙ sym other.reference;
+      format = by.json ∙ sym other.json;
+      one_page = by.one_page;
+      one_page_too = other.one_page;
+    }

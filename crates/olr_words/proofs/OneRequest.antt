@@ -1,0 +1,205 @@
+-- A text asks for one thing.
+use Rattle.std.proofs.Common.{◌≡◌, ◌∙◌, ◌++◌, ◌≤◌, ap, sym, subst, refl, inl, inr, arith, ℕ, cond, List, length, take, drop, Option, Some, None}
+use Rattle.std.specs.Prelude.{IfSome, Result, Ok, Err, codes}
+use Rattle.std.specs.Str.{bytes_eq}
+use Rattle.std.proofs.lemmas.List.{append_cancel_left, drop_at, take_at}
+use Rattle.olr_candidates.specs.declared.tolerances.Tolerances.{Tolerances}
+use Rattle.olr_request.specs.Question.{request_for}
+use Rattle.olr_request.specs.Request.{at_bytes}
+use Rattle.olr_request.specs.declared.fault.Fault.{Fault}
+use Rattle.olr_request.specs.declared.fault.Fault.TheVariants as fault
+use Rattle.olr_request.specs.declared.question.QuestionKind.{QuestionKind}
+use Rattle.olr_request.specs.declared.question.QuestionKind.TheVariants.{Candidates, Match, Places, Why}
+use Rattle.olr_request.specs.declared.request.Format.{Format}
+use Rattle.olr_request.specs.declared.request.Pages.{Pages}
+use Rattle.olr_request.specs.declared.request.Request.{Request}
+use Rattle.olr_request.specs.declared.request.Request.TheVariants.{Show}
+use Rattle.olr_words.specs.OneRequest.{AreEqual, StateTheSame, placeless, placeless_pages, stated}
+use Rattle.olr_words.specs.Record.{AreGivenBy, AreWordsOf, AskFor, AskForNothing, IsAtDashes, IsOfSubcommand, IsRequestOf, IsRequestOfWords, at_spaces, dashes, name_of}
+use Rattle.olr_words.specs.Words.{IsNameOf, IsRequest, pages_of}
+use Rattle.olr_words.specs.declared.record.RecordFault.{RecordFault}
+use Rattle.olr_words.specs.declared.record.RecordFault.TheVariants as record_fault
+use Rattle.olr_words.specs.declared.words.Given.{Given}
+use Rattle.olr_words.specs.declared.words.MapSubcommand.{MapSubcommand}
+use Rattle.olr_words.specs.declared.words.MapSubcommand.TheVariants as each
+use Rattle.std.proofs.Common.{Bor, ◌∷◌, []}
+use Rattle.olr_words.proofs.OneGiven.{Alike, alike}
+use Rattle.olr_words.proofs.OneQuestion.{RefusedBy, asked_or_refused, one_refused, one_tolerances, one_what, refused_by}
+
+-- ---- the words
+
+same_length : (text a b c d : List ℕ) → IsAtDashes text a b → IsAtDashes text c d
+    → length a ≡ length c
+same_length text a b c d is other =
+    let first : length a ≤ length c = is.first c d other.whole in
+    let second : length c ≤ length a = other.first a b is.whole in omega arith
+
+same_front : (text a b c d : List ℕ) → IsAtDashes text a b → IsAtDashes text c d → a ≡ c
+same_front text a b c d is other = sym (take_at a (dashes ++ b) (length a) refl)
+    ∙ (ap (take (length a)) (sym is.whole ∙ other.whole)
+    ∙ take_at c (dashes ++ d) (length a) (sym (same_length text a b c d is other)))
+
+same_behind : (text a b c d : List ℕ) → IsAtDashes text a b → IsAtDashes text c d → b ≡ d
+same_behind text a b c d is other = append_cancel_left dashes b d
+    (sym (drop_at a (dashes ++ b) (length a) refl)
+    ∙ (ap (drop (length a)) (sym is.whole ∙ other.whole)
+    ∙ drop_at c (dashes ++ d) (length a) (sym (same_length text a b c d is other))))
+
+one_words : (text : List ℕ) (a b : List (List ℕ)) → AreWordsOf text a → AreWordsOf text b → a ≡ b
+one_words text a b (inl is) (inl other) = is.1 ∙ sym other.1
+one_words text a b (inl is) (inr other) = absurd (is.0 other.0 other.1 other.2.whole)
+one_words text a b (inr is) (inl other) = absurd (other.0 is.0 is.1 is.2.whole)
+one_words text a b (inr is) (inr other) = is.3
+    ∙ (ap (λ front. at_spaces front ++ (codes "--" ∷ is.1 ∷ []))
+    (same_front text is.0 is.1 other.0 other.1 is.2 other.2)
+    ∙ (ap (λ reference. at_spaces other.0 ++ (codes "--" ∷ reference ∷ []))
+    (same_behind text is.0 is.1 other.0 other.1 is.2 other.2) ∙ sym other.3))
+
+-- ---- the subcommand
+
+kind_at : List ℕ → Option MapSubcommand
+kind_at name = cond (bytes_eq name (codes "candidates")) (Some each.Candidates)
+    (cond (bytes_eq name (codes "match")) (Some each.Match)
+    (cond (bytes_eq name (codes "places")) (Some each.Places)
+    (cond (bytes_eq name (codes "why")) (Some each.Why) None)))
+
+kind_named : (kind : MapSubcommand) (name : List ℕ) → IsNameOf kind name → kind_at name ≡ Some kind
+unfolding kind_at
+kind_named each.Candidates name is = ap kind_at is
+kind_named each.Match name is = ap kind_at is
+kind_named each.Places name is = ap kind_at is
+kind_named each.Why name is = ap kind_at is
+
+one_kind : (name : List ℕ) (a b : MapSubcommand) → IsNameOf a name → IsNameOf b name → a ≡ b
+one_kind name a b is other =
+    let same : Some a ≡ Some b = sym (kind_named a name is) ∙ kind_named b name other in cc
+
+not_show : (name : List ℕ) (kind : MapSubcommand) → name ≡ codes "show" → IsNameOf kind name → ⊥
+unfolding kind_at
+not_show name kind show is =
+    let no_one : None ≡ Some kind = sym (ap kind_at show) ∙ kind_named kind name is in cc
+
+-- ---- the request
+
+placeless_for : (what : QuestionKind) (tolerances : Tolerances) (text : Bor (List ℕ)) (pages : Pages)
+    (format : Format) → placeless (request_for what tolerances text pages format)
+    ≡ request_for what tolerances (at_bytes text.now) (placeless_pages pages) format
+placeless_for Candidates tolerances text pages format = refl
+placeless_for (Match size) tolerances text pages format = refl
+placeless_for (Places limits) tolerances text pages format = refl
+placeless_for (Why nearest) tolerances text pages format = refl
+
+one_request_for : (g h : Given) → Alike g h → (kind : MapSubcommand) (a b : Request)
+    → IsRequest g kind a → IsRequest h kind b → placeless a ≡ placeless b
+one_request_for g h alike kind a b is other =
+    let what : is.question.what ≡ other.question.what =
+    one_what g h alike kind is.question.what other.question.what is.is.what other.is.what in
+    let tolerances : is.question.tolerances ≡ other.question.tolerances =
+    one_tolerances g h alike is.question.tolerances other.question.tolerances is.is.tolerances
+    other.is.tolerances in
+    ap placeless is.asks
+    ∙ (placeless_for is.question.what is.question.tolerances g.text (pages_of g) g.format
+    ∙ ((λ k. request_for (what k) (tolerances k) (at_bytes (alike.text k)) (alike.pages k)
+    (alike.format k))
+    ∙ (sym (placeless_for other.question.what other.question.tolerances h.text (pages_of h)
+    h.format) ∙ sym (ap placeless other.asks))))
+
+-- ---- what a subcommand asks for
+
+abbrev SameAsked : Result Request Fault → Result Request Fault → Type 0
+SameAsked (Ok a) (Ok b) = placeless a ≡ placeless b
+SameAsked (Ok a) (Err why) = ⊥
+SameAsked (Err why) (Ok b) = ⊥
+SameAsked (Err why) (Err other) = why ≡ other
+
+one_asked_or_refused : (g h : Given) → Alike g h → (name : List ℕ) (a : Request) (why : Fault)
+    → IsOfSubcommand g name (Ok a) → IsOfSubcommand h name (Err why) → ⊥
+one_asked_or_refused g h alike name a why (inl show) refused =
+    not_show name refused.0 show.0 refused.1
+one_asked_or_refused g h alike name a why (inr asked) refused =
+    let request : IsRequest g refused.0 a =
+    subst (λ kind. IsRequest g kind a) (one_kind name asked.0 refused.0 asked.1 refused.1)
+    asked.2 in
+    asked_or_refused g h alike refused.0 request.question.tolerances request.question.what why
+    request.is.tolerances request.is.what (refused_by h refused.0 why alike.one_page_too refused.2)
+
+one_asked : (g h : Given) → Alike g h → (name : List ℕ) (a b : Request)
+    → IsOfSubcommand g name (Ok a) → IsOfSubcommand h name (Ok b) → placeless a ≡ placeless b
+one_asked g h alike name a b (inl is) (inl other) = ap placeless is.1
+    ∙ ((λ k. Show (at_bytes (alike.text k)) (alike.format k)) ∙ sym (ap placeless other.1))
+one_asked g h alike name a b (inl is) (inr other) = absurd (not_show name other.0 is.0 other.1)
+one_asked g h alike name a b (inr is) (inl other) = absurd (not_show name is.0 other.0 is.1)
+one_asked g h alike name a b (inr is) (inr other) = one_request_for g h alike other.0 a b
+    (subst (λ kind. IsRequest g kind a) (one_kind name is.0 other.0 is.1 other.1) is.2) other.2
+
+same_asked : (g h : Given) → Alike g h → Alike h g → (name : List ℕ) (r s : Result Request Fault)
+    → IsOfSubcommand g name r → IsOfSubcommand h name s → SameAsked r s
+same_asked g h alike back name (Ok a) (Ok b) is other = one_asked g h alike name a b is other
+same_asked g h alike back name (Ok a) (Err why) is other =
+    one_asked_or_refused g h alike name a why is other
+same_asked g h alike back name (Err why) (Ok b) is other =
+    one_asked_or_refused h g back name b why other is
+same_asked g h alike back name (Err why) (Err unlike) is other =
+    one_refused g h alike back other.0 why unlike
+    (subst (λ kind. RefusedBy g kind why) (one_kind name is.0 other.0 is.1 other.1)
+    (refused_by g is.0 why alike.one_page is.2))
+    (refused_by h other.0 unlike alike.one_page_too other.2)
+
+-- ---- what words ask for
+
+one_options : (words : List (List ℕ)) (r s : Result Request Fault) (p : AskFor words r)
+    (q : AskFor words s) → q.options ≡ p.options
+one_options words r s p q =
+    let same : Some q.options ≡ Some p.options = sym q.understood.named ∙ p.understood.named in cc
+
+ask_the_same : (words : List (List ℕ)) (r s : Result Request Fault) → AskFor words r
+    → AskFor words s → SameAsked r s
+ask_the_same words r s p q =
+    let other : AreGivenBy p.options words q.given =
+    subst (λ options. AreGivenBy options words q.given) (one_options words r s p q) q.given_by in
+    same_asked p.given q.given (alike p.options words p.given q.given p.given_by other)
+    (alike p.options words q.given p.given other p.given_by) (name_of words) r s p.asks q.asks
+
+-- what is stated of words
+abbrev HoldsOf : List (List ℕ) → Option (Result Request Fault) → Type 0
+HoldsOf words None = AskForNothing words
+HoldsOf words (Some (Ok request)) =
+    (asked : Request) × AskFor words (Ok asked) × (request ≡ placeless asked)
+HoldsOf words (Some (Err why)) = AskFor words (Err why)
+
+holds : (words : List (List ℕ)) (r : Result Request RecordFault) → IsRequestOfWords words r
+    → IfSome (stated r) (HoldsOf words)
+holds words (Ok request) is = (request, is, refl)
+holds words (Err (record_fault.Words line)) is = is
+holds words (Err (record_fault.Fault fault.NoMemory)) is = tt
+holds words (Err (record_fault.Fault _)) is = is
+
+one_holds : (words : List (List ℕ)) (s t : Option (Result Request Fault)) → HoldsOf words s
+    → HoldsOf words t → s ≡ t
+one_holds words None None p q = refl
+one_holds words None (Some (Ok request)) p q = absurd (p q.1.options q.1.understood)
+one_holds words None (Some (Err why)) p q = absurd (p q.options q.understood)
+one_holds words (Some (Ok request)) None p q = absurd (q p.1.options p.1.understood)
+one_holds words (Some (Err why)) None p q = absurd (q p.options p.understood)
+one_holds words (Some (Ok a)) (Some (Ok b)) p q = ap (λ request. Some (Ok request))
+    (p.2 ∙ (ask_the_same words (Ok p.0) (Ok q.0) p.1 q.1 ∙ sym q.2))
+one_holds words (Some (Ok a)) (Some (Err why)) p q =
+    absurd (ask_the_same words (Ok p.0) (Err why) p.1 q)
+one_holds words (Some (Err why)) (Some (Ok b)) p q =
+    absurd (ask_the_same words (Err why) (Ok q.0) p q.1)
+one_holds words (Some (Err why)) (Some (Err other)) p q =
+    ap (λ fault. Some (Err fault)) (ask_the_same words (Err why) (Err other) p q)
+
+one_stated : (words : List (List ℕ)) (s t : Option (Option (Result Request Fault)))
+    → IfSome s (HoldsOf words) → IfSome t (HoldsOf words)
+    → AreEqual s t
+one_stated words None t p q = tt
+one_stated words (Some s) None p q = tt
+one_stated words (Some s) (Some t) p q = one_holds words s t p q
+
+pub one_request : (text : List ℕ) (one other : Result Request RecordFault) → IsRequestOf text one
+    → IsRequestOf text other → StateTheSame one other
+one_request text one other is too =
+    let asked : IsRequestOfWords is.0 other =
+    subst (λ words. IsRequestOfWords words other) (one_words text too.0 is.0 too.1 is.1) too.2 in
+    one_stated is.0 (stated one) (stated other) (holds is.0 one is.2) (holds is.0 other asked)

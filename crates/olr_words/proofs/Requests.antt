@@ -1,0 +1,132 @@
+-- The requests that words ask for.
+use Rattle.std.proofs.Common.{◌≡◌, ◌≢◌, ◌⊎◌, ◌∙◌, ap, sym, subst, refl, inl, inr, Bool, true, false, cond, List, [], ◌∷◌, ℕ, Bor, Option, Some, None}
+use Rattle.std.specs.Prelude.{IfErr, IfOk, Result, Ok, Err, codes, find, option_map, unwrap_or}
+use Rattle.std.specs.Str.{bytes_eq}
+use Rattle.std.proofs.lemmas.Slice.Eq.{bytes_eq-Decides}
+use Rattle.clap.specs.Words.{first_value, found_of}
+use Rattle.clap.specs.declared.parser.matches.ArgMatches.{ArgMatches}
+use Rattle.olr_request.specs.declared.fault.Fault.{Fault}
+use Rattle.olr_request.specs.declared.fault.Fault.TheVariants as fault
+use Rattle.olr_request.specs.declared.request.Format.TheVariants.{Json}
+use Rattle.olr_request.specs.declared.request.Request.{Request}
+use Rattle.olr_request.specs.declared.request.Request.TheVariants.{Show}
+use Rattle.olr_words.specs.Given.{IsGiven}
+use Rattle.olr_words.specs.Options.{RecordOption, options_named, options_of, subcommands}
+use Rattle.olr_words.specs.Record.{AreGivenBy, AskFor, AskForNothing, IsFoundIn, IsOfSubcommand, IsOfWords, IsRequestOfWords, name_of}
+use Rattle.olr_words.specs.Words.{IsNameOf, IsRefusedRequest, IsRequest}
+use Rattle.olr_words.specs.declared.record.RecordFault.{RecordFault}
+use Rattle.olr_words.specs.declared.record.RecordFault.TheVariants as record_fault
+use Rattle.olr_words.specs.declared.words.Given.{Given}
+use Rattle.olr_words.specs.declared.words.MapSubcommand.{MapSubcommand}
+use Rattle.olr_words.specs.declared.words.MapSubcommand.TheVariants as each
+use Rattle.olr_words.proofs.Faults.{texts_found}
+
+-- ---- the subcommand
+
+pub named_show : (given : Given) (name : List ℕ) (request : Request)
+    → bytes_eq name (codes "show") ≡ true
+    → request ≡ Show given.text given.format → IsOfSubcommand given name (Ok request)
+named_show given name request same is = inl ((bytes_eq-Decides name (codes "show")).0 same, is)
+
+pub not_show : (name : List ℕ) → bytes_eq name (codes "show") ≡ false → name ≢ codes "show"
+not_show name differ is =
+    let same : bytes_eq name (codes "show") ≡ true =
+    (bytes_eq-Decides name (codes "show")).1 is in cc
+
+pub of_map : (given : Given) (name : List ℕ) (kind : MapSubcommand) (r : Result Request Fault)
+    → IsNameOf kind name → IfOk r (IsRequest given kind) → IfErr r (IsRefusedRequest given kind)
+    → IsOfSubcommand given name r
+of_map given name kind (Ok request) is accepted refused = inr (kind, is, accepted)
+of_map given name kind (Err why) is accepted refused = (kind, is, refused)
+
+-- a row has the name
+abbrev HasRow : List (List ℕ × List RecordOption) → List ℕ → Type 0
+HasRow [] name = ⊥
+HasRow (row ∷ rows) name = (row.0 ≡ name) ⊎ HasRow rows name
+
+has_row : (rows : List (List ℕ × List RecordOption)) (name : List ℕ) (options : List RecordOption)
+    → options_named rows name ≡ Some options → HasRow rows name
+has_row [] name options is = let no_one : None ≡ Some options = is in cc
+has_row (row ∷ rows) name options is = go (has_row rows name options) (bytes_eq row.0 name) refl is
+  where
+    go : (options_named rows name ≡ Some options → HasRow rows name) → (b : Bool)
+        → bytes_eq row.0 name ≡ b
+        → option_map (λ r. r.1) (cond b (Some row) (find (λ r. bytes_eq r.0 name) rows)) ≡ Some options
+        → HasRow (row ∷ rows) name
+    go others true same is = inl ((bytes_eq-Decides row.0 name).0 same)
+    go others false same is = inr (others is)
+
+pub has_subcommand : (name : List ℕ) (options : List RecordOption) → options_of name ≡ Some options
+    → name ≢ codes "show" → ((kind : MapSubcommand) → ¬ (IsNameOf kind name)) → ⊥
+has_subcommand name options is not_that none = elim (has_row subcommands name options is) [
+  | inl same ↦ not_that (sym same)
+  | inr (inl same) ↦ none each.Candidates (sym same)
+  | inr (inr (inl same)) ↦ none each.Match (sym same)
+  | inr (inr (inr (inl same))) ↦ none each.Places (sym same)
+  | inr (inr (inr (inr (inl same)))) ↦ none each.Why (sym same)
+  | inr (inr (inr (inr (inr no_one)))) ↦ absurd no_one
+]
+
+-- ---- what is given
+
+text_or_none : (found : Option (Bor (List ℕ))) (text : Option (List ℕ)) (d : Bor (List ℕ))
+    → option_map (λ s. s.now) found ≡ text → d.now ≡ [] → (unwrap_or found d).now ≡ unwrap_or text []
+text_or_none None text d is empty = empty ∙ ap (λ o. unwrap_or o []) is
+text_or_none (Some found) text d is empty = ap (λ o. unwrap_or o []) is
+
+pub text_found : (found : Option (Bor (List ℕ))) (text : Option (List ℕ)) (d r : Bor (List ℕ))
+    → r ≡ unwrap_or found d → option_map (λ s. s.now) found ≡ text → d.now ≡ []
+    → r.now ≡ unwrap_or text []
+text_found found text d r is of_text empty =
+    ap (λ (t : Bor (List ℕ)). t.now) is ∙ text_or_none found text d of_text empty
+
+given_alike : (text_of : List ℕ → Option (List ℕ)) (read given : Given) → IsGiven text_of read
+    → given ≡ record read { all = false; format = Json } → IsGiven text_of given
+given_alike text_of read given is same = subst (IsGiven text_of) (sym same) (record {
+  profile = is.profile;
+  tolerances = is.tolerances;
+  page = is.page;
+  numbers = is.numbers;
+  nearest = is.nearest;
+  after = is.after;
+})
+
+pub given_by : (words : List (List ℕ)) (m : ArgMatches) (f : IsFoundIn words m) (read given : Given)
+    → IsGiven (first_value (found_of m)) read
+    → given ≡ record read { all = false; format = Json }
+    → read.text.now ≡ unwrap_or (first_value (found_of m) (codes "REF")) []
+    → AreGivenBy f.options words given
+given_by words m f read given is same text =
+    let texts = texts_found words (name_of words) f.options m refl f.found in
+    record {
+      options_given = subst (λ t. IsGiven t given) texts
+          (given_alike (first_value (found_of m)) read given is same);
+      reference = ap (λ (g : Given). g.text.now) same
+          ∙ (text ∙ ap (λ t. unwrap_or (t (codes "REF")) []) texts);
+      one_page = ap (λ (g : Given). g.all) same;
+      json = ap (λ (g : Given). g.format) same;
+    }
+
+-- ---- what is asked for
+
+pub asked : (words : List (List ℕ)) (m : ArgMatches) (f : IsFoundIn words m) (given : Given)
+    (name : List ℕ) (r : Result Request Fault) → AreGivenBy f.options words given
+    → name ≡ name_of words → IsOfSubcommand given name r → AskFor words r
+asked words m f given name r by is asks = record {
+  options = f.options;
+  understood = f.understood;
+  given = given;
+  given_by = by;
+  asks = subst (λ n. IsOfSubcommand given n r) is asks;
+}
+
+pub fault_asked : (words : List (List ℕ)) (why : Fault) → AskFor words (Err why)
+    → IsRequestOfWords words (Err (record_fault.Fault why))
+fault_asked words fault.NoMemory asks = tt
+fault_asked words _ asks = asks
+
+pub nothing_asked : (words : List (List ℕ)) (f : RecordFault) → IsOfWords (AskForNothing words) f
+    → IsRequestOfWords words (Err f)
+nothing_asked words (record_fault.Words text) is = is
+nothing_asked words (record_fault.Fault fault.NoMemory) is = tt
+nothing_asked words (record_fault.Fault _) is = absurd is

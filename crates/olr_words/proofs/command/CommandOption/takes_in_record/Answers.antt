@@ -1,0 +1,8 @@
+use Rattle.olr_words.proofs.Tables.{any_of, contained}
+use Rattle.olr_words.proofs.command.CommandOption.takes_in_record.Goals as goal
+
+pub returns-in-OneOf : goal.returns-in-OneOf
+returns-in-OneOf c = rw c.in-OneOf.is (
+  λ yes. contained _ _ (c.is_one_of.ensures.0 yes),
+  λ is. c.is_one_of.ensures.1 (any_of _ _ is),
+)

@@ -1,0 +1,44 @@
+-- What the words give to a subcommand, by the texts that they have for its options.
+use Rattle.std.specs.Prelude.{◌≡◌, ◌≢◌, ℕ, List, Option, None, Some, codes, get_or, option_map}
+use Rattle.std.specs.Str.Parse.{digits_value, without_leading_plus}
+use Rattle.olr_candidates.specs.Tolerances.{order_of, tolerance_name}
+use Rattle.olr_candidates.specs.declared.tolerances.Tolerance.{Tolerance}
+use Rattle.olr_words.specs.Options.{IsWholeNumber}
+use Rattle.olr_words.specs.declared.profile.Profile.{Profile}
+use Rattle.olr_words.specs.declared.profile.Profile.TheVariants.{Feed, Program}
+use Rattle.olr_words.specs.declared.words.Given.{Given}
+use Rattle.olr_words.specs.declared.words.GivenNumbers.{GivenNumbers}
+
+-- the number that a text is, if there is a text and it is one
+abbrev pub IsNumberOf : Option (List ℕ) → Option ℕ → Type 0
+IsNumberOf None number = number ≡ None
+IsNumberOf (Some text) (Some number) =
+    IsWholeNumber text × (number ≡ digits_value 10 (without_leading_plus text))
+IsNumberOf (Some text) None = ¬ (IsWholeNumber text)
+
+-- the profile of a name
+abbrev pub IsProfileNamed : Option (List ℕ) → Profile → Type 0
+IsProfileNamed name Feed = name ≡ Some (codes "feed")
+IsProfileNamed name Program = name ≢ Some (codes "feed")
+
+module _ (text_of : List ℕ → Option (List ℕ)) where
+  -- the numbers for places
+  pub record AreNumbers (given : GivenNumbers) : Type 0 where
+    pub apart : IsNumberOf (text_of (codes "apart")) given.apart
+    pub within : IsNumberOf (text_of (codes "within")) given.within
+    pub look : IsNumberOf (text_of (codes "look")) given.look
+    pub most : IsNumberOf (text_of (codes "most")) given.most
+
+  -- the numbers for tolerances, in their order
+  pub record AreTolerancesOf (numbers : List (Option ℕ)) : Type 0 where
+    pub each : (name : Tolerance)
+        → IsNumberOf (text_of (tolerance_name name)) (get_or numbers (order_of name) None)
+
+  -- what is given, beside the text of the reference, all pages and the format
+  pub record IsGiven (given : Given) : Type 0 where
+    pub profile : IsProfileNamed (text_of (codes "profile")) given.profile
+    pub tolerances : AreTolerancesOf given.tolerances
+    pub page : IsNumberOf (text_of (codes "page")) given.page
+    pub numbers : AreNumbers given.numbers
+    pub nearest : IsNumberOf (text_of (codes "nearest")) given.nearest
+    pub after : option_map (λ cursor. cursor.now) given.after ≡ text_of (codes "after")

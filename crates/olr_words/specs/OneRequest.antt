@@ -1,0 +1,44 @@
+-- What a text asks for, wherever its parts lie in memory.
+use Rattle.std.specs.Prelude.{◌≡◌, ⊤, Option, None, Some, Result, Ok, Err, option_map}
+use Rattle.olr_request.specs.Request.{at_bytes}
+use Rattle.olr_request.specs.declared.fault.Fault.{Fault}
+use Rattle.olr_request.specs.declared.fault.Fault.TheVariants as fault
+use Rattle.olr_request.specs.declared.request.Pages.{Pages}
+use Rattle.olr_request.specs.declared.request.Pages.TheVariants as pages
+use Rattle.olr_request.specs.declared.request.Request.{Request}
+use Rattle.olr_request.specs.declared.request.Request.TheVariants.{Candidates, Match, Places, Show, Why}
+use Rattle.olr_words.specs.declared.record.RecordFault.{RecordFault}
+use Rattle.olr_words.specs.declared.record.RecordFault.TheVariants as record_fault
+
+-- the same pages and the same request, with texts of no place in memory
+abbrev pub placeless_pages : Pages → Pages
+placeless_pages pages.All = pages.All
+placeless_pages (pages.One cursor) = pages.One (option_map (λ text. at_bytes text.now) cursor)
+
+abbrev pub placeless : Request → Request
+placeless (Show text format) = Show (at_bytes text.now) format
+placeless (Candidates text tolerances format) = Candidates (at_bytes text.now) tolerances format
+placeless (Match asked) = Match (record asked {
+  text = at_bytes asked.text.now;
+  pages = placeless_pages asked.pages;
+})
+placeless (Places asked) = Places (record asked { text = at_bytes asked.text.now })
+placeless (Why asked) = Why (record asked { text = at_bytes asked.text.now })
+
+-- What a result states of the words of a text: the request that they ask for, or the fault of a
+-- number; or, by `Some None`, that they ask for nothing. It states nothing where memory was
+-- refused.
+abbrev pub stated : Result Request RecordFault → Option (Option (Result Request Fault))
+stated (Ok request) = Some (Some (Ok (placeless request)))
+stated (Err (record_fault.Words line)) = Some None
+stated (Err (record_fault.Fault fault.NoMemory)) = None
+stated (Err (record_fault.Fault why)) = Some (Some (Err why))
+
+-- equal, where both state something
+abbrev pub AreEqual : {A : Type 0} → Option A → Option A → Type 0
+AreEqual None other = ⊤
+AreEqual (Some one) None = ⊤
+AreEqual (Some one) (Some other) = one ≡ other
+
+abbrev pub StateTheSame : Result Request RecordFault → Result Request RecordFault → Type 0
+StateTheSame one other = AreEqual (stated one) (stated other)

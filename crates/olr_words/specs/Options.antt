@@ -1,0 +1,85 @@
+-- The options that the words of a record may have, and what each takes.
+use Rattle.std.specs.Prelude.{◌≡◌, ℕ, ◌^◌, ◌<◌, ⊤, List, [], ◌∷◌, ◌++◌, Option, codes, find}
+use Rattle.std.specs.Prelude.{option_map}
+use Rattle.std.specs.List.{Contains}
+use Rattle.std.specs.Str.{bytes_eq}
+use Rattle.std.specs.Str.Parse.{IsNumeral, digits_value, without_leading_plus}
+
+-- ---- options
+
+-- what an option takes: the text of a reference, which has no name before it; a whole number; one
+-- of some words; the word `json`, since an answer to a record is JSON; or the text of a cursor
+pub data OptionValue : Type 0 where
+  reference : OptionValue
+  number : OptionValue
+  one_of : List (List ℕ) → OptionValue
+  json : OptionValue
+  cursor : OptionValue
+
+-- an option: its name, without dashes, and what it takes
+pub record RecordOption : Type 0 where
+  pub name : List ℕ
+  pub value : OptionValue
+
+-- a whole number of 32 bits, in decimal digits, with a plus before it or without one
+abbrev pub IsWholeNumber : List ℕ → Type 0
+IsWholeNumber text = IsNumeral 10 (without_leading_plus text)
+    × (digits_value 10 (without_leading_plus text) < 2 ^ 32)
+
+-- a text is such a value; a reference and a cursor are read later, with faults of their own
+abbrev pub IsValue : OptionValue → List ℕ → Type 0
+IsValue reference text = ⊤
+IsValue number text = IsWholeNumber text
+IsValue (one_of words) text = Contains words text
+IsValue json text = text ≡ codes "json"
+IsValue cursor text = ⊤
+
+-- ---- subcommands
+
+abbrev pub option_named : List ℕ → OptionValue → RecordOption
+option_named name value = record { name = name; value = value }
+
+abbrev pub number_named : List ℕ → RecordOption
+number_named name = option_named name number
+
+abbrev pub reference_option : RecordOption
+reference_option = option_named (codes "REF") reference
+
+abbrev pub format_option : RecordOption
+format_option = option_named (codes "format") json
+
+-- how a reference is matched
+abbrev pub tolerance_options : List RecordOption
+tolerance_options = option_named (codes "profile") (one_of (codes "program" ∷ codes "feed" ∷ []))
+    ∷ number_named (codes "radius") ∷ number_named (codes "bearing")
+    ∷ number_named (codes "class") ∷ number_named (codes "lowest")
+    ∷ number_named (codes "percent") ∷ number_named (codes "slack") ∷ []
+
+-- how places are told apart, and how far matchings are looked at
+abbrev pub place_options : List RecordOption
+place_options = number_named (codes "apart") ∷ number_named (codes "within")
+    ∷ number_named (codes "look") ∷ number_named (codes "most") ∷ []
+
+-- the subcommands that a record may name, each with its options in a record
+abbrev pub subcommands : List (List ℕ × List RecordOption)
+subcommands = (codes "show", reference_option ∷ format_option ∷ [])
+    ∷ (codes "candidates", reference_option ∷ format_option ∷ tolerance_options)
+    ∷ (
+      codes "match",
+      reference_option ∷ number_named (codes "page")
+          ∷ option_named (codes "after") cursor ∷ format_option ∷ tolerance_options,
+    )
+    ∷ (codes "places", reference_option ∷ place_options ++ format_option ∷ tolerance_options)
+    ∷ (
+      codes "why",
+      reference_option ∷ number_named (codes "nearest") ∷ format_option
+          ∷ tolerance_options,
+    ) ∷ []
+
+-- the options in the first row of a name
+abbrev pub options_named : List (List ℕ × List RecordOption) → List ℕ → Option (List RecordOption)
+options_named rows name = option_map (λ row. row.1) (find (λ row. bytes_eq row.0 name) rows)
+
+-- the options of the subcommand of a name, if there is one
+abbrev pub options_of : List ℕ → Option (List RecordOption)
+options_of name = options_named subcommands name

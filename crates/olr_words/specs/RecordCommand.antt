@@ -1,0 +1,65 @@
+-- The command of `clap` for the words of a record, as `clap` states commands; and the options of
+-- the program that a record may have.
+use Rattle.std.specs.Prelude.{ℕ, List, ◌++◌, Option, Some, None, Bool, true, false, map, option_map}
+use Rattle.std.specs.List.{filter_map, flat_map}
+use Rattle.clap.specs.Words.{App, Rule, new_app, new_rule}
+use Rattle.clap.specs.Walk.{texts}
+use Rattle.olr_words.specs.Options.{OptionValue, RecordOption, option_named, reference, number, one_of, json, cursor}
+use Rattle.olr_words.specs.declared.command.CommandOption.{CommandOption}
+use Rattle.olr_words.specs.declared.command.Subcommand.{Subcommand}
+use Rattle.olr_words.specs.declared.command.Takes.{Takes}
+use Rattle.olr_words.specs.declared.command.Takes.TheVariants as takes
+
+-- ---- the command of `clap`
+
+-- an option: the reference is required and has no name before it, each other one has its name there
+abbrev pub rule_for : List ℕ → OptionValue → Rule
+rule_for name reference = record (new_rule name) { required = true }
+rule_for name value = record (new_rule name) { long = Some name }
+
+abbrev pub record_rule : RecordOption → Rule
+record_rule option = rule_for option.name option.value
+
+-- a command without help
+abbrev pub bare_app : List ℕ → App
+bare_app name =
+    record (new_app name) { top = record (new_app name).top { disable_help_flag = true } }
+
+-- a command with more options
+abbrev pub with_options : App → List RecordOption → App
+with_options app options =
+    record app { top = record app.top { rules = app.top.rules ++ map record_rule options } }
+
+-- the command for the words of a record
+abbrev pub record_app : List ℕ → List RecordOption → App
+record_app name options = with_options (bare_app name) options
+
+-- ---- the options of the program
+
+-- what an option takes in a record, if a record may have it: no file, and not all pages
+abbrev pub record_value : Takes → Option OptionValue
+record_value takes.Reference = Some reference
+record_value takes.Number = Some number
+record_value (takes.OneOf name words) = Some (one_of (texts words.now))
+record_value takes.Format = Some json
+record_value takes.Cursor = Some cursor
+record_value _ = None
+
+-- it is the reference
+abbrev pub is_reference : Takes → Bool
+is_reference takes.Reference = true
+is_reference _ = false
+
+abbrev pub record_option : CommandOption → Option RecordOption
+record_option option =
+    option_map (λ value. option_named option.name.now value) (record_value option.takes)
+
+-- those of a group of options, and of a subcommand
+abbrev pub record_options : List CommandOption → List RecordOption
+record_options options = filter_map record_option options
+
+abbrev pub options_in : Subcommand → List RecordOption
+options_in subcommand = flat_map (λ group. record_options group.now) subcommand.options.now
+
+abbrev pub row_of : Subcommand → List ℕ × List RecordOption
+row_of subcommand = (subcommand.name.now, options_in subcommand)

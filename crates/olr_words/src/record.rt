@@ -1,0 +1,229 @@
+//! From the text of a record to the request that its words ask for.
+
+ghost use Rattle.std.specs.Prelude.{◌≡◌, ◌≢◌, All, IfErr, IfNone, IfOk, IfSome, OnOk};
+ghost use Rattle.std.specs.Prelude.{[], ⊤, false, true, ℕ, List, Result};
+ghost use Rattle.std.specs.List.{flat_map};
+ghost use Rattle.clap.specs.Walk.{texts};
+ghost use Rattle.clap.specs.Words.{fault_of, first_value, found_of, kind_of};
+ghost use Rattle.clap.specs.declared.error.kind.ErrorKind.TheVariants.{OutOfMemory as NoMemoryKind};
+ghost use Rattle.olr_words.specs.Record.{AreFound, AreWordsOf, AskForNothing, HasValue, IsFoundIn};
+ghost use Rattle.olr_words.specs.Record.{IsOfWords, IsRequestOf, IsRequestOfWords, name_of};
+ghost use Rattle.olr_words.specs.OneRequest.{StateTheSame};
+ghost use Rattle.olr_request.specs.declared.request.Request.{Request as RequestOf};
+ghost use Rattle.olr_words.specs.declared.record.RecordFault.{RecordFault as FaultOf};
+ghost use Rattle.olr_words.specs.RecordCommand.{options_in, record_app};
+ghost use Rattle.olr_words.specs.RecordCommand.{record_option, record_options};
+ghost use Rattle.olr_request.specs.declared.fault.Fault.TheVariants as fault;
+ghost use Rattle.olr_words.specs.declared.record.RecordFault.TheVariants as record_fault;
+
+use crate::command::{CommandOption, Subcommand, subcommand_named};
+use crate::record_command::record_command_of;
+use crate::words::Given;
+use clap::error::ErrorKind;
+use clap::{ArgMatches, Error};
+use olr_base::NoMemory;
+use olr_request::{Fault, Request};
+use std::alloc::{AllocError, Global};
+
+/// Why the text of a record asks for nothing, or isn't answered.
+#[derive(Debug, Drop)]
+pub enum RecordFault {
+    /// Its words are none of a request. The text is what is printed: a line that says why.
+    Words(String),
+    /// A fault of the request.
+    Fault(Fault),
+}
+
+impl From<Fault> for RecordFault {
+    ghost from_gives = { λ why given. given ≡ record_fault.Fault why };
+
+    fn from(fault: Fault) -> RecordFault {
+        RecordFault::Fault(fault)
+    }
+}
+
+impl From<NoMemory> for RecordFault {
+    ghost from_gives = { λ _ given. given ≡ record_fault.Fault fault.NoMemory };
+
+    fn from(_failure: NoMemory) -> RecordFault {
+        RecordFault::Fault(Fault::NoMemory)
+    }
+}
+
+impl From<AllocError> for RecordFault {
+    ghost from_gives = { λ _ given. given ≡ record_fault.Fault fault.NoMemory };
+
+    fn from(_failure: AllocError) -> RecordFault {
+        RecordFault::Fault(Fault::NoMemory)
+    }
+}
+
+/// The words of a record. What stands behind the first ` -- ` is one word, the reference, with the
+/// word `--` before it; the text before it, or the whole, is split at each space.
+///
+/// # Errors
+///
+/// Where the allocator refused memory.
+pub fn words_of_record<'a>(alloc: Global, text: &'a str) -> Result<Vec<&'a str>, AllocError>
+    ensures { IfOk result (λ words. AreWordsOf text.now (texts words.items)) }
+{
+    let Some((before, reference)) = text.split_once(" -- ") else {
+        return text.split(' ').collect(alloc);
+    };
+    let mut words: Vec<&'a str> = before.split(' ').collect(alloc)?;
+    words.push("--")?;
+    words.push(reference)?;
+    Ok(words)
+}
+
+/// The fault of words with this line.
+fn words_fault(line: Result<String, AllocError>) -> RecordFault
+    ensures { IsOfWords ⊤ result }
+{
+    match line {
+        Ok(line) => RecordFault::Words(line),
+        Err(_) => RecordFault::Fault(Fault::NoMemory),
+    }
+}
+
+/// The line for words that `clap` refuses: the first one of its text.
+fn refused_line(alloc: Global, error: &Error) -> Result<String, AllocError> {
+    let text = format!(in alloc; "{error}")?;
+    let line = text.lines().next().unwrap_or("");
+    format!(in alloc; "Words {}", line.strip_prefix("error: ").unwrap_or(line))
+}
+
+/// The fault of words that `clap` refuses.
+fn refused(alloc: Global, error: Error) -> RecordFault
+    ensures { IsOfWords (kind_of error ≢ NoMemoryKind) result }
+{
+    if error.kind() == ErrorKind::OutOfMemory {
+        return RecordFault::Fault(Fault::NoMemory);
+    }
+    words_fault(refused_line(alloc, &error))
+}
+
+/// What is found in the words that begin with the name of a subcommand.
+fn found_in<'a>(
+    alloc: Global,
+    subcommand: &Subcommand,
+    words: &'a [&'a str],
+) -> Result<ArgMatches<'a>, RecordFault>
+    ensures found { IfOk result (AreFound
+        (record_app subcommand.now.name.now (options_in subcommand.now)) (texts words.entry.now)) }
+    ensures refused { IfErr result (IsOfWords (fault_of
+        (record_app subcommand.now.name.now (options_in subcommand.now))
+        (texts words.entry.now) ≢ [])) }
+{
+    let mut command = record_command_of(alloc, subcommand)?;
+    match command.try_get_matches_from_mut(words) {
+        Ok(found) => Ok(found),
+        Err(error) => Err(refused(alloc, error)),
+    }
+}
+
+/// Whether an option doesn't take the text that is found for it.
+fn is_wrong(option: &CommandOption, found: &ArgMatches<'_>) -> bool
+    ensures wrong { result ≡ true
+        → ¬ (IfSome (record_option option.now) (HasValue (first_value (found_of found.now)))) }
+    ensures right { result ≡ false
+        → IfSome (record_option option.now) (HasValue (first_value (found_of found.now))) }
+{
+    match found.get_str(option.name) {
+        Some(text) => !option.takes_in_record(text),
+        None => false,
+    }
+}
+
+/// The first of these options that doesn't take the text which is found for it.
+fn first_wrong(options: &[CommandOption], found: &ArgMatches<'_>) -> Option<CommandOption>
+    ensures right { IfNone result
+        (All (HasValue (first_value (found_of found.now))) (record_options options.now)) }
+    ensures wrong { IfSome result (λ _. ¬
+        (All (HasValue (first_value (found_of found.now))) (record_options options.now))) }
+{
+    for option in options {
+        if is_wrong(option, found) {
+            return Some(*option);
+        }
+    }
+    None
+}
+
+/// Refuses a text that is found for an option of these groups which doesn't take it.
+fn check_values(
+    alloc: Global,
+    groups: &[&[CommandOption]],
+    found: &ArgMatches<'_>,
+) -> Result<(), RecordFault>
+    ensures right { OnOk result (All (HasValue (first_value (found_of found.now)))
+        (flat_map (λ group. record_options group.now) groups.now)) }
+    ensures wrong { IfErr result (IsOfWords (¬ (All (HasValue (first_value (found_of found.now)))
+        (flat_map (λ group. record_options group.now) groups.now)))) }
+{
+    for &options in groups {
+        if let Some(option) = first_wrong(options, found) {
+            let text = found.get_str(option.name).unwrap_or("");
+            return Err(words_fault(format!(in alloc;
+                "Words invalid value '{text}' for '--{}'",
+                option.name
+            )));
+        }
+    }
+    Ok(())
+}
+
+/// The first of some words, which names a subcommand.
+fn name_in<'a>(words: &[&'a str]) -> &'a str
+    ensures { result.now ≡ name_of (texts words.now) }
+{
+    match words.first() {
+        Some(word) => *word,
+        None => "",
+    }
+}
+
+/// What is found in words that are understood.
+fn understood<'a>(alloc: Global, words: &'a [&'a str]) -> Result<ArgMatches<'a>, RecordFault>
+    ensures found { IfOk result (IsFoundIn (texts words.entry.now)) }
+    ensures refused { IfErr result (IsOfWords (AskForNothing (texts words.entry.now))) }
+{
+    let name = name_in(words);
+    let Some(subcommand) = subcommand_named(name) else {
+        return Err(words_fault(format!(in alloc; "Words unrecognized subcommand '{name}'")));
+    };
+    let found = found_in(alloc, &subcommand, words)?;
+    check_values(alloc, subcommand.options, &found)?;
+    Ok(found)
+}
+
+/// What the words of a record ask for, as JSON.
+///
+/// # Errors
+///
+/// [`RecordFault::Words`] where the first word is no subcommand that answers one reference, or the
+/// others give it something that it doesn't take in a record, or lack something that it requires;
+/// else the fault with which the program refuses the same words.
+pub fn request_of_record<'a>(
+    alloc: Global,
+    words: &'a [&'a str],
+) -> Result<Request<'a>, RecordFault>
+    ensures { IsRequestOfWords (texts words.entry.now) result }
+{
+    let found = understood(alloc, words)?;
+    let given = Given::read(&found, found.get_str("REF").unwrap_or("")).of_record();
+    let Some(asked) = given.request(name_in(words)) else {
+        return Err(words_fault(format!(in alloc; "Words nothing is asked for")));
+    };
+    match asked {
+        Ok(request) => Ok(request),
+        Err(fault) => Err(RecordFault::Fault(fault)),
+    }
+}
+
+/// A text asks for one thing, wherever its parts lie in memory. [`words_of_record`] and
+/// [`request_of_record`] give it.
+pub fn one_request_of_record()
+    ensures { (text : List ℕ) (one other : Result RequestOf FaultOf) → IsRequestOf text one
+        → IsRequestOf text other → StateTheSame one other }
+{}
