@@ -1,10 +1,10 @@
 -- The names that most proofs of this crate speak of, passed on from one place.
-pub use Rattle.std.proofs.Common.{◌+◌, ◌++◌, ◌-◌, Bool, Bor, Contains, Err, IsTrue, List, None, Ok, Option, Some, [], ◌^◌, ap, append_assoc, arith, codes, false, inl, inr, length, length-append, refl, rules, string_bytes, subst, sym, true, ℕ, ◌↔◌, ◌∙◌, ◌∷◌, ◌≡◌, ◌≤◌, ◌⊎◌}
+pub use Rattle.std.proofs.Common.{◌+◌, ◌++◌, ◌-◌, Bool, Bor, Contains, Err, IsTrue, List, None, Ok, Option, Some, [], ◌^◌, ap, ap₂, append_assoc, arith, codes, false, inl, inr, length, length-append, refl, rules, string_bytes, subst, sym, true, ℕ, ◌↔◌, ◌∙◌, ◌∷◌, ◌≡◌, ◌≤◌, ◌⊎◌}
 pub use Rattle.std.proofs.KnownBytes.{Appends-trans}
 pub use Rattle.std.proofs.lemmas.List.{append-nil}
 pub use Rattle.std.specs.Io.KnownBytes.{Appends, Consumes, IsAtEnd, prepend_known}
 pub use Rattle.std.specs.List.{concat}
-pub use Rattle.std.specs.Prelude.{IfErr, IfSome, Result}
+pub use Rattle.std.specs.Prelude.{IfErr, IfOk, IfSome, Result}
 pub use Rattle.olr_app.proofs.Single.{exit}
 pub use Rattle.olr_app.specs.Writing.{HasStopped, no_call}
 pub use Rattle.olr_base.specs.declared.failure.Failed.{Failed}
@@ -17,7 +17,7 @@ unfoldable pub use Rattle.olr_messages.specs.Lines.{lines_of}
 pub use Rattle.olr_messages.specs.Messages.{IsNext, IsOver, left_of}
 pub use Rattle.olr_request.specs.declared.fault.Fault.TheVariants.{InputNotRead, NoMemory, WriteFailed}
 pub use Rattle.olr_request.specs.declared.fault.Fault.{Fault}
-pub use Rattle.olr_request.specs.declared.question.Question.{Question}
 pub use Rattle.olr_road.specs.RoadMap.{RoadMap}
+pub use Rattle.olr_words.specs.declared.words.Records.{Records}
 pub use Rattle.serde_json.specs.Data.{Data}
 pub use Rattle.serde_json.specs.Written.{compact_text}

@@ -1,6 +1,7 @@
 mod Common
 mod Tokens
 mod Lines
+mod Replies
 mod Stepping
 mod Written
 mod Stopping

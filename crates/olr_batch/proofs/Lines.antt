@@ -1,5 +1,7 @@
 -- The line of a record, from the answer to its text.
-use Rattle.olr_batch.proofs.Common.{◌≡◌, ℕ, false, List, ◌++◌, Option, None, Ok, Bor, codes, refl, subst, inl, Data, compact_text, RoadMap, line_text, IsLineOfText, Question}
+use Rattle.olr_batch.proofs.Common.{◌≡◌, ℕ, Bool, false, List, ◌++◌, Option, None, Ok, Err, Bor, codes, ap, ap₂, ◌∙◌, refl, subst, inl, inr, Data, compact_text, RoadMap, line_text, IsLineOfText, Records}
+use Rattle.std.specs.Prelude.{if◌then◌else◌}
+use Rattle.olr_binary.specs.Json.{reference_object}
 use Rattle.olr_candidates.specs.declared.tolerances.Tolerances.{Tolerances}
 use Rattle.olr_places.specs.Json.{places_object}
 use Rattle.olr_report.specs.Json.{page_object}
@@ -7,50 +9,98 @@ use Rattle.olr_report.specs.Text.{next_after}
 use Rattle.olr_why.specs.Json.{why_object}
 use Rattle.olr_app.specs.Answer.{IsAnswerOn}
 use Rattle.olr_app.specs.Listing.{listing_object}
-use Rattle.olr_request.specs.Question.{asked_alone}
+use Rattle.olr_request.specs.Question.{request_for}
 use Rattle.olr_request.specs.Request.{at_bytes}
 use Rattle.olr_app.specs.declared.accepting.Accepted.{Accepted}
+use Rattle.olr_request.specs.declared.fault.Fault.TheVariants as fault
+use Rattle.olr_request.specs.declared.request.Format.{Format}
 use Rattle.olr_request.specs.declared.request.Format.TheVariants.{Json}
 use Rattle.olr_request.specs.declared.request.MatchRequest.{MatchRequest}
-use Rattle.olr_request.specs.declared.request.Pages.TheVariants.{One}
+use Rattle.olr_request.specs.declared.request.Pages.{Pages}
+use Rattle.olr_request.specs.declared.request.Pages.TheVariants.{All, One}
+use Rattle.olr_request.specs.declared.request.Request.{Request}
+use Rattle.olr_request.specs.declared.request.Request.TheVariants.{Show}
 use Rattle.olr_app.proofs.OnePage.{on_map}
-use Rattle.olr_batch.specs.Answers.{IsAnswer}
+use Rattle.olr_app.proofs.Single.{same_ok}
+use Rattle.olr_batch.specs.Answers.{IsAsked, IsFaultFor, IsReply}
 use Rattle.olr_request.specs.declared.question.QuestionKind.{QuestionKind}
 use Rattle.olr_request.specs.declared.question.QuestionKind.TheVariants.{Candidates, Match, Places, Why}
+use Rattle.olr_words.specs.declared.record.RecordFault.TheVariants as record_fault
+use Rattle.olr_words.specs.declared.words.Records.TheVariants.{References, Requests}
 
--- an answer is the line of a value
-value_of : (what : QuestionKind) (tolerances : Tolerances) (text : Bor (List ℕ)) (road : RoadMap)
-    (accepted : Accepted) (output : List ℕ)
-    → IsAnswerOn false (asked_alone what tolerances text) accepted road (Ok output)
-    → (value : Data) × (output ≡ compact_text value ++ codes "\n")
-value_of Candidates tolerances text road accepted output is =
-    (listing_object road is.lists, is.text_is.line_is)
-value_of (Match size) tolerances text road accepted output is =
-    let asked : MatchRequest = record {
-      text = text;
-      tolerances = tolerances;
-      size = size;
-      pages = One None;
-      format = Json;
-    } in
-    let on = on_map false asked None accepted road output refl is in
-    (page_object road on.is_text.entries (next_after on.page) on.mark, on.is_text.text_is.line_is)
-value_of (Places limits) tolerances text road accepted output is =
-    (places_object road limits is.2.looked, is.2.output_is.line_is)
-value_of (Why nearest) tolerances text road accepted output is =
-    (why_object road is.why, is.output_is.line_is)
+-- an output is the line of a value
+abbrev IsLine : List ℕ → Type 0
+IsLine output = (value : Data) × (output ≡ compact_text value ++ codes "\n")
 
-module _ (asked : Question) (road : RoadMap) (number : ℕ) (key : Option (List ℕ))
-    (text : List ℕ) where
+module _ (road : RoadMap) (accepted : Accepted) (output : List ℕ) where
+  abbrev Answers : Request → Type 0
+  Answers request = IsAnswerOn false request accepted road (Ok output)
+
+  -- that of one page as JSON
+  of_question : (what : QuestionKind) (tolerances : Tolerances) (text : Bor (List ℕ))
+      (after : Option (Bor (List ℕ)))
+      → Answers (request_for what tolerances text (One after) Json) → IsLine output
+  of_question Candidates tolerances text after is =
+      (listing_object road is.lists, is.text_is.line_is)
+  of_question (Match size) tolerances text after is =
+      let asked : MatchRequest = record {
+        text = text;
+        tolerances = tolerances;
+        size = size;
+        pages = One after;
+        format = Json;
+      } in
+      let on = on_map false asked after accepted road output refl is in
+      (page_object road on.is_text.entries (next_after on.page) on.mark, on.is_text.text_is.line_is)
+  of_question (Places limits) tolerances text after is =
+      (places_object road limits is.2.looked, is.2.output_is.line_is)
+  of_question (Why nearest) tolerances text after is =
+      (why_object road is.why, is.output_is.line_is)
+
+  -- that of a reference that is shown
+  of_show : (text : Bor (List ℕ)) (request : Request) → request ≡ Show text Json
+      → Answers request → IsLine output
+  of_show text request show is =
+      let its = subst Answers show is in (reference_object accepted.reference, its.line_is)
+
+  -- that of the request of a record
+  of_record : (records : Records) (text : List ℕ) (request : Request)
+      → IsAsked records text (Ok request) → Answers request → IsLine output
+  of_record (References question) text request asked is =
+      of_question question.what question.tolerances (at_bytes text) None
+      (subst Answers (same_ok asked) is)
+  of_record Requests text request asked is =
+      let ask = asked.2 in
+      elim ask.asks [
+        | inl show ↦ of_show ask.given.text request
+            (show.1 ∙ ap (λ (format : Format). Show ask.given.text format) ask.given_by.json) is
+        | inr asks ↦
+            let question = asks.2.question in
+            of_question question.what question.tolerances ask.given.text ask.given.after
+            (subst Answers (asks.2.asks
+            ∙ ap₂ (λ (pages : Pages) (format : Format). request_for question.what
+            question.tolerances ask.given.text pages format)
+            (ap (λ (all : Bool). if all then All else One ask.given.after) ask.given_by.one_page)
+            ask.given_by.json) is)
+      ]
+
+module _ (records : Records) (road : RoadMap) (text : List ℕ) where
   -- the line of an answer
-  pub found_line : (output line : List ℕ) → IsAnswer asked road text (Ok output)
+  pub found_line : (number : ℕ) (key : Option (List ℕ)) (output line : List ℕ)
+      → IsReply records road text output
       → ((value : Data) → output ≡ compact_text value ++ codes "\n"
       → line ≡ line_text value None key number)
-      → IsLineOfText asked road number key text line
-  found_line output line is written =
-      let value = value_of asked.what asked.tolerances (at_bytes text) road is.0 output is.2 in
+      → IsLineOfText records road number key text line
+  found_line number key output line is written =
+      let value = of_record road is.2.0 output records text is.0 is.1 is.2.2 in
       inl (
         value.0,
-        subst (λ (bytes : List ℕ). IsAnswer asked road text (Ok bytes)) value.1 is,
+        subst (λ (bytes : List ℕ). IsReply records road text bytes) value.1 is,
         written value.0 value.1,
       )
+
+  -- memory may be refused where there is an answer
+  pub no_memory_for : (output : List ℕ) → IsReply records road text output
+      → IsFaultFor records road text (record_fault.Fault fault.NoMemory)
+  no_memory_for output is =
+      inr (is.0, fault.NoMemory, is.1, inr (refl, (is.2.0, is.2.1)), refl)

@@ -1,5 +1,5 @@
 -- What is written for the first records of an input, record by record.
-use Rattle.olr_batch.proofs.Common.{◌≡◌, ℕ, ◌+◌, List, [], ◌∷◌, ◌++◌, length, Option, None, Some, refl, sym, ap, ◌∙◌, subst, append_assoc, length-append, arith, IfSome, Appends, Consumes, prepend_known, concat, Appends-trans, append-nil, RoadMap, IsMessageOfLine, Message, lines_of, IsNext, IsOver, AreWrittenFor, IsWrittenFor, IsLeft, IsWrittenTo, IsOutputOfNext, Question}
+use Rattle.olr_batch.proofs.Common.{◌≡◌, Bor, ℕ, ◌+◌, List, [], ◌∷◌, ◌++◌, length, Option, None, Some, refl, sym, ap, ◌∙◌, subst, append_assoc, length-append, arith, IfSome, Appends, Consumes, prepend_known, concat, Appends-trans, append-nil, RoadMap, IsMessageOfLine, Message, lines_of, IsNext, IsOver, AreWrittenFor, IsWrittenFor, IsLeft, IsWrittenTo, IsOutputOfNext, Records}
 use Rattle.std.proofs.lemmas.List.Folds.{concat-append}
 
 length_more : (done : List (List ℕ)) (line : List ℕ) → length (done ++ line ∷ []) ≡ length done + 1
@@ -21,17 +21,17 @@ one_line_more done line (Some text) (Some more) (Some after) is next =
     is ∙ ap (λ (lines : List (List ℕ)). done ++ lines) next
     ∙ sym (append_assoc done (line ∷ []) (lines_of after))
 
-module _ (asked : Question) (road : RoadMap) where
+module _ (records : Records) (road : RoadMap) where
   -- what is written for one record more
   pub one_output_more : (number at : ℕ) (done outputs : List (List ℕ)) (line output : List ℕ)
       (said : Message)
-      → AreWrittenFor asked road number done outputs → at ≡ number + length done
+      → AreWrittenFor records road number done outputs → at ≡ number + length done
       → IsMessageOfLine line said
-      → IsWrittenFor asked road at said output
-      → AreWrittenFor asked road number (done ++ line ∷ []) (outputs ++ output ∷ [])
+      → IsWrittenFor records road at said output
+      → AreWrittenFor records road number (done ++ line ∷ []) (outputs ++ output ∷ [])
   one_output_more number at [] [] line output said are counted says is =
       let here : at ≡ number = omega arith in
-      ((said, says, subst (λ (n : ℕ). IsWrittenFor asked road n said output) here is), refl)
+      ((said, says, subst (λ (n : ℕ). IsWrittenFor records road n said output) here is), refl)
   one_output_more number at [] (first ∷ outputs) line output said are counted says is = absurd cc
   one_output_more number at (first ∷ done) [] line output said are counted says is = absurd are
   one_output_more number at (first ∷ done) (other ∷ outputs) line output said are counted says is = (
@@ -93,20 +93,29 @@ hand_of done at_hand None rest is = tt
 hand_of done at_hand (Some text) None is = tt
 hand_of done at_hand (Some text) (Some after) is = refl
 
-module _ {asked : Question} {road : RoadMap} where
+module _ {records : Records} {road : RoadMap} where
   pub one_more : {number next : ℕ} {input left rest old between new : Option (List ℕ)}
-      {output : List ℕ} → IsWrittenTo asked road number input left old between
-      → IsOutputOfNext asked road number left rest output → Appends between new output
-      → next ≡ number + 1 → IsWrittenTo asked road next input rest old new
+      {output : List ℕ} → IsWrittenTo records road number input left old between
+      → IsOutputOfNext records road number left rest output → Appends between new output
+      → next ≡ number + 1 → IsWrittenTo records road next input rest old new
   one_more {number} {next} {input} {left} {rest} {old} {between} {new} {output} so_far is took
       counted = record {
         done = so_far.done ++ is.line ∷ [];
         outputs = so_far.outputs ++ output ∷ [];
         counted = counted ∙ ap (λ n. n + 1) (so_far.counted
             ∙ sym (length_more so_far.done is.line));
-        are = one_output_more asked road 1 number so_far.done so_far.outputs is.line output is.said
+        are = one_output_more records road 1 number so_far.done so_far.outputs is.line output is.said
             so_far.are (so_far.counted ∙ omega arith) is.says is.written;
         left_is = one_line_more so_far.done is.line input left rest so_far.left_is is.is_next;
         took = rw (concat_more so_far.outputs output)
             (Appends-trans old between new (concat so_far.outputs) output so_far.took took);
       }
+
+-- what is written for the next record, by the same records and map at other places in memory
+pub of_same : {one other : Bor Records} {at there : Bor RoadMap} {number : ℕ}
+    {left rest : Option (List ℕ)} {output : List ℕ} → one ≡ other → at ≡ there
+    → IsOutputOfNext one.now at.now number left rest output
+    → IsOutputOfNext other.now there.now number left rest output
+of_same {one} {other} {at} {there} {number} {left} {rest} {output} same map is =
+    subst (λ (r : Bor Records). IsOutputOfNext r.now there.now number left rest output) same
+    (subst (λ (m : Bor RoadMap). IsOutputOfNext one.now m.now number left rest output) map is)

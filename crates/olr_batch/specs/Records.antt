@@ -1,28 +1,28 @@
 -- What is written for the records of an input, on a map that is read. LF is the byte 10.
-use Rattle.std.specs.Prelude.{◌≡◌, ℕ, ◌+◌, ◌⊎◌, List, [], ◌∷◌, ◌++◌, Option, None, Some, Ok, codes}
+use Rattle.std.specs.Prelude.{◌≡◌, ℕ, ◌+◌, ◌⊎◌, List, [], ◌∷◌, ◌++◌, Option, None, Some, codes}
 use Rattle.serde_json.specs.Data.{Data, null}
 use Rattle.serde_json.specs.Written.{compact_text}
 use Rattle.olr_road.specs.RoadMap.{RoadMap}
 use Rattle.olr_messages.specs.Content.{IsMessageOfLine, Message}
 use Rattle.olr_messages.specs.Content as message
-use Rattle.olr_request.specs.Fault.{fault_text}
-use Rattle.olr_request.specs.declared.fault.Fault.{Fault}
-use Rattle.olr_batch.specs.Answers.{IsAnswer, IsFaultFor}
+use Rattle.olr_batch.specs.Answers.{IsFaultFor, IsReply}
 use Rattle.olr_batch.specs.Line.{line_text}
-use Rattle.olr_request.specs.declared.question.Question.{Question}
+use Rattle.olr_words.specs.Record.{record_fault_text}
+use Rattle.olr_words.specs.declared.record.RecordFault.{RecordFault}
+use Rattle.olr_words.specs.declared.words.Records.{Records}
 
 -- the line of a record that has a fault in place of an answer
 abbrev pub fault_line : List ℕ → Option (List ℕ) → ℕ → List ℕ
 fault_line name key number = line_text null (Some name) key number
 
-module _ (asked : Question) (road : RoadMap) where
+module _ (records : Records) (road : RoadMap) where
   -- The line of a record with a text: it has the answer to the text, or the fault in place of it.
   abbrev pub IsLineOfText : ℕ → Option (List ℕ) → List ℕ → List ℕ → Type 0
   IsLineOfText number key text line =
-      ((value : Data) × IsAnswer asked road text (Ok (compact_text value ++ codes "\n"))
+      ((value : Data) × IsReply records road text (compact_text value ++ codes "\n")
       × (line ≡ line_text value None key number))
-      ⊎ ((fault : Fault) × IsFaultFor asked road text fault
-      × (line ≡ fault_line (fault_text fault) key number))
+      ⊎ ((fault : RecordFault) × IsFaultFor records road text fault
+      × (line ≡ fault_line (record_fault_text fault) key number))
 
   -- what is written for a record: its line, or nothing where it is empty
   abbrev pub IsWrittenFor : ℕ → Message → List ℕ → Type 0

@@ -16,7 +16,7 @@ use Rattle.olr_request.specs.declared.fault.Fault.{Fault}
 use Rattle.olr_request.specs.declared.fault.Fault.TheVariants.{InputNotRead, NoMemory, WriteFailed}
 use Rattle.olr_batch.specs.Records.{AreWrittenFor, IsWrittenFor}
 use Rattle.olr_batch.specs.Steps.{HasPassedOn}
-use Rattle.olr_request.specs.declared.question.Question.{Question}
+use Rattle.olr_words.specs.declared.words.Records.{Records}
 
 -- these are the first lines of an input, if its bytes are known, and the lines of the other bytes
 -- are left
@@ -25,7 +25,7 @@ IsLeft done None new = Unit {0}
 IsLeft done (Some old) None = ⊥
 IsLeft done (Some old) (Some new) = lines_of old ≡ done ++ lines_of new
 
-module _ (asked : Question) (road : RoadMap) where
+module _ (records : Records) (road : RoadMap) where
   -- What is written for the first records of an input has been written, of which the first that is
   -- left has this number.
   pub record IsWrittenTo (number : ℕ) (input left : Option (List ℕ)) (old new : Option (List ℕ))
@@ -33,12 +33,12 @@ module _ (asked : Question) (road : RoadMap) where
     pub done : List (List ℕ)
     pub outputs : List (List ℕ)
     pub counted : number ≡ length done + 1
-    pub are : AreWrittenFor asked road 1 done outputs
+    pub are : AreWrittenFor records road 1 done outputs
     pub left_is : IsLeft done input left
     pub took : Appends old new (concat outputs)
 
 module _ {O : Type 0} (taken : O → Option (List ℕ)) (failed : O → ℕ)
-    (flush_gives : O → Result (Unit {0}) Failed → O → Type 0) (asked : Question)
+    (flush_gives : O → Result (Unit {0}) Failed → O → Type 0) (records : Records)
     (road : RoadMap)
   where
     -- What is written for the records of an input, whose bytes are these if they are known, has
@@ -46,7 +46,7 @@ module _ {O : Type 0} (taken : O → Option (List ℕ)) (failed : O → ℕ)
     -- one passed on what it had taken.
     pub record AreAnswered (input : Option (List ℕ)) (old new : O) : Type 0 where
       pub outputs : List (List ℕ)
-      pub written : IfSome input (λ text. AreWrittenFor asked road 1 (lines_of text) outputs)
+      pub written : IfSome input (λ text. AreWrittenFor records road 1 (lines_of text) outputs)
       pub took : Appends (taken old) (taken new) (concat outputs)
       pub none_failed : failed new ≡ failed old
       pub before_last : O
@@ -59,7 +59,7 @@ module _ {O : Type 0} (taken : O → Option (List ℕ)) (failed : O → ℕ)
       pub left : List (List ℕ)
       pub outputs : List (List ℕ)
       pub split : IfSome input (λ text. lines_of text ≡ done ++ left)
-      pub are : AreWrittenFor asked road 1 done outputs
+      pub are : AreWrittenFor records road 1 done outputs
       pub took : Appends (taken old) (taken new) (concat outputs)
       pub none_failed : failed new ≡ failed old
 
@@ -69,14 +69,14 @@ module _ {O : Type 0} (taken : O → Option (List ℕ)) (failed : O → ℕ)
     IsNextOutput {input} {old} {new} begun output = (output ≡ [])
         ⊎ ((line : List ℕ) × (rest : List (List ℕ)) × (said : Message)
         × IfSome input (λ _. begun.left ≡ line ∷ rest)
-        × IsMessageOfLine line said × IsWrittenFor asked road (length begun.done + 1) said output)
+        × IsMessageOfLine line said × IsWrittenFor records road (length begun.done + 1) said output)
 
 -- ---- where it stops
 
 module _ {S O : Type 0} (left : S → Option (List ℕ)) (in_failed : S → ℕ) (taken : O
     → Option (List ℕ))
     (failed : O → ℕ) (put_gives : O → List ℕ → Result ℕ Failed → O → Type 0)
-    (flush_gives : O → Result (Unit {0}) Failed → O → Type 0) (asked : Question)
+    (flush_gives : O → Result (Unit {0}) Failed → O → Type 0) (records : Records)
     (road : RoadMap)
     (old_in new_in : S) (old new : O) where
   -- The input was cut off, at the first of the lines that are left: these bytes of them were read.
@@ -96,14 +96,14 @@ module _ {S O : Type 0} (left : S → Option (List ℕ)) (in_failed : S → ℕ)
   -- written had been passed on; or the sink stopped after a front of what is written for the next
   -- record.
   abbrev pub IsStopped : Fault → Type 0
-  IsStopped NoMemory = AreBegun taken failed flush_gives asked road (left old_in) old new
+  IsStopped NoMemory = AreBegun taken failed flush_gives records road (left old_in) old new
       × (in_failed new_in ≡ in_failed old_in)
   IsStopped InputNotRead =
-      (begun : AreBegun taken failed flush_gives asked road (left old_in) old new)
+      (begun : AreBegun taken failed flush_gives records road (left old_in) old new)
       × IsInputCut begun.done begun.left × HasPassedOn flush_gives new
   IsStopped WriteFailed = (at : O) × (output : List ℕ)
-      × (begun : AreBegun taken failed flush_gives asked road (left old_in) old at)
-      × IsNextOutput taken failed flush_gives asked road begun output
+      × (begun : AreBegun taken failed flush_gives records road (left old_in) old at)
+      × IsNextOutput taken failed flush_gives records road begun output
       × HasStopped taken failed put_gives flush_gives output at new
       × (in_failed new_in ≡ in_failed old_in)
   IsStopped other = ⊥

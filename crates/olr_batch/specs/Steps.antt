@@ -9,7 +9,7 @@ use Rattle.olr_app.specs.Writing.{HasStopped}
 use Rattle.olr_request.specs.declared.fault.Fault.{Fault}
 use Rattle.olr_request.specs.declared.fault.Fault.TheVariants.{InputNotRead, NoMemory, WriteFailed}
 use Rattle.olr_batch.specs.Records.{IsWrittenFor}
-use Rattle.olr_request.specs.declared.question.Question.{Question}
+use Rattle.olr_words.specs.declared.words.Records.{Records}
 
 module _ {O : Type 0} (flush_gives : O → Result (Unit {0}) Failed → O → Type 0) where
   -- the last call on the sink passed on what it had taken
@@ -43,26 +43,26 @@ module _ {O : Type 0} (taken : O → Option (List ℕ)) (failed : O → ℕ)
     pub flushed : flush_gives before_last (Ok tt) new
 
 -- this is written for the next record, of this number: the next line of what was left of an input
-pub record IsOutputOfNext (asked : Question) (road : RoadMap) (number : ℕ)
+pub record IsOutputOfNext (records : Records) (road : RoadMap) (number : ℕ)
     (left_old left_new : Option (List ℕ)) (output : List ℕ) : Type 0 where
   pub line : List ℕ
   pub said : Message
   pub is_next : IsNext line left_old left_new
   pub says : IsMessageOfLine line said
-  pub written : IsWrittenFor asked road number said output
+  pub written : IsWrittenFor records road number said output
 
-module _ {O : Type 0} (taken : O → Option (List ℕ)) (failed : O → ℕ) (asked : Question)
+module _ {O : Type 0} (taken : O → Option (List ℕ)) (failed : O → ℕ) (records : Records)
     (road : RoadMap) (number : ℕ) (left_old left_new : Option (List ℕ)) (old new : O) where
   -- the sink took what is written for the next record
   pub record IsWrittenNext : Type 0 where
     pub output : List ℕ
-    pub of_next : IsOutputOfNext asked road number left_old left_new output
+    pub of_next : IsOutputOfNext records road number left_old left_new output
     pub took : Appends (taken old) (taken new) output
     pub none_failed : failed new ≡ failed old
 
 module _ {O : Type 0} (taken : O → Option (List ℕ)) (failed : O → ℕ)
     (put_gives : O → List ℕ → Result ℕ Failed → O → Type 0)
-    (flush_gives : O → Result (Unit {0}) Failed → O → Type 0) (asked : Question)
+    (flush_gives : O → Result (Unit {0}) Failed → O → Type 0) (records : Records)
     (road : RoadMap) (number : ℕ) (left_old left_new : Option (List ℕ)) (at_hand : List ℕ)
     (old_failed new_failed : ℕ) (old new : O) where
   -- Why the next record wasn't answered, or not wholly written: memory was refused; or the input
@@ -73,6 +73,6 @@ module _ {O : Type 0} (taken : O → Option (List ℕ)) (failed : O → ℕ)
   IsStepStopped InputNotRead = IsSame taken failed flush_gives old new × HasPassedOn flush_gives new
       × (at_hand ≡ []) × IsCutOff left_old left_new at_hand old_failed new_failed
   IsStepStopped WriteFailed = (at : O) × (output : List ℕ) × IsSame taken failed flush_gives old at
-      × ((output ≡ []) ⊎ IsOutputOfNext asked road number left_old left_new output)
+      × ((output ≡ []) ⊎ IsOutputOfNext records road number left_old left_new output)
       × HasStopped taken failed put_gives flush_gives output at new × (new_failed ≡ old_failed)
   IsStepStopped other = ⊥

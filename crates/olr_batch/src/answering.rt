@@ -10,10 +10,12 @@ ghost use Rattle.olr_batch.specs.Steps.{IsLast, IsPassedOn, IsStepStopped, IsWri
 ghost use Rattle.olr_batch.specs.Steps.{MayAsk};
 
 use crate::record::write_record;
-use olr_app::{Fault, Question, QuestionOnMap, Sink, Source, put_whole, unbanned_for};
+use crate::reply::RecordsOnMap;
+use olr_app::{Fault, MapForRequests, Sink, Source, put_whole};
 use olr_base::{Failed, NoMemory};
 use olr_messages::Messages;
 use olr_road::Map;
+use olr_words::Records;
 use std::alloc::Global;
 
 /// How many bytes a line takes at most that has a fault in place of an answer: one with a key of
@@ -90,13 +92,15 @@ impl Answering {
     /// was one. Before more input is asked for, the sink passes on what it took.
     fn next<S: Source, O: Sink>(
         &mut self,
-        on: &QuestionOnMap<'_>,
+        on: &mut RecordsOnMap<'_>,
         number: u64,
         input: &mut S,
         out: &mut O,
     ) -> Result<bool, Fault>
+        ensures records { on.new.records ≡ on.old.records }
+        ensures map { on.new.on.map ≡ on.old.on.map }
         ensures moves { IfOk result (λ found. MatchBool found
-            (IsWrittenNext O.taken O.failed on.now.question.now on.now.map.now number
+            (IsWrittenNext O.taken O.failed on.old.records.now on.old.on.map.now number
             (left_of self.old.messages (S.left input.old))
             (left_of self.new.messages (S.left input.new)) out.old out.new)
             (IsLast O.taken O.failed O.flush_gives
@@ -104,7 +108,7 @@ impl Answering {
             (left_of self.new.messages (S.left input.new)) out.old out.new)) }
         ensures none_failed { OnOk result (S.failed input.new ≡ S.failed input.old) }
         ensures fault { IfErr result (IsStepStopped O.taken O.failed O.put_gives O.flush_gives
-            on.now.question.now on.now.map.now number
+            on.old.records.now on.old.on.map.now number
             (left_of self.old.messages (S.left input.old))
             (left_of self.new.messages (S.left input.new)) self.new.messages.at_hand
             (S.failed input.old) (S.failed input.new) out.old out.new) }
@@ -128,17 +132,17 @@ impl Answering {
     /// Writes what is written for all records.
     fn all<S: Source, O: Sink>(
         &mut self,
-        on: &QuestionOnMap<'_>,
+        on: &mut RecordsOnMap<'_>,
         input: &mut S,
         out: &mut O,
     ) -> Result<(), Fault>
         requires none_at_hand { self.old.messages.at_hand ≡ [] }
         ensures answered { OnOk result (AreAnswered O.taken O.failed O.flush_gives
-            on.now.question.now on.now.map.now (S.left input.old) out.old out.new) }
+            on.old.records.now on.old.on.map.now (S.left input.old) out.old out.new) }
         ensures input_source { OnOk result
             (IsAtEnd (S.left input.new) × (S.failed input.new ≡ S.failed input.old)) }
         ensures fault { IfErr result (IsStopped S.left S.failed O.taken O.failed O.put_gives
-            O.flush_gives on.now.question.now on.now.map.now input.old input.new out.old out.new) }
+            O.flush_gives on.old.records.now on.old.on.map.now input.old input.new out.old out.new) }
     {
         for number in 1..u64::MAX {
             if !self.next(on, number, input, out)? {
@@ -160,23 +164,21 @@ impl Answering {
 pub fn answer_records<S: Source, O: Sink>(
     alloc: Global,
     map: &Map,
-    asked: &Question,
+    records: &Records,
     input: &mut S,
     out: &mut O,
 ) -> Result<(), Fault>
-    ensures answered { OnOk result (AreAnswered O.taken O.failed O.flush_gives asked.now map.now
+    ensures answered { OnOk result (AreAnswered O.taken O.failed O.flush_gives records.now map.now
         (S.left input.old) out.old out.new) }
     ensures input_source { OnOk result
         (IsAtEnd (S.left input.new) × (S.failed input.new ≡ S.failed input.old)) }
     ensures fault { IfErr result (IsStopped S.left S.failed O.taken O.failed O.put_gives
-        O.flush_gives asked.now map.now input.old input.new out.old out.new) }
+        O.flush_gives records.now map.now input.old input.new out.old out.new) }
 {
-    let unbanned = unbanned_for(alloc, map, asked.what)?;
-    let on = QuestionOnMap {
-        question: asked,
-        map,
-        unbanned,
+    let mut on = RecordsOnMap {
+        records,
+        on: MapForRequests::new(map),
     };
-    Answering::new(alloc)?.all(&on, input, out)?;
+    Answering::new(alloc)?.all(&mut on, input, out)?;
     Ok(())
 }

@@ -8,8 +8,9 @@ ghost use Rattle.olr_app.specs.Sources.{LeavesFile};
 ghost use Rattle.olr_batch.specs.Run.{AreAnswered, IsMapFault, IsStopped};
 
 use crate::answering::answer_records;
-use olr_app::{Fault, File, Question, Sink, Source};
+use olr_app::{Fault, File, Sink, Source};
 use olr_map::read_map_with_bans;
+use olr_words::Records;
 use std::alloc::Global;
 
 /// Answers each record of an input by one line of JSON: reads the map, and then takes a record
@@ -28,7 +29,7 @@ use std::alloc::Global;
 /// where the allocator refused memory for the map or before the first record.
 pub fn run_batch<S1: Source, S2: Source, S3: Source, S4: Source, O: Sink>(
     alloc: Global,
-    asked: &Question,
+    records: &Records,
     nodes: &mut S1,
     lines: &mut S2,
     bans: &mut S3,
@@ -37,14 +38,14 @@ pub fn run_batch<S1: Source, S2: Source, S3: Source, S4: Source, O: Sink>(
 ) -> Result<(), Fault>
     ensures answered { OnOk result ((road : RoadMap)
         × IsMapLeft (texts_of (S1.left nodes.old) (S2.left lines.old) (S3.left bans.old)) road
-        × AreAnswered O.taken O.failed O.flush_gives asked.now road (S4.left input.old)
+        × AreAnswered O.taken O.failed O.flush_gives records.now road (S4.left input.old)
         out.old out.new) }
     ensures fault { IfErr result (λ fault.
         IsMapFault (texts_of (S1.left nodes.old) (S2.left lines.old) (S3.left bans.old))
         input.old input.new out.old out.new fault
         ⊎ ((road : RoadMap)
         × IsMapLeft (texts_of (S1.left nodes.old) (S2.left lines.old) (S3.left bans.old)) road
-        × IsStopped S4.left S4.failed O.taken O.failed O.put_gives O.flush_gives asked.now road
+        × IsStopped S4.left S4.failed O.taken O.failed O.put_gives O.flush_gives records.now road
         input.old input.new out.old out.new fault)) }
 
     // Each source of a file: read to its end, or up to a fault.
@@ -60,5 +61,5 @@ pub fn run_batch<S1: Source, S2: Source, S3: Source, S4: Source, O: Sink>(
         (IsAtEnd (S4.left input.new) × (S4.failed input.new ≡ S4.failed input.old)) }
 {
     let map = read_map_with_bans(alloc, nodes, lines, bans)?;
-    answer_records(alloc, &map, asked, input, out)
+    answer_records(alloc, &map, records, input, out)
 }

@@ -1,8 +1,9 @@
-//! Many references on one map: each record of an input is answered by one line of JSON, as it
-//! comes.
+//! Many references, or many requests, on one map: each record of an input is answered by one line of
+//! JSON, as it comes.
 //!
 //! The map is read once, and then a record goes through these modules in order:
 //!
+//! - [`reply`]: what is answered to its text, which is a reference or a whole request.
 //! - [`line`]: the line of a record; [`record`]: what is written for it.
 //! - [`answering`]: [`answer_records`], the loop over the records, which come from `olr_messages`,
 //!   on a map that was read before.
@@ -16,6 +17,7 @@ mod answering;
 mod batch;
 mod line;
 mod record;
+mod reply;
 
 pub use answering::answer_records;
 pub use batch::run_batch;

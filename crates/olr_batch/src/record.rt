@@ -2,6 +2,7 @@
 
 ghost use Rattle.std.specs.Prelude.{◌≡◌, ◌++◌, ℕ, List, None, IfErr, IfOk, OnOk, codes};
 ghost use Rattle.olr_request.specs.Fault.{fault_text};
+ghost use Rattle.olr_words.specs.Record.{record_fault_text};
 ghost use Rattle.olr_messages.specs.Content.{message_of};
 ghost use Rattle.serde_json.specs.Data.{Data};
 ghost use Rattle.serde_json.specs.Written.{compact_text};
@@ -10,10 +11,12 @@ ghost use Rattle.olr_batch.specs.Line.{bytes_of, line_text};
 ghost use Rattle.olr_batch.specs.Records.{IsLineOfText, IsWrittenFor, fault_line};
 
 use crate::line::{Line, write_line};
+use crate::reply::RecordsOnMap;
 use arrayvec::ArrayString;
-use olr_app::{Fault, QuestionOnMap, answer_text};
+use olr_app::Fault;
 use olr_base::NoMemory;
 use olr_messages::Content;
+use olr_words::RecordFault;
 use std::alloc::Global;
 use std::fmt::Write;
 
@@ -81,21 +84,22 @@ fn write_found<'a>(
 ///
 /// # Errors
 ///
-/// Those of [`answer_text`], and [`Fault::NoMemory`] where the allocator refused memory for the
-/// line.
+/// Those of [`RecordsOnMap::reply`], and [`Fault::NoMemory`] where the allocator refused memory for
+/// the line.
 fn write_answer(
     alloc: Global,
-    on: &QuestionOnMap<'_>,
+    on: &mut RecordsOnMap<'_>,
     name: RecordName<'_>,
     text: &str,
     line: &mut Vec<u8>,
-) -> Result<(), Fault>
-    ensures line { OnOk result
-        (IsLineOfText on.now.question.now on.now.map.now name.entry.number
+) -> Result<(), RecordFault>
+    ensures records { on.new.records ≡ on.old.records }
+    ensures map { on.new.on.map ≡ on.old.on.map }
+    ensures line { OnOk result (IsLineOfText on.old.records.now on.old.on.map.now name.entry.number
         (bytes_of name.entry.key) text.now line.new.items) }
-    ensures fault { IfErr result (IsFaultFor on.now.question.now on.now.map.now text.now) }
+    ensures fault { IfErr result (IsFaultFor on.old.records.now on.old.on.map.now text.now) }
 {
-    let answer = answer_text(alloc, on, text)?;
+    let answer = on.reply(alloc, text)?;
     write_found(alloc, name, &answer, line)?;
     Ok(())
 }
@@ -111,6 +115,25 @@ fn text_of(fault: &Fault) -> Result<ArrayString<64>, NoMemory>
     Ok(text)
 }
 
+/// Makes the line of a record that has this fault in place of an answer.
+fn write_record_fault(
+    alloc: Global,
+    name: RecordName<'_>,
+    fault: &RecordFault,
+    line: &mut Vec<u8>,
+) -> Result<(), NoMemory>
+    ensures { OnOk result (line.new.items
+        ≡ fault_line (record_fault_text fault.now) (bytes_of name.entry.key) name.entry.number) }
+{
+    match fault {
+        RecordFault::Words(text) => write_fault(alloc, name, text, line),
+        RecordFault::Fault(fault) => {
+            let text = text_of(fault)?;
+            write_fault(alloc, name, &text, line)
+        }
+    }
+}
+
 /// Makes the line of a record with a text, by the answer or the fault in place of it.
 ///
 /// # Errors
@@ -118,20 +141,20 @@ fn text_of(fault: &Fault) -> Result<ArrayString<64>, NoMemory>
 /// [`NoMemory`] where the allocator refused memory for the line of a fault.
 fn write_text(
     alloc: Global,
-    on: &QuestionOnMap<'_>,
+    on: &mut RecordsOnMap<'_>,
     name: RecordName<'_>,
     text: &str,
     line: &mut Vec<u8>,
 ) -> Result<(), NoMemory>
-    ensures { OnOk result
-        (IsLineOfText on.now.question.now on.now.map.now name.entry.number
+    ensures records { on.new.records ≡ on.old.records }
+    ensures map { on.new.on.map ≡ on.old.on.map }
+    ensures line { OnOk result (IsLineOfText on.old.records.now on.old.on.map.now name.entry.number
         (bytes_of name.entry.key) text.now line.new.items) }
 {
     let Err(fault) = write_answer(alloc, on, name, text, line) else {
         return Ok(());
     };
-    let fault = text_of(&fault)?;
-    write_fault(alloc, name, &fault, line)?;
+    write_record_fault(alloc, name, &fault, line)?;
     Ok(())
 }
 
@@ -144,14 +167,15 @@ fn write_text(
 /// in a `line` of [`ROOM`](crate::answering) bytes.
 pub(crate) fn write_record(
     alloc: Global,
-    on: &QuestionOnMap<'_>,
+    on: &mut RecordsOnMap<'_>,
     number: u64,
     content: Content<'_>,
     line: &mut Vec<u8>,
 ) -> Result<(), NoMemory>
-    ensures { OnOk result
-        (IsWrittenFor on.now.question.now on.now.map.now number (message_of content.entry)
-        line.new.items) }
+    ensures records { on.new.records ≡ on.old.records }
+    ensures map { on.new.on.map ≡ on.old.on.map }
+    ensures written { OnOk result (IsWrittenFor on.old.records.now on.old.on.map.now number
+        (message_of content.entry) line.new.items) }
 {
     let unnamed = RecordName { number, key: None };
     match content {

@@ -6,7 +6,7 @@ pub returns-clause-nodes_source : goal.returns-clause-nodes_source
 returns-clause-nodes_source g c =
     leaves_file g.S1.Source.left g.S1.Source.failed g.S4.Source.left g.S4.Source.failed
     g.O.Sink.taken g.O.Sink.failed
-    g.O.Sink.put_gives g.O.Sink.flush_gives c.args.asked.now c.in_ok-map.map c.args.input.now
+    g.O.Sink.put_gives g.O.Sink.flush_gives c.args.records.now c.in_ok-map.map c.args.input.now
     c.answer_records.new.input
     c.args.out.now c.answer_records.new.out c.args.nodes.now c.read_map_with_bans.new.nodes Nodes
     c.in_ok-map.ensures.nodes_source c.answer_records.result c.answer_records.ensures.fault
@@ -15,7 +15,7 @@ pub returns-clause-lines_source : goal.returns-clause-lines_source
 returns-clause-lines_source g c =
     leaves_file g.S2.Source.left g.S2.Source.failed g.S4.Source.left g.S4.Source.failed
     g.O.Sink.taken g.O.Sink.failed
-    g.O.Sink.put_gives g.O.Sink.flush_gives c.args.asked.now c.in_ok-map.map c.args.input.now
+    g.O.Sink.put_gives g.O.Sink.flush_gives c.args.records.now c.in_ok-map.map c.args.input.now
     c.answer_records.new.input
     c.args.out.now c.answer_records.new.out c.args.lines.now c.read_map_with_bans.new.lines Lines
     c.in_ok-map.ensures.lines_source c.answer_records.result c.answer_records.ensures.fault
@@ -24,7 +24,7 @@ pub returns-clause-bans_source : goal.returns-clause-bans_source
 returns-clause-bans_source g c =
     leaves_file g.S3.Source.left g.S3.Source.failed g.S4.Source.left g.S4.Source.failed
     g.O.Sink.taken g.O.Sink.failed
-    g.O.Sink.put_gives g.O.Sink.flush_gives c.args.asked.now c.in_ok-map.map c.args.input.now
+    g.O.Sink.put_gives g.O.Sink.flush_gives c.args.records.now c.in_ok-map.map c.args.input.now
     c.answer_records.new.input
     c.args.out.now c.answer_records.new.out c.args.bans.now c.read_map_with_bans.new.bans Bans
     c.in_ok-map.ensures.bans_source c.answer_records.result c.answer_records.ensures.fault

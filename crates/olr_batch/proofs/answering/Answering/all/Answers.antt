@@ -1,7 +1,7 @@
 use Rattle.olr_batch.proofs.Common.{◌≡◌, ◌≤◌, ◌-◌, ◌^◌, rules, true, false, [], refl, inl, inr, ◌∙◌, arith, exit, left_of}
 use Rattle.olr_batch.proofs.Stepping.{at_end_of, same, where_found, where_over}
 use Rattle.olr_batch.proofs.Stopping.{answered, begun, stopped}
-use Rattle.olr_batch.proofs.Written.{hand_of, one_more}
+use Rattle.olr_batch.proofs.Written.{hand_of, of_same, one_more}
 use Rattle.olr_batch.proofs.answering.Answering.all.Goals as goal
 
 pub returns-in_err-next-clause-fault : goal.returns-in_err-next-clause-fault
@@ -10,18 +10,18 @@ returns-in_err-next-clause-fault g c =
     let left = left_of c.loop-number.self.messages (g.S.Source.left c.loop-number.input) in
     rw (exit c.from_residual.ensures.1)
     (stopped g.S.Source.left g.S.Source.failed g.O.Sink.taken g.O.Sink.failed g.O.Sink.put_gives
-    g.O.Sink.flush_gives c.args.on.now.question.now
-    c.args.on.now.map.now c.loop-number.number c.args.input.now c.loop-number.input
+    g.O.Sink.flush_gives c.args.on.now.records.now
+    c.args.on.now.on.map.now c.loop-number.number c.args.input.now c.loop-number.input
     c.args.out.now c.loop-number.out left inv.so_far inv.none_failed
     inv.no_input_failed c.next.new.input c.next.new.out c.next.new.self.messages.at_hand
-    c.in_err-next.field-0.0 c.in_err-next.ensures.fault)
+    c.in_err-next.field-0.0 (rw (← inv.records_are, ← inv.map_is) c.in_err-next.ensures.fault))
 
 pub returns-then-not-branch-clause-answered : goal.returns-then-not-branch-clause-answered
 returns-then-not-branch-clause-answered g c =
     let over : c.in_ok-next.field-0 ≡ false = search rules in
     let inv = c.loop-number.invariant in
-    answered g.O.Sink.taken g.O.Sink.failed g.O.Sink.flush_gives c.args.on.now.question.now
-    c.args.on.now.map.now c.loop-number.number
+    answered g.O.Sink.taken g.O.Sink.failed g.O.Sink.flush_gives c.args.on.now.records.now
+    c.args.on.now.on.map.now c.loop-number.number
     (g.S.Source.left c.args.input.now)
     (left_of c.loop-number.self.messages (g.S.Source.left c.loop-number.input)) c.args.out.now
     c.loop-number.out inv.so_far
@@ -44,7 +44,10 @@ loop-number-preserved g c =
     let inv = c.loop-number.invariant in
     let step = where_found _ _ c.in_ok-next.field-0 found c.in_ok-next.ensures.moves in
     record {
-      so_far = one_more inv.so_far step.of_next step.took refl;
+      records_are = c.in_ok-next.ensures.records ∙ inv.records_are;
+      map_is = c.in_ok-next.ensures.map ∙ inv.map_is;
+      so_far = one_more inv.so_far (of_same inv.records_are inv.map_is step.of_next) step.took
+          refl;
       none_failed = step.none_failed ∙ inv.none_failed;
       no_input_failed = c.in_ok-next.ensures.none_failed ∙ inv.no_input_failed;
     }
@@ -58,8 +61,8 @@ returns-in_err-pass_on_unless-clause-fault g c =
     ) (
       c.loop-number.out,
       [],
-      begun g.O.Sink.taken g.O.Sink.failed g.O.Sink.flush_gives c.args.on.now.question.now
-          c.args.on.now.map.now c.loop-number.number
+      begun g.O.Sink.taken g.O.Sink.failed g.O.Sink.flush_gives c.args.on.now.records.now
+          c.args.on.now.on.map.now c.loop-number.number
           (g.S.Source.left c.args.input.now)
           (left_of c.loop-number.self.messages (g.S.Source.left c.loop-number.input))
           c.args.out.now
@@ -76,8 +79,8 @@ returns-clause-fault g c =
     let left = left_of c.loop-number.self.messages (g.S.Source.left c.loop-number.input) in
     let counted = inv.so_far.counted in
     let most : 2 ^ 64 - 1 ≤ c.loop-number.number = search rules in (
-      begun g.O.Sink.taken g.O.Sink.failed g.O.Sink.flush_gives c.args.on.now.question.now
-          c.args.on.now.map.now c.loop-number.number
+      begun g.O.Sink.taken g.O.Sink.failed g.O.Sink.flush_gives c.args.on.now.records.now
+          c.args.on.now.on.map.now c.loop-number.number
           (g.S.Source.left c.args.input.now) left c.args.out.now c.loop-number.out inv.so_far
           inv.none_failed c.pass_on_unless.new.out
           c.in_ok-pass_on_unless.ensures.passed_on.0,

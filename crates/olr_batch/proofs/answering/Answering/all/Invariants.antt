@@ -4,7 +4,9 @@ use Rattle.olr_batch.proofs.answering.Answering.all.Given as goal
 -- what is written for the records so far has been written, and no device failed
 abbrev pub invariant-loop-number : goal.invariant-loop-number
 invariant-loop-number g l = record {
-  so_far : IsWrittenTo l.on.question.now l.on.map.now l.number
+  records_are : l.on.records ≡ l.initial.on.records;
+  map_is : l.on.on.map ≡ l.initial.on.on.map;
+  so_far : IsWrittenTo l.initial.on.records.now l.initial.on.on.map.now l.number
       (g.S.Source.left l.initial.input)
       (left_of l.self.messages (g.S.Source.left l.input)) (g.O.Sink.taken l.initial.out)
       (g.O.Sink.taken l.out);

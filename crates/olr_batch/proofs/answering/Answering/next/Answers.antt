@@ -26,7 +26,7 @@ returns-in_default-put_whole-clause-fault g c =
         said = message_of c.content-content.result;
         is_next = reads.is_next;
         says = c.content-content.ensures reads.line reads.is_front;
-        written = c.in_ok-write_record.ensures;
+        written = c.in_ok-write_record.ensures.written;
       }),
       subst (λ (bytes : List ℕ). HasStopped g.O.Sink.taken g.O.Sink.failed g.O.Sink.put_gives
           g.O.Sink.flush_gives bytes c.pass_on_unless.new.out
@@ -47,7 +47,7 @@ returns-clause-moves g c =
         said = message_of c.content-content.result;
         is_next = reads.is_next;
         says = c.content-content.ensures reads.line reads.is_front;
-        written = c.in_ok-write_record.ensures;
+        written = c.in_ok-write_record.ensures.written;
       };
       took = takes_after c.put_whole.new.out
           c.write_record.new.line.items passed

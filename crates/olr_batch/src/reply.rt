@@ -1,0 +1,96 @@
+//! What is answered to the text of a record.
+
+ghost use Rattle.std.specs.Prelude.{◌≡◌, IfErr, IfOk, IsOk, string_bytes};
+ghost use Rattle.olr_request.specs.Question.{asked_alone};
+ghost use Rattle.olr_batch.specs.Answers.{IsFaultFor, IsReply};
+ghost use Rattle.olr_words.specs.declared.words.Records.TheVariants.{References, Requests};
+
+use olr_app::{Format, MapForRequests, Pages, Question, Request};
+use olr_words::{RecordFault, Records, request_of_record, words_of_record};
+use std::alloc::Global;
+
+/// What the texts of records are, on the map that they are answered on.
+#[derive(Drop)]
+pub(crate) struct RecordsOnMap<'a> {
+    /// What the texts are.
+    pub records: &'a Records,
+    /// The map.
+    pub on: MapForRequests<'a>,
+}
+
+/// The request that asks a question of the reference of a text. There is always one: it is a result
+/// since the toolchain lends no request that is a call's bare value.
+fn request_about<'a>(question: &Question, text: &'a str) -> Result<Request<'a>, RecordFault>
+    ensures asked { IfOk result (λ request.
+        request ≡ asked_alone question.now.what question.now.tolerances text.entry) }
+    ensures always { IsOk result }
+{
+    Ok(question.request(text, Pages::One(None), Format::Json))
+}
+
+/// The answer to a question about the reference of a text.
+///
+/// # Errors
+///
+/// That of [`MapForRequests::answer`].
+fn reply_to_reference(
+    alloc: Global,
+    on: &mut MapForRequests<'_>,
+    question: &Question,
+    text: &str,
+) -> Result<String, RecordFault>
+    ensures map { on.new.map ≡ on.old.map }
+    ensures answer { IfOk result (λ answer. IsReply (References question.now) on.old.map.now text.now
+        (string_bytes answer)) }
+    ensures fault { IfErr result (IsFaultFor (References question.now) on.old.map.now text.now) }
+{
+    let request = request_about(question, text)?;
+    let answer = on.answer(alloc, &request)?;
+    Ok(answer)
+}
+
+/// The answer to the request of a text.
+///
+/// # Errors
+///
+/// That of [`request_of_record`]; else that of [`MapForRequests::answer`].
+fn reply_to_request(
+    alloc: Global,
+    on: &mut MapForRequests<'_>,
+    text: &str,
+) -> Result<String, RecordFault>
+    ensures map { on.new.map ≡ on.old.map }
+    ensures answer { IfOk result (λ answer.
+        IsReply Requests on.old.map.now text.now (string_bytes answer)) }
+    ensures fault { IfErr result (IsFaultFor Requests on.old.map.now text.now) }
+{
+    let words = words_of_record(alloc, text)?;
+    let request = request_of_record(alloc, words.as_slice())?;
+    let answer = on.answer(alloc, &request)?;
+    Ok(answer)
+}
+
+impl RecordsOnMap<'_> {
+    /// The JSON that answers the text of a record, and a line feed. Of matchings it is the page
+    /// that is asked for, whose cursor has no mark.
+    ///
+    /// # Errors
+    ///
+    /// That of [`request_of_record`] where records are requests; else that of
+    /// [`MapForRequests::answer`].
+    pub(crate) fn reply(&mut self, alloc: Global, text: &str) -> Result<String, RecordFault>
+        ensures records { self.new.records ≡ self.old.records }
+        ensures map { self.new.on.map ≡ self.old.on.map }
+        ensures answer { IfOk result (λ answer.
+            IsReply self.old.records.now self.old.on.map.now text.now (string_bytes answer)) }
+        ensures fault { IfErr result (IsFaultFor self.old.records.now self.old.on.map.now text.now) }
+    {
+        let records = self.records;
+        match records {
+            Records::References(question) => {
+                reply_to_reference(alloc, &mut self.on, question, text)
+            }
+            Records::Requests => reply_to_request(alloc, &mut self.on, text),
+        }
+    }
+}
