@@ -8,7 +8,7 @@ mod HeadlineChain
 mod HeadlineCursors
 mod HeadlineAll
 mod Marks
-mod OnMap
 mod AsRuns
+mod OneReply
 mod OneRequest
 mod OneLine

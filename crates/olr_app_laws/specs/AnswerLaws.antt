@@ -1,11 +1,11 @@
 -- Laws on the answer of one of many requests on a map, beside the one that a run for it prints.
-use Rattle.std.specs.Prelude.{◌≡◌, ℕ, true, List, Option, None, Some, Result, Ok, Err}
+use Rattle.std.specs.Prelude.{◌≡◌, ℕ, List, Option, None, Some, Ok, Err}
 use Rattle.std.specs.Borrow.{Bor}
 use Rattle.olr_app.specs.Common.{Mark, RoadMap}
 use Rattle.olr_map.specs.Files.{IsMapOf, known}
 use Rattle.olr_road.specs.RoadMap.{IsSoundMap}
 use Rattle.olr_report.specs.JsonLaws.{IsSamePage}
-use Rattle.olr_app.specs.Answer.{IsAnswer, IsAnswerOfMany, IsAnswerOnMap}
+use Rattle.olr_app.specs.Answer.{IsAnswer, IsAnswerOfMany}
 use Rattle.olr_request.specs.Request.{ReadsMap}
 use Rattle.olr_app.specs.Stages.{IsSingle}
 use Rattle.olr_request.specs.declared.fault.Fault.{Fault}
@@ -47,11 +47,3 @@ FaultIsOfRun = (nodes lines bans : List ℕ) (road : RoadMap) (request : Request
 abbrev pub OneAnswerOfMany : Type 0
 OneAnswerOfMany = (road : RoadMap) (request : Request) → IsSoundMap road
     → IsSingle (IsAnswerOfMany road request)
-
--- The answer of a request on a map that was read before, and that of a run on the files of this map,
--- are the same: one output, or one fault of the texts.
-abbrev pub OnMapIsOfRun : Type 0
-OnMapIsOfRun = (nodes lines bans : List ℕ) (road : RoadMap) (request : Request)
-    (answer : Result (List ℕ) Fault) → IsMapOf nodes lines bans road
-    → (IsAnswer (known nodes lines bans) request answer → IsAnswerOnMap true road request answer)
-    × (IsAnswerOnMap true road request answer → IsAnswer (known nodes lines bans) request answer)

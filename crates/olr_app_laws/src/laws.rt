@@ -10,7 +10,7 @@
 ghost use Rattle.std.specs.Prelude.{ℕ, List};
 ghost use Rattle.olr_map.specs.Files.{known};
 ghost use Rattle.olr_app.specs.Answer.{IsAnswer};
-ghost use Rattle.olr_app_laws.specs.AnswerLaws.{FaultIsOfRun, OnMapIsOfRun, OneAnswerOfMany};
+ghost use Rattle.olr_app_laws.specs.AnswerLaws.{FaultIsOfRun, OneAnswerOfMany};
 ghost use Rattle.olr_app_laws.specs.AnswerLaws.{OutputIsOfRun};
 ghost use Rattle.olr_app_laws.specs.Laws.{Laws};
 ghost use Rattle.olr_app.specs.Stages.{IsSingle};
@@ -69,14 +69,6 @@ pub fn answers_of_many()
     ensures output { OutputIsOfRun }
     ensures fault { FaultIsOfRun }
     ensures one { OneAnswerOfMany }
-{
-    laws_below();
-}
-
-/// The answer of a request on a map that was read before is that of a run on the files of the map:
-/// the same output, or the same fault of the texts, and one exactly where the other is.
-pub fn answers_on_map()
-    ensures { OnMapIsOfRun }
 {
     laws_below();
 }
