@@ -5,17 +5,17 @@
 //!
 //! - [`opening`]: what opens files, and the files of a map.
 //! - [`perform`](mod@performing): opens the files on a [`Disk`] and answers the request.
-//! - [`on_map`]: the same on a map that was read before, by [`read_map_of`].
+//! - [`reading`]: the map of files, for those who keep one.
 //! - [`system`]: all of this over the files and outputs of the system.
 #![tactic(auto)]
 
-mod on_map;
 mod opening;
 mod performing;
+mod reading;
 mod system;
 
-pub use olr_words::{Asked, Files, Input, Rejected, asked_of};
-pub use on_map::{MapOfFolder, perform_on_map, read_map_of};
+pub use olr_words::{Asked, Files, Input, Records, Rejected, asked_of};
 pub use opening::{Disk, NotOpened};
 pub use performing::perform;
+pub use reading::read_map_of;
 pub use system::run_on_system;

@@ -5,10 +5,10 @@ ghost use Rattle.std.specs.Io.KnownBytes.{Appends};
 ghost use Rattle.olr_explain.specs.Explaining.{explained_text};
 
 use crate::opening::{Disk, MapFiles, NO_BANS, open, open_files};
-use olr_app::{Fault, In, Question, Request, Sink, Source, put_whole, run};
+use olr_app::{Fault, In, Request, Sink, Source, put_whole, run};
 use olr_batch::run_batch;
 use olr_explain::{Section, Topic, explained, faults};
-use olr_words::{Asked, Files, Input, Rejected, asked_of};
+use olr_words::{Asked, Files, Input, Records, Rejected, asked_of};
 use std::alloc::Global;
 
 /// Answers a request, on the map of these files if there are some.
@@ -39,7 +39,7 @@ fn answer_one<D: Disk, O: Sink>(
 /// Answers the records of an input on the map of these files.
 fn answer_input<F: Source + Drop, I: Source, O: Sink>(
     alloc: Global,
-    asked: &Question,
+    records: &Records,
     files: MapFiles<F>,
     input: &mut I,
     out: &mut O,
@@ -53,7 +53,7 @@ fn answer_input<F: Source + Drop, I: Source, O: Sink>(
         let mut no_bans = In::new(NO_BANS);
         return run_batch(
             alloc,
-            asked,
+            records,
             &mut nodes,
             &mut lines,
             &mut no_bans,
@@ -61,13 +61,15 @@ fn answer_input<F: Source + Drop, I: Source, O: Sink>(
             out,
         );
     };
-    run_batch(alloc, asked, &mut nodes, &mut lines, &mut bans, input, out)
+    run_batch(
+        alloc, records, &mut nodes, &mut lines, &mut bans, input, out,
+    )
 }
 
 /// Answers many records on the map of these files, which are opened before the file of the records.
 fn answer_many<D: Disk, O: Sink>(
     alloc: Global,
-    asked: &Question,
+    records: &Records,
     files: &Files<'_>,
     input: Input<'_>,
     disk: &mut D,
@@ -77,11 +79,11 @@ fn answer_many<D: Disk, O: Sink>(
     match input {
         Input::File(path) => {
             let mut input = open(disk, path, Fault::InputNotOpened)?;
-            answer_input(alloc, asked, files, &mut input, out)
+            answer_input(alloc, records, files, &mut input, out)
         }
         Input::Standard => {
             let mut input = disk.standard_input();
-            answer_input(alloc, asked, files, &mut input, out)
+            answer_input(alloc, records, files, &mut input, out)
         }
     }
 }
@@ -116,7 +118,9 @@ fn answer<D: Disk, O: Sink>(
 ) -> Result<(), Fault> {
     match asked {
         Asked::One(request, files) => answer_one(alloc, request, files, disk, out),
-        Asked::Many(asked, files, input) => answer_many(alloc, asked, files, *input, disk, out),
+        Asked::Many(records, files, input) => {
+            answer_many(alloc, records, files, *input, disk, out)
+        },
         Asked::Explain(topic) => write_explained(alloc, &faults(), topic, out),
     }
 }

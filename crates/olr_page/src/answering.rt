@@ -1,24 +1,31 @@
-//! From files to a map that is kept, and from words to the status, the output and the text of a
-//! rejection.
+//! From files to a map that is kept, and from records to the lines that answer them on it.
 
 ghost use Rattle.std.specs.Prelude.{◌≡◌, ◌≢◌, ◌≤◌, IsNone, IsSome, None, length};
 
 use crate::kept::KeptMap;
 use crate::packed::PackedFiles;
-use olr_app::{Fault, Out};
-use olr_command_line::{Files, MapOfFolder, Rejected, perform, perform_on_map, read_map_of};
+use olr_app::{Fault, In, Out};
+use olr_batch::answer_records;
+use olr_command_line::{Files, Records, Rejected, read_map_of};
+use olr_map::{MapFault, read_map};
 use olr_road::Map;
-use std::alloc::{AllocError, Global};
+use std::alloc::Global;
 use std::io::{Cursor, Write};
+
+/// A file of nodes that has none.
+const NO_NODES: &[u8] = b"id,lon,lat\n";
+
+/// A file of lines that has none.
+const NO_LINES: &[u8] = b"id,from,to,class,form,length,shape\n";
 
 /// The folder of the map, as words name it.
 const FOLDER: &str = "map";
 
-/// How the program ended.
+/// How a call ended.
 #[repr(C)]
 #[derive(Drop)]
 pub struct Answer {
-    /// The status that the program ends with.
+    /// The status that the program ends with in the same case.
     pub status: u8,
     /// How many bytes stand in the room for the output.
     pub output: u64,
@@ -26,18 +33,9 @@ pub struct Answer {
     pub errors: u64,
 }
 
-/// The words of a text, each of which is ended by a zero byte.
-fn words_of(alloc: Global, text: &str) -> Result<Vec<String>, AllocError> {
-    let mut words = Vec::new(alloc);
-    for word in text.split_terminator('\0') {
-        words.push(String::from_str(alloc, word)?)?;
-    }
-    Ok(words)
-}
-
 /// Reads the map of packed files onto the heap.
-fn read_map(alloc: Global, files: &[u8]) -> Result<Box<Map>, Fault> {
-    let mut disk = PackedFiles::new(files, &[]);
+fn map_of(alloc: Global, files: &[u8]) -> Result<Box<Map>, Fault> {
+    let mut disk = PackedFiles::new(files);
     let map = read_map_of(alloc, &Files::Folder(FOLDER), &mut disk)?;
     let Ok(boxed) = Box::new(alloc, map) else {
         return Err(Fault::NoMemory);
@@ -45,27 +43,33 @@ fn read_map(alloc: Global, files: &[u8]) -> Result<Box<Map>, Fault> {
     Ok(boxed)
 }
 
-/// Does what the words ask for, on a map if there is one, and writes the output into a room.
-fn perform_in<'a>(
+/// A map without nodes and lines.
+///
+/// # Errors
+///
+/// Where the allocator refused memory.
+fn empty_map(alloc: Global) -> Result<Map, MapFault> {
+    read_map(alloc, &mut In::new(NO_NODES), &mut In::new(NO_LINES))
+}
+
+/// Answers records on a map, or where there is none on an empty one, and writes their lines into a
+/// room.
+///
+/// # Errors
+///
+/// Those of [`answer_records`].
+fn answer_in(
     alloc: Global,
-    words: &[u8],
     map: Option<&Map>,
-    input: &'a [u8],
+    records: &[u8],
     out: &mut Out<Cursor<&mut [u8]>>,
-) -> Result<(), Rejected> {
-    let Ok(text) = str::from_utf8(words) else {
-        return Err(Rejected::NotText);
-    };
-    let words = words_of(alloc, text)?;
-    let mut disk = PackedFiles::new(&[], input);
+) -> Result<(), Fault> {
+    let mut input = In::new(records);
     let Some(map) = map else {
-        return perform(alloc, words.as_slice(), &mut disk, out);
+        let map = empty_map(alloc)?;
+        return answer_records(alloc, &map, &Records::Requests, &mut input, out);
     };
-    let known = MapOfFolder {
-        map,
-        folder: FOLDER,
-    };
-    perform_on_map(alloc, words.as_slice(), known, &mut disk, out)
+    answer_records(alloc, map, &Records::Requests, &mut input, out)
 }
 
 /// How many bytes stand in a room of which so many were written, in order.
@@ -107,7 +111,7 @@ pub extern "C" fn olr_page_open(
     given.status = 0;
     given.output = 0;
     given.errors = 0;
-    match read_map(alloc, files) {
+    match map_of(alloc, files) {
         Ok(map) => kept.put(map),
         Err(fault) => {
             let rejected = Rejected::from(fault);
@@ -117,39 +121,30 @@ pub extern "C" fn olr_page_open(
     }
 }
 
-/// Does what the words ask for, as the program does it where the folder `map` has the files of the
-/// map that is kept; any other file isn't there. `words` has each word with a zero byte behind it,
-/// the program's name first. The room of a text is full where the text didn't fit: ask again with
+/// Answers records, as `olr answer` does on the map that is kept; where none is, on an empty one, which
+/// is enough for what a reference says. The room is full where their lines didn't fit: ask again with
 /// more room then. The map stays the same.
 #[unsafe(no_mangle)]
-pub extern "C" fn olr_page_ask<'a>(
+pub extern "C" fn olr_page_ask(
     alloc: Global,
-    words: &[u8],
-    input: &'a [u8],
+    records: &[u8],
     kept: &mut KeptMap,
     output: &mut [u8],
-    errors: &mut [u8],
     given: &mut Answer,
 )
     ensures map { kept.new.pointer.map ≡ kept.old.pointer.map }
     ensures output { given.new.output ≤ length output.new }
-    ensures errors { given.new.errors ≤ length errors.new }
+    ensures errors { given.new.errors ≡ 0 }
 {
     let map = kept.take(alloc);
     let mut out = Out::new(Cursor::new(&mut *output));
-    let ended = perform_in(alloc, words, map.as_deref(), input, &mut out);
-    let mut room = out.into_writer();
-    given.status = 0;
+    let ended = answer_in(alloc, map.as_deref(), records, &mut out);
+    given.status = match ended {
+        Ok(()) => 0,
+        Err(fault) => Rejected::from(fault).status(),
+    };
     given.errors = 0;
-    if let Err(rejected) = ended {
-        given.status = rejected.status();
-        if rejected.is_help() {
-            let _ = write!(room, "{rejected}");
-        } else {
-            given.errors = write_errors(&rejected, errors);
-        }
-    }
-    let written = room.position();
+    let written = out.into_writer().position();
     given.output = bytes_in(output, written);
     if let Some(map) = map {
         kept.put(map);

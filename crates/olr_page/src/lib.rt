@@ -1,6 +1,5 @@
 //! The program over bytes in memory, as a static library: a page hands over the files of a map
-//! once, and then words and a standard input as often as it likes, and gets the status, the output
-//! and the text of a rejection.
+//! once, and then records as often as it likes, and gets their lines.
 //!
 //! - [`answering`]: the exports.
 //! - [`packed`]: many files as one string of bytes.

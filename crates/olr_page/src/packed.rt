@@ -4,11 +4,10 @@
 use olr_app::In;
 use olr_command_line::{Disk, NotOpened};
 
-/// Files and a standard input in memory.
+/// Files in memory.
 #[derive(Drop)]
 pub struct PackedFiles<'a> {
     files: &'a [u8],
-    input: &'a [u8],
 }
 
 /// A file, and the packed files behind it.
@@ -34,9 +33,9 @@ fn first_file(files: &[u8]) -> Option<FirstFile<'_>> {
 }
 
 impl<'a> PackedFiles<'a> {
-    /// Packed files, and what there is on standard input.
-    pub fn new(files: &'a [u8], input: &'a [u8]) -> PackedFiles<'a> {
-        PackedFiles { files, input }
+    /// Packed files.
+    pub fn new(files: &'a [u8]) -> PackedFiles<'a> {
+        PackedFiles { files }
     }
 
     /// The bytes of the first file that has a path.
@@ -70,6 +69,6 @@ impl<'a> Disk for PackedFiles<'a> {
     }
 
     fn standard_input(&mut self) -> In<&'a [u8]> {
-        In::new(self.input)
+        In::new(&[] as &[u8])
     }
 }

@@ -6,6 +6,7 @@ use crate::samples::STREET;
 use olr_app::{Fault, In, PageSize, Question, QuestionKind, Sink, Tolerances};
 use olr_batch::run_batch;
 use olr_keys::BadPage;
+use olr_words::Records;
 use std::alloc::Global;
 
 /// Five records: with a key, empty, with no reference, with no text, and without a last line feed.
@@ -75,7 +76,15 @@ fn answer(
         what: QuestionKind::Match(PageSize::new(10)?),
         tolerances: Tolerances::default(),
     };
-    Ok(run_batch(alloc, &asked, &mut nodes, &mut lines, &mut bans, input, out))
+    Ok(run_batch(
+        alloc,
+        &Records::References(asked),
+        &mut nodes,
+        &mut lines,
+        &mut bans,
+        input,
+        out,
+    ))
 }
 
 /// Before more input is asked for, the sink is flushed, unless a whole record is at hand: so once
