@@ -50,7 +50,7 @@ import importlib.util
 from typing import TYPE_CHECKING, Any
 
 if TYPE_CHECKING:
-    from olr.asking.decoding import decode
+    from olr.asking.once import decode
     from olr.client.map_client import Map
     from olr.client.written import answers
     from olr.confidence.confidence import Confidence
@@ -96,7 +96,7 @@ __all__ = [
     "view",
 ]
 _MODULES = {
-    "olr.asking.decoding": ("decode",),
+    "olr.asking.once": ("decode",),
     "olr.client.map_client": ("Map",),
     "olr.client.written": ("answers",),
     "olr.errors": ("MapRefused", "ProgramEnded", "ProgramNotFound", "TimedOut", "ToolError"),

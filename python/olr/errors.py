@@ -112,3 +112,8 @@ def map_changed(what: str) -> MapRefused:
 def closed_error() -> ToolError:
     """The error of a map that was closed."""
     return ToolError("this map is closed: make another one")
+
+
+def forked_error() -> ToolError:
+    """The error of a map in a fork of the process that made it."""
+    return ToolError("this map belongs to the process that made it: make another one here")

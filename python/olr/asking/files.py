@@ -11,7 +11,7 @@ from typing import NamedTuple
 from olr.asking.program import PathLike
 from olr.content import digest_of
 from olr.errors import MapRefused, ToolError, map_changed, readable
-from olr.model.map_folder import BANS, LINES, NODES, WANTED, files_read
+from olr.model.map_folder import BANS, LINES, NODES, WANTED
 
 FLAGS = ("--nodes", "--lines", "--bans")
 """The words before the files of a map."""
@@ -27,9 +27,6 @@ class Version(NamedTuple):
 
 class MapFiles:
     """The files of a map. When they were read once they have to stay as they are: all answers are of one version."""
-
-    is_part = False
-    """Whether they are a part of a map, whose answers are those of the map."""
 
     def __init__(self, nodes: PathLike, lines: PathLike, bans: PathLike | None) -> None:
         self.nodes, self.lines = Path(nodes), Path(lines)
@@ -53,6 +50,10 @@ class MapFiles:
         for flag, path in pairs:
             _require_opened(flag.removeprefix("--"), path)
         return [word for flag, path in pairs for word in (flag, str(path))]
+
+    def digest(self) -> str | None:
+        """That of the nodes and lines which were read: None if they weren't, or can't be read twice."""
+        return None if self._kept is None else self._kept.network
 
     def found(self) -> Version:
         """The version that is there. Raises `MapRefused` if another one was read before."""
@@ -80,23 +81,6 @@ class MapFiles:
         return map_changed(
             f"the files of the map {self.lines.parent} have changed since they were read"
         )
-
-
-class PartFiles(MapFiles):
-    """The files of a part of a map, which nobody else writes. Their version is that of the map."""
-
-    is_part = True
-
-    def __init__(self, folder: Path, version: Version) -> None:
-        super().__init__(*files_read(folder))
-        self._version = version
-
-    def found(self) -> Version:
-        """The version of the map."""
-        return self._version
-
-    def keep(self, version: Version) -> None:
-        """Nothing has to be noted."""
 
 
 def _require_opened(name: str, path: Path) -> None:

@@ -1,4 +1,4 @@
-"""One run of the program `olr`, for what isn't asked of `olr batch`."""
+"""One run of the program that needs no map: `olr.decode`, and what a program says of its version."""
 
 import subprocess
 from collections.abc import Callable, Sequence
@@ -6,36 +6,49 @@ from pathlib import Path
 from typing import TypeVar
 
 from olr.asking.patience import PATIENCE
+from olr.asking.program import PathLike, find_program
 from olr.asking.starting import failed_to_start, kill_group, start
 from olr.errors import ProgramEnded, TimedOut
+from olr.model.answers import Reference
 from olr.model.fault import refusal_of
+from olr.model.objects import reference
+from olr.model.questions import record_text
 
 Made = TypeVar("Made")
 
 
-def run_once(
-    program: Path,
-    words: Sequence[str],
-    read: Callable[[bytes], Made],
-    patience: float | None = PATIENCE,
-) -> Made:
-    """What the program prints, read by a function that raises `ValueError` for what is no answer. `patience` is how many seconds it
-    may take; None for as long as it takes.
-
-    Raises `Fault`, `MapRefused`, `ProgramNotFound` if it can't be started, `ProgramEnded` if it isn't the program, or was killed, and
-    `TimedOut`.
-    """
+def run(program: Path, words: Sequence[str], patience: float) -> tuple[int, bytes, bytes]:
+    """The status of a run of the program, which may take so many seconds, what it printed, and what it said on standard error. Raises
+    `ProgramNotFound` and `TimedOut`."""
     pipe = subprocess.PIPE
     with start(program, words, stdin=subprocess.DEVNULL, stdout=pipe, stderr=pipe) as process:
         try:
             printed, errors = process.communicate(timeout=patience)
+            return process.returncode, printed, errors
         except subprocess.TimeoutExpired as error:
             raise TimedOut(
                 f"olr {words[0]} didn't end within {patience:g} seconds", words[-1]
             ) from error
         finally:
             kill_group(process)
-    return read_once(program, words[0], process.returncode, printed, errors, read)
+
+
+def decode(ref: str, program: PathLike | None = None) -> Reference:
+    """What a reference says: its kind, its points and its offsets. It needs no map. `ref` is the text of one in base64.
+
+    Raises `Fault` if the text isn't a reference, `TypeError` if it is no text, `ProgramNotFound` if the program isn't built, and
+    `TimedOut` if it doesn't end within a minute. `find_program` says which program is run.
+
+    >>> import olr
+    >>> reference = olr.decode("CwVF/yN2yRpnBAFUAAgbpwYBAf9kK0Fa")
+    >>> reference
+    <Reference: line, 3 points>
+    >>> reference.points[0].lat / 1e6, reference.points[0].lon / 1e6
+    (49.871246, 7.415739)
+    """
+    words = ["show", "--format", "json", "--", record_text(ref).decode()]
+    named = find_program(program)
+    return read_once(named, words[0], *run(named, words, PATIENCE), reference)
 
 
 def read_once(
@@ -46,7 +59,9 @@ def read_once(
     errors: bytes,
     read: Callable[[bytes], Made],
 ) -> Made:
-    """What a run of a command of the program printed that has ended. Raises as `run_once`."""
+    """What a run of a command of the program printed that has ended, read by a function that raises `ValueError` for what is no answer. Raises
+    `Fault`, `MapRefused`, `ProgramNotFound` if it couldn't be started, and `ProgramEnded` if it isn't the program, or was killed.
+    """
     said = errors.decode("utf-8", errors="replace").strip()
     if status == 1 and said.startswith("olr: "):
         raise refusal_of(said.splitlines()[0].removeprefix("olr: "))

@@ -2,7 +2,6 @@
 (docs/specification/batch.md). Who asks about them by numbers gives their lines what the program would give."""
 
 import json
-import re
 from typing import NamedTuple
 
 from olr.model.questions import text_of_record
@@ -11,10 +10,6 @@ MOST_RECORD_BYTES = 65_536
 """Of a record without the carriage return at its end."""
 LONG_RECORD = b"x" * (MOST_RECORD_BYTES + 1)
 """Stands for each record that is longer: all of them have the same fault, and no key."""
-PLAIN = re.compile(rb"([\w .:/-]{0,999})\t[\w+/=]{0,999}", re.ASCII)
-"""A record that is read, with its key, in which JSON escapes nothing. Nearly all are such."""
-HEAD = b'{"answer":'
-"""What each line begins with."""
 
 
 class Record(NamedTuple):
@@ -48,14 +43,9 @@ class Record(NamedTuple):
     def line(self, answer: bytes, fault: str | None) -> bytes:
         """Its line, with the JSON of what was answered about its text, or `null` and a fault: that of the record, if it has one."""
         own = self.fault()
-        said = _json_of(own or fault)
-        return b'%b%b,"fault":%b%b' % (HEAD, b"null" if own else answer, said, self.end())
-
-    def end(self) -> bytes:
-        """The end of its line, with its key and its number."""
-        plain = PLAIN.fullmatch(self.data)
-        key = b'"%b"' % plain[1] if plain else _json_of(self.key())
-        return b',"key":%b,"record":%d}\n' % (key, self.number)
+        said, key = _json_of(own or fault), _json_of(self.key())
+        answer = b"null" if own else answer
+        return b'{"answer":%b,"fault":%b,"key":%b,"record":%d}\n' % (answer, said, key, self.number)
 
 
 def _json_of(text: str | None) -> bytes:

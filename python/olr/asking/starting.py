@@ -1,6 +1,5 @@
 """How a process of the program is started and ended. On Linux none is left when whoever started it is killed."""
 
-import fcntl
 import os
 import shutil
 import signal
@@ -12,8 +11,6 @@ from typing import Any
 
 from olr.errors import ProgramNotFound
 
-PIPE_BYTES = 1 << 20
-"""What a pipe of answers holds, and how much of it is read at a time."""
 SETPRIV = "setpriv"
 """The command of Linux by which a process ends with the thread that started it, however that ends."""
 
@@ -49,12 +46,6 @@ def failed_to_start(program: str | Path, said: str) -> ProgramNotFound | None:
     if not said.startswith(f"{SETPRIV}: "):
         return None
     return not_started(program, said.splitlines()[0].rpartition(": ")[2])
-
-
-def widen(pipe: int) -> None:
-    """Lets the pipe of a process's answers hold more, where the system admits it: so the process goes on while nobody reads."""
-    with suppress(OSError, AttributeError):
-        fcntl.fcntl(pipe, fcntl.F_SETPIPE_SZ, PIPE_BYTES)
 
 
 def kill_group(process: "subprocess.Popen[bytes]") -> None:

@@ -3,7 +3,6 @@
 | module | subject |
 |---|---|
 | `map_client` | `olr.Map` |
-| `source`, `store_source` | where a map is: files, or a store, of which the parts are asked that references need |
-| `given` | a map as it is given to a call: as `olr.Map`, or as its path |
+| `source`, `store_source` | the map of files, or of a store, of which the parts are asked that references need |
 | `written` | `olr.answers`: answers that were written to a file |
 """

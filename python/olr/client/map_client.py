@@ -1,23 +1,25 @@
 """A map that can be asked: `olr.Map`."""
 
-from collections.abc import Callable, Generator, Iterable, Iterator, Mapping
-from contextlib import closing
+from collections.abc import Callable, Iterable, Iterator, Mapping
+from contextlib import AbstractContextManager, closing, nullcontext
+from functools import partial
 from itertools import tee
 from pathlib import Path
 from types import TracebackType
 from typing import TYPE_CHECKING, Any, Literal, NoReturn, cast, overload
 
+from olr.asking.exchange import Asked, no_answer
 from olr.asking.files import MapFiles
 from olr.asking.patience import PATIENCE, require_patience
-from olr.asking.processes import Kind, Read, Settings
+from olr.asking.processes import Line
 from olr.asking.program import PathLike
-from olr.asking.threaded import Batch
-from olr.client.source import FilesSource, Source
+from olr.client.source import FilesSource
+from olr.errors import TimedOut
 from olr.extras import needed_by
-from olr.model.answers import Answer, AnswerOrFault, Candidates, Known, Page, Places, Why, about
+from olr.model.answers import Answer, AnswerOrFault, Candidates, Page, Places, Why, about
 from olr.model.fault import Fault
 from olr.model.map_folder import store_of
-from olr.model.objects import page_of
+from olr.model.objects import RawLine, read_answer
 from olr.model.profiles import (
     DEFAULT_PROFILE,
     PROFILE,
@@ -29,13 +31,16 @@ from olr.model.profiles import (
 from olr.model.questions import (
     What,
     all_tolerances,
+    all_words,
     cursor_of,
     many,
     record_text,
     with_empty_texts,
+    words_of,
 )
 
 if TYPE_CHECKING:
+    from olr.client.store_source import StoreSource
     from olr.geometry.network import Network
 
 
@@ -43,9 +48,9 @@ class Map:
     """A map of nodes, lines and bans, with tolerances, that answers questions about references: `olr.Map("folder")`, or
     `olr.Map("country.gpkg")` for a store of `olr-tools regions`, a map of any size, of which it reads what a reference needs.
 
-    It owns a process `olr batch` for each kind of question, started when one is first asked; with other numbers, such as another
-    `page`, another one takes its place. They end with the `with` statement, by `close`, or with Python itself. Several threads may
-    ask one map. All answers, and `network`, are of one version of its files.
+    It owns a process `olr answer`, started when it is first asked, which answers all questions with all numbers. It ends with the `with`
+    statement, by `close`, or with Python itself. Several threads may ask one map, of up to so many `processes` at once. All answers,
+    and `network`, are of one version of its files.
 
     A question raises `Fault` where there is no answer, `MapRefused` where `olr` doesn't accept the files or they have changed since
     they were read, `ProgramNotFound` where the program isn't built, `ProgramEnded` where its process was killed, and `TimedOut` where
@@ -71,6 +76,7 @@ class Map:
         *,
         program: PathLike | None = None,
         patience: float | None = PATIENCE,
+        processes: int = 1,
         profile: str = DEFAULT_PROFILE,
         **tolerances: int,
     ) -> None:
@@ -78,31 +84,28 @@ class Map:
         `bans.csv`, or of a store. The tolerances are those of the program's options: those that aren't given are those of the
         profile, which is "feed" as in all of `olr-tools`, or "program" for the program's own defaults. `find_program` says which
         program is run, and `patience` for how many seconds it may answer nothing; with None it is waited for without end. Raises
-        `ValueError` for what is no profile.
+        `ValueError` for what is no profile, and for no number of processes.
         """
-        given = all_tolerances(tolerances, tolerances_of(profile))
-        run = None if program is None else Path(program)
-        settings = Settings(given, run, require_patience(patience))
-        settings.words()
-        self._settings = settings
-        others = others_than(profile, {name: int(value) for name, value in given.items()})
-        self._asked_with: dict[str, Any] = {PROFILE: profile, **as_arguments(others)}
-        self._source = _source_of(nodes, lines, bans, settings)
+        self._ask_with(profile, tolerances)
+        self._program = None if program is None else Path(program)
+        self._patience = require_patience(patience)
+        if processes < 1:
+            raise ValueError(f"processes is how many there may be, from 1 on, not {processes!r}")
+        made = partial(FilesSource, program=self._program, patience=self._patience, most=processes)
+        store = None if lines is not None else store_of(Path(nodes))
+        files = MapFiles.of_folder(Path(nodes)) if lines is None else MapFiles(nodes, lines, bans)
+        self._source: "FilesSource | StoreSource" = (
+            made(files) if store is None else _store_source(store, made)
+        )
         self._network: "Network | None" = None
         self._closed = False
 
     @classmethod
     @with_tolerances
     def of_folder(
-        cls,
-        folder: PathLike,
-        *,
-        program: PathLike | None = None,
-        patience: float | None = PATIENCE,
-        profile: str = DEFAULT_PROFILE,
-        **tolerances: int,
+        cls, folder: PathLike, *, profile: str = DEFAULT_PROFILE, **options: Any
     ) -> "Map":
-        """The map of a folder, or a store: as `Map` of its path alone.
+        """The map of a folder, or a store: as `Map` of its path alone, with the same options.
 
         >>> import olr
         >>> with olr.Map.of_folder("examples") as town:
@@ -110,9 +113,31 @@ class Map:
         ...
         'unique'
         """
-        return cls(
-            folder, None, None, program=program, patience=patience, profile=profile, **tolerances
-        )
+        return cls(folder, profile=profile, **options)
+
+    @with_tolerances
+    def asking(self, *, profile: str = DEFAULT_PROFILE, **tolerances: int) -> "Map":
+        """This map, asked with other tolerances: those that aren't given are those of the profile. It is asked by the same processes, so it
+        isn't read again; closing one closes both.
+
+        >>> import olr
+        >>> with olr.Map("examples") as town:
+        ...     [len(one.match("CwVGnSN2zhtnBgEB/2IjAQ==").matchings) for one in (town, town.asking(profile="program"))]
+        ...
+        [1, 0]
+        """
+        other = object.__new__(type(self))
+        other.__dict__.update(self.__dict__)
+        other._ask_with(profile, tolerances)
+        return other
+
+    def _ask_with(self, profile: str, tolerances: Mapping[str, int]) -> None:
+        """Sets the tolerances."""
+        self._tolerances = all_tolerances(tolerances, tolerances_of(profile))
+        self._words = all_words(self._tolerances)
+        given = {name: int(value) for name, value in self._tolerances.items()}
+        others = others_than(profile, given)
+        self._asked_with: dict[str, Any] = {PROFILE: profile, **as_arguments(others)}
 
     def __repr__(self) -> str:
         words = [repr(str(file)) for file in self.files.paths()]
@@ -159,7 +184,7 @@ class Map:
         >>> olr.Map("examples").tolerances["radius"]
         75
         """
-        return dict(self._settings.tolerances)
+        return dict(self._tolerances)
 
     @property
     def asked_with(self) -> Mapping[str, Any]:
@@ -179,7 +204,7 @@ class Map:
         >>> olr.Map("examples").program is None
         True
         """
-        return self._settings.program
+        return self._program
 
     @property
     def files(self) -> MapFiles:
@@ -210,9 +235,8 @@ class Map:
         """The first matchings of a reference, best first, or the first ones behind that of a cursor, such as the `next` of a page.
         They are `page` at most, from 1 to 1000.
 
-        A page behind a cursor takes a run of the program, which reads the map again. Raises `Fault` for what is no cursor, and for
-        one that no matching has with this reference, map and tolerances. Totals are in penalty points, lengths and positions in
-        decimetres. Raises as `Map` says.
+        Raises `Fault` for what is no cursor, and for one that no matching has with this reference, map and tolerances. Totals are in
+        penalty points, lengths and positions in decimetres. Raises as `Map` says.
 
         >>> import olr
         >>> with olr.Map("examples") as town:
@@ -221,10 +245,7 @@ class Map:
         ...
         (<Page: 3 matchings, total 12 to 31, more behind 31:1.2>, <Page: 3 matchings, total 35 to 89>)
         """
-        if after is None:
-            return cast(Page, self._answer("match", ref, {"page": page}))
-        question = Kind.of("match", {"page": page})
-        return self._about(self._behind(ref, question, cursor_of(after), page_of), ref)
+        return cast(Page, self._answer("match", ref, {"page": page}, after))
 
     def pages(self, ref: str, *, page: int = 10, after: str | None = None) -> Iterator[Page]:
         """All pages of the matchings of a reference, from the first on or from a cursor on, of `page` matchings each: see `match`. If
@@ -238,7 +259,7 @@ class Map:
         [3, 3]
         """
         record_text(ref)
-        Kind.of("match", {"page": page})
+        words_of("match", {"page": page})
         return self._pages(ref, page, None if after is None else cursor_of(after))
 
     def matches(self, refs: Iterable[str | None], *, page: int = 10) -> Iterator[Page | Fault]:
@@ -332,14 +353,15 @@ class Map:
 
     def answers(self, what: What, refs: Iterable[str | None], **numbers: int) -> Iterator[Any]:
         """The answers to one question about many references, in their order: what the method of that question gives, and where it
-        would raise `Fault`, that fault in place of an answer. None and NaN, as in a column of a table, have the fault `Empty`. The numbers are those of that method. Raises `ValueError` for another
-        question, `TypeError` for a number that the question doesn't have, for one text or a table in place of many, and for what is no
-        text, and `Fault` for a number out of its range. `olr.locate` takes a table as it is.
+        would raise `Fault`, that fault in place of an answer. None and NaN, as in a column of a table, have the fault `Empty`. The
+        numbers are those of that method. Raises `ValueError` for another question, `TypeError` for a number that the question doesn't
+        have, for one text or a table in place of many, and for what is no text, and `Fault` for a number out of its range. `olr.locate`
+        takes a table as it is.
 
-        The process is kept busy: up to 256 references are taken from `refs` before the first answer is given. Other questions may
-        be asked meanwhile. If the generator isn't gone through, the answers to what was handed over are passed over. Where the process
-        answers nothing for too long, what was handed over is asked again, one by one, so `TimedOut` has the reference at which that
-        was, and its number.
+        The process is kept busy: up to 256 references are taken from `refs` before the first answer is given, fewer where answers may
+        be long. Other questions may be asked meanwhile. If the generator isn't gone through, the answers to what was handed over are
+        passed over. Where an answer takes too long, what was handed over is asked again, one by one, so `TimedOut` has the reference
+        at which that was, and its number.
 
         >>> import olr
         >>> keys, texts = zip(*olr.read_messages("examples/messages.tsv"))
@@ -353,10 +375,9 @@ class Map:
         m4 unique
         m5 BadLength 12
         """
-        question = Kind.of(what, numbers)
-        texts = many("answers takes many references", refs, f"ask {what} about one")
-        asked, again = tee(with_empty_texts(texts))
-        return self._known(self._source.answers(question, asked), again)
+        asked = self._asked(what, numbers)
+        many("answers takes many references", refs, f"ask {what} about one")
+        return self._answers(asked, with_empty_texts(refs))
 
     def raw_answer(
         self, what: What, ref: str, *, after: str | None = None, **numbers: int
@@ -370,39 +391,57 @@ class Map:
         ...
         b'{"matchings":[],"next":null}'
         """
-        if after is not None:
-            return self._behind(ref, Kind.of("match", numbers), cursor_of(after), _raw_page)
-        raw = self._asked_alone(what, ref, numbers, Batch.raw)
-        if raw.fault is not None:
-            raise Fault(raw.fault)
-        return raw.answer
+        return self._line(self._asked(what, numbers), ref, after).answer
 
-    def _answer(self, what: What, ref: str, numbers: dict[str, int]) -> Answer:
+    def _asked(self, what: What, numbers: Mapping[str, int]) -> Asked:
+        """A question with the tolerances of this map. Raises as `words_of`."""
+        own = words_of(what, numbers)
+        return Asked(what, (*self._words, *own))
+
+    def _answer(
+        self, what: What, ref: str, numbers: dict[str, int], after: str | None = None
+    ) -> Answer:
         """One answer. Raises `Fault`."""
-        found = self._asked_alone(what, ref, numbers, Batch.answer)
-        if isinstance(found, Fault):
-            raise found
-        return self._about(found, ref)
+        asked = self._asked(what, numbers)
+        return self._read(asked, self._line(asked, ref, after), ref)
 
-    def _asked_alone(
-        self, what: What, ref: str, numbers: dict[str, int], read: Callable[[Batch, int], Read]
-    ) -> Read:
-        """What is read of the line of one reference."""
-        text, question = record_text(ref), Kind.of(what, numbers)
-        with self._source.one(question, text.decode()) as processes:
-            return processes.ask(question, text, read)
+    def _line(self, asked: Asked, ref: str, after: str | None) -> RawLine:
+        """The line about one reference. Raises `Fault`, and `ToolError`."""
+        text = record_text(ref).decode()
+        more = [] if after is None else ["--after", cursor_of(after)]
+        with closing(self._source.about(asked, [text], *more)) as lines:
+            line = self._there(next(lines), text)
+        if line.fault is not None:
+            raise Fault(line.fault)
+        return line
 
-    def _about(self, answer: Known, ref: str) -> Known:
-        """An answer, which knows what was asked."""
-        return about(answer, ref, self._asked_with)
+    def _answers(self, asked: Asked, refs: Iterator[str]) -> Iterator[AnswerOrFault]:
+        """The answers about references, in their order. Raises `ToolError`."""
+        refs, again = tee(refs)
+        with closing(self._source.about(asked, refs)) as lines:
+            for number, (found, ref) in enumerate(zip(lines, again), 1):
+                line = self._there(found, ref, number)
+                yield self._read(asked, line, ref) if line.fault is None else Fault(line.fault)
 
-    def _known(
-        self, answers: Generator[AnswerOrFault, None, None], texts: Iterator[str]
-    ) -> Iterator[Any]:
-        """Answers, each of which knows what was asked."""
-        with closing(answers):
-            for answer, text in zip(answers, texts):
-                yield self._about(answer, text)
+    def _there(self, line: Line, ref: str, number: int | None = None) -> RawLine:
+        """A line. Raises `TimedOut` in place of that, with the reference, which has this number among many."""
+        if isinstance(line, RawLine):
+            return line
+        text = record_text(ref).decode()
+        which = repr(text) if number is None else f"reference {number}, {text!r}"
+        raise TimedOut(
+            f"olr answered nothing for {self._patience:g} seconds to {which}: ask again with more patience, or leave it out",
+            text,
+            number,
+        ) from line
+
+    def _read(self, asked: Asked, line: RawLine, ref: str) -> Answer:
+        """The answer of a line. Raises `ProgramEnded` if it is none."""
+        try:
+            found = read_answer(asked.what, line.answer, self._source.digest())
+        except ValueError as error:
+            raise no_answer(self._program or "olr", error) from error
+        return about(found, ref, self._asked_with)
 
     def _pages(self, ref: str, page: int, after: str | None) -> Iterator[Page]:
         """The pages from a cursor on."""
@@ -412,33 +451,20 @@ class Map:
             found = self.match(ref, page=page, after=found.next)
             yield found
 
-    def _behind(
-        self,
-        ref: str,
-        question: Kind,
-        cursor: str,
-        read: Callable[[bytes, str | None], Read],
-    ) -> Read:
-        """What is read of the page behind a cursor."""
-        text = record_text(ref)
-        with self._source.one(question, text.decode()) as processes:
-            return processes.behind(question, text, cursor, read)
+
+MapOrPath = Map | PathLike
+"""A map as it is given to a call: as `Map`, or as the path of a folder or a store, of which `Map` is asked."""
 
 
-def _source_of(
-    nodes: PathLike, lines: PathLike | None, bans: PathLike | None, settings: Settings
-) -> Source:
-    """The source of a map: files that are named, or those of a folder, or a store. Raises `ToolError` for what is no store."""
-    if lines is not None:
-        return FilesSource(MapFiles(nodes, lines, bans), settings)
-    if store_of(Path(nodes)) is None:
-        return FilesSource(MapFiles.of_folder(Path(nodes)), settings)
+def opened(given: MapOrPath) -> AbstractContextManager[Map]:
+    """The map that was given, while it is asked. One that is made here, of a path, is closed behind."""
+    if isinstance(given, Map):
+        return nullcontext(given)
+    return Map.of_folder(given)
+
+
+def _store_source(store: Path, made: Callable[[MapFiles], FilesSource]) -> "StoreSource":
+    """That of a store. Raises `ToolError` for what is none."""
     with needed_by("olr.Map of a store", "scale"):
         from olr.client.store_source import StoreSource
-    return StoreSource(Path(nodes), settings)
-
-
-def _raw_page(shown: bytes, digest: str | None) -> bytes:
-    """A page as the program prints it, without the line end. Raises `ValueError` if it is something else."""
-    page_of(shown, digest)
-    return shown.rstrip(b"\n")
+    return StoreSource(store, made)

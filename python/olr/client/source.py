@@ -1,62 +1,33 @@
-"""Where a map is: in the files of a folder, or in a store. What is asked about references goes to processes on files that have what the
-references need."""
+"""The map of some files. Like the map of a store (`store_source`) it is asked by `about`."""
 
-from collections.abc import Generator, Iterator
-from contextlib import AbstractContextManager, nullcontext
-from typing import TYPE_CHECKING, Protocol
+from collections.abc import Generator, Iterable
+from typing import TYPE_CHECKING
 
-from olr.asking.files import MapFiles
-from olr.asking.processes import Kind, Processes, Settings
-from olr.model.answers import AnswerOrFault
+from olr.asking.exchange import Asked
+from olr.asking.processes import AHEAD, Line, Processes
+from olr.model.questions import record_text
 
 if TYPE_CHECKING:
     from olr.geometry.network import Network
 
 
-class Source(Protocol):
-    """A map that can be asked."""
+class FilesSource(Processes):
+    """The map of some files, of which all answers are of one version."""
 
-    @property
-    def files(self) -> MapFiles:
-        """Its files: all answers are of one version of them."""
+    def about(self, asked: Asked, refs: Iterable[str], *more: str) -> Generator[Line, None, None]:
+        """The lines about references, in their order, or `TimedOut` in the place of one. They are asked with more words, such as those of a
+        cursor. Raises `ToolError`."""
+        texts = (asked.about(record_text(ref), *more) for ref in refs)
+        return self.lines(texts, asked.at_once(AHEAD))
 
-    def one(self, question: Kind, text: str) -> AbstractContextManager[Processes]:
-        """What answers a question about one reference, while it is used. Raises `Fault` if the reference needs more than the program's
-        limits, and `ToolError`."""
-
-    def answers(self, question: Kind, left: Iterator[str]) -> Generator[AnswerOrFault, None, None]:
-        """The answers about the references that are left, in their order. Raises `ToolError`."""
-
-    def network(self) -> "Network":
-        """Its nodes and lines, of the same version as its answers. Raises `MapRefused` if they have changed, and `ToolError` if they can't
-        be read."""
-
-    def close(self) -> None:
-        """Ends its processes, and gives back what it holds."""
-
-
-class FilesSource:
-    """The map of some files."""
-
-    def __init__(self, files: MapFiles, settings: Settings) -> None:
-        self.files = files
-        self._processes = Processes(files, settings)
-
-    def one(self, question: Kind, text: str) -> AbstractContextManager[Processes]:
-        """As `Source.one`: the whole map."""
-        return nullcontext(self._processes)
-
-    def answers(self, question: Kind, left: Iterator[str]) -> Generator[AnswerOrFault, None, None]:
-        """As `Source.answers`."""
-        return self._processes.answers(question, left)
+    def digest(self) -> str | None:
+        """That of the nodes and lines that its answers are of; None where it isn't known."""
+        return self.files.digest()
 
     def network(self) -> "Network":
-        """As `Source.network`: they are read then."""
+        """Its nodes and lines, of the version that its answers are of. Raises `MapRefused` if the files have changed, and `ToolError` if they
+        can't be read."""
         from olr.geometry.network import Network
 
         with self.files.reading():
             return Network(self.files.nodes, self.files.lines)
-
-    def close(self) -> None:
-        """Ends the processes."""
-        self._processes.close()

@@ -5,50 +5,50 @@ import os
 import shutil
 import threading
 import weakref
-from collections.abc import Generator, Iterator, Sequence
-from contextlib import closing, contextmanager
+from collections.abc import Callable, Generator, Iterable, Iterator, Sequence
+from contextlib import closing
 from itertools import islice
 from pathlib import Path
-from typing import NamedTuple
 
 from olr.arrays import Integers
-from olr.asking.files import MapFiles, PartFiles, Version
-from olr.asking.processes import Kind, Processes, Settings, timed_out
-from olr.errors import TimedOut, ToolError, closed_error
+from olr.asking.exchange import Asked
+from olr.asking.files import MapFiles
+from olr.asking.processes import Line
+from olr.client.source import FilesSource
+from olr.errors import TimedOut, ToolError, closed_error, forked_error
 from olr.extras import needed_by
 from olr.geometry.network import Network
-from olr.model.answers import AnswerOrFault
-from olr.model.fault import TOO_LARGE, Fault
-from olr.model.map_folder import store_of
+from olr.model.fault import TOO_LARGE
+from olr.model.objects import RawLine
 from olr.model.questions import record_text
-from olr.model.reference import Point, read_points
+from olr.model.reference import read_points
 from olr.regions.current import CurrentStore
 from olr.regions.options import Options
 from olr.regions.scratch import new_scratch_folder, write_scratch_map
-from olr.regions.sharing import Group, groups_of, unread
+from olr.regions.sharing import groups_of, unread
 from olr.regions.store import Store
 
-CHUNK, LEAST_CHUNK = 1024, 16
-"""So many references are taken before the first of their answers is given: fewer, and at least so many, if their answers might have more
-than MOST_ITEMS matchings, places or near lines together."""
-MOST_ITEMS = 16_384
+CHUNK = 1024
+"""So many references at most are taken before the first of their answers is given."""
+TOO_LARGE_LINE = RawLine(b"null", TOO_LARGE, None, 0)
+Made = Callable[[MapFiles], FilesSource]
+"""Makes what is asked about the map of some files."""
 
 
 class StoreSource:
-    """See `Source`. What is asked about a reference is asked on a map of the lines that its answer depends on, or on the last such map if
-    that has these lines too.
+    """As `FilesSource`, of a store. What is asked about a reference is asked on a map of the lines that its answer depends on, or on the last
+    such map if that has these lines too.
 
     Threads that ask wait for one another. All answers are of one map: where another one takes its place in the store's file, that raises
     `MapRefused`. A reference that needs more than the program's limits has the fault `RegionTooLarge`.
     """
 
-    def __init__(self, path: Path, settings: Settings) -> None:
-        """The map of a store, or of a folder that has one. Raises `ToolError` if it isn't a store, or can't be read."""
-        file = store_of(path) or path
+    def __init__(self, file: Path, made: Made) -> None:
+        """The map of a store. Raises `ToolError` if it isn't one, or can't be read."""
         self.files: MapFiles = _StoreFile(file, file, None)
-        self._settings = settings
         self._store = CurrentStore(file)
-        self._regions = _Regions(settings)
+        self._made = made
+        self._there: _Region | None = None
         self._asking = threading.RLock()
         self._owner = os.getpid()
         self._closed = False
@@ -56,75 +56,61 @@ class StoreSource:
     def close(self) -> None:
         """Ends the processes, and deletes the scratch folder."""
         self._closed = True
-        self._regions.end()
+        if (there := self._there) is not None:
+            there.source.close()
         with self._asking:
-            self._regions.close()
+            self._leave_region()
             self._store.close()
 
     def network(self) -> Network:
-        """As `Source.network`: lines are read when they are asked for."""
+        """As `FilesSource.network`: lines are read when they are asked for."""
         with needed_by("olr.Network", "geo"):
             from olr.geometry.store_network import StoreNetwork
         network = StoreNetwork(self._store.file)
         network.require_digest(self._store.digest)
         return network
 
-    @contextmanager
-    def one(self, question: Kind, text: str) -> Iterator[Processes]:
-        """As `Source.one`."""
-        with self._asking, self._store.reading() as store:
-            (group,) = self._groups(question, [read_points(text)], store)
-            if group.lines is None:
-                raise Fault(TOO_LARGE)
-            yield self._region(group.lines, store)
+    def digest(self) -> str:
+        """As `FilesSource.digest`: that of the store."""
+        return self._store.digest
 
-    def answers(self, question: Kind, left: Iterator[str]) -> Generator[AnswerOrFault, None, None]:
-        """As `Source.answers`: some at a time, so that those that are neighbours share a part of the map."""
-        before = 0
-        size = _size_of_chunk(question)
+    def about(self, asked: Asked, refs: Iterable[str], *more: str) -> Generator[Line, None, None]:
+        """As `FilesSource.about`: some at a time, so that those that are neighbours share a part of the map."""
+        left, size = iter(refs), asked.at_once(CHUNK)
         while texts := [record_text(ref).decode() for ref in islice(left, size)]:
             chunk = _Chunk(texts)
-            self._answer(question, chunk)
-            for number, text in enumerate(texts):
-                if number not in chunk.answers:
-                    error = chunk.errors[number]
-                    if isinstance(error, TimedOut):
-                        where = before + number + 1
-                        raise timed_out(self._settings, text.encode(), where) from error
-                    raise error
-                yield chunk.answers.pop(number)
-            before += len(texts)
+            self._ask(asked, chunk, more)
+            yield from chunk.lines()
 
-    def _answer(self, question: Kind, chunk: "_Chunk") -> None:
-        """Asks about references, at least about all of those before the first one that has an error."""
+    def _ask(self, asked: Asked, chunk: "_Chunk", more: Sequence[str]) -> None:
+        """Asks about references, at least about all of those before the first one that has an error. Raises `ToolError`."""
+        if os.getpid() != self._owner:
+            raise forked_error()
         with self._asking, self._store.reading() as store:
-            for group in self._groups(question, chunk.points, store):
+            for group in groups_of(chunk.points, Options.of(asked.numbers()), store, asked.what):
                 numbers = chunk.wanted(group.numbers)
                 if group.lines is None:
-                    chunk.answers.update((number, Fault(TOO_LARGE)) for number in numbers)
+                    chunk.found.update((number, TOO_LARGE_LINE) for number in numbers)
                 elif numbers:
                     region = self._region(group.lines, store)
-                    texts = (chunk.texts[number] for number in numbers)
-                    with closing(region.answers(question, texts)) as answers:
-                        chunk.take(numbers, answers)
+                    texts = [chunk.texts[at] for at in numbers]
+                    with closing(region.about(asked, texts, *more)) as lines:
+                        chunk.take(numbers, lines)
 
-    def _groups(
-        self, question: Kind, points: Sequence[list[Point] | None], store: Store
-    ) -> Iterator[Group]:
-        """References by their points in groups that one map has room for. Raises `ToolError`."""
-        if os.getpid() != self._owner:
-            raise ToolError("this map belongs to the process that made it: make another one here")
+    def _region(self, lines: Integers, store: Store) -> FilesSource:
+        """What answers on a map that has these lines: what is there, or another one in its place. Raises `ToolError`."""
+        if self._there is None or not self._there.has(lines):
+            self._leave_region()
+            self._there = _Region(lines, store, self._made)
         if self._closed:
             raise closed_error()
-        options = Options.of({**self._settings.tolerances, **question.numbers()})
-        return groups_of(points, options, store, question.what)
+        return self._there.source
 
-    def _region(self, lines: Integers, store: Store) -> Processes:
-        """What answers on a map that has these lines. Raises `ToolError`."""
-        region = self._regions.of(lines, store)
-        if self._closed:
-            raise closed_error()
-        return region
+    def _leave_region(self) -> None:
+        """Ends what is there."""
+        there, self._there = self._there, None
+        if there is not None:
+            there.close()
 
 
 class _StoreFile(MapFiles):
@@ -136,95 +122,68 @@ class _StoreFile(MapFiles):
 
 
 class _Chunk:
-    """References that are asked together, with their answers, or an error where there is none, by their indices."""
+    """References that are asked together, with their lines, or an error where there is none, by their indices."""
 
     def __init__(self, texts: Sequence[str]) -> None:
         self.texts = texts
         self.points = [read_points(text) for text in texts]
         """None for a text that isn't a reference, as far as it is read here."""
-        self.answers: dict[int, AnswerOrFault] = {}
-        self.errors: dict[int, ToolError] = {}
+        self.found: dict[int, Line] = {}
 
     def wanted(self, numbers: Sequence[int]) -> list[int]:
         """Those that come before the first error."""
-        behind = min(self.errors, default=len(self.texts))
+        errors = (at for at, line in self.found.items() if isinstance(line, ToolError))
+        behind = min(errors, default=len(self.texts))
         return sorted(number for number in numbers if number < behind)
 
-    def take(self, numbers: Sequence[int], answers: Iterator[AnswerOrFault]) -> None:
-        """Notes the answers to some references, in their order, and at the first one without an answer the error."""
+    def take(self, numbers: Sequence[int], lines: Iterator[Line]) -> None:
+        """Notes the lines about some references, in their order, and at the first one without a line the error."""
         for number in numbers:
             try:
-                answer = next(answers)
-                if self.points[number] is None and not isinstance(answer, Fault):
-                    raise unread(repr(self.texts[number]))
+                line = next(lines)
             except ToolError as error:
-                self.errors[number] = error
+                line = error
+            if self.points[number] is None and isinstance(line, RawLine) and line.fault is None:
+                line = unread(repr(self.texts[number]))
+            self.found[number] = line
+            if isinstance(line, ToolError):
                 return
-            self.answers[number] = answer
+
+    def lines(self) -> Iterator[Line]:
+        """The lines. Raises the first error, unless it is `TimedOut`."""
+        for number in range(len(self.texts)):
+            line = self.found.pop(number)
+            if isinstance(line, ToolError) and not isinstance(line, TimedOut):
+                raise line
+            yield line
 
 
-class _Regions:
-    """The processes on the map of a region, in a scratch folder, and then those on the next one in its place. One thread at a time may use
-    it, but for `end` and `close`."""
+class _Region:
+    """Some lines of a store as a map in a scratch folder, which is asked."""
 
-    def __init__(self, settings: Settings) -> None:
-        self._settings = settings
-        self._there: _Region | None = None
-        self._folder: list[Path] = []
-        self._delete = weakref.finalize(self, _delete, self._folder, os.getpid())
-        """Deletes the scratch folder: at the latest when Python ends."""
+    def __init__(self, lines: Integers, store: Store, made: Made) -> None:
+        """Writes the map. Raises `ToolError` if the store can't be read, or the scratch folder can't be written."""
+        self._lines = lines
+        folder = new_scratch_folder()
+        self._delete = weakref.finalize(self, _delete, folder, os.getpid())
+        try:
+            write_scratch_map(store, lines, folder / "map")
+        except BaseException:
+            self._delete()
+            raise
+        self.source = made(MapFiles.of_folder(folder / "map"))
+
+    def has(self, lines: Integers) -> bool:
+        """Whether it has all of these lines."""
+        return bool(np.isin(lines, self._lines, assume_unique=True).all())
 
     def close(self) -> None:
-        """Ends the processes, and deletes the scratch folder."""
-        self.end()
+        """Ends the processes, and deletes the folder."""
+        self.source.close()
         self._delete()
 
-    def of(self, lines: Integers, store: Store) -> Processes:
-        """Processes on a map of the store that has these lines: those that are there, or other ones. Raises `ToolError` if the store can't be
-        read, or the scratch folder can't be written."""
-        there = self._there
-        if there is not None:
-            if np.isin(lines, there.lines, assume_unique=True).all():
-                return there.processes
-            self._there = None
-            there.processes.close()
-        folder = self._scratch() / "map"
-        write_scratch_map(store, lines, folder)
-        files = PartFiles(folder, Version(store.digest, store.digest))
-        self._there = _Region(lines, Processes(files, self._settings))
-        return self._there.processes
 
-    def end(self) -> None:
-        """Ends the processes: whoever waits for them gets an error. Any thread may call it."""
-        there = self._there
-        if there is not None:
-            there.processes.close()
-
-    def _scratch(self) -> Path:
-        """The scratch folder. Raises `ToolError` if it can't be made."""
-        if not self._delete.alive:
-            raise closed_error()
-        if not self._folder:
-            self._folder.append(new_scratch_folder())
-        return self._folder[0]
-
-
-class _Region(NamedTuple):
-    """Some lines of a store by their ids, and the processes on their map."""
-
-    lines: Integers
-    processes: Processes
-
-
-def _delete(folders: list[Path], owner: int) -> None:
-    """Deletes the scratch folder: in the process that made it."""
+def _delete(folder: Path, owner: int) -> None:
+    """Deletes a scratch folder: in the process that made it."""
     if os.getpid() == owner:
-        for folder in folders:
-            shutil.rmtree(folder, ignore_errors=True)
-
-
-def _size_of_chunk(question: Kind) -> int:
-    """How many references are asked together."""
-    numbers = question.numbers()
-    items = max(numbers.get(name, 1) for name in ("page", "most", "nearest"))
-    return min(max(MOST_ITEMS // max(items, 1), LEAST_CHUNK), CHUNK)
+        shutil.rmtree(folder, ignore_errors=True)

@@ -13,7 +13,7 @@ from olr.confidence.judged import Judging
 from olr.likely.long_list import listing
 from olr.matching.asking import Asked
 from olr.matching.columns import NO_PLACE, OF_QUESTION, PIECES
-from olr.matching.lacking import Lacking, Other
+from olr.matching.lacking import Lacking
 from olr.matching.reasons import ReasonsBeside
 from olr.matching.writing import Output, Where, require_writable, writing_rows
 from olr.messages.message import Reading
@@ -89,10 +89,8 @@ def command(
     inputs = [file, *inputs_of(folder), *([] if confidence is None else [confidence])]
     for output in outputs:
         require_writable(output.file, where, inputs)
-    with ExitStack() as maps:
-        asked = maps.enter_context(Map.of_folder(folder, **asking.tolerances, patience=patience))
-        other = Other.of(asking, folder, patience)
-        lacking = maps.enter_context(Lacking(asked, other))
+    with Map.of_folder(folder, **asking.tolerances, patience=patience) as asked:
+        lacking = Lacking(asked, asking.other())
         with ExitStack() as stack:
             within = None if sure.judging.shown is None else sure.judging.shown.within
             nowhere_to = None if why else lacking

@@ -11,7 +11,7 @@ from olr.likely.order import Shown
 from olr.matching.asking import Asked
 from olr.matching.columns import ANSWERS
 from olr.matching.kept_columns import kept_columns
-from olr.matching.lacking import Lacking, Other
+from olr.matching.lacking import Lacking
 from olr.messages.message import Reading
 from olr.messages.message_file import message_file
 from olr.messages.opening import name_of
@@ -68,7 +68,7 @@ def command(
         find_module()
     with ExitStack() as stack:
         asked = stack.enter_context(Map.of_folder(folder, **asking.tolerances, patience=patience))
-        lacking = stack.enter_context(Lacking(asked, Other.of(asking, folder, patience)))
+        lacking = Lacking(asked, asking.other())
         given = stack.enter_context(message_file(messages, reading))
         questions = Asked(asked, given, within=Shown.of(asking.numbers).within)
         counted = count(questions, asked, asking.numbers, rows, sure.judging, lacking)

@@ -12,7 +12,7 @@ from olr.commands import options
 from olr.model.questions import NUMBERS
 from olr.serving import logs
 from olr.serving.allowed import LOOPBACK
-from olr.serving.limits import MIB, Capacity, Limits
+from olr.serving.limits import MIB, Limits
 from olr.serving.maps import ALONE
 from olr.serving.openapi import document
 from olr.serving.peers import PREFIX
@@ -24,8 +24,6 @@ ORIGIN = re.compile(r"https?://" + NAME.pattern)
 LIMITS = Limits()
 RESERVED = {"assets", "docs", *(path.split("/")[1] for path in document(LIMITS)["paths"])}
 """What addresses begin with."""
-PROCESSES_OF_WORKER, MOST_PROCESSES = 4, 16
-"""So many processes there are by default for each that works, and in all."""
 MOST_WORKERS = 1000
 
 
@@ -83,13 +81,8 @@ class Address(click.ParamType):
 )
 @options.count_option(
     "--workers",
-    "So many processes of the program work at once at most. By default as many as there are processors. A store is asked by one.",
-    greatest=MOST_WORKERS,
-)
-@options.count_option(
-    "--processes",
-    "So many processes there are at most, each of which holds the map in memory, and has answered the same question with the same "
-    "numbers. By default four for each of --workers, up to 16, but at least as many as those.",
+    "So many processes of the program there are at most, each of which holds the map in memory: one client has all but one. By default one more than "
+    "there are processors. A store is asked by one.",
     greatest=MOST_WORKERS,
 )
 @click.option(
@@ -166,7 +159,6 @@ def command(
     maps: Sequence[str],
     host: str,
     workers: int | None,
-    processes: int | None,
     time: float,
     body: int,
     look: int,
@@ -186,9 +178,8 @@ def command(
             err=True,
         )
     limits = Limits(time, body * MIB, look)
-    serve(
-        Settings(_maps(maps), host, capacity=_capacity(workers, processes), limits=limits, **chosen)
-    )
+    many = workers or min(len(os.sched_getaffinity(0)) + 1, MOST_WORKERS)
+    serve(Settings(_maps(maps), host, workers=many, limits=limits, **chosen))
 
 
 def _maps(words: Sequence[str]) -> dict[str, Path]:
@@ -206,12 +197,3 @@ def _maps(words: Sequence[str]) -> dict[str, Path]:
             raise click.UsageError("several maps have a name each: --map NAME=DIR")
         maps[name] = Path(path)
     return maps
-
-
-def _capacity(workers: int | None, processes: int | None) -> Capacity:
-    """How many processes there are. Ends with a usage error where fewer may be there than work."""
-    many = workers or min(len(os.sched_getaffinity(0)), processes or MOST_WORKERS)
-    most = processes or max(many, min(PROCESSES_OF_WORKER * many, MOST_PROCESSES))
-    if most < many:
-        raise click.UsageError(f"--processes is {most}, fewer than the {many} of --workers")
-    return Capacity(many, most)

@@ -41,7 +41,7 @@ class Comparison:
         self._numbers, self._limits = listing(numbers), limits
 
     def chunks(self, messages: Iterable[Message]) -> Iterator[Chunk]:
-        """The references of messages, compared. Raises `ToolError`, also if the files of a map change meanwhile."""
+        """The references of messages, compared. Raises `ToolError`, also if a store changes meanwhile."""
         kept, for_old, for_new = tee(messages, 3)
         old = self._old.places(for_old, self._numbers)
         new = self._new.places(for_new, self._numbers)

@@ -4,15 +4,12 @@ Nothing is asked where all fit somewhere.
 """
 
 from collections import Counter
-from collections.abc import Callable, Iterable, Iterator, Sequence
-from contextlib import AbstractContextManager
-from pathlib import Path
-from typing import NamedTuple
+from collections.abc import Iterable, Iterator, Mapping, Sequence
+from typing import Any
 
 from olr.client.map_client import Map
 from olr.errors import ToolError
 from olr.model.answers import Page, Places, Why
-from olr.model.asked_with import Asking
 from olr.model.fault import Fault
 
 CHUNK = 1024
@@ -27,31 +24,14 @@ def is_without_place(answer: Page | Places | Fault) -> bool:
     return not (answer.matchings if isinstance(answer, Page) else answer.places)
 
 
-class Other(NamedTuple):
-    """The map with the tolerances of another profile."""
+class Lacking:
+    """References that fit nowhere."""
 
-    profile: str
-    open: Callable[[], Map]
-    """Who calls it closes the map."""
-
-    @classmethod
-    def of(cls, asking: Asking, folder: Path, patience: float) -> "Other | None":
-        """That of a question: None if the other profile has the same tolerances, or they were all given."""
-        other = asking.other()
-        if other is None:
-            return None
-        profile, tolerances = other
-        return cls(profile, lambda: Map.of_folder(folder, **tolerances, patience=patience))
-
-
-class Lacking(AbstractContextManager["Lacking"]):
-    """References that fit nowhere. It owns the map of another profile, which is opened when that is first asked, and closed by the `with`
-    statement."""
-
-    def __init__(self, asked: Map, other: Other | None) -> None:
-        """They were asked of a map. With `other` they are asked with another profile too."""
-        self._asked, self._other = asked, other
-        self._map: Map | None = None
+    def __init__(self, asked: Map, other: tuple[str, Mapping[str, Any]] | None) -> None:
+        """They were asked of a map. With `other`, a profile and all tolerances by their names as arguments, they are asked so too."""
+        self._asked = asked
+        self._profile = None if other is None else other[0]
+        self._tolerances: Mapping[str, Any] = {} if other is None else other[1]
         self._kept: list[str] = []
         self._failure: ToolError | None = None
         self.count = 0
@@ -87,8 +67,8 @@ class Lacking(AbstractContextManager["Lacking"]):
         if self._failure is not None:
             return f"{found}; what would help isn't known: {self._failure}"
         parts = []
-        if self._other is not None:
-            parts.append(f"{self.by_profile:,} with --profile {self._other.profile}")
+        if self._profile is not None:
+            parts.append(f"{self.by_profile:,} with --profile {self._profile}")
         changed = f"{self.by_option.total():,} with one option changed"
         if self.by_option:
             (option, most), *_ = self.by_option.most_common(1)
@@ -98,12 +78,8 @@ class Lacking(AbstractContextManager["Lacking"]):
 
     def sentences(self) -> Iterator[str]:
         """What a page says of the other profile."""
-        if self.count and self._other is not None and self._failure is None:
-            yield f"With --profile {self._other.profile} {self.by_profile:,} of the {self.count:,} that fit nothing have a matching."
-
-    def __exit__(self, *error: object) -> None:
-        if self._map is not None:
-            self._map.close()
+        if self.count and self._profile is not None and self._failure is None:
+            yield f"With --profile {self._profile} {self.by_profile:,} of the {self.count:,} that fit nothing have a matching."
 
     def _ask(self) -> None:
         """Asks about the references that are kept, and forgets them."""
@@ -118,12 +94,10 @@ class Lacking(AbstractContextManager["Lacking"]):
             self.by_option.update(options[:1])
 
     def _count_others(self, references: Sequence[str]) -> None:
-        if self._other is None:
-            return
-        if self._map is None:
-            self._map = self._other.open()
-        pages = self._map.answers("match", references, page=1)
-        self.by_profile += sum(isinstance(it, Page) and bool(it.matchings) for it in pages)
+        if self._profile is not None:
+            other = self._asked.asking(**self._tolerances)
+            pages = other.matches(references, page=1)
+            self.by_profile += sum(isinstance(it, Page) and bool(it.matchings) for it in pages)
 
 
 def option_text(option: str) -> str:

@@ -214,7 +214,7 @@ class Page(AboutReference):
         if not found:
             return "no matching"
         totals = f"{found[0].total} to {found[-1].total}" if len(found) > 1 else found[0].total
-        more = "" if self.next is None else f", more behind {self.next.partition('@')[0]}"
+        more = "" if self.next is None else f", more behind {self.next}"
         return f"{counted(len(found), 'matching')}, total {totals}{more}"
 
     def _rows(self) -> Sequence[Mapping[str, object]]:

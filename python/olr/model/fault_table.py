@@ -136,6 +136,10 @@ ROWS: dict[str, tuple[str, str]] = {
         "the record isn't UTF-8",
         "convert it: `iconv -f LATIN1 -t UTF-8`",
     ),
+    "Words TEXT": (
+        "of `answer`: the words of the record aren't those of a request, as TEXT says",
+        "write the words as behind `olr`, without files, and ` -- ` before the reference",
+    ),
     "BadCell TYPE": (
         "of `olr.locate`: the cell has no text, but a TYPE",
         "look which column has the references, which are texts in base64",

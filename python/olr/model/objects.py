@@ -151,13 +151,6 @@ def reference(text: bytes) -> Reference:
         return Reference(**_renamed(found, points=points))
 
 
-def page_of(text: bytes, digest: str | None) -> Page:
-    """What `match` prints for a page, of a map of that digest. Raises `ValueError` if it is something else."""
-    with _as_answer("match"):
-        line, texts = _without_matchings(text)
-        return _page(json.loads(line), Lists(texts, digest))
-
-
 _BEGINNINGS: Mapping[bytes, What] = {
     b'{"points"': "candidates",
     b'{"matchings"': "match",
@@ -169,7 +162,7 @@ _ANSWER, _BEHIND = b'{"answer":', b',"fault":'
 
 
 class RawLine(NamedTuple):
-    """A line of `olr batch` taken apart."""
+    """A line of `olr answer`, or `olr batch`, taken apart."""
 
     answer: bytes
     """The program's JSON, `null` where there is a fault."""
@@ -191,7 +184,7 @@ def raw_line(line: bytes) -> RawLine:
         texts = all(isinstance(it, (str, type(None))) for it in (raw.fault, raw.key))
         if not texts or not isinstance(raw.record, int):
             raise ValueError("it has no record")
-        if (raw.fault is None) == (answer == b"null"):
+        if not (answer[:1] == b"{" if raw.fault is None else answer == b"null"):
             raise ValueError("it has an answer and a fault, or neither")
         return raw
 

@@ -3,7 +3,7 @@
 import shutil
 from collections import Counter
 from collections.abc import Iterable, Iterator, Mapping, Sequence
-from contextlib import contextmanager, suppress
+from contextlib import closing, contextmanager
 from dataclasses import dataclass
 from pathlib import Path
 from socket import gethostname
@@ -12,9 +12,9 @@ from typing import IO
 from olr.asking.exchange import Asked
 from olr.asking.files import MapFiles
 from olr.asking.patience import PATIENCE
-from olr.asking.program import find_program
+from olr.asking.processes import Processes
 from olr.asking.records import Record
-from olr.errors import ProgramEnded, TimedOut, ToolError
+from olr.errors import ToolError
 from olr.model.fault import TOO_LARGE
 from olr.model.questions import What, all_words
 from olr.model.reference import read_points
@@ -24,8 +24,8 @@ from olr.regions.store import Store
 from olr.running.asked_map import AskedMap
 from olr.running.grouping import Group
 from olr.running.identity import same_files, same_program, same_store
-from olr.running.isolating import Isolating
-from olr.running.joining import fault_of, lines_of
+from olr.running.isolating import isolated
+from olr.running.joining import fault_of
 from olr.running.kept import Kept
 from olr.running.parts import NotWhole, Part
 from olr.running.question import Question
@@ -62,8 +62,8 @@ class Job:
         return self.question.options
 
     def asked(self) -> Asked:
-        """What the program is asked. Raises `ProgramNotFound`."""
-        return Asked(find_program(), self.what, all_words(self.numbers))
+        """What the program is asked."""
+        return Asked(self.what, tuple(all_words(self.numbers)))
 
 
 Missing = tuple[Part, Group]
@@ -90,8 +90,8 @@ def answer_groups(
 
     All are answered on one map. Where that fails each is answered alone: none fails because of another one.
 
-    It runs in a worker, whose files are in a scratch folder, and may be run again after it failed or was killed. On the map of a folder a
-    process is asked that is `kept`, or a new one for each group. Raises `GroupsFailed`.
+    It runs in a worker, whose files are in a scratch folder, and may be run again after it failed or was killed. On the map of a folder
+    processes are asked that are `kept`, or new ones. Raises `GroupsFailed`.
     """
     try:
         return _answer_together(job, groups, scratch, kept)
@@ -129,12 +129,16 @@ def _answer_together(
             counts += Counter(map(_kind, part.lines()))
         except NotWhole:
             missing.append((part, group))
-    if missing:
+    if missing and job.map.is_store:
         with _scratch_folder(folder) as scratch:
-            if job.map.is_store:
-                return counts + _answer_on_regions(job, missing, scratch)
-            for part, group in missing:
-                counts += _answer_on_folder(job, part, group, scratch, kept)
+            return counts + _answer_on_regions(job, missing, scratch)
+    own = kept or Kept()
+    try:
+        for part, group in missing:
+            counts += _written(part, _lines_on_folder(job, group, own))
+    finally:
+        if own is not kept:
+            own.end()
     return counts
 
 
@@ -150,25 +154,14 @@ def _answer_on_regions(job: Job, missing: Sequence[Missing], scratch: Path) -> C
     return counts
 
 
-def _answer_on_folder(
-    job: Job, part: Part, group: Group, scratch: Path, kept: Kept | None
-) -> Counter[str]:
-    """Writes the part of a group, which is asked on the whole map of a folder, and counts its lines. Raises `ToolError`."""
-    if kept is not None:
-        with suppress(ProgramEnded, TimedOut):
-            return _written(part, _kept_lines(job, group, kept))
-    file = scratch / LINES
-    with same_files(job.map, job.question.store) as files, same_program(job.question.program):
-        with file.open("wb") as stream:
-            isolating = Isolating(job.asked(), files, job.patience, stream, scratch)
-            isolating.write(group.records())
-    return _written(part, lines_of(file))
-
-
-def _kept_lines(job: Job, group: Group, kept: Kept) -> Iterator[bytes]:
-    """The lines of a group on the map of a folder, by a process that is there. Raises `ToolError`, at the end at the latest."""
-    with same_files(job.map, job.question.store) as files, same_program(job.question.program):
-        yield from kept.lines(job.asked(), files, job.patience, group.records())
+def _lines_on_folder(job: Job, group: Group, kept: Kept) -> Iterator[bytes]:
+    """The lines of a group, which is asked on the whole map of a folder. Raises `ToolError`, at the end at the latest."""
+    try:
+        with same_files(job.map, job.question.store) as files, same_program(job.question.program):
+            yield from isolated(kept.of(files, job.patience), job.asked(), group.records())
+    except BaseException:
+        kept.end()
+        raise
 
 
 def _written(part: Part, lines: Iterable[bytes]) -> Counter[str]:
@@ -239,10 +232,10 @@ class _Answering:
                 yield stream.read(size)
 
     def _ask(self, records: Sequence[Record], none: set[int], stream: IO[bytes]) -> None:
-        """Runs the program on the map, and writes the lines: where it fails at a record, a line that says so."""
+        """Asks about records on the map that is there, and writes their lines."""
         files = MapFiles.of_folder(self._map)
-        patience = self._job.patience
-        Isolating(self._job.asked(), files, patience, stream, self._map, none).write(records)
+        with closing(Processes(files, patience=self._job.patience)) as processes:
+            stream.writelines(isolated(processes, self._job.asked(), records, none))
 
     def _note(self, records: Sequence[Record], begin: int, stream: IO[bytes]) -> None:
         """Notes where the lines of records are: behind that place, to the end."""

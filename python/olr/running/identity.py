@@ -4,7 +4,6 @@ Both are compared when they are first used, and when their file has another stam
 a stamp changed: what was read then may be of both files.
 """
 
-import subprocess
 import threading
 import time
 from collections.abc import Iterator
@@ -15,10 +14,10 @@ from pathlib import Path
 from socket import gethostname
 
 from olr.asking.files import MapFiles
+from olr.asking.once import run
 from olr.asking.program import find_program
-from olr.asking.starting import kill_group, start
 from olr.content import Stamp, sha256_of
-from olr.errors import ProgramEnded, ToolError
+from olr.errors import ProgramEnded, TimedOut, ToolError
 from olr.regions.store import Store
 from olr.running.asked_map import AskedMap
 
@@ -55,18 +54,13 @@ def shortened(digest: str) -> str:
 @lru_cache(maxsize=256)
 def _version_of(program: Path, _stamp: Stamp) -> str:
     """What a program with this stamp says as its version. Raises as `Build.of`."""
-    nowhere = subprocess.DEVNULL
-    pipe = subprocess.PIPE
-    with start(program, ["--version"], stdin=nowhere, stdout=pipe, stderr=nowhere) as process:
-        try:
-            printed, _ = process.communicate(timeout=SECONDS_TO_SAY_VERSION)
-        except subprocess.TimeoutExpired as error:
-            took = f"{program} --version took more than {SECONDS_TO_SAY_VERSION} s"
-            raise ProgramEnded(f"{took}: is it the program olr?") from error
-        finally:
-            kill_group(process)
+    try:
+        status, printed, _ = run(program, ["--version"], SECONDS_TO_SAY_VERSION)
+    except TimedOut as error:
+        took = f"{program} --version took more than {SECONDS_TO_SAY_VERSION} s"
+        raise ProgramEnded(f"{took}: is it the program olr?") from error
     lines = printed.decode("utf-8", errors="replace").splitlines()
-    return lines[0].strip() if lines and not process.returncode else ""
+    return lines[0].strip() if lines and not status else ""
 
 
 @contextmanager
