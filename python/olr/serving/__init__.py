@@ -6,10 +6,9 @@
 | `queries` | the query of a URL as a question |
 | `problems` | why there is no answer, as a problem document |
 | `edition` | one version of a map's files |
-| `process` | a process `olr batch` that is asked without threads |
-| `pool` | these processes, and who gets one |
-| `crew`, `waiting` | which of them work, with turns and room for more; what waits, by kind and client |
-| `runs`, `batches` | runs of the program for one request: those that aren't `olr batch`, and those whose input is a body |
+| `process` | a process `olr answer` that is asked without threads |
+| `pool`, `waiting` | these processes, and who is answered next; what waits, by client |
+| `runs` | runs that end by themselves: of the program, for its version, and of Python |
 | `served` | what the addresses ask of a map |
 | `folder_map`, `store_map` | the map of a folder, and that of a store |
 | `judging` | how places are asked whose probability is shown |
@@ -18,7 +17,7 @@
 | `maker`, `ground` | such a process; what it has of a map |
 | `feature_texts`, `scene_texts`, `row_texts`, `chosen` | what it makes, and by what places are judged there |
 | `files` | answers in files |
-| `streaming`, `bodies` | `POST /batch/{command}` and `POST /rows`, and their bodies |
+| `streaming`, `bodies` | `POST /batch/{command}` and `POST /rows`; their bodies, and how records are asked ahead |
 | `posted` | `POST /match` and so on: questions as JSON |
 | `lists`, `listing` | `POST /messages`: lists as the page shows them; the process that reads one |
 | `schemas`, `openapi`, `pages` | what answers have in them, the addresses as an OpenAPI document, and the pages with the files that they load |

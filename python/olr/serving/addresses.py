@@ -1,7 +1,7 @@
 """The addresses, and what each answers."""
 
 import json
-from collections.abc import AsyncGenerator, AsyncIterator, Callable, Iterator, Mapping, Sequence
+from collections.abc import AsyncGenerator, Callable, Iterator, Mapping, Sequence
 from contextlib import aclosing
 from functools import lru_cache, partial
 from starlette.requests import Request
@@ -11,13 +11,13 @@ from starlette.types import ASGIApp
 from typing import TYPE_CHECKING, NamedTuple
 
 from olr.asking.files import Version
-from olr.asking.processes import Kind
-from olr.asking.records import Answered, Record
+from olr.asking.exchange import Asked
 from olr.errors import ToolError
 from olr.model.fault import Fault
 from olr.model.questions import NUMBERS, What, record_text
 from olr.serving import features, openapi, streaming
 from olr.serving.accepting import field_of
+from olr.serving.bodies import Records
 from olr.serving.files import FileAnswer, answer_of, typed
 from olr.serving.limits import MOST_TAKEN, Limits
 from olr.serving.lists import Lists
@@ -25,13 +25,13 @@ from olr.serving.makers import Makers
 from olr.serving.meters import MEDIA_TYPE, Meters
 from olr.serving.pages import INDEX, Asset, assets, described, with_data
 from olr.serving.peers import Shares
-from olr.serving.posted import answered_one_by_one, posted_in, records_of
+from olr.serving.posted import posted_in, records_of
 from olr.serving.problems import Problem, of_error
 from olr.serving.queries import (
-    KINDS,
+    MOST_ASKED,
     Options,
     Question,
-    kind_of,
+    asked_of,
     options_of,
     question_of,
     reference_of,
@@ -39,9 +39,9 @@ from olr.serving.queries import (
 )
 from olr.serving.rooms import Room
 from olr.serving.routing import Addresses
-from olr.serving.rows import Batch, Rows
+from olr.serving.rows import Rows
 from olr.serving.scenes import Scenes
-from olr.serving.served import IsGone, Served
+from olr.serving.served import Served
 from olr.serving.streaming import Streaming
 from olr.serving.tags import tag_of, tagged, tags_of, unchanged
 from olr.version import VERSION
@@ -143,14 +143,14 @@ class _Answers:
         question = question_of(what, options, self._limits.look)
         has_features = what in WITH_FEATURES
         if has_features and features.is_wanted(accept_of(request)):
-            file = await self._features.of(question, request.scope["is_gone"])
+            file = await self._features.of(question)
             return FileAnswer(file, [VARY, typed(features.MEDIA_TYPE)], self._taken)
         fields = [VARY] if has_features else []
         known_tags = tags_of(request)
         version = self._served.unchanged() if known_tags else None
         if version is not None and (tag := self._tag(question, version)) in known_tags:
             return unchanged(tag, fields)
-        known = await self._served.answer(question, request.scope["is_gone"])
+        known = await self._served.answer(question)
         tag = self._tag(question, known.version)
         if tag in known_tags:
             return unchanged(tag, fields)
@@ -159,55 +159,38 @@ class _Answers:
 
     def _tag(self, question: Question, version: Version) -> str:
         """The tag of the answer of the program to a question on a version of the map."""
-        kind, text, after = question
-        asked = _asked_of(self._served.program_version(), version, kind)
-        return tag_of(b"%b%a\n%b" % (asked, after, text))
+        asked, text, after = question
+        head = _head_of_tag(self._served.program_version(), version, asked)
+        return tag_of(b"%b%a\n%b" % (head, after, text))
 
     def _few(self, what: What, options: Options, refs: Sequence[str], request: Request) -> ASGIApp:
-        """Lines about a few references, which processes answer that answer others too."""
-        kind = kind_of(what, options, self._limits.look)
-        records = records_of(refs)
-
-        def batch(
-            kind: Kind, _: AsyncIterator[list[Record]], is_gone: IsGone
-        ) -> AsyncGenerator[list[Answered], None]:
-            return answered_one_by_one(self._served, kind, records, is_gone)
-
-        return partial(self._lines(what, batch, request, has_body=False).answer, kind)
+        """Lines about a few references."""
+        asked = asked_of(what, options, self._limits.look)
+        return self._lines(what, request).about(asked, records_of(refs))
 
     async def batch(self, what: What, request: Request) -> ASGIApp:
         """Lines about those of a body."""
-        return self._lines(what, self._apart, request)
+        return self._lines(what, request)
 
-    def _apart(
-        self, kind: Kind, body: AsyncIterator[list[Record]], _: IsGone
-    ) -> AsyncGenerator[list[Answered], None]:
-        """The answers of a process for one body."""
-        return self._served.batch(kind, body)
-
-    def _lines(
-        self, what: What, batch: Batch, request: Request, has_body: bool = True
-    ) -> Streaming:
+    def _lines(self, what: What, request: Request) -> Streaming:
         """Lines of JSON, or of GeoJSON where that is asked for."""
-        lines, media_type = partial(_json_lines, batch), streaming.MEDIA_TYPE
+        lines, media_type = self._json_lines, streaming.MEDIA_TYPE
         seq, has_features = features.OF_LINES, what in WITH_FEATURES
         if has_features and features.is_wanted(accept_of(request), seq, media_type):
-            lines = partial(self._rows.lines, "features", batch)
+            lines = partial(self._rows.lines, "features")
             media_type = seq
         headers = {"Content-Type": media_type} | (VARIES if has_features else {})
-        return Streaming(
-            self._served,
-            self._limits,
-            what,
-            lines,
-            headers=headers,
-            has_body=has_body,
-        )
+        return Streaming(self._limits, what, lines, headers)
+
+    async def _json_lines(self, asked: Asked, body: Records) -> AsyncGenerator[bytes, None]:
+        """Lines as those of `olr batch`."""
+        async with aclosing(self._served.batch(asked, body)) as answered:
+            async for some in answered:
+                yield b"".join(one.line() for one in some)
 
     def rows(self) -> Streaming:
         """The rows of the page's list."""
-        lines = partial(self._rows.lines, "rows", self._apart)
-        return Streaming(self._served, self._limits, "places", lines)
+        return Streaming(self._limits, "places", partial(self._rows.lines, "rows"))
 
     async def show(self, request: Request) -> Response:
         """What a reference says."""
@@ -223,7 +206,7 @@ class _Answers:
     async def scene(self, request: Request) -> ASGIApp:
         """What the page draws."""
         options = options_of(request.scope["query_string"])
-        file = await self._scenes.scene(options, request.scope["is_gone"])
+        file = await self._scenes.scene(options)
         return FileAnswer(file, [typed(JSON)], self._taken)
 
     async def health(self, _: Request) -> Response:
@@ -264,19 +247,10 @@ class _Answers:
         return error if isinstance(error, Problem) else of_error(error)
 
 
-@lru_cache(maxsize=KINDS)
-def _asked_of(program: str, version: Version, kind: Kind) -> bytes:
+@lru_cache(maxsize=MOST_ASKED)
+def _head_of_tag(program: str, version: Version, asked: Asked) -> bytes:
     """What a tag depends on besides the reference and the cursor. No part has a line end."""
-    return "\n".join([program, *map(str, version), kind.what, *kind.words, ""]).encode()
-
-
-async def _json_lines(
-    batch: Batch, kind: Kind, body: AsyncIterator[list[Record]], is_gone: IsGone
-) -> AsyncGenerator[bytes, None]:
-    """The lines of `olr batch`."""
-    async with aclosing(batch(kind, body, is_gone)) as answered:
-        async for some in answered:
-            yield b"".join(one.line() for one in some)
+    return "\n".join([program, *map(str, version), asked.what, *asked.words, ""]).encode()
 
 
 def accept_of(request: Request) -> str:

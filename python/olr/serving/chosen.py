@@ -8,6 +8,6 @@ from olr.serving.tasks import JudgedBy
 
 def chosen_by(judged_by: JudgedBy) -> Chosen:
     """By what places are judged: where their numbers are others than those of the confidence there are no probabilities."""
-    numbers = judged_by.kind.numbers()
+    numbers = judged_by.asked.numbers()
     tolerances = {name: numbers[name] for name in TOLERANCES}
     return judging_by(judged_by.confidence or Confidence.default(), tolerances, numbers)

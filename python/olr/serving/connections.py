@@ -153,9 +153,9 @@ class Connections:
 class Connection(UvicornConnection):
     """A connection. A head that is too long, or isn't HTTP, is answered by a problem document.
 
-    What a request's scope has besides: `client` is the name of the client, with a port; `left` a future that is done when the client has gone;
-    `is_gone` says whether it has; `abort` closes the connection; `pace` is told when no body is to come; and `status` is there where the
-    connection was closed with that one in place of an answer.
+    What a request's scope has besides: `client` is the name of the client, with a port; `left` a future that is done when the client has
+    gone; `abort` closes the connection; `pace` is told when no body is to come; and `status` is there where the connection was closed with
+    that one in place of an answer.
     """
 
     def __init__(self, connections: Connections, **given: Any) -> None:
@@ -316,7 +316,7 @@ class Connection(UvicornConnection):
         if len(self.pipeline) >= MOST_AHEAD:
             self._refuse(bad_request("too many requests are sent before they are answered"))
         self._is_in_head = False
-        self.scope["is_gone"], self.scope["left"] = self.transport.is_closing, self._left
+        self.scope["left"] = self._left
         self.scope["abort"] = self.abort
         self._sending = self.scope["pace"] = Pace(self._all.patience)
         super().on_headers_complete()

@@ -5,9 +5,8 @@ from collections.abc import Iterator
 from contextlib import contextmanager
 from pathlib import Path
 
-from olr.asking.exchange import Asked
+from olr.asking.exchange import words_of_process
 from olr.asking.files import MapFiles, Version
-from olr.asking.processes import Kind
 from olr.asking.program import PathLike, find_program
 from olr.errors import ANOTHER_MAP, MapRefused
 
@@ -22,9 +21,9 @@ class Edition:
         self.version: Version | None = None
         """None until the first process has read them."""
 
-    def words(self, kind: Kind) -> list[str]:
+    def words(self) -> list[str]:
         """The words of a process, behind the program."""
-        return Asked(self.program, kind.what, kind.words).words(self.files)
+        return words_of_process(self.files)
 
     async def found(self) -> Version:
         """The version that is there. Raises `MapRefused` if it isn't that of this edition."""

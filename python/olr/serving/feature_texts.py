@@ -31,7 +31,7 @@ TOO_LARGE = Fault("AnswerTooLarge")
 def write(task: FeaturesTask, network: Network, file: BufferedRandom) -> None:
     """Writes a collection: a feature for each matching, or for each place that is shown, the likeliest one first; or one without a
     geometry. Raises `ToolError` and `OSError`."""
-    what, digest = task.judged_by.kind.what, network.digest
+    what, digest = task.judged_by.asked.what, network.digest
     counted: chunks.Counted = None
     if isinstance(task.candidates, Fault):
         counted = task.candidates
@@ -51,7 +51,7 @@ def write(task: FeaturesTask, network: Network, file: BufferedRandom) -> None:
 
 def lines_of(some: Sequence[Answered], network: Network, judged_by: JudgedBy) -> bytes:
     """The features of records, by what the program answered to them. Raises `ToolError`."""
-    what = judged_by.kind.what
+    what = judged_by.asked.what
     try:
         answered = [_answered(one, network, what) for one in some]
     except ValueError as error:
@@ -64,7 +64,7 @@ def lines_of(some: Sequence[Answered], network: Network, judged_by: JudgedBy) ->
 
 def _judging_of(judged_by: JudgedBy) -> Judging:
     """By what answers are judged: matchings by nothing."""
-    return chosen_by(judged_by).judging if judged_by.kind.what == "places" else Judging()
+    return chosen_by(judged_by).judging if judged_by.asked.what == "places" else Judging()
 
 
 def _answered(one: Answered, network: Network, what: What) -> chunks.Answered[Message]:

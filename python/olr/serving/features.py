@@ -4,15 +4,16 @@ from contextlib import nullcontext
 from functools import lru_cache
 from typing import IO, TYPE_CHECKING, NamedTuple
 
-from olr.asking.processes import Kind
+from olr.asking.exchange import Asked
 from olr.model.fault import Fault
 from olr.model.questions import TOLERANCES
 from olr.serving.accepting import MOST_REMEMBERED, weights_of
 from olr.serving.judging import listing_of
+from olr.serving.limits import PAGE_ALONE
 from olr.serving.makers import Makers
 from olr.serving.queries import Question
 from olr.serving.rooms import Room
-from olr.serving.served import IsGone, Served, Versions, of_one_edition
+from olr.serving.served import Served, Versions, of_one_edition
 from olr.serving.tasks import FeaturesTask, JudgedBy
 
 if TYPE_CHECKING:
@@ -21,8 +22,6 @@ if TYPE_CHECKING:
 MEDIA_TYPE = "application/geo+json"
 OF_LINES = "application/geo+json-seq"
 """Of lines about many references."""
-PAGE_ALONE = 100
-"""Pages of more matchings are asked for and made one at a time: one of 1,000 long ones has 18 MB as JSON and three times as much as GeoJSON."""
 
 
 @lru_cache(maxsize=MOST_REMEMBERED)
@@ -47,38 +46,38 @@ class Features(NamedTuple):
     alone: Room
     """Of one at a time, for those that may be large."""
 
-    async def of(self, question: Question, is_gone: IsGone) -> IO[bytes]:
+    async def of(self, question: Question) -> IO[bytes]:
         """A feature for each matching, or for each place that is shown, the likeliest one first; or one without a geometry. Raises as
         `Served.answer`, `Room.place` and `Makers.made`."""
-        is_large = question.kind.numbers().get("page", 0) > PAGE_ALONE
-        async with self.alone.place(is_gone) if is_large else nullcontext():
-            return await self._made(question, is_gone)
+        is_large = question.asked.numbers().get("page", 0) > PAGE_ALONE
+        async with self.alone.place() if is_large else nullcontext():
+            return await self._made(question)
 
-    async def _made(self, question: Question, is_gone: IsGone) -> IO[bytes]:
+    async def _made(self, question: Question) -> IO[bytes]:
         """As `of`."""
-        judged_by = JudgedBy(question.kind, self.confidence)
+        judged_by = JudgedBy(question.asked, self.confidence)
         asked = question
-        if question.kind.what == "places":
-            asked = question._replace(kind=listing_of(question.kind))
+        if question.asked.what == "places":
+            asked = question._replace(asked=listing_of(question.asked))
 
         async def ask(versions: Versions) -> IO[bytes]:
-            known = await self.served.answer(asked, is_gone)
+            known = await self.served.answer(asked)
             versions.note(known)
             counted: bytes | Fault
             try:
-                counts = await self.served.answer(_candidates(question), is_gone)
+                counts = await self.served.answer(_candidates(question))
             except Fault as fault:
                 counted = fault
             else:
                 versions.note(counts)
                 counted = counts.json
             task = FeaturesTask(judged_by, question.text.decode(), known.json, counted)
-            return await self.makers.made(versions.map(), task, is_gone)
+            return await self.makers.made(versions.map(), task)
 
         return await of_one_edition(self.served, ask)
 
 
 def _candidates(question: Question) -> Question:
     """The question how many candidates the points of a reference have."""
-    words = question.kind.words[: 2 * len(TOLERANCES)]
-    return Question(Kind("candidates", words), question.text, None)
+    words = question.asked.words[: 2 * len(TOLERANCES)]
+    return Question(Asked("candidates", words), question.text, None)

@@ -2,38 +2,33 @@
 
 import asyncio
 import logging
-from collections.abc import AsyncGenerator, AsyncIterator
-from contextlib import AbstractAsyncContextManager
+from collections.abc import AsyncGenerator
+from contextlib import aclosing
 from pathlib import Path
 from typing import Any
 
+from olr.asking.exchange import Asked, record_about
 from olr.asking.files import Version
-from olr.asking.processes import Kind
-from olr.asking.records import Answered, Record
-from olr.errors import ToolError
+from olr.asking.records import Answered
+from olr.errors import MapRefused, ToolError
 from olr.model.fault import Fault
-from olr.serving.batches import answered_by
+from olr.serving.bodies import Records, in_order
 from olr.serving.edition import Edition
-from olr.serving.judging import default_kinds
-from olr.serving.limits import Capacity, Limits
+from olr.serving.limits import PAGE_ALONE, RECORDS_AHEAD, Limits
 from olr.serving.pool import Pool
-from olr.serving.problems import busy
-from olr.serving.queries import Question, kind_of
-from olr.serving.runs import printed_by, version_of
-from olr.serving.served import IsGone, Known
+from olr.serving.queries import AFTER, Question
+from olr.serving.runs import version_of
+from olr.serving.served import Known
 
 log = logging.getLogger("olr.serving")
-FIRST = kind_of("match", {}, 0)
-"""What the first process is for."""
 
 
 class FolderMap:
     """The map of a folder. See `served.Served`."""
 
-    def __init__(self, folder: Path, capacity: Capacity, limits: Limits) -> None:
-        self._folder, self._limits = folder, limits
-        self.pool = Pool(Edition(folder), capacity, limits, defaults=default_kinds(limits.look))
-        self._showing = asyncio.Semaphore(capacity.workers)
+    def __init__(self, folder: Path, workers: int, limits: Limits) -> None:
+        self._folder = folder
+        self.pool = Pool(Edition(folder), workers, limits)
         self._renewing = asyncio.Lock()
         self._refused: str | None = None
         self._version = ""
@@ -42,7 +37,7 @@ class FolderMap:
     async def open(self) -> None:
         """Reads the map. Raises `ToolError`."""
         self._version = await version_of(self.pool.edition.program)
-        await self.pool.open(FIRST)
+        await self.pool.open()
         self._watching = asyncio.create_task(self.pool.watch())
 
     async def close(self) -> None:
@@ -55,7 +50,7 @@ class FolderMap:
         """Reads the files anew. If they are refused all stays as it is."""
         async with self._renewing:
             try:
-                await self.pool.renew(Edition(self._folder), FIRST)
+                await self.pool.renew(Edition(self._folder))
             except ToolError as error:
                 self._refused = "the files that were there at the last SIGHUP were refused"
                 log.error("the files aren't read anew, and the map stays as it was: %s", error)
@@ -75,43 +70,36 @@ class FolderMap:
         about |= {"changed": pool.is_changed(), "refused": self._refused, "program": self._version}
         return pool.is_able(), about
 
-    async def answer(self, question: Question, is_gone: IsGone) -> Known:
+    async def answer(self, question: Question) -> Known:
         """The answer to a question. Raises `ToolError` and `Problem`."""
-        if question.after is not None:
-            return await self._page_after(question, question.after, is_gone)
-        answer = await self.pool.answer(question.kind, question.text, is_gone)
+        behind = [] if question.after is None else [f"--{AFTER}", question.after]
+        return await self._known(question.asked.about(question.text, *behind))
+
+    async def show(self, text: bytes) -> bytes:
+        """What a reference says. Raises `ToolError` and `Problem`."""
+        return (await self._known(record_about(["show"], text))).json
+
+    async def _known(self, record: bytes) -> Known:
+        """The answer to the text of a record. Raises as `answer`."""
+        answer = await self.pool.ask(record)
         if answer.fault is not None:
             raise Fault(answer.fault)
         return Known(answer.json, answer.edition.version or Version(None, None))
 
-    async def _page_after(self, question: Question, after: str, is_gone: IsGone) -> Known:
-        """The page behind a cursor: `olr batch` has first pages alone."""
-        edition = self.pool.edition
-        async with self.pool.place():
-            if is_gone():
-                raise busy("nobody waits for it")
-            version = await edition.found()
-            words = ["match", *edition.files.words(), *question.kind.words, "--after", after]
-            words += ["--format", "json", "--", question.text.decode()]
-            page = await printed_by(edition.program, words, self._limits.time)
-            await edition.keep(version)
-        return Known(page, version)
-
-    async def show(self, text: bytes) -> bytes:
-        """What a reference says. Raises `ToolError`."""
-        words = ["show", "--format", "json", "--", text.decode()]
-        async with self._showing:
-            return await printed_by(self.pool.edition.program, words, self._limits.time)
-
-    def place(self, is_gone: IsGone) -> AbstractAsyncContextManager[None]:
-        """Room for a process of its own, while it runs. Raises `Problem`."""
-        return self.pool.place()
-
-    def batch(
-        self, kind: Kind, body: AsyncIterator[list[Record]]
-    ) -> AsyncGenerator[list[Answered], None]:
-        """The answers of a process of its own. Raises as `answered_by`."""
-        return answered_by(self.pool.edition, kind, body)
+    async def batch(self, asked: Asked, body: Records) -> AsyncGenerator[list[Answered], None]:
+        """The answers to the records of a body. Raises as `Pool.ask`, as the body does, and `MapRefused` where another version of the map takes
+        the place of this one."""
+        version, pool = self.version(), self.pool
+        ahead = 1 if asked.numbers().get("page", 0) > PAGE_ALONE else RECORDS_AHEAD
+        asking = in_order(
+            body, lambda record: pool.ask(asked.about(record.text()), is_in_stream=True), ahead
+        )
+        async with aclosing(asking) as answers:
+            async for some in answers:
+                if any(answer.edition.version != version for _, answer in some):
+                    text = "another version of the map took the place of the one to ask"
+                    raise MapRefused(text)
+                yield [Answered(record, answer.json, answer.fault) for record, answer in some]
 
     def version(self) -> Version | None:
         """The one that is asked now."""

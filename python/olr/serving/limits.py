@@ -21,10 +21,8 @@ LEAST_CONNECTIONS = 16
 FILES = 128
 """Files that the server has open besides, or reads for a while: its own, those of the map and of the modules, lists that come, answers that are
 taken, and sockets of those that make them."""
-FILES_OF_PROCESS = 4
+FILES_OF_WORKER = 4
 """And so many for each process, which has three pipes."""
-FILES_OF_WORKER = 6
-"""And so many for each worker: for a process that shows a reference, and the other ends of the pipes of one that starts."""
 MOST_AHEAD = 16
 """Requests on one connection that are sent before those in front of them are answered. Browsers and curl send none."""
 MOST_REQUESTS = 1000
@@ -40,6 +38,11 @@ RETRY_AFTER = 2
 ABREAST = 4
 """Requests that one process has at once. It answers one at a time: with the next ones at hand it doesn't wait for the server between
 two; but they wait for one that takes long."""
+RECORDS_AHEAD = 16
+"""Records of one stream that are asked at once, whose answers wait in memory for those before."""
+PAGE_ALONE = 100
+"""Pages of more matchings are made one at a time as GeoJSON, and asked for one at a time in a stream: one of 1,000 long ones has 18 MB as
+JSON and three times as much as GeoJSON."""
 MOST_ANSWER = 32 * MIB
 """Bytes of an answer of the program, which is held in memory. A page of 1,000 matchings of 24 points on the largest map has 18 MB."""
 MOST_MADE = 128 * MIB
@@ -55,19 +58,6 @@ SECONDS_TO_END = 8.0
 """How long the server waits for what runs once it was told to end. Debian's systemd waits for 90."""
 MOST_SAID = 4096
 """Bytes of what a process says on standard error that are kept."""
-
-
-class Capacity(NamedTuple):
-    """How many processes there may be."""
-
-    workers: int
-    """Those that work at once."""
-    processes: int
-    """All of them: each holds the map."""
-
-    def of_all(self, maps: int) -> "Capacity":
-        """Those of so many maps together, each of which has as many."""
-        return Capacity(maps * self.workers, maps * self.processes)
 
 
 class Limits(NamedTuple):

@@ -9,12 +9,10 @@ from olr.errors import ToolError
 from olr.serving.allowed import in_url
 from olr.serving.limits import (
     FILES,
-    FILES_OF_PROCESS,
     FILES_OF_WORKER,
     LEAST_CONNECTIONS,
     MOST_BACKLOG,
     MOST_CONNECTIONS,
-    Capacity,
 )
 
 log = logging.getLogger("olr.serving")
@@ -32,17 +30,16 @@ class Sockets(NamedTuple):
     """Those that the system keeps until they are taken. All of them are, before one that is too many is closed."""
 
 
-def sockets_for(capacity: Capacity) -> Sockets:
+def sockets_for(workers: int) -> Sockets:
     """Lets this process open as many files as the system admits, and says for how many connections these do. Raises `ToolError` where they are
     too few."""
     _, files = resource.getrlimit(resource.RLIMIT_NOFILE)
     resource.setrlimit(resource.RLIMIT_NOFILE, (files, files))
-    workers, processes = capacity
-    spare = FILES + FILES_OF_WORKER * workers + FILES_OF_PROCESS * processes
+    spare = FILES + FILES_OF_WORKER * workers
     if files < spare + LEAST_CONNECTIONS:
         needed = spare + LEAST_CONNECTIONS
         raise ToolError(
-            f"it may open {files} files (ulimit -n), and needs {needed} with {processes} processes"
+            f"it may open {files} files (ulimit -n), and needs {needed} with {workers} processes"
         )
     left = files - spare
     backlog = min(MOST_BACKLOG, left // 3)

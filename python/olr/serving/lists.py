@@ -1,23 +1,26 @@
 """`POST /messages`: what a list of messages has in it, read as `olr-tools match` reads a file."""
 
+import asyncio
 import json
 import logging
 import sys
+from asyncio.subprocess import PIPE
 from collections.abc import AsyncIterator
 from contextlib import asynccontextmanager
-from pathlib import Path
 from starlette.requests import ClientDisconnect, Request
 from starlette.responses import Response
 from tempfile import SpooledTemporaryFile
 from typing import IO
 
+from olr.asking.exchange import AnswerTooLarge
+from olr.asking.starting import command_of, kill_group_of
 from olr.messages.message import BASE64, FORMATS, TABLES, Reading
-from olr.serving.limits import MIB, Limits
+from olr.serving.limits import MIB, MOST_ANSWER, MOST_SAID, Limits
 from olr.serving.peers import Shares, client_of
 from olr.serving.problems import Problem, bad_request, busy
 from olr.serving.queries import Options, options_of
 from olr.serving.rooms import Room
-from olr.serving.runs import ended_with, python_words
+from olr.serving.runs import python_words
 
 MEDIA_TYPE = "application/x-ndjson"
 MOST_BYTES = 16 * MIB
@@ -58,7 +61,7 @@ class Lists:
         try:
             async with self._received(request) as (file, size):
                 room = self._alone if size > LARGE else self._room
-                async with room.place(request.scope["is_gone"]):
+                async with room.place():
                     status, text, said = await _read(file, reading, self._limits.time)
         except TimeoutError as error:
             raise late from error
@@ -93,9 +96,35 @@ class Lists:
 
 
 async def _read(file: IO[bytes], reading: Reading, seconds: float) -> tuple[int, bytes, bytes]:
-    """The status, the lines and the error of a process that reads a list. Raises `TimeoutError`."""
+    """The status, the lines and the error of a process that reads a list. It is killed after so many seconds, and where this is cancelled.
+    Raises `TimeoutError`, `ProgramNotFound` and `AnswerTooLarge`."""
     words = [*python_words("olr.serving.listing"), json.dumps(reading)]
-    return await ended_with(Path(sys.executable), words, seconds, file.fileno())
+    process = await asyncio.create_subprocess_exec(
+        *command_of(sys.executable, words),
+        stdin=file.fileno(),
+        stdout=PIPE,
+        stderr=PIPE,
+        start_new_session=True,
+    )
+    try:
+        async with asyncio.timeout(seconds):
+            lines = await _all_of(process.stdout, MOST_ANSWER)
+            said = await _all_of(process.stderr, MOST_SAID)
+            return await process.wait(), lines, said
+    finally:
+        if process.returncode is None:
+            kill_group_of(process.pid)
+            await process.wait()
+
+
+async def _all_of(stream: asyncio.StreamReader | None, most: int) -> bytes:
+    """All that comes until the end. Raises `AnswerTooLarge` for more."""
+    assert stream is not None
+    try:
+        await stream.readexactly(most + 1)
+    except asyncio.IncompleteReadError as whole:
+        return bytes(whole.partial)
+    raise AnswerTooLarge(f"the answer has more than {most:,} bytes")
 
 
 def reading_of(options: Options) -> Reading:

@@ -21,7 +21,6 @@ from olr.serving.limits import MIB, MOST_MADE, Limits
 from olr.serving.problems import Problem
 from olr.serving.rooms import Room
 from olr.serving.runs import python_words
-from olr.serving.served import IsGone
 from olr.serving.tasks import MOST_MESSAGE, MapVersion, Task
 
 log = logging.getLogger("olr.serving")
@@ -40,11 +39,11 @@ class Makers:
         self._starting = asyncio.Lock()
         self._idle: "list[_Forked]" = []
 
-    async def made(self, map: MapVersion, task: Task, is_gone: IsGone) -> IO[bytes]:
+    async def made(self, map: MapVersion, task: Task) -> IO[bytes]:
         """A file with the answer to a task. Where this is cancelled its process ends. Raises `ToolError`: `MapRefused` if the files of the map
         are of another version, and `ProgramEnded` if the process ended before; and `Problem`: as `Room.place`, and where an answer is too
         large, or can't be kept."""
-        async with self._room.place(is_gone):
+        async with self._room.place():
             try:
                 with ExitStack() as files:
                     file = files.enter_context(TemporaryFile())

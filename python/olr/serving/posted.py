@@ -2,20 +2,16 @@
 
 import asyncio
 import json
-from collections.abc import AsyncGenerator, Sequence
+from collections.abc import Sequence
 from starlette.requests import ClientDisconnect, Request
 from typing import Any, NamedTuple
 
-from olr.asking.processes import Kind
-from olr.asking.records import Answered, Record
-from olr.errors import MapRefused
-from olr.model.fault import Fault
+from olr.asking.records import Record
 from olr.model.profiles import PROFILE
 from olr.model.questions import NO_LETTER, record_text
 from olr.serving.limits import Limits
 from olr.serving.problems import Problem, bad_request, busy
-from olr.serving.queries import AFTER, REF, Options, Question
-from olr.serving.served import IsGone, Served
+from olr.serving.queries import AFTER, REF, Options
 
 MEDIA_TYPE = "application/json"
 REFS = "refs"
@@ -106,21 +102,3 @@ def records_of(refs: Sequence[str]) -> list[Record]:
         Record(number, record_text(ref).replace(b"\t", NO_LETTER))
         for number, ref in enumerate(refs, 1)
     ]
-
-
-async def answered_one_by_one(
-    served: Served, kind: Kind, records: Sequence[Record], is_gone: IsGone
-) -> AsyncGenerator[list[Answered], None]:
-    """The answers to records, one after the other, by the processes that answer others too. Raises as `Served.answer`, and `MapRefused` where
-    another version of the map takes the place of the one that was asked."""
-    version = None
-    for record in records:
-        try:
-            known = await served.answer(Question(kind, record.text(), None), is_gone)
-        except Fault as fault:
-            yield [Answered(record, b"null", fault.text)]
-            continue
-        if version not in (None, known.version):
-            raise MapRefused("another version of the map took the place of the one to ask")
-        version = known.version
-        yield [Answered(record, known.json, None)]

@@ -6,7 +6,7 @@ from http import HTTPStatus
 from starlette.responses import Response
 from starlette.types import Scope
 
-from olr.asking.exchange import AnswerTooLarge
+from olr.asking.exchange import AnswerTooLarge, UnknownWords
 from olr.errors import MapRefused, ProgramEnded, ProgramNotFound, TimedOut, ToolError
 from olr.model.fault import Fault
 from olr.serving.limits import MOST_ANSWER, RETRY_AFTER
@@ -100,7 +100,7 @@ def of_error(error: ToolError) -> Problem:
     if isinstance(error, TimedOut):
         text = "the program took longer than the server gives it, and was ended"
         return Problem(504, "TimedOut", text)
-    if isinstance(error, (ProgramEnded, ProgramNotFound)):
+    if isinstance(error, (ProgramEnded, ProgramNotFound)) and not isinstance(error, UnknownWords):
         text = "the program failed, twice if it had begun: whoever runs the server finds more in its log"
         return Problem(503, "ProgramFailed", text, {"Retry-After": str(RETRY_AFTER)})
     return Problem(500, "InternalError", "whoever runs the server finds more in its log")

@@ -1,4 +1,4 @@
-"""A process `olr batch` that is asked without threads.
+"""A process `olr answer` that is asked without threads.
 
 `asking/threaded.py` has one for threads: it writes in a thread, and whoever waits reads. Here an event loop does both.
 """
@@ -6,21 +6,23 @@
 import asyncio
 from asyncio.subprocess import PIPE
 from collections import deque
-from collections.abc import Callable, Iterable
 from typing import NamedTuple, Protocol, cast
 
-from olr.asking.exchange import AnswerTooLarge, Exchange
-from olr.asking.processes import Kind
+from olr.asking.exchange import AnswerTooLarge, Exchange, UnknownWords, record_about
 from olr.asking.starting import command_of, kill_group_of, not_started
 from olr.errors import ProgramEnded, TimedOut, ToolError
 from olr.model.objects import RawLine
 from olr.progress import Clock
 from olr.serving.edition import Edition
-from olr.serving.limits import MOST_ANSWER, MOST_SAID, SECONDS_TO_READ
+from olr.serving.limits import ABREAST, MOST_ANSWER, MOST_SAID, SECONDS_TO_READ
 
 STDOUT, STDERR = 1, 2
-PROBE = b"probe"
-"""The text of the first record, which is no reference: its line says that the map was read."""
+PROBE = record_about(["show"], b"probe")
+"""The text of the first record, which has no reference: its line says that the map was read."""
+SECONDS_LONG = 1.0
+"""A request takes long if a process has worked at it for so many seconds."""
+MOST_TRIES = 2
+"""A request that a process ended at is asked once more."""
 SECONDS_SILENT = 2.0
 """A process that has closed its input or output ends within that."""
 
@@ -35,31 +37,22 @@ class Answer(NamedTuple):
 
 
 class Request:
-    """A question that waits for its answer."""
+    """The text of a record that waits for its answer, which is cancelled where nobody waits for it any more."""
 
-    __slots__ = ("kind", "text", "answer", "is_gone", "tries", "since", "client")
+    __slots__ = ("text", "client", "since", "is_in_stream", "answer", "tries", "process")
 
-    def __init__(
-        self,
-        kind: Kind,
-        text: bytes,
-        is_gone: Callable[[], bool],
-        since: float,
-        client: str = "",
-    ) -> None:
-        """`is_gone` says whether nobody waits for the answer any more. `client` is the address of whoever does."""
-        self.kind, self.text, self.is_gone, self.client = kind, text, is_gone, client
+    def __init__(self, text: bytes, client: str, since: float, is_in_stream: bool = False) -> None:
+        """`client` is the address of whoever waits, and `since` the moment since when. In a stream it waits for those before too."""
+        self.text, self.client, self.since, self.is_in_stream = text, client, since, is_in_stream
         self.answer: asyncio.Future[Answer] = asyncio.get_running_loop().create_future()
         self.tries = 0
         """How many processes ended while they worked at it."""
-        self.since = since
-        """Since when it waits for a process."""
+        self.process: Process | None = None
+        """The one that is to answer it: None while it waits for one."""
 
-    def for_nobody(self, client: str) -> "Request":
-        """The same question at the cost of a client. Nobody waits for its answer."""
-        request = Request(self.kind, self.text, lambda: True, self.since, client)
-        request.answer.cancel()
-        return request
+    def is_late(self, begin: float) -> bool:
+        """Whether it has waited since before a moment, or nobody waits any more."""
+        return self.answer.done() or self.since < begin and not self.is_in_stream
 
     def give(self, answer: Answer) -> None:
         """Gives the answer to whoever waits for it."""
@@ -71,6 +64,12 @@ class Request:
         if not self.answer.done():
             self.answer.set_exception(error)
 
+    def failed(self, error: Exception) -> None:
+        """A process ended while it worked at it: at the second one the error is the answer."""
+        self.tries += 1
+        if self.tries == MOST_TRIES:
+            self.refuse(error)
+
 
 class Owner(Protocol):
     """Who owns a process."""
@@ -79,31 +78,26 @@ class Owner(Protocol):
     """By which it is said since when a process works."""
 
     def became_free(self, process: "Process") -> None:
-        """It has read the map, or has given an answer."""
+        """It has given an answer."""
 
     def has_ended(self, process: "Process", error: ToolError) -> None:
         """It has ended, or couldn't be started. What it left is in its `requests`."""
 
 
 class Process(asyncio.SubprocessProtocol):
-    """A process for one kind of questions. Its records are answered in their order; each has its number as its key, and its line has to
-    have the same one."""
+    """A process. Its records are answered in their order; each has its number as its key, and its line has to have the same one."""
 
-    def __init__(self, kind: Kind, edition: Edition, owner: Owner) -> None:
-        """It is started by `start`, and may be asked before."""
-        self.kind, self.edition = kind, edition
+    def __init__(self, edition: Edition, owner: Owner) -> None:
+        """It is started by `start`."""
+        self.edition = edition
         self.requests: deque[Request] = deque()
-        """Those without an answer. The process works at the first one."""
+        """Those without an answer. The process works at the first one, and may have some that another process is to answer by now."""
         self.is_ready = False
         """Whether it has read the map."""
         self.is_retiring = False
         """Whether it is asked no more: it ends when it has answered, or is ending."""
         self.working_since = 0.0
-        """Since when it works at the first request, or is idle."""
-        self.ready_since = self.busy_since = 0.0
-        """Since when it has read the map, and since when it has worked without a break."""
-        self.client = ""
-        """Whose request was handed over last."""
+        """Since when it works at the first request."""
         self._owner = owner
         self._loop = asyncio.get_running_loop()
         self._map_is_read: asyncio.Future[None] = self._loop.create_future()
@@ -126,14 +120,11 @@ class Process(asyncio.SubprocessProtocol):
             await self.ended()
             raise
         self.is_ready = True
-        self.ready_since = self.working_since = self._owner.clock()
-        self._write(request.text for request in self.requests)
-        self._owner.became_free(self)
 
     async def _start(self) -> None:
         version = await self.edition.found()
         program = self.edition.program
-        command = command_of(program, self.edition.words(self.kind))
+        command = command_of(program, self.edition.words())
         try:
             await self._loop.subprocess_exec(
                 lambda: self, *command, stdin=PIPE, stdout=PIPE, stderr=PIPE, start_new_session=True
@@ -142,7 +133,7 @@ class Process(asyncio.SubprocessProtocol):
             raise not_started(program, error.strerror) from error
         if self._error is not None:
             raise self._error
-        self._write([PROBE])
+        self._write(PROBE)
         try:
             async with asyncio.timeout(SECONDS_TO_READ):
                 await asyncio.shield(self._map_is_read)
@@ -152,33 +143,47 @@ class Process(asyncio.SubprocessProtocol):
         if self._error is not None:
             raise self._error
 
-    def ask(self, request: Request) -> None:
-        """Hands over a request. It doesn't wait."""
-        if not self.requests:
-            self.working_since = self.busy_since = self._owner.clock()
-        self.requests.append(request)
-        self.client = request.client
-        if self.is_ready:
-            self._write([request.text])
+    def own(self) -> list[Request]:
+        """Those of its requests that no other process is to answer."""
+        return [one for one in self.requests if one.process is self]
 
-    def _write(self, texts: Iterable[bytes]) -> None:
-        """Writes the texts of records."""
-        records = self._exchange.ask(texts)
+    def takes_more(self) -> bool:
+        """Whether it is to be asked more: nothing waits behind what takes long."""
+        if not self.is_ready or self.is_retiring or len(self.requests) >= ABREAST:
+            return False
+        return not self.works_for(SECONDS_LONG)
+
+    def works_for(self, seconds: float) -> bool:
+        """Whether it has worked at its first request for so long."""
+        return bool(self.requests) and self.working_since < self._owner.clock() - seconds
+
+    def ask(self, request: Request) -> None:
+        """Hands over a request, which it may have already. It doesn't wait."""
+        request.process = self
+        if request not in self.requests:
+            if not self.requests:
+                self.working_since = self._owner.clock()
+            self.requests.append(request)
+            self._write(request.text)
+
+    def _write(self, text: bytes) -> None:
+        """Writes the text of a record."""
+        record = self._exchange.ask([text])
         if self._input is not None and not self._input.is_closing():
-            self._input.write(records)
+            self._input.write(record)
 
     def fail(self, error: ToolError) -> None:
         """Ends the process for an error, which is that of whatever it leaves."""
         if self._error is None:
             self._error = error
         self.is_retiring = True
-        self.kill()
+        self._kill()
 
     def end(self) -> None:
         """Ends the process, which is no longer needed."""
         self.fail(ProgramEnded("the process is no longer needed"))
 
-    def kill(self) -> None:
+    def _kill(self) -> None:
         """Kills it, if it runs."""
         if self._transport is not None and self._transport.get_returncode() is None:
             kill_group_of(self._transport.get_pid())
@@ -192,7 +197,7 @@ class Process(asyncio.SubprocessProtocol):
         self._transport = cast(asyncio.SubprocessTransport, transport)
         self._input = cast(asyncio.WriteTransport, self._transport.get_pipe_transport(0))
         if self._error is not None:
-            self.kill()
+            self._kill()
 
     def pipe_data_received(self, fd: int, data: bytes) -> None:
         """It wrote something: lines of answers, or on standard error."""
@@ -206,8 +211,8 @@ class Process(asyncio.SubprocessProtocol):
                 if self._error is None:
                     self._take(line)
         except ProgramEnded as error:
-            if isinstance(error, AnswerTooLarge) and self.requests:
-                self.requests.popleft().refuse(error)
+            if isinstance(error, (AnswerTooLarge, UnknownWords)) and self.requests:
+                self.requests[0].refuse(error)
             self.fail(error)
 
     def _take(self, line: RawLine) -> None:
@@ -223,7 +228,7 @@ class Process(asyncio.SubprocessProtocol):
         """It closed a pipe: soon it has ended. What it is still asked is left."""
         if fd != STDERR:
             self.is_retiring = True
-            self._loop.call_later(SECONDS_SILENT, self.kill)
+            self._loop.call_later(SECONDS_SILENT, self._kill)
 
     def connection_lost(self, exc: Exception | None) -> None:
         """It has ended, and all that it wrote was read."""

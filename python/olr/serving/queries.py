@@ -7,7 +7,7 @@ from functools import lru_cache
 from typing import NamedTuple
 from urllib.parse import unquote_to_bytes
 
-from olr.asking.processes import Kind
+from olr.asking.exchange import Asked
 from olr.model.fault import Fault
 from olr.model.profiles import DEFAULT_PROFILE, PROFILE, PROFILES, names_text, tolerances_of
 from olr.model.questions import ALL, NUMBERS, Number, What, all_words, cursor_of, record_text
@@ -15,14 +15,14 @@ from olr.serving.problems import bad_request, of_fault
 
 REF, AFTER = "ref", "after"
 NUMBER = re.compile("[0-9]{1,7}", re.ASCII)
-KINDS = 1024
+MOST_ASKED = 1024
 """So many combinations of options are remembered."""
 
 
 class Question(NamedTuple):
     """A question about one reference."""
 
-    kind: Kind
+    asked: Asked
     text: bytes
     """The reference, as a record has it."""
     after: str | None
@@ -62,7 +62,7 @@ def question_of(what: What, options: Options, most_look: int) -> Question:
             after = cursor_of(after)
         except Fault as fault:
             raise of_fault(fault) from fault
-    return Question(kind_of(what, options, most_look), record_text(ref), after)
+    return Question(asked_of(what, options, most_look), record_text(ref), after)
 
 
 def reference_of(options: Options) -> str:
@@ -73,9 +73,9 @@ def reference_of(options: Options) -> str:
         raise bad_request("ref is missing: the text of a reference, in base64") from None
 
 
-def kind_of(what: What, options: Mapping[str, str], most_look: int) -> Kind:
+def asked_of(what: What, options: Mapping[str, str], most_look: int) -> Asked:
     """What the options of an address ask for. Raises `Problem` for one that isn't one, or is out of its range."""
-    return _kind(what, tuple(options.items()), most_look)
+    return _asked(what, tuple(options.items()), most_look)
 
 
 def numbers_of(what: What, most_look: int) -> dict[str, Number]:
@@ -84,8 +84,8 @@ def numbers_of(what: What, most_look: int) -> dict[str, Number]:
     return numbers | {name: numbers[name].at_most(most_look) for name in numbers if name == "look"}
 
 
-@lru_cache(maxsize=KINDS)
-def _kind(what: What, options: tuple[tuple[str, str], ...], most_look: int) -> Kind:
+@lru_cache(maxsize=MOST_ASKED)
+def _asked(what: What, options: tuple[tuple[str, str], ...], most_look: int) -> Asked:
     given = dict(options)
     profile = given.pop(PROFILE, DEFAULT_PROFILE)
     if profile not in PROFILES:
@@ -100,13 +100,7 @@ def _kind(what: What, options: tuple[tuple[str, str], ...], most_look: int) -> K
     for name, number in admitted.items():
         if numbers[name] > number.greatest:
             raise bad_request(f"{name} is {number.greatest:,} at most on this server")
-    return _same(Kind(what, tuple(all_words(numbers))))
-
-
-@lru_cache(maxsize=KINDS)
-def _same(kind: Kind) -> Kind:
-    """The first one that was made of equal kinds: it is compared with itself at once, and with others word by word."""
-    return kind
+    return Asked(what, tuple(all_words(numbers)))
 
 
 def _number(name: str, value: str) -> int:

@@ -5,7 +5,6 @@ from collections.abc import AsyncIterator
 from contextlib import asynccontextmanager
 
 from olr.serving.problems import busy
-from olr.serving.served import IsGone
 
 ABREAST = 4
 """Scenes, GeoJSON and lots of rows that are made at once, each by a process."""
@@ -20,16 +19,14 @@ class Room:
         self._places = asyncio.Semaphore(most)
 
     @asynccontextmanager
-    async def place(self, is_gone: IsGone) -> AsyncIterator[None]:
-        """A place, while one is made. Raises `Problem` where none is free for too long, or nobody waits for it any more."""
+    async def place(self) -> AsyncIterator[None]:
+        """A place, while one is made. Raises `Problem` where none is free for too long."""
         try:
             async with asyncio.timeout(self._seconds):
                 await self._places.acquire()
         except TimeoutError as error:
             raise busy("too many scenes, GeoJSON and rows are made") from error
         try:
-            if is_gone():
-                raise busy("nobody waits for it")
             yield
         finally:
             self._places.release()

@@ -23,7 +23,7 @@ Wanted = TypeVar("Wanted", Candidates, Page, Places, Why)
 def text_of(task: SceneTask, ground: Ground) -> bytes:
     """The scene of answers, with other paths of the first one, and the lines around. It says why it has no probabilities where it has none.
     Raises `ToolError`."""
-    network, numbers = ground.network, task.judged_by.kind.numbers()
+    network, numbers = ground.network, task.judged_by.asked.numbers()
     chosen = chosen_by(task.judged_by)
     answered = _answered(task, network.digest)
     (judgement,) = judgements_of([answered], network, chosen.judging)
@@ -63,4 +63,4 @@ def streets_for(task: SceneTask, ground: Ground, asked: Reference, matching: Mat
     """The lines and bans for a matching. Raises `ToolError`, and `MapRefused` if the answers are of several versions, of which only the bans differ."""
     if not task.has_bans:
         raise MapRefused("the bans are of another version of the map")
-    return ground.streets(task.judged_by.kind.numbers(), asked, matching)
+    return ground.streets(task.judged_by.asked.numbers(), asked, matching)

@@ -8,8 +8,8 @@ from olr.model.questions import NUMBERS, TOLERANCES, What, record_text
 from olr.serving.judging import listing_of
 from olr.serving.limits import Limits
 from olr.serving.makers import Makers
-from olr.serving.queries import Options, Question, kind_of, reference_of
-from olr.serving.served import IsGone, Served, Versions, of_one_edition
+from olr.serving.queries import Options, Question, asked_of, reference_of
+from olr.serving.served import Served, Versions, of_one_edition
 from olr.serving.tasks import JudgedBy, SceneTask
 
 if TYPE_CHECKING:
@@ -28,16 +28,16 @@ class Scenes(NamedTuple):
     makers: Makers
     tiles: str | None
 
-    async def scene(self, options: Options, is_gone: IsGone) -> IO[bytes]:
+    async def scene(self, options: Options) -> IO[bytes]:
         """The scene of a reference, which says why it has no probabilities where it has none. The options are the tolerances and the
         numbers of `places`. Raises `Fault` if it is no reference, other errors of the package, and `Problem`.
         """
         text = record_text(reference_of(options))
-        kind = kind_of("places", options, self.limits.look)
+        asked = asked_of("places", options, self.limits.look)
         said = await self.served.show(text)
 
         async def ask(versions: Versions) -> IO[bytes]:
-            asking = _Asking(self.served, versions, options, self.limits, text, is_gone)
+            asking = _Asking(self.served, versions, options, self.limits, text)
             candidates = await asking.answer("candidates")
             places = await asking.answer("places")
             page = await asking.answer("match")
@@ -45,7 +45,7 @@ class Scenes(NamedTuple):
             if isinstance(why, Fault):
                 raise why
             task = SceneTask(
-                JudgedBy(kind, self.confidence),
+                JudgedBy(asked, self.confidence),
                 text.decode(),
                 said,
                 candidates,
@@ -56,7 +56,7 @@ class Scenes(NamedTuple):
                 self.served.map_name(),
                 self.tiles,
             )
-            return await self.makers.made(versions.map(), task, is_gone)
+            return await self.makers.made(versions.map(), task)
 
         return await of_one_edition(self.served, ask)
 
@@ -76,16 +76,15 @@ class _Asking(NamedTuple):
     options: Options
     limits: Limits
     text: bytes
-    is_gone: IsGone
 
     async def answer(self, what: What) -> bytes | Fault:
         """The answer to a question, or why there is none. Raises as `Served.answer`."""
         names = {PROFILE, *TOLERANCES, *NUMBERS[what]}
         own = {name: value for name, value in self.options.items() if name in names}
-        kind = kind_of(what, own, self.limits.look)
-        question = Question(listing_of(kind) if what == "places" else kind, self.text, None)
+        asked = asked_of(what, own, self.limits.look)
+        question = Question(listing_of(asked) if what == "places" else asked, self.text, None)
         try:
-            known = await self.served.answer(question, self.is_gone)
+            known = await self.served.answer(question)
         except Fault as fault:
             return fault
         self.versions.note(known)

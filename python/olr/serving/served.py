@@ -1,20 +1,18 @@
 """What the addresses ask of a map, whether it is a folder or a store."""
 
-from collections.abc import AsyncGenerator, AsyncIterator, Awaitable, Callable
-from contextlib import AbstractAsyncContextManager
+from collections.abc import AsyncGenerator, Awaitable, Callable
 from pathlib import Path
 from typing import Any, NamedTuple, Protocol, TypeVar
 
 from olr.asking.files import Version
-from olr.asking.processes import Kind
-from olr.asking.records import Answered, Record
+from olr.asking.exchange import Asked
+from olr.asking.records import Answered
 from olr.errors import MapRefused
+from olr.serving.bodies import Records
 from olr.serving.queries import Question
 from olr.serving.tasks import MapVersion
 
 Made = TypeVar("Made")
-IsGone = Callable[[], bool]
-"""Whether nobody waits for an answer any more."""
 
 
 class Known(NamedTuple):
@@ -58,19 +56,15 @@ class Served(Living, Protocol):
     async def health(self) -> tuple[bool, dict[str, Any]]:
         """Whether it can answer, and what is known of it."""
 
-    async def answer(self, question: Question, is_gone: IsGone) -> Known:
+    async def answer(self, question: Question) -> Known:
         """The answer to a question. Raises `Fault`, other errors of the package, and `Problem`."""
 
     async def show(self, text: bytes) -> bytes:
         """What a reference says, as the program prints it. Raises as `answer`."""
 
-    def place(self, is_gone: IsGone) -> AbstractAsyncContextManager[None]:
-        """Room for a process of its own, while it runs. Raises `Problem`."""
-
-    def batch(
-        self, kind: Kind, body: AsyncIterator[list[Record]]
-    ) -> AsyncGenerator[list[Answered], None]:
-        """The answers to the records of a body, some at a time, within a `place`. Raises as `answer`, and as the body does."""
+    def batch(self, asked: Asked, body: Records) -> AsyncGenerator[list[Answered], None]:
+        """The answers to the records of a body, some at a time, which are of the `version` that is there at the first one. Raises as `answer`,
+        as the body does, and `MapRefused` where another version takes its place."""
 
     def version(self) -> Version | None:
         """The one that is asked now: None until it was read."""

@@ -19,7 +19,7 @@ from olr.serving.compressing import Compressing
 from olr.serving.connections import Connection, Connections
 from olr.serving.folder_map import FolderMap
 from olr.serving.front import Front
-from olr.serving.limits import SECONDS_IDLE, SECONDS_TO_END, Capacity, Limits
+from olr.serving.limits import SECONDS_IDLE, SECONDS_TO_END, Limits
 from olr.serving.listening import Sockets, listen, sockets_for, url_of
 from olr.serving.maps import ALONE, ByName, Together
 from olr.serving.meters import Meters
@@ -40,7 +40,8 @@ class Settings(NamedTuple):
     host: str
     port: int
     """0 for any that is free."""
-    capacity: Capacity
+    workers: int
+    """Processes of the program for each map."""
     limits: Limits
     names: Sequence[str] = ()
     """Other names that the server has."""
@@ -65,7 +66,7 @@ def serve(settings: Settings) -> None:
 async def _serve(settings: Settings) -> None:
     # Else it would end the server until the map is read, which is what it asks for.
     asyncio.get_running_loop().add_signal_handler(signal.SIGHUP, lambda: None)
-    sockets = sockets_for(settings.capacity.of_all(len(settings.maps)))
+    sockets = sockets_for(settings.workers * len(settings.maps))
     listening = listen(settings.host, settings.port, sockets.backlog)
     served = {name: _served(map, settings) for name, map in settings.maps.items()}
     together = Together(served)
@@ -83,7 +84,7 @@ def _served(map: Path, settings: Settings) -> Served:
         from olr.serving.store_map import StoreMap
 
         return StoreMap(map, settings.limits)
-    return FolderMap(map, settings.capacity, settings.limits)
+    return FolderMap(map, settings.workers, settings.limits)
 
 
 def _confidence(settings: Settings) -> "Confidence | None":

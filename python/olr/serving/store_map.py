@@ -9,20 +9,21 @@ from pathlib import Path
 from typing import Any, TypeVar
 
 from olr.asking.files import Version
-from olr.asking.processes import Kind
+from olr.asking.exchange import Asked
 from olr.asking.program import find_program
-from olr.asking.records import Answered, Record
+from olr.asking.records import Answered
 from olr.client.map_client import Map
 from olr.errors import MapRefused, ToolError
 from olr.model.fault import Fault
 from olr.model.map_folder import store_of
 from olr.model.questions import TOLERANCES, argument
 from olr.regions.current import CurrentStore
+from olr.serving.bodies import Records
 from olr.serving.limits import Limits
 from olr.serving.problems import busy
 from olr.serving.queries import Question
 from olr.serving.runs import printed_by, version_of
-from olr.serving.served import IsGone, Known
+from olr.serving.served import Known
 
 log = logging.getLogger("olr.serving")
 Made = TypeVar("Made")
@@ -93,18 +94,18 @@ class StoreMap:
         about |= {"changed": not is_same, "refused": self._refused, "program": self._version}
         return is_same, about
 
-    async def answer(self, question: Question, is_gone: IsGone) -> Known:
+    async def answer(self, question: Question) -> Known:
         """The answer to a question. Raises `ToolError` and `Problem`."""
-        async with self.place(is_gone):
+        async with self._place():
             text = await self._in_thread(lambda: self._asked(question))
-        return Known(text, Version(self._digest, None))
+            return Known(text, Version(self._digest, None))
 
     def _asked(self, question: Question) -> bytes:
-        numbers = question.kind.numbers()
+        numbers = question.asked.numbers()
         tolerances = tuple(numbers.pop(name) for name in TOLERANCES)
         asked = self._map_of(tolerances)
         return asked.raw_answer(
-            question.kind.what, question.text.decode(), after=question.after, **numbers
+            question.asked.what, question.text.decode(), after=question.after, **numbers
         )
 
     def _map_of(self, tolerances: Tolerances) -> Map:
@@ -128,7 +129,7 @@ class StoreMap:
             return await printed_by(self._program, words, self._limits.time)
 
     @asynccontextmanager
-    async def place(self, is_gone: IsGone) -> AsyncIterator[None]:
+    async def _place(self) -> AsyncIterator[None]:
         """The turn of a request: they come in order. Raises `Problem`."""
         self._waiting += 1
         try:
@@ -140,24 +141,23 @@ class StoreMap:
         finally:
             self._waiting -= 1
         try:
-            if is_gone():
-                raise busy("nobody waits for it")
             yield
         finally:
             self._turn.release()
 
-    async def batch(
-        self, kind: Kind, body: AsyncIterator[list[Record]]
-    ) -> AsyncGenerator[list[Answered], None]:
-        """The answers to the records of a body, one after the other."""
+    async def batch(self, asked: Asked, body: Records) -> AsyncGenerator[list[Answered], None]:
+        """The answers to the records of a body, one after the other. Raises as `answer`, as the body does, and `MapRefused`."""
+        digest = self._digest
         async for records in body:
             for record in records:
-                question = Question(kind, record.text(), None)
                 try:
-                    answer, fault = await self._in_thread(lambda: self._asked(question)), None
+                    known = await self.answer(Question(asked, record.text(), None))
                 except Fault as found:
-                    answer, fault = b"null", found.text
-                yield [Answered(record, answer, fault)]
+                    yield [Answered(record, b"null", found.text)]
+                    continue
+                if known.digest != digest:
+                    raise MapRefused("another store took the place of the one to ask")
+                yield [Answered(record, known.json, None)]
 
     async def _in_thread(self, call: Callable[[], Made]) -> Made:
         return await asyncio.get_running_loop().run_in_executor(self._thread, call)
@@ -185,7 +185,7 @@ class StoreMap:
     def sizes(self) -> dict[str, int]:
         """How many questions are being answered, and how many wait."""
         working = int(self._turn.locked())
-        return {"working": working, "idle": 0, "apart": 0, "waiting": self._waiting}
+        return {"working": working, "idle": 0, "waiting": self._waiting}
 
     def starts(self) -> int:
         """Nothing: `olr.Map` starts processes by itself."""

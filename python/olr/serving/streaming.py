@@ -1,26 +1,25 @@
 """`POST /batch/{command}` and `POST /rows`: lines about the records of a body, while it comes.
 
-What the client doesn't take isn't made: the server then reads neither the program's answers nor the body, and holds about a MiB, or the
-answer that comes if that is longer.
+What the client doesn't take isn't asked for: the server then reads no more of the body, and holds the answers to the records that were asked
+at once.
 """
 
 import asyncio
 import logging
-from collections.abc import AsyncGenerator, AsyncIterator, Callable, Mapping
+from collections.abc import AsyncGenerator, AsyncIterator, Callable, Mapping, Sequence
 from contextlib import aclosing
 from starlette.requests import Request
-from starlette.types import Receive, Scope, Send
+from starlette.types import ASGIApp, Receive, Scope, Send
 
-from olr.asking.processes import Kind
+from olr.asking.exchange import Asked
 from olr.asking.records import Record
-from olr.errors import MapRefused, ToolError
+from olr.errors import ToolError
 from olr.model.questions import What
-from olr.serving.bodies import Body, Gone, too_large
+from olr.serving.bodies import Body, Gone, Records, too_large
 from olr.serving.limits import Limits
 from olr.serving.peers import client_of
 from olr.serving.problems import Problem, of_error
-from olr.serving.queries import kind_of, options_of
-from olr.serving.served import IsGone, Served
+from olr.serving.queries import asked_of, options_of
 
 log = logging.getLogger("olr.serving")
 TAKEN = (
@@ -31,7 +30,8 @@ TAKEN = (
 )
 """Types of bodies. A form of a page can send the first of them too: `front.py` refuses what other sites' pages send."""
 MEDIA_TYPE = "application/x-ndjson"
-Lines = Callable[[Kind, AsyncIterator[list[Record]], IsGone], AsyncGenerator[bytes, None]]
+HEADERS = {"Content-Type": MEDIA_TYPE}
+Lines = Callable[[Asked, Records], AsyncGenerator[bytes, None]]
 """Makes lines about the records of a body, in pieces."""
 
 
@@ -39,34 +39,52 @@ class Streaming:
     """An address whose answer is lines."""
 
     def __init__(
-        self,
-        served: Served,
-        limits: Limits,
-        what: What,
-        lines: Lines,
-        headers: Mapping[str, str] = {"Content-Type": MEDIA_TYPE},
-        has_body: bool = True,
+        self, limits: Limits, what: What, lines: Lines, headers: Mapping[str, str] = HEADERS
     ) -> None:
-        """Its options are those of the question `what`. Without a body the references are known to `lines`, which needs no place of the
-        map then."""
-        self._served, self._limits, self._lines = served, limits, lines
-        self._what = what
-        self._headers, self._has_body = headers, has_body
+        """Its options are those of the question `what`."""
+        self._limits, self._what, self._lines, self._headers = limits, what, lines, headers
 
     async def __call__(self, scope: Scope, receive: Receive, send: Send) -> None:
         """Answers a request. Raises `ToolError` and `Problem` before it has begun to; later it closes the connection."""
         request = Request(scope)
-        kind = kind_of(self._what, options_of(scope["query_string"]), self._limits.look)
+        asked = asked_of(self._what, options_of(scope["query_string"]), self._limits.look)
         _require_type(request)
         self._require_length(request)
-        await self.answer(kind, scope, receive, send)
+        await self._answer(asked, None, scope, receive, send)
 
-    async def answer(self, kind: Kind, scope: Scope, receive: Receive, send: Send) -> None:
-        """Answers a request whose options are known. Raises as a call does."""
+    def about(self, asked: Asked, records: Sequence[Record]) -> ASGIApp:
+        """What answers a request about known records, whose options are known."""
+
+        async def answer(scope: Scope, receive: Receive, send: Send) -> None:
+            await self._answer(asked, records, scope, receive, send)
+
+        return answer
+
+    async def _answer(
+        self,
+        asked: Asked,
+        known: Sequence[Record] | None,
+        scope: Scope,
+        receive: Receive,
+        send: Send,
+    ) -> None:
+        """Answers a request about known records, or about those of its body. Raises as a call does."""
         sent = _Sent(send, self._headers)
-        answer = self._answer if self._has_body else self._answer_few
         try:
-            await answer(kind, scope, receive, sent)
+            async with asyncio.timeout(self._limits.time) as deadline:
+
+                def moved() -> None:
+                    deadline.reschedule(asyncio.get_running_loop().time() + self._limits.time)
+
+                body = Body(receive, self._limits.body, moved)
+                if known is None:
+                    scope["pace"].is_paused = body.is_between_records
+                records = body.records() if known is None else _those(known)
+                async with aclosing(self._lines(asked, records)) as lines:
+                    async for piece in lines:
+                        await sent.put(piece)
+                        moved()
+                await sent.end()
         except Gone:
             return
         except TimeoutError:
@@ -77,46 +95,6 @@ class Streaming:
         except Problem as problem:
             await sent.stop(problem, scope, receive)
 
-    async def _answer_few(self, kind: Kind, scope: Scope, _receive: Receive, sent: "_Sent") -> None:
-        """Answers a request whose references are known. Raises as `_answer`."""
-        limit = self._limits.time
-        loop = asyncio.get_running_loop()
-        async with asyncio.timeout(limit) as deadline:
-            async with aclosing(self._lines(kind, _nothing(), scope["is_gone"])) as lines:
-                async for piece in lines:
-                    await sent.put(piece)
-                    deadline.reschedule(loop.time() + limit)
-            await sent.end()
-
-    async def _answer(self, kind: Kind, scope: Scope, receive: Receive, sent: "_Sent") -> None:
-        """Answers a request. While its client rests it has no process; all of them are asked about one version of the map. Raises `TimeoutError`
-        where nothing moves, `Gone`, `ToolError` and `Problem`."""
-        limit, is_gone = self._limits.time, scope["is_gone"]
-        loop = asyncio.get_running_loop()
-        version = self._served.version()
-        async with asyncio.timeout(limit) as deadline:
-
-            def moved() -> None:
-                deadline.reschedule(loop.time() + limit)
-
-            body = Body(receive, self._limits.body, moved)
-            scope["pace"].is_paused = body.is_between_records
-            while await body.has_work():
-                # Whoever waits for a process isn't slow: the place has a limit of its own.
-                deadline.reschedule(None)
-                async with self._served.place(is_gone):
-                    moved()
-                    if self._served.version() != version:
-                        raise MapRefused(
-                            "another version of the map took the place of the one to ask"
-                        )
-                    async with aclosing(self._lines(kind, body.records(), is_gone)) as lines:
-                        async for piece in lines:
-                            await sent.put(piece)
-                            body.given(piece.count(b"\n"))
-                            moved()
-            await sent.end()
-
     def _require_length(self, request: Request) -> None:
         """Raises `Problem` for a body that says that it is too long."""
         length = request.headers.get("content-length", "0")
@@ -124,10 +102,9 @@ class Streaming:
             raise too_large(self._limits.body)
 
 
-async def _nothing() -> AsyncIterator[list[Record]]:
-    """A body that isn't there."""
-    return
-    yield
+async def _those(records: Sequence[Record]) -> AsyncIterator[Sequence[Record]]:
+    """Records that are known, as a body has them."""
+    yield records
 
 
 class _Sent:
@@ -139,8 +116,6 @@ class _Sent:
 
     async def put(self, piece: bytes) -> None:
         """Sends a piece, and waits while the client doesn't take it."""
-        if not piece:
-            return
         await self._begin()
         await self._send({"type": "http.response.body", "body": piece, "more_body": True})
 

@@ -10,7 +10,7 @@ from pathlib import Path
 from typing import TYPE_CHECKING, Literal, NamedTuple
 
 from olr.asking.files import Version
-from olr.asking.processes import Kind
+from olr.asking.exchange import Asked
 from olr.asking.records import Answered
 from olr.model.fault import Fault
 
@@ -34,7 +34,7 @@ class MapVersion(NamedTuple):
 class JudgedBy(NamedTuple):
     """By what places are judged."""
 
-    kind: Kind
+    asked: Asked
     """What was asked for: its numbers say what is shown."""
     confidence: "Confidence | None"
     """None for the one that comes with the package."""
