@@ -1,11 +1,6 @@
-// The program `olr` as a WebAssembly module. It reads the files of a map once, and then takes words and standard input as
-// bytes, and gives the status, the output and the text of a fault as bytes. It serves Node and browsers alike.
+// The program `olr` as a WebAssembly module. It reads the files of a map once, and then takes records and gives their
+// lines, as bytes. It serves Node and browsers alike.
 const encoder = new TextEncoder()
-
-// The bytes of the words of a command line: each with a zero byte behind it, the program's name first.
-function wordBytes(words) {
-  return encoder.encode(['olr', ...words].map((word) => word + '\0').join(''))
-}
 
 // Files as one array of bytes: of each its path, a zero byte, its size in eight bytes, and its bytes.
 function packed(files) {
@@ -59,15 +54,14 @@ class Olr {
     })
   }
 
-  // What the program does with words, in which `--map map` is the map that was read, and a standard input: its status,
-  // and the bytes of its output and of its errors.
-  ask(words, input = new Uint8Array()) {
+  // The lines that `olr answer` writes for records on the map that was read, as bytes. Throws `NoMemory`.
+  answer(records) {
     return this.#during((take) => {
-      const inputs = [wordBytes(words), input].flatMap((bytes) => this.#given(take, bytes))
+      const input = this.#given(take, records)
       const rooms = this.#rooms(take)
       for (let size = FIRST_ROOM; ; size *= 8) {
-        const told = this.#asked(inputs, size, rooms)
-        if (told !== null) return told
+        const lines = this.#answered(input, size, rooms)
+        if (lines !== null) return lines
       }
     })
   }
@@ -77,13 +71,15 @@ class Olr {
     this.#run('olr_page_close', this.#kept)
   }
 
-  // The same with room for an output of fewer bytes than this; null where it has as many.
-  #asked(inputs, size, rooms) {
+  // The same with room for fewer bytes than this; null where there are as many.
+  #answered(input, size, rooms) {
     return this.#during((take) => {
       const room = take(size)
-      this.#run('olr_page_ask', ...inputs, this.#kept, room, BigInt(size), ...rooms)
-      const { status, output, errors } = this.#told(rooms)
-      return output < size ? { status, output: this.#bytes(room, output).slice(), errors } : null
+      this.#run('olr_page_ask', ...input, this.#kept, room, BigInt(size), rooms[2])
+      const { status, output } = this.#told(rooms)
+      if (output === size) return null
+      if (status !== 0) throw new NoMemory('olr: NoMemory')
+      return this.#bytes(room, output).slice()
     })
   }
 

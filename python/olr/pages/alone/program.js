@@ -13,29 +13,39 @@ class Program {
     return program;
   }
 
-  // What a reference says.
+  // What a reference says. It needs no map.
   show(reference) {
-    return this.#answered(["show", "--format", "json", "--", reference]);
+    return this.#answered(askingText("show", {}, reference));
   }
 
   // The answer to a question about a reference; of `match` behind a cursor, if one is given.
   answer(what, numbers, reference, after = undefined) {
-    if (after !== undefined) return this.#onMap([what, ...this.#words(numbers), "--after", after, "--format", "json", "--", reference]);
-    const [line] = this.lines(what, numbers, [["", reference]]);
-    const { fault } = JSON.parse(line);
-    return { text: fault === null ? line.slice('{"answer":'.length, -',"fault":null,"key":"","record":1}'.length) : null, fault };
+    this.#requireMap();
+    return this.#answered(askingText(what, numbers, reference, after));
   }
 
   // The lines of `olr batch` about records, each a key and a reference. The records count from 1.
   lines(what, numbers, records) {
-    const input = new TextEncoder().encode(records.map(([key, reference]) => `${key}\t${reference}\n`).join(""));
-    const { text, fault } = this.#onMap(["batch", what, ...this.#words(numbers)], input);
-    if (fault !== null) throw new Error(fault);
-    return text.split("\n");
+    this.#requireMap();
+    return this.#lines(records.map(([key, reference]) => [key, askingText(what, numbers, reference)]));
   }
 
-  #words(numbers) {
-    return [...wordsOf(numbers), "--map", "map"];
+  // Throws the fault of the map, where it has one.
+  #requireMap() {
+    const fault = this.mapFault();
+    if (fault !== null) throw new Error(fault);
+  }
+
+  // The answer to the text of a record.
+  #answered(text) {
+    const [line] = this.#lines([["", text]]);
+    const { fault } = JSON.parse(line);
+    return { text: fault === null ? line.slice('{"answer":'.length, -',"fault":null,"key":"","record":1}'.length) : null, fault };
+  }
+
+  // The lines of records, each a key and a text.
+  #lines(records) {
+    return decoded(this.#run(new TextEncoder().encode(records.map(([key, text]) => `${key}\t${text}\n`).join("")))).split("\n");
   }
 
   // Takes an instance, which reads the map.
@@ -50,26 +60,21 @@ class Program {
     return status === 0 ? null : faultIn(errors);
   }
 
-  // The answer to words that ask of the map: its fault, where it has one.
-  #onMap(words, input = undefined) {
-    const fault = this.mapFault();
-    return fault === null ? this.#answered(words, input) : { text: null, fault };
-  }
-
-  #answered(words, input = undefined) {
-    const { status, output, errors } = this.#run(words, input);
-    return status === 0 ? { text: decoded(output), fault: null } : { text: null, fault: faultIn(errors) };
-  }
-
   // An instance that a trap stopped answers no more: the next question has a new one.
-  #run(words, input) {
+  #run(records) {
     try {
-      return this.olr.ask(words, input);
+      return this.olr.answer(records);
     } catch (error) {
       if (error instanceof Stopped) this.#begin(new Olr(new WebAssembly.Instance(this.module, {})));
       throw error;
     }
   }
+}
+
+// The text of a record: the words of a question, and the reference. No cursor has a blank, which would end its word here.
+function askingText(what, numbers, reference, after = undefined) {
+  const behind = after === undefined ? [] : [`--after=${after.replaceAll(" ", "_")}`];
+  return [what, ...wordsOf(numbers), ...behind, "--", reference].join(" ");
 }
 
 const decoded = (bytes) => new TextDecoder().decode(bytes).replace(/\n$/, "");

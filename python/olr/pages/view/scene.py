@@ -5,7 +5,7 @@ from collections.abc import Iterator, Mapping, Sequence
 from functools import partial
 from typing import Any, NamedTuple
 
-from olr.asking.decoding import decode
+from olr.asking.once import decode
 from olr.client.map_client import Map
 from olr.confidence.confidence import Confidence
 from olr.confidence.judged import Judged, JudgedPlace, Judging, judged
